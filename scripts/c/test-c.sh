@@ -207,6 +207,7 @@ checks() {
       run "lists with sanitizers" "$out/lists_checked"
       run "never_indexed with sanitizers" "$out/never_indexed_checked"
       run "shutdown with sanitizers" "$out/shutdown_checked"
+      run "by_priority with sanitizers" "$out/by_priority_checked"
       run "strict connections with sanitizers" "$out/strict_connection_checked"
       run "datagrams with sanitizers" "$out/datagrams_checked"
       printed "$out/in_memory_checked" tests/c/in_memory.stdout "in_memory with sanitizers"

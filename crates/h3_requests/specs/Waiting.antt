@@ -1,5 +1,5 @@
 -- A set of streams with places, by classes, and the streams on which something waits: a bit each in words of 64 request streams.
-use Rattle.std.specs.Prelude.{◌≡◌, ◌≢◌, ◌<◌, ℕ, zero, suc, ◌+◌, ◌*◌, ◌/◌, ◌%◌, ◌^◌, Bool, true, false, ◌&&◌, ◌||◌, ◌==◌, if◌then◌else◌, nat_lt, Option, Some, None}
+use Rattle.std.specs.Prelude.{◌≡◌, ◌≢◌, ◌<◌, ◌≤◌, ℕ, zero, suc, ◌+◌, ◌*◌, ◌/◌, ◌%◌, ◌^◌, Bool, true, false, ◌&&◌, ◌||◌, ◌==◌, if◌then◌else◌, nat_lt, Option, Some, None}
 use Rattle.std.specs.Int.{bit_at}
 use Rattle.h3_requests.specs.Words.{word_at}
 use Rattle.h3_requests.specs.declared.waiting.WaitingStreams.{WaitingStreams}
@@ -45,9 +45,19 @@ abbrev pub IsFirstClass : (ℕ → ℕ → Bool) → Option ℕ → Type 0
 IsFirstClass waits None = (class q : ℕ) → class < 17 → waits class q ≡ false
 IsFirstClass waits (Some first) = ((q : ℕ) × (waits first q ≡ true)) × ((class q : ℕ) → class < first → waits class q ≡ false)
 
--- The test of one stream in one class answers this, and every other one as before.
-abbrev pub IsOneTest : (class id : ℕ) → Bool → (before after : ℕ → ℕ → Bool) → Type 0
-IsOneTest class id is before after = (c q : ℕ) → after c q ≡ (if (c == class) && (q == id) then is else before c q)
+-- nothing waits in the classes from one on and below this one, or in any from there on
+abbrev pub IsClassFrom : (ℕ → ℕ → Bool) → ℕ → Option ℕ → Type 0
+IsClassFrom waits from None = (class q : ℕ) → from ≤ class → class < 17 → waits class q ≡ false
+IsClassFrom waits from (Some found) = (from ≤ found) × (found < 17) × ((class q : ℕ) → from ≤ class → class < found → waits class q ≡ false)
+
+-- The test of one number answers this, and that of each other one as before.
+pub record IsOneTest (id : ℕ) (is : Bool) (before after : ℕ → Bool) : Type 0 where
+  pub own : after id ≡ is
+  pub others : (q : ℕ) → q ≢ id → after q ≡ before q
+
+-- So of one stream in one class.
+abbrev pub IsOnePlace : (class id : ℕ) → Bool → (before after : ℕ → ℕ → Bool) → Type 0
+IsOnePlace class id is before after = (c q : ℕ) → after c q ≡ (if (c == class) && (q == id) then is else before c q)
 
 -- All other streams have the places that they had.
 abbrev pub KeepsOtherPlaces : (class id : ℕ) → (before after : ℕ → ℕ → Bool) → Type 0

@@ -2,7 +2,7 @@
 ghost use Rattle.std.specs.Prelude.{◌≡◌, ◌≢◌, ◌≤◌, ◌||◌, ℕ, true, false, OnErr, OnOk};
 ghost use Rattle.h3_connection.specs.NextWaiting.{IsLeast};
 ghost use Rattle.h3_scheduler.specs.Places.{IsNext};
-ghost use Rattle.h3_requests.specs.Waiting.{has_place, is_any, is_waiting, IsFirstClass, IsOneTest, KeepsOtherPlaces};
+ghost use Rattle.h3_requests.specs.Waiting.{has_place, is_any, is_waiting, IsFirstClass, IsOnePlace, KeepsOtherPlaces};
 ghost use Rattle.h3_requests.specs.Ready.{is_listed, is_ready, stands, stands_in, ArePlain, Moves};
 
 use crate::class::{HELD, PLAIN};
@@ -131,7 +131,7 @@ impl ReadyStreams {
     pub(crate) fn settle(&mut self, class: u64, id: StreamId, waits: bool)
         requires few { class ≤ 16 }
         requires place { waits ≡ true → is_listed self.old class id ≡ true }
-        ensures bytes { IsOneTest class id waits (is_ready self.old) (is_ready self.new) }
+        ensures bytes { IsOnePlace class id waits (is_ready self.old) (is_ready self.new) }
         ensures ends { self.new.ends ≡ self.old.ends }
         ensures classes { self.new.has_classes ≡ self.old.has_classes }
     {
@@ -147,7 +147,7 @@ impl ReadyStreams {
     pub(crate) fn settle_rest(&mut self, class: u64, id: StreamId, waits: bool)
         requires few { class ≤ 16 }
         requires waits { waits ≡ true → is_ready self.old class id ≡ true }
-        ensures bytes { IsOneTest class id waits (is_ready self.old) (is_ready self.new) }
+        ensures bytes { IsOnePlace class id waits (is_ready self.old) (is_ready self.new) }
         ensures ends { self.new.ends ≡ self.old.ends }
         ensures classes { self.new.has_classes ≡ self.old.has_classes }
     {
@@ -161,7 +161,7 @@ impl ReadyStreams {
     pub(crate) fn settle_end(&mut self, class: u64, id: StreamId, waits: bool)
         requires few { class ≤ 16 }
         requires place { waits ≡ true → has_place self.old.ends class id ≡ true }
-        ensures end { IsOneTest class id waits (is_waiting self.old.ends) (is_waiting self.new.ends) }
+        ensures end { IsOnePlace class id waits (is_waiting self.old.ends) (is_waiting self.new.ends) }
         ensures places { KeepsOtherPlaces class id (has_place self.old.ends) (has_place self.new.ends) }
         ensures bytes { (c q : ℕ) → is_ready self.new c q ≡ is_ready self.old c q }
         ensures classes { self.new.has_classes ≡ self.old.has_classes }
@@ -177,7 +177,7 @@ impl ReadyStreams {
     #[inline(never)]
     fn leave_end(&mut self, class: u64, id: StreamId)
         requires { class ≤ 16 }
-        ensures end { IsOneTest class id false (is_waiting self.old.ends) (is_waiting self.new.ends) }
+        ensures end { IsOnePlace class id false (is_waiting self.old.ends) (is_waiting self.new.ends) }
         ensures places { KeepsOtherPlaces class id (has_place self.old.ends) (has_place self.new.ends) }
         ensures bytes { (c q : ℕ) → is_ready self.new c q ≡ is_ready self.old c q }
         ensures classes { self.new.has_classes ≡ self.old.has_classes }
@@ -189,8 +189,8 @@ impl ReadyStreams {
     /// Neither bytes nor an end wait on a stream of this class from now on. It takes no memory.
     pub(crate) fn leave(&mut self, class: u64, id: StreamId)
         requires { class ≤ 16 }
-        ensures bytes { IsOneTest class id false (is_ready self.old) (is_ready self.new) }
-        ensures taken { IsOneTest class id false (is_waiting self.old.ends) (is_waiting self.new.ends) }
+        ensures bytes { IsOnePlace class id false (is_ready self.old) (is_ready self.new) }
+        ensures taken { IsOnePlace class id false (is_waiting self.old.ends) (is_waiting self.new.ends) }
         ensures places { KeepsOtherPlaces class id (has_place self.old.ends) (has_place self.new.ends) }
         ensures classes { self.new.has_classes ≡ self.old.has_classes }
     {

@@ -4,7 +4,7 @@ ghost use Rattle.std.specs.Int.{bit_not, w64};
 ghost use Rattle.h3_connection.specs.NextWaiting.{IsLeast};
 ghost use Rattle.h3_requests.specs.FirstWord.{IsFirstWord};
 ghost use Rattle.h3_requests.specs.Lesser.{lesser_of};
-ghost use Rattle.h3_requests.specs.Waiting.{has_place, is_any, is_waiting, places_at, waiting_at, word_at_number, IsFirstClass, IsOneTest, IsOneWord, HaveSameWords, KeepsOtherPlaces};
+ghost use Rattle.h3_requests.specs.Waiting.{has_place, is_any, is_waiting, places_at, waiting_at, word_at_number, IsClassFrom, IsFirstClass, IsOnePlace, IsOneWord, HaveSameWords, KeepsOtherPlaces};
 
 use h3_proto::stream::StreamId;
 use std::alloc::{AllocError, Global};
@@ -165,7 +165,7 @@ impl WaitingStreams {
     pub(crate) fn put(&mut self, class: u64, id: StreamId)
         requires few { class ≤ 16 }
         requires place { has_place self.old class id ≡ true }
-        ensures put { IsOneTest class id true (is_waiting self.old) (is_waiting self.new) }
+        ensures put { IsOnePlace class id true (is_waiting self.old) (is_waiting self.new) }
         ensures places { (c q : ℕ) → has_place self.new c q ≡ has_place self.old c q }
     {
         let number = id.into_inner();
@@ -211,7 +211,7 @@ impl WaitingStreams {
     /// Nothing waits on a stream any longer, and its place goes. It takes no memory.
     pub(crate) fn take(&mut self, class: u64, id: StreamId)
         requires { class ≤ 16 }
-        ensures taken { IsOneTest class id false (is_waiting self.old) (is_waiting self.new) }
+        ensures taken { IsOnePlace class id false (is_waiting self.old) (is_waiting self.new) }
         ensures places { KeepsOtherPlaces class id (has_place self.old) (has_place self.new) }
     {
         let number = id.into_inner();
@@ -277,7 +277,7 @@ impl WaitingStreams {
         if here != 0 {
             return stream_at(number, place + here.trailing_zeros() as u64);
         }
-        let Some((later, word)) = self.next_word(base + number + 1) else {
+        let Some((later, word)) = self.next_word(base + (number + 1)) else {
             return None;
         };
         stream_at(later - base, word.trailing_zeros() as u64)
@@ -301,21 +301,32 @@ impl WaitingStreams {
         ensures first { IsFirstClass (is_waiting self.now) result }
         ensures few { IfSome result (λ class. class ≤ 16) }
     {
-        let mut class = 0;
-        for _ in 0..CLASSES {
-            let Some((number, _)) = self.next_word(class * STRIDE) else {
+        let mut from = 0;
+        for passed in 0..CLASSES {
+            // (for the proof: each round passes a class)
+            prove!(passed <= from);
+            let Some(class) = self.class_from(from) else {
                 return None;
             };
-            class = number / STRIDE;
-            if class >= CLASSES {
-                return None;
-            }
             if self.next(class, 0).is_some() {
                 return Some(class);
             }
-            class += 1;
+            from = class + 1;
         }
         None
+    }
+
+    // The class of the first word with something waiting, from that of a class on: nothing waits in the classes between. (One that is told
+    // has something waiting, since no word behind those of its ids is used: `first_class` asks.)
+    fn class_from(&self, from: u64) -> Option<u64>
+        requires { from ≤ 17 }
+        ensures { IsClassFrom (is_waiting self.now) from result }
+    {
+        let Some((number, _)) = self.next_word(from * STRIDE) else {
+            return None;
+        };
+        let class = number / STRIDE;
+        if class < CLASSES { Some(class) } else { None }
     }
 
     /// A stream has its place no longer. On which streams something waits stays as it was. It takes no memory.
