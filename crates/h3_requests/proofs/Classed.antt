@@ -7,7 +7,7 @@ use Rattle.std.proofs.lemmas.Grind.{common_steps}
 use Rattle.h3_requests.specs.FirstWord.{IsFirstWord}
 use Rattle.h3_requests.specs.Lesser.{lesser_of}
 use Rattle.h3_requests.specs.LesserLaws.{least_either}
-use Rattle.h3_requests.specs.Waiting.{is_any_below, is_in, word_at_number, words_in, HaveSameWords, IsClassFrom, IsFirstClass, IsOnePlace, IsOneTest, IsOneWord, KeepsOtherPlaces}
+use Rattle.h3_requests.specs.Waiting.{is_any_below, is_in, word_at_number, words_in, HaveSameWords, IsClassFrom, IsFirstClass, IsOnePlace, IsOneTest, IsOneWord, KeepsOtherPlaces, PutIf}
 use Rattle.h3_requests.proofs.Bits.{cleared_in, of_number, of_request, same_in, set_in}
 use Rattle.h3_connection.specs.NextWaiting.{IsLeast}
 use Rattle.h3_connection.specs.NextWaitingLaws.{least_same}
@@ -221,3 +221,14 @@ pub least_next : (waits : ℕ → ℕ → Bool) (class from : ℕ) (first found 
 least_next waits class from first found h k =
     least_same (λ q. is_any_below class waits q || waits class q) (is_any_below (class + 1) waits) from (lesser_of first found) (λ q. any_next waits class q)
     (least_either (is_any_below class waits) (waits class) from first found h k)
+
+-- it was put, or nothing was
+pub put_true : (class id : ℕ) (is : Bool) (before after : ℕ → ℕ → Bool) → is ≡ true → IsOnePlace class id true before after → PutIf class id is before after
+put_true class id is before after so h c q = h c q ∙ ap (λ i. if (c == class) && (q == id) then i || before c q else before c q) (sym so)
+
+pub put_false : (class id : ℕ) (is : Bool) (before : ℕ → ℕ → Bool) → is ≡ false → PutIf class id is before before
+put_false class id is before so c q = sym (ap (λ i. if (c == class) && (q == id) then i || before c q else before c q) so ∙ by_test ((c == class) && (q == id)))
+  where
+    by_test : (b : Bool) → (if b then before c q else before c q) ≡ before c q
+    by_test true = refl
+    by_test false = refl

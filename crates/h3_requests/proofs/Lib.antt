@@ -13,6 +13,7 @@ pub mod Received
 pub mod Ways
 pub mod Bits
 pub mod Classed
+pub mod Ordered
 pub mod WaitingWords
 pub mod LeastBit
 pub mod ReadingBodies

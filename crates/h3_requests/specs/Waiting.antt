@@ -59,6 +59,10 @@ pub record IsOneTest (id : ℕ) (is : Bool) (before after : ℕ → Bool) : Type
 abbrev pub IsOnePlace : (class id : ℕ) → Bool → (before after : ℕ → ℕ → Bool) → Type 0
 IsOnePlace class id is before after = (c q : ℕ) → after c q ≡ (if (c == class) && (q == id) then is else before c q)
 
+-- It passes from then on if it is to, or did.
+abbrev pub PutIf : (class id : ℕ) → Bool → (before after : ℕ → ℕ → Bool) → Type 0
+PutIf class id is before after = (c q : ℕ) → after c q ≡ (if (c == class) && (q == id) then is || before c q else before c q)
+
 -- All other streams have the places that they had.
 abbrev pub KeepsOtherPlaces : (class id : ℕ) → (before after : ℕ → ℕ → Bool) → Type 0
 KeepsOtherPlaces class id before after = (c q : ℕ) → ((c == class) && (q == id)) ≡ false → after c q ≡ before c q

@@ -217,12 +217,8 @@ impl ReadyStreams {
         ensures classes { OnErr result (self.new.has_classes ≡ self.old.has_classes) }
     {
         self.reserve_class(after, id, waits)?;
-        if waits.bytes {
-            self.bytes.put(after, id);
-        }
-        if waits.end {
-            self.ends.put(after, id);
-        }
+        self.bytes.put_if(after, id, waits.bytes);
+        self.ends.put_if(after, id, waits.end);
         self.leave(before, id);
         self.reserved = None;
         self.has_classes = true;

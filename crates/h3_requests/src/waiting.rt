@@ -4,7 +4,7 @@ ghost use Rattle.std.specs.Int.{bit_not, w64};
 ghost use Rattle.h3_connection.specs.NextWaiting.{IsLeast};
 ghost use Rattle.h3_requests.specs.FirstWord.{IsFirstWord};
 ghost use Rattle.h3_requests.specs.Lesser.{lesser_of};
-ghost use Rattle.h3_requests.specs.Waiting.{has_place, is_any, is_waiting, places_at, waiting_at, word_at_number, IsClassFrom, IsFirstClass, IsOnePlace, IsOneWord, HaveSameWords, KeepsOtherPlaces};
+ghost use Rattle.h3_requests.specs.Waiting.{has_place, is_any, is_waiting, places_at, waiting_at, word_at_number, IsClassFrom, IsFirstClass, IsOnePlace, IsOneWord, HaveSameWords, KeepsOtherPlaces, PutIf};
 
 use h3_proto::stream::StreamId;
 use std::alloc::{AllocError, Global};
@@ -170,6 +170,19 @@ impl WaitingStreams {
     {
         let number = id.into_inner();
         self.add_waiting(word_of(class, number), bit_of(number));
+    }
+
+    /// The same if it is to wait, and nothing else.
+    #[tactic(auto, using(crate::proofs::Classed::put_true, crate::proofs::Classed::put_false))]
+    pub(crate) fn put_if(&mut self, class: u64, id: StreamId, waits: bool)
+        requires few { class ≤ 16 }
+        requires place { waits ≡ true → has_place self.old class id ≡ true }
+        ensures put { PutIf class id waits (is_waiting self.old) (is_waiting self.new) }
+        ensures places { (c q : ℕ) → has_place self.new c q ≡ has_place self.old c q }
+    {
+        if waits {
+            self.put(class, id);
+        }
     }
 
     // Streams are added to a word that is there.
