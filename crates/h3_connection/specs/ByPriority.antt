@@ -20,7 +20,7 @@ use Rattle.h3_connection.specs.declared.event.Refusal.TheVariants as refusal
 -- Bytes or an end wait on the stream, it is not held, and it has this urgency, and is incremental or not.
 abbrev pub sends_at : ℕ → Bool → Outgoing → Bool
 sends_at urgency incremental o =
-    (nat_lt 0 (length (part_bytes_waiting o)) || end_waits o) && not o.precedence.is_held && is_class (Some o.precedence.priority) urgency incremental
+    (nat_lt 0 (length (part_bytes_waiting o)) || end_waits o) && (not o.precedence.is_held && is_class (Some o.precedence.priority) urgency incremental)
 
 -- where the request streams stand
 abbrev pub places_of : EndpointHistory → Places

@@ -197,9 +197,17 @@ own_advanced own side id count =
 abbrev pub turned : SendOrder → ℕ → ℕ → Outgoing → ℕ → SendOrder
 turned order id count o bound = if count == 0 then order else record order { rounds = turn_over order.rounds o.precedence.priority id bound }
 
+abbrev pub order_after : EndpointHistory → ℕ → ℕ → Option Outgoing → SendOrder
+order_after e id count (Some o) = turned e.order id count o (first_above e.incoming)
+order_after e id count None = e.order
+
+-- the bytes go
+abbrev pub take_at : EndpointHistory → ℕ → ℕ → Option Outgoing → EndpointHistory
+take_at e id count (Some o) = with_outgoing e id (record o { taken = o.taken + count })
+take_at e id count None = record e { own = own_advanced e.own e.side id count }
+
 abbrev pub advance_at : EndpointHistory → ℕ → ℕ → Option Outgoing → EndpointHistory
-advance_at e id count (Some o) = record (with_outgoing e id (record o { taken = o.taken + count })) { order = turned e.order id count o (first_above e.incoming) }
-advance_at e id count None = record e { own = own_advanced e.own e.side id count }
+advance_at e id count there = record (take_at e id count there) { order = order_after e id count there }
 
 abbrev pub advance : EndpointHistory → ℕ → ℕ → EndpointHistory
 advance e id count = advance_at e id count (stream_at e.outgoing id)

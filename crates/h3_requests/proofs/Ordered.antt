@@ -1,14 +1,24 @@
 -- Streams of classes as the scheduler sees them, and a stream that goes from one class to another.
 use Rattle.std.proofs.Common.{arith, ◌≡◌, ◌≢◌, ◌<◌, ◌≤◌, ℕ, zero, suc, ◌+◌, ◌*◌, ◌/◌, ◌%◌, Bool, true, false, if◌then◌else◌, ◌&&◌, ◌||◌, refl, sym, ◌∙◌, ap, subst, inl, inr}
-use Rattle.std.specs.Prelude.{◌==◌, nat_lt, Option, Some, None, IfSome}
+use Rattle.std.specs.Prelude.{◌==◌, ◌^◌, not, nat_lt, Option, Some, None, IfSome, List}
 use Rattle.std.proofs.lemmas.Bool.{cases_eq, cases_lt}
 use Rattle.std.proofs.lemmas.Grind.{common_steps}
 use Rattle.h3_connection.specs.NextWaiting.{IsLeast}
 use Rattle.h3_connection.specs.NextWaitingLaws.{least_same}
 use Rattle.h3_scheduler.specs.Least as scheduler
-use Rattle.h3_scheduler.specs.Places.{IsFirstUrgency}
+use Rattle.h3_scheduler.specs.Places.{takes_at, IsFirstUrgency, IsNext}
+use Rattle.h3_scheduler.specs.Streams.{alike, is_class, is_it}
+use Rattle.h3_scheduler.specs.declared.round.Round.{Round}
+use Rattle.h3_blocked.specs.declared.counts.Blocked.{Blocked}
+use Rattle.h3_connection.specs.State.{RequestState, kept_at}
+use Rattle.h3_connection.specs.StreamSets.{Streams}
+use Rattle.h3_connection.specs.declared.order.Precedence.{Precedence}
+use Rattle.h3_requests.specs.Classes.{class_at, class_of}
+use Rattle.h3_requests.specs.HasBytes.{has_bytes, has_end}
+use Rattle.h3_requests.specs.Ordered.{places_in, sends_at}
+use Rattle.h3_requests.specs.declared.waiting.WaitingStreams.{WaitingStreams}
 use Rattle.h3_requests.specs.Lesser.{lesser_of}
-use Rattle.h3_requests.specs.Ready.{is_listed, is_ready, moved, stands, stands_in, ArePlain, Moves}
+use Rattle.h3_requests.specs.Ready.{is_ready, moved, stands, stands_in, AreKept, ArePlain, HasUrgency, Moves}
 use Rattle.h3_requests.specs.Waiting.{has_place, is_any, is_any_below, is_waiting, IsFirstClass, IsOnePlace, KeepsOtherPlaces, PutIf}
 use Rattle.h3_requests.specs.declared.ready.ReadyStreams.{ReadyStreams}
 use Rattle.h3_requests.specs.declared.ready.Waits.{Waits}
@@ -178,3 +188,103 @@ moves before after id waits s t u v w differ ready ending places placed put_byte
   placed = λ may. left_places after id (other_class before after id differ) ∙ same_places after id ∙ ap (λ e. has_place e after id) same_ends ∙ placed (any_end waits.end waits.may_end may);
   classes = classes;
 }
+
+-- The class of a stream says whether it is held, and else its urgency and whether it is incremental.
+differ : (a b : ℕ) → a ≢ b → (a == b) ≡ false
+differ a b differs = grind (arith, common_steps, differs)
+
+same_urgency : (n m kind : ℕ) → (n * 2 + kind == m * 2 + kind) ≡ ((m == n) && true)
+same_urgency n m kind = elim (cases_eq m n) [
+  | inl same ↦
+      let level : n * 2 + kind ≡ m * 2 + kind = omega (arith, same) in
+      let one : (n * 2 + kind == m * 2 + kind) ≡ true = grind (arith, common_steps, level) in
+      let other : (m == n) ≡ true = grind (arith, common_steps, same) in
+      rw (one, other) refl
+  | inr apart ↦ differ (n * 2 + kind) (m * 2 + kind) (λ is. apart (omega (arith, is))) ∙ sym (ap (λ b. b && true) (differ m n apart))
+]
+
+same_class : (held own incremental : Bool) (n m : ℕ) → n < 8
+    → (n * 2 + (if incremental then 1 else 0) == (if held then 16 else m * 2 + (if own then 1 else 0))) ≡ (not held && ((m == n) && alike own incremental))
+same_class true own true n m less = differ (n * 2 + 1) 16 (λ is. absurd (omega (arith, is, less)))
+same_class true own false n m less = differ (n * 2 + 0) 16 (λ is. absurd (omega (arith, is, less)))
+same_class false true true n m less = same_urgency n m 1
+same_class false false false n m less = same_urgency n m 0
+same_class false true false n m less = differ (n * 2 + 0) (m * 2 + 1) (λ is. absurd (omega (arith, is))) ∙ sym (and_false (m == n))
+same_class false false true n m less = differ (n * 2 + 1) (m * 2 + 0) (λ is. absurd (omega (arith, is))) ∙ sym (and_false (m == n))
+
+either_both : (a b c : Bool) → ((a && c) || (b && c)) ≡ ((a || b) && c)
+either_both true true true = refl
+either_both true true false = refl
+either_both true false true = refl
+either_both true false false = refl
+either_both false b c = refl
+
+-- so the places are those of the streams that send
+stands_by : (bytes end : Bool) (o : Option RequestState) (urgency : ℕ) (incremental : Bool) → IfSome o HasUrgency → bytes ≡ (has_bytes o && (urgency * 2 + (if incremental then 1 else 0) == class_at o))
+    → end ≡ (has_end o && (urgency * 2 + (if incremental then 1 else 0) == class_at o)) → (nat_lt urgency 8 && (bytes || end)) ≡ sends_at o urgency incremental
+stands_by bytes end None urgency incremental few b e = rw (b, e) (and_false (nat_lt urgency 8))
+stands_by bytes end (Some r) urgency incremental few b e = by_test (nat_lt urgency 8) refl
+  where
+    p : Precedence
+    p = r.outgoing.precedence
+
+    by_test : (t : Bool) → nat_lt urgency 8 ≡ t → (t && (bytes || end)) ≡ sends_at (Some r) urgency incremental
+    by_test true is =
+        let less : urgency < 8 = grind (arith, common_steps, is) in
+        ap (λ x. x || end) b ∙ ap (λ x. (has_bytes (Some r) && (urgency * 2 + (if incremental then 1 else 0) == class_of p)) || x) e
+        ∙ either_both (has_bytes (Some r)) (has_end (Some r)) (urgency * 2 + (if incremental then 1 else 0) == class_of p)
+        ∙ ap (λ x. (has_bytes (Some r) || has_end (Some r)) && x) (same_class p.is_held p.priority.incremental incremental urgency p.priority.urgency less)
+    by_test false is =
+        let most : 8 ≤ urgency = grind (arith, common_steps, is) in
+        let none : (p.priority.urgency == urgency) ≡ false = differ p.priority.urgency urgency (λ same. absurd (omega (arith, same, most, few))) in
+        sym (ap (λ x. (has_bytes (Some r) || has_end (Some r)) && (not p.is_held && (x && alike p.priority.incremental incremental))) none
+        ∙ ap (λ x. (has_bytes (Some r) || has_end (Some r)) && x) (and_false (not p.is_held)) ∙ and_false (has_bytes (Some r) || has_end (Some r)))
+
+pub stand_alike : {counts : Blocked} {s : ReadyStreams} {streams : Streams RequestState} {n : ℕ} → AreKept counts s n streams → (urgency : ℕ) (incremental : Bool) (q : ℕ)
+    → places_in streams urgency incremental q ≡ stands_in s urgency incremental q
+stand_alike {counts} {s} {streams} h urgency incremental q =
+    sym (stands_by (is_ready s (urgency * 2 + (if incremental then 1 else 0)) q) (is_waiting s.ends (urgency * 2 + (if incremental then 1 else 0)) q) (kept_at streams q) urgency incremental (h.classed.few q)
+    (h.ready (urgency * 2 + (if incremental then 1 else 0)) q) (h.ends.ending (urgency * 2 + (if incremental then 1 else 0)) q))
+
+-- the number of a stream that sends is that of a stream
+waits_few : (s : WaitingStreams) (class q : ℕ) → is_waiting s class q ≡ true → q < 2 ^ 62
+waits_few s class q h = let few : nat_lt q (2 ^ 62) ≡ true = second _ _ h in grind (arith, common_steps, few)
+  where
+    second : (a b : Bool) → (a && b) ≡ true → b ≡ true
+    second true b h = h
+    second false b h = absurd (cc)
+
+stands_few : (s : ReadyStreams) (class q : ℕ) → stands s class q ≡ true → q < 2 ^ 62
+stands_few s class q h = by_bytes (is_ready s class q) refl
+  where
+    by_bytes : (b : Bool) → is_ready s class q ≡ b → q < 2 ^ 62
+    by_bytes true is = waits_few s.bytes class q is
+    by_bytes false is = waits_few s.ends class q (sym (ap (λ b. b || is_waiting s.ends class q) is) ∙ h)
+
+place_few : (s : ReadyStreams) (urgency : ℕ) (incremental : Bool) (q : ℕ) → stands_in s urgency incremental q ≡ true → q < 2 ^ 62
+place_few s urgency incremental q h = stands_few s (urgency * 2 + (if incremental then 1 else 0)) q (second _ _ h)
+  where
+    second : (a b : Bool) → (a && b) ≡ true → b ≡ true
+    second true b h = h
+    second false b h = absurd (cc)
+
+takes_few : (s : ReadyStreams) (urgency : ℕ) (plain : Option ℕ) (q : ℕ) → takes_at (stands_in s) urgency plain q ≡ true → q < 2 ^ 62
+takes_few s urgency plain q h = by_shared (stands_in s urgency true q) refl
+  where
+    first : (a b : Bool) → (a && b) ≡ true → a ≡ true
+    first true b h = refl
+    first false b h = absurd (cc)
+
+    by_shared : (b : Bool) → stands_in s urgency true q ≡ b → q < 2 ^ 62
+    by_shared true is = place_few s urgency true q is
+    by_shared false is = place_few s urgency false q (first _ _ (sym (ap (λ b. b || (stands_in s urgency false q && is_it plain q)) is) ∙ h))
+
+pub next_few : (s : ReadyStreams) (rounds : List Round) (id : ℕ) → IsNext (stands_in s) rounds (Some id) → id < 2 ^ 62
+next_few s rounds id h = elim h.turn [
+  | inl in_round ↦ takes_few s h.urgency h.plain id (first _ _ in_round.1)
+  | inr another ↦ takes_few s h.urgency h.plain id another.1.1
+]
+  where
+    first : (a b : Bool) → (a && b) ≡ true → a ≡ true
+    first true b h = refl
+    first false b h = absurd (cc)

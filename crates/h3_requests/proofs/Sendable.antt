@@ -1,6 +1,6 @@
 -- Which streams are ready goes along when a call changes the streams, and so do the counts.
 use Rattle.std.proofs.Common.{arith, ◌≡◌, ℕ, zero, suc, Bool, true, false, if◌then◌else◌, List, [], ◌∷◌, length, sym, ◌∙◌, ap, refl, subst, inl, inr}
-use Rattle.std.specs.Prelude.{◌≢◌, ◌<◌, ◌≤◌, ◌*◌, ◌/◌, ◌^◌, ◌&&◌, ◌||◌, ◌==◌, Option, Some, None, IfSome, min, nat_lt, is_some}
+use Rattle.std.specs.Prelude.{◌≢◌, ◌<◌, ◌≤◌, ◌+◌, ◌*◌, ◌/◌, ◌^◌, ◌&&◌, ◌||◌, ◌==◌, Option, Some, None, IfSome, min, nat_lt, is_some}
 use Rattle.std.proofs.lemmas.Bool.{cases_eq, cases_lt}
 use Rattle.std.proofs.lemmas.Grind.{common_steps}
 use Rattle.std.proofs.lemmas.List.{length-drop}
@@ -21,7 +21,9 @@ use Rattle.h3_requests.specs.Counted.{AreCounted}
 use Rattle.h3_requests.specs.Lending.{Writes}
 use Rattle.h3_requests.specs.Over.{IsOver, with_end_taken}
 use Rattle.h3_requests.proofs.Ways.{over_pieces}
-use Rattle.h3_requests.specs.Ready.{AreClassed, AreEnding, AreKept, ArePlain, AreReady, is_ready}
+use Rattle.h3_connection.specs.Order.{default_precedence}
+use Rattle.h3_connection.specs.declared.order.Precedence.{Precedence}
+use Rattle.h3_requests.specs.Ready.{AreClassed, HasUrgency, AreEnding, AreKept, ArePlain, AreReady, is_ready}
 use Rattle.h3_requests.specs.Seen.{AreSeen}
 use Rattle.h3_requests.specs.declared.waiting.WaitingStreams.{WaitingStreams}
 use Rattle.h3_requests.specs.declared.ready.ReadyStreams.{ReadyStreams}
@@ -113,11 +115,17 @@ pub keep_others : (class id : ℕ) (e f : WaitingStreams) → KeepsOtherPlaces c
 keep_others class id e f keeps c q differs has = keeps c q (ap (λ b. (c == class) && b) (apart q id differs) ∙ and_false (c == class)) ∙ has
 
 -- a stream keeps its class, and so do all others
-same_classes : (s t : ReadyStreams) (old new : Streams RequestState) (id : ℕ) → t.has_classes ≡ s.has_classes → class_at (kept_at new id) ≡ class_at (kept_at old id)
+few_at : (s : ReadyStreams) (old new : Streams RequestState) (id : ℕ) → IfSome (kept_at new id) HasUrgency → ((q : ℕ) → q ≢ id → kept_at new q ≡ kept_at old q) → AreClassed s old → (q : ℕ) → IfSome (kept_at new q) HasUrgency
+few_at s old new id own others h q = elim (cases_eq q id) [
+  | inl same ↦ subst (λ k. IfSome (kept_at new k) HasUrgency) (sym same) own
+  | inr differs ↦ subst (λ o. IfSome o HasUrgency) (sym (others q differs)) (h.few q)
+]
+
+same_classes : (s t : ReadyStreams) (old new : Streams RequestState) (id : ℕ) → t.has_classes ≡ s.has_classes → class_at (kept_at new id) ≡ class_at (kept_at old id) → IfSome (kept_at new id) HasUrgency
     → ((q : ℕ) → q ≢ id → kept_at new q ≡ kept_at old q) → AreClassed s old → AreClassed t new
-same_classes s t old new id has own others h =
+same_classes s t old new id has own urgent others h =
     record {
-      few = λ q. let is : class_at (kept_at new q) ≡ class_at (kept_at old q) = alike q in let most : class_at (kept_at old q) ≤ 16 = h.few q in omega (arith, is, most);
+      few = few_at s old new id urgent others h;
       plain = λ none q. alike q ∙ h.plain (sym has ∙ none) q;
     }
   where
@@ -128,14 +136,11 @@ same_classes s t old new id has own others h =
     ]
 
 -- or is of that of which nothing was said
-plain_class : (s t : ReadyStreams) (old new : Streams RequestState) (id : ℕ) → t.has_classes ≡ s.has_classes → class_at (kept_at new id) ≡ 6
+plain_class : (s t : ReadyStreams) (old new : Streams RequestState) (id : ℕ) → t.has_classes ≡ s.has_classes → class_at (kept_at new id) ≡ 6 → IfSome (kept_at new id) HasUrgency
     → ((q : ℕ) → q ≢ id → kept_at new q ≡ kept_at old q) → AreClassed s old → AreClassed t new
-plain_class s t old new id has own others h =
+plain_class s t old new id has own urgent others h =
     record {
-      few = λ q. elim (cases_eq q id) [
-        | inl same ↦ let is : class_at (kept_at new q) ≡ 6 = ap (λ k. class_at (kept_at new k)) same ∙ own in omega (arith, is)
-        | inr differs ↦ let is : class_at (kept_at new q) ≡ class_at (kept_at old q) = ap class_at (others q differs) in let most : class_at (kept_at old q) ≤ 16 = h.few q in omega (arith, is, most)
-      ];
+      few = few_at s old new id urgent others h;
       plain = λ none q. elim (cases_eq q id) [
         | inl same ↦ ap (λ k. class_at (kept_at new k)) same ∙ own
         | inr differs ↦ ap class_at (others q differs) ∙ h.plain (sym has ∙ none) q
@@ -223,14 +228,18 @@ after_call : {n : ℕ} (counts others : Blocked) (s t : ReadyStreams) (old new :
     → ((c q : ℕ) → q ≢ id → has_place s.ends c q ≡ true → has_place t.ends c q ≡ true) → (takes_end after.outgoing ≡ true → has_place t.ends (class_at (Some before)) id ≡ true) → AreKept counts s n old
     → AreKept others t n new
 after_call counts others s t old new id before after was sets same has counted bytes end places own h =
-    let class : class_at (kept_at new id) ≡ class_at (Some before) = ap class_at sets.here ∙ ap class_of same in record {
+    let class : class_at (kept_at new id) ≡ class_at (Some before) = ap class_at sets.here ∙ ap class_of same in
+    let few : HasUrgency before = subst (λ o. IfSome o HasUrgency) was (h.classed.few id) in
+    let still : HasUrgency after = subst (λ (p : Precedence). p.priority.urgency ≤ 7) (sym same) few in
+    let urgent : IfSome (kept_at new id) HasUrgency = subst (λ o. IfSome o HasUrgency) (sym sets.here) still in
+    record {
       counted = counted;
       ready = ready_at s t old new (class_at (Some before)) id (has_bytes (Some after)) bytes (sym (ap has_bytes sets.here)) (ap class_at was) class sets.others h.ready;
       ends =
           ends_at s.ends t.ends old new (class_at (Some before)) id (has_end (Some after)) end places (sym (ap has_end sets.here)) (ap class_at was) class
           (λ may. ap (λ k. has_place t.ends k id) class ∙ own (sym (ap may_end sets.here) ∙ may)) sets.others h.ends;
       seen_at_least = seen_set old new id after sets h.seen_at_least;
-      classed = same_classes s t old new id has (class ∙ sym (ap class_at was)) sets.others h.classed;
+      classed = same_classes s t old new id has (class ∙ sym (ap class_at was)) urgent sets.others h.classed;
     }
 
 -- a stream that may be finished has a place
@@ -341,7 +350,7 @@ end_gone counts s t old new class id before after writes there same taken next i
 
 -- a stream came on which nothing has happened, in the place of one whose count was taken out
 pub inserted : {n m : ℕ} (counts others : Blocked) (s t : ReadyStreams) (old new : Streams RequestState) (class id count : ℕ) (r : RequestState) → Sets old new id r → HaveDistinctIds new
-    → r.incoming.waits_for ≡ 0 → has_bytes (Some r) ≡ false → has_end (Some r) ≡ false → may_end (Some r) ≡ false → class_at (Some r) ≡ 6 → count ≡ waits_at (kept_at old id) → IsSound others → Replaces counts others count 0
+    → r.incoming.waits_for ≡ 0 → has_bytes (Some r) ≡ false → has_end (Some r) ≡ false → may_end (Some r) ≡ false → r.outgoing.precedence ≡ default_precedence → count ≡ waits_at (kept_at old id) → IsSound others → Replaces counts others count 0
     → class ≡ class_at (kept_at old id) → IsOnePlace class id false (is_ready s) (is_ready t) → IsOnePlace class id false (is_waiting s.ends) (is_waiting t.ends) → KeepsOtherPlaces class id (has_place s.ends) (has_place t.ends)
     → t.has_classes ≡ s.has_classes → AreKept counts s n old → AreSeen m new → AreKept others t m new
 inserted counts others s t old new class id count r sets distinct nothing none no_end unsent plain is sound replaces is_class one end places has h seen =
@@ -353,12 +362,14 @@ inserted counts others s t old new class id count r sets distinct nothing none n
         placed = placed_at s.ends t.ends old new id (keep_others class id s.ends t.ends places) (λ may. absurd (let wrong : false ≡ true = sym (ap may_end sets.here ∙ unsent) ∙ may in cc)) sets.others h.ends;
       };
       seen_at_least = seen;
-      classed = plain_class s t old new id has (ap class_at sets.here ∙ plain) sets.others h.classed;
+      classed =
+          plain_class s t old new id has (ap class_at sets.here ∙ ap class_of plain)
+          (subst (λ o. IfSome o HasUrgency) (sym sets.here) (subst (λ (p : Precedence). p.priority.urgency ≤ 7) (sym plain) (omega arith))) sets.others h.classed;
     }
 
 -- or where none was
 pub came : {n m : ℕ} (counts : Blocked) (s : ReadyStreams) (old new : Streams RequestState) (id : ℕ) (r : RequestState) → Sets old new id r → HaveDistinctIds new
-    → r.incoming.waits_for ≡ 0 → has_bytes (Some r) ≡ false → has_end (Some r) ≡ false → may_end (Some r) ≡ false → class_at (Some r) ≡ 6 → kept_at old id ≡ None → AreKept counts s n old → AreSeen m new → AreKept counts s m new
+    → r.incoming.waits_for ≡ 0 → has_bytes (Some r) ≡ false → has_end (Some r) ≡ false → may_end (Some r) ≡ false → r.outgoing.precedence ≡ default_precedence → kept_at old id ≡ None → AreKept counts s n old → AreSeen m new → AreKept counts s m new
 came counts s old new id r sets distinct nothing none no_end unsent plain absent h seen =
     inserted counts counts s s old new 6 id 0 r sets distinct nothing none no_end unsent plain (sym (ap waits_at absent)) h.counted.sound (λ n. refl) (sym (ap class_at absent))
     (as_it_was has_bytes (is_ready s) (is_ready s) old 6 id false (λ c q. refl) (ap class_at absent) (ap has_bytes absent) h.ready)
@@ -378,7 +389,7 @@ removed counts others s t old new class id count takes distinct is sound replace
         placed = placed_at s.ends t.ends old new id (keep_others class id s.ends t.ends places) (λ may. absurd (let wrong : false ≡ true = sym (ap may_end takes.here) ∙ may in cc)) takes.others h.ends;
       };
       seen_at_least = seen;
-      classed = plain_class s t old new id has (ap class_at takes.here) takes.others h.classed;
+      classed = plain_class s t old new id has (ap class_at takes.here) (subst (λ o. IfSome o HasUrgency) (sym takes.here) tt) takes.others h.classed;
     }
 
 -- what waits once some of it was taken waited before
@@ -473,8 +484,22 @@ any_below waits passes class q (suc n) h =
     by_test true = one_more
     by_test false = refl
 
-any_of : (waits : ℕ → ℕ → Bool) (passes : Option RequestState → Bool) (streams : Streams RequestState) (q : ℕ) → class_at (kept_at streams q) ≤ 16 → InClass waits passes streams → is_any waits q ≡ passes (kept_at streams q)
-any_of waits passes streams q few h =
+-- there are 17 classes
+class_few : (p : Precedence) → p.priority.urgency ≤ 7 → class_of p ≤ 16
+class_few p few = by_tests p.is_held p.priority.incremental
+  where
+    by_tests : (b d : Bool) → (if b then 16 else p.priority.urgency * 2 + (if d then 1 else 0)) ≤ 16
+    by_tests true d = omega arith
+    by_tests false true = omega (arith, few)
+    by_tests false false = omega (arith, few)
+
+few_classes : (o : Option RequestState) → IfSome o HasUrgency → class_at o ≤ 16
+few_classes None h = omega arith
+few_classes (Some r) h = class_few r.outgoing.precedence h
+
+any_of : (waits : ℕ → ℕ → Bool) (passes : Option RequestState → Bool) (streams : Streams RequestState) (q : ℕ) → IfSome (kept_at streams q) HasUrgency → InClass waits passes streams → is_any waits q ≡ passes (kept_at streams q)
+any_of waits passes streams q urgent h =
+    let few : class_at (kept_at streams q) ≤ 16 = few_classes (kept_at streams q) urgent in
     let yes : nat_lt (class_at (kept_at streams q)) 17 ≡ true = grind (arith, common_steps, few) in
     any_below waits (passes (kept_at streams q)) (class_at (kept_at streams q)) q 17 (λ c. h c q) ∙ ap (λ b. passes (kept_at streams q) && b) yes ∙ and_true (passes (kept_at streams q))
 

@@ -16,7 +16,7 @@ precedence_at r = option_map (λ x. x.outgoing.precedence) r
 abbrev pub sends_at : Option RequestState → ℕ → Bool → Bool
 sends_at None urgency incremental = false
 sends_at (Some r) urgency incremental =
-    (has_bytes (Some r) || has_end (Some r)) && not r.outgoing.precedence.is_held && is_class (Some r.outgoing.precedence.priority) urgency incremental
+    (has_bytes (Some r) || has_end (Some r)) && (not r.outgoing.precedence.is_held && is_class (Some r.outgoing.precedence.priority) urgency incremental)
 
 abbrev pub places_in : Streams RequestState → Places
 places_in streams urgency incremental id = sends_at (kept_at streams id) urgency incremental

@@ -1,5 +1,5 @@
 -- Which streams are ready: bytes wait on them.
-use Rattle.std.specs.Prelude.{◌≡◌, ◌≢◌, ◌≤◌, ℕ, ◌+◌, ◌*◌, Bool, true, false, ◌&&◌, ◌||◌, ◌==◌, if◌then◌else◌, nat_lt}
+use Rattle.std.specs.Prelude.{◌≡◌, ◌≢◌, ◌≤◌, ℕ, ◌+◌, ◌*◌, Bool, true, false, ◌&&◌, ◌||◌, ◌==◌, if◌then◌else◌, nat_lt, IfSome}
 use Rattle.h3_blocked.specs.declared.counts.Blocked.{Blocked}
 use Rattle.h3_connection.specs.State.{RequestState, kept_at}
 use Rattle.h3_connection.specs.StreamSets.{Streams}
@@ -55,9 +55,13 @@ pub record AreEnding (e : WaitingStreams) (streams : Streams RequestState) : Typ
   pub ending : (c q : ℕ) → is_waiting e c q ≡ (has_end (kept_at streams q) && (c == class_at (kept_at streams q)))
   pub placed : (q : ℕ) → may_end (kept_at streams q) ≡ true → has_place e (class_at (kept_at streams q)) q ≡ true
 
--- there are 17 classes, and all streams are of one until one is of another
+-- an urgency is at most 7
+abbrev pub HasUrgency : RequestState → Type 0
+HasUrgency r = r.outgoing.precedence.priority.urgency ≤ 7
+
+-- there are eight urgencies, and all streams are of one class until one is of another
 pub record AreClassed (s : ReadyStreams) (streams : Streams RequestState) : Type 0 where
-  pub few : (q : ℕ) → class_at (kept_at streams q) ≤ 16
+  pub few : (q : ℕ) → IfSome (kept_at streams q) HasUrgency
   pub plain : s.has_classes ≡ false → (q : ℕ) → class_at (kept_at streams q) ≡ 6
 
 -- What is kept beside the streams is what they say.

@@ -15,9 +15,11 @@ pub(crate) const PLAIN: u64 = 6;
 pub(crate) fn class_of(precedence: Precedence) -> u64
     ensures value { result ≡ class_of precedence }
     ensures few { result ≤ 16 }
+    ensures urgency { precedence.priority.urgency ≤ 7 }
 {
+    let urgency = precedence.priority.urgency() as u64;
     if precedence.is_held {
         return HELD;
     }
-    precedence.priority.urgency() as u64 * 2 + precedence.priority.is_incremental() as u64
+    urgency * 2 + precedence.priority.is_incremental() as u64
 }

@@ -147,3 +147,33 @@ next_in_another places rounds u plain shared again None (Some id) first h k l wa
             subst (IsLeast (takes_at places u plain) 0) (sym is) (turn_of_all places u plain again h l),
           );
     }
+
+-- places that are alike have the same next
+first_alike : (places others : Places) (first : Option ℕ) → ((urgency : ℕ) (incremental : Bool) (q : ℕ) → others urgency incremental q ≡ places urgency incremental q) → IsFirstUrgency places first → IsFirstUrgency others first
+first_alike places others None same h = λ urgency incremental q. same urgency incremental q ∙ h urgency incremental q
+first_alike places others (Some first) same h = ((h.0.0, h.0.1, same first h.0.0 h.0.1 ∙ h.0.2), λ urgency incremental q less. same urgency incremental q ∙ h.1 urgency incremental q less)
+
+takes_alike : (places others : Places) (urgency : ℕ) (plain : Option ℕ) → ((urgency : ℕ) (incremental : Bool) (q : ℕ) → others urgency incremental q ≡ places urgency incremental q) → (q : ℕ)
+    → takes_at others urgency plain q ≡ takes_at places urgency plain q
+takes_alike places others urgency plain same q =
+    ap (λ b. b || (others urgency false q && is_it plain q)) (same urgency true q) ∙ ap (λ b. places urgency true q || (b && is_it plain q)) (same urgency false q)
+
+pub next_alike : (places others : Places) (rounds : List Round) (found : Option ℕ) → ((urgency : ℕ) (incremental : Bool) (q : ℕ) → others urgency incremental q ≡ places urgency incremental q)
+    → IsNext places rounds found → IsNext others rounds found
+next_alike places others rounds None same h = first_alike places others None same h
+next_alike places others rounds (Some id) same h =
+    record {
+      urgency = h.urgency;
+      first = first_alike places others (Some h.urgency) same h.first;
+      plain = h.plain;
+      least = least_alike (places h.urgency false) (others h.urgency false) 0 h.plain (λ q. sym (same h.urgency false q)) h.least;
+      turn = elim h.turn [
+        | inl here ↦ inl (least_alike (λ q. takes_at places h.urgency h.plain q && is_in (round_at rounds h.urgency) q) (λ q. takes_at others h.urgency h.plain q && is_in (round_at rounds h.urgency) q) 0 (Some id)
+            (λ q. sym (ap (λ b. b && is_in (round_at rounds h.urgency) q) (takes_alike places others h.urgency h.plain same q))) here)
+        | inr another ↦ inr (
+            least_alike (λ q. takes_at places h.urgency h.plain q && is_in (round_at rounds h.urgency) q) (λ q. takes_at others h.urgency h.plain q && is_in (round_at rounds h.urgency) q) 0 None
+            (λ q. sym (ap (λ b. b && is_in (round_at rounds h.urgency) q) (takes_alike places others h.urgency h.plain same q))) another.0,
+            least_alike (takes_at places h.urgency h.plain) (takes_at others h.urgency h.plain) 0 (Some id) (λ q. sym (takes_alike places others h.urgency h.plain same q)) another.1,
+          )
+      ];
+    }
