@@ -377,10 +377,10 @@ impl OutgoingStream {
     }
 
     /// It goes before others by this from now on. It takes no memory.
-    pub fn set_precedence(&mut self, precedence: Precedence)
-        ensures { self.new ≡ preceding precedence self.old }
+    pub fn set_precedence(&mut self, precedence: &Precedence)
+        ensures { self.new ≡ preceding precedence.now self.old }
     {
-        self.precedence = precedence;
+        self.precedence = *precedence;
     }
 
     /// The place in the message.

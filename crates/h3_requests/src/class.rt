@@ -12,10 +12,10 @@ pub(crate) const PLAIN: u64 = 6;
 
 /// The class of a stream. A class of a more urgent stream is less, and of one urgency the streams that are not incremental come first.
 #[inline(always)]
-pub(crate) fn class_of(precedence: Precedence) -> u64
-    ensures value { result ≡ class_of precedence }
+pub(crate) fn class_of(precedence: &Precedence) -> u64
+    ensures value { result ≡ class_of precedence.now }
     ensures few { result ≤ 16 }
-    ensures urgency { precedence.priority.urgency ≤ 7 }
+    ensures urgency { precedence.now.priority.urgency ≤ 7 }
 {
     let urgency = precedence.priority.urgency() as u64;
     if precedence.is_held {

@@ -82,7 +82,7 @@ impl RequestStream {
         ensures value { result ≡ class_at (Some self.now) }
         ensures few { result ≤ 16 }
     {
-        class_of(self.outgoing.precedence())
+        class_of(&self.outgoing.precedence())
     }
 
     // Whether its end or its reset came: nothing more comes then.
@@ -231,12 +231,12 @@ fn sends_alike(stream: &OutgoingStream, other: &OutgoingStream) -> bool
         && stream.is_finished() == other.is_finished()
         && stream.is_reset() == other.is_reset()
         && stream.end_taken() == other.end_taken()
-        && precede_alike(stream.precedence(), other.precedence())
+        && precede_alike(&stream.precedence(), &other.precedence())
 }
 
 // Whether both go before the same.
-fn precede_alike(one: Precedence, other: Precedence) -> bool
-    ensures { result ≡ true → one ≡ other }
+fn precede_alike(one: &Precedence, other: &Precedence) -> bool
+    ensures { result ≡ true → one.now ≡ other.now }
 {
     one.priority.urgency() == other.priority.urgency()
         && one.priority.is_incremental() == other.priority.is_incremental()

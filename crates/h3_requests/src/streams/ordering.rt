@@ -38,7 +38,7 @@ impl RequestStreams {
             return PLAIN;
         }
         match self.precedence(id) {
-            Some(precedence) => class_of(precedence),
+            Some(precedence) => class_of(&precedence),
             None => PLAIN,
         }
     }
@@ -60,7 +60,7 @@ impl RequestStreams {
         let Some(there) = self.precedence(id) else {
             return Err(Refusal::NotOpen);
         };
-        self.change_precedence(alloc, id, Precedence { priority, ..there })
+        self.change_precedence(alloc, id, &Precedence { priority, ..there })
     }
 
     /// A stream is passed over from now on, or not any longer. Refused are, in this order, a stream that is not there, and a failed allocation.
@@ -75,7 +75,7 @@ impl RequestStreams {
         let Some(there) = self.precedence(id) else {
             return Err(Refusal::NotOpen);
         };
-        self.change_precedence(alloc, id, Precedence { is_held, ..there })
+        self.change_precedence(alloc, id, &Precedence { is_held, ..there })
     }
 
     // The same of both, of a stream that is there. (One that is over is under way meanwhile.)
@@ -83,10 +83,10 @@ impl RequestStreams {
         &mut self,
         alloc: Global,
         id: StreamId,
-        precedence: Precedence,
+        precedence: &Precedence,
     ) -> Result<(), Refusal>
         requires { IsSome (kept_at self.old id) }
-        ensures ok { OnOk result (IfSome (kept_at self.old id) (λ r. Sets self.old self.new id (record r { outgoing = preceding precedence r.outgoing }))) }
+        ensures ok { OnOk result (IfSome (kept_at self.old id) (λ r. Sets self.old self.new id (record r { outgoing = preceding precedence.now r.outgoing }))) }
         ensures why { IfErr result (λ r. r ≡ OutOfMemory) }
         ensures err { OnErr result (AllSame self.old self.new) }
     {

@@ -1,9 +1,9 @@
 //! Which stream sends next, and what goes before what (RFC 9218, section 10).
 ghost use Rattle.std.specs.Prelude.{◌≡◌, ◌<◌, ◌^◌, Some, None};
 ghost use Rattle.h3_connection.specs.ByPriority.{Holds, SetsPriority, ShowsNextByPriority};
-ghost use Rattle.h3_connection.specs.FirstAbove.{first_above};
-ghost use Rattle.h3_connection.specs.Order.{own_held, rounds_begun, rounds_of, turn_over};
-ghost use Rattle.h3_session.specs.Turns.{own_sends_in, first_own_in, turned_in};
+ghost use Rattle.h3_connection.specs.Order.{own_held, rounds_begun, turn_over};
+ghost use Rattle.h3_connection.specs.OwnIds.{is_own};
+ghost use Rattle.h3_session.specs.Turns.{own_sends_in, first_own_in, turn_in, EndsTurn};
 
 use super::Endpoint;
 use super::next::control_id;
@@ -100,19 +100,38 @@ impl Endpoint {
     }
 
     // The turn of a request stream is over, if bytes of it are taken, and turns count.
-    #[inline(never)]
+    #[inline(always)]
     pub(super) fn end_turn(&mut self, id: StreamId, count: usize)
-        ensures { self.new ≡ turned_in self.old id count }
+        ensures { EndsTurn self.old self.new id count }
     {
-        let Some(stream) = self.sender(id) else {
+        if self.order.rounds.is_some() {
+            self.end_turn_of(id, count);
+        }
+    }
+
+    // The same.
+    #[inline(never)]
+    fn end_turn_of(&mut self, id: StreamId, count: usize)
+        ensures { EndsTurn self.old self.new id count }
+    {
+        let Some((priority, waiting)) = self.turn_of(id) else {
             return;
         };
-        if count == 0 || stream.waiting() == 0 {
+        if count.min(waiting) == 0 {
             return;
         }
-        let priority = stream.precedence().priority;
         let until = self.first_unseen();
         end_turn(&mut self.order, priority, id, until);
+    }
+
+    // The priority of a request stream, and how many bytes wait on it.
+    fn turn_of(&self, id: StreamId) -> Option<(Priority, usize)>
+        ensures { result ≡ turn_in self.now id }
+    {
+        match self.sender(id) {
+            Some(stream) => Some((stream.precedence().priority, stream.waiting())),
+            None => None,
+        }
     }
 }
 
@@ -137,6 +156,7 @@ fn begin_rounds(order: &mut SendOrder)
 // A local unidirectional stream is held, or not any longer, and this returns whether it is one.
 fn hold_own(order: &mut SendOrder, side: Side, id: StreamId, is_held: bool) -> bool
     ensures order { order.new ≡ own_held order.old side id is_held }
+    ensures own { result ≡ is_own side id }
 {
     let control = control_id(side);
     let number = id.into_inner();

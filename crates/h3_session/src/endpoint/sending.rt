@@ -14,6 +14,7 @@ ghost use Rattle.h3_outgoing.specs.Sent.{has_body, has_ended, was_cut_off};
 ghost use Rattle.h3_requests.specs.Refused.{data_refused_at, end_refused_at, reset_refused_at};
 ghost use Rattle.h3_session.specs.Held.{HoldsNone, LendsFront, SendsBodyOf};
 ghost use Rattle.h3_session.specs.NextRequest.{ShowsNextRequest};
+ghost use Rattle.h3_session.specs.Turns.{TakesBytes};
 ghost use Rattle.h3_session.specs.Refused.{sender_in, critical_refused, goaway_refused, open_refused};
 
 use super::Endpoint;
@@ -268,9 +269,14 @@ impl Endpoint {
     pub fn advance(&mut self, id: StreamId, count: usize)
         ensures { Advances self.old self.new id count }
     {
-        if self.order.rounds.is_some() {
-            self.end_turn(id, count);
-        }
+        self.end_turn(id, count);
+        self.take_bytes(id, count);
+    }
+
+    // Takes these bytes, and ends no turn.
+    fn take_bytes(&mut self, id: StreamId, count: usize)
+        ensures { TakesBytes self.old self.new id count }
+    {
         if self.advance_request(id, count) {
             return;
         }
@@ -288,7 +294,7 @@ impl Endpoint {
 
     fn advance_own(&mut self, id: StreamId, count: usize)
         requires { sender_in self.old id ≡ None }
-        ensures { Advances self.old self.new id count }
+        ensures { TakesBytes self.old self.new id count }
     {
         let waiting = self.own_outgoing(id).len();
         take_own(&mut self.streams, self.side, id, count.min(waiting));
