@@ -183,6 +183,7 @@ static void of_refusals(void) {
   ask();
   IS(h3_set_priority(&ends[SERVER], 1ull << 62, 0, 0, &detail), H3_ARGUMENT);
   IS(h3_set_priority(&ends[SERVER], 0, 8, 0, &detail), H3_ARGUMENT);
+  IS(h3_set_priority(&ends[SERVER], 0, 263, 0, &detail), H3_ARGUMENT); /* 7 in its low byte */
   IS(h3_set_priority(&ends[SERVER], 0, 0, 2, &detail), H3_ARGUMENT);
   IS(h3_set_priority(&ends[SERVER], 3, 0, 0, &detail), H3_NOT_REQUEST_ID);
   IS(h3_set_priority(&ends[SERVER], 4, 0, 0, &detail), H3_NOT_OPEN);
