@@ -23,10 +23,11 @@ use Rattle.h3_requests.specs.Over.{IsOver, with_end_taken}
 use Rattle.h3_requests.proofs.Ways.{over_pieces}
 use Rattle.h3_connection.specs.Order.{default_precedence}
 use Rattle.h3_connection.specs.declared.order.Precedence.{Precedence}
-use Rattle.h3_requests.specs.Ready.{AreClassed, HasUrgency, AreEnding, AreKept, ArePlain, AreReady, is_ready}
+use Rattle.h3_requests.specs.Ready.{AreClassed, HasUrgency, AreEnding, AreKept, ArePlain, AreReady, Moves, is_ready, moved as moved_so}
 use Rattle.h3_requests.specs.Seen.{AreSeen}
 use Rattle.h3_requests.specs.declared.waiting.WaitingStreams.{WaitingStreams}
 use Rattle.h3_requests.specs.declared.ready.ReadyStreams.{ReadyStreams}
+use Rattle.h3_requests.specs.declared.ready.Waits.{Waits}
 use Rattle.h3_requests.proofs.Counts as counting
 
 and_true : (b : Bool) → (b && true) ≡ b
@@ -39,6 +40,13 @@ and_false false = refl
 
 itself : (n : ℕ) → (n == n) ≡ true
 itself n = grind (arith, common_steps)
+
+or_false : (b : Bool) → (b || false) ≡ b
+or_false true = refl
+or_false false = refl
+
+same_number : (a b : ℕ) → (a == b) ≡ true → a ≡ b
+same_number a b e = grind (arith, common_steps)
 
 apart : (a b : ℕ) → a ≢ b → (a == b) ≡ false
 apart a b differs = grind (arith, common_steps, differs)
@@ -508,3 +516,77 @@ any_bytes {counts} {s} {streams} h q = any_of (is_ready s) has_bytes streams q (
 
 pub any_end : {counts : Blocked} {s : ReadyStreams} {streams : Streams RequestState} {n : ℕ} → AreKept counts s n streams → (q : ℕ) → is_any (is_waiting s.ends) q ≡ has_end (kept_at streams q)
 any_end {counts} {s} {streams} h q = any_of (is_waiting s.ends) has_end streams q (h.classed.few q) h.ends.ending
+
+-- a stream goes to another class, and what of it waits goes along
+here_moved : (passes : Bool) (before after was is c : ℕ) (other : Bool) → before ≢ after → was ≡ before → is ≡ after → other ≡ (passes && (c == was))
+    → (if (c == before) && true then false else (if (c == after) && true then passes || other else other)) ≡ (passes && (c == is))
+here_moved passes before after was is c other differ old new same = rw (old, new, same) (by_tests (c == before) refl (c == after) refl)
+  where
+    by_tests : (b : Bool) → (c == before) ≡ b → (d : Bool) → (c == after) ≡ d
+        → (if b && true then false else (if d && true then passes || (passes && b) else passes && b)) ≡ (passes && d)
+    by_tests true e true f = absurd (differ (sym (same_number c before e) ∙ same_number c after f))
+    by_tests true e false f = sym (and_false passes)
+    by_tests false e true f = ap (λ b. passes || b) (and_false passes) ∙ or_false passes ∙ sym (and_true passes)
+    by_tests false e false f = refl
+
+moved_class : (passes : Option RequestState → Bool) (w v : ℕ → ℕ → Bool) (old new : Streams RequestState) (before after id : ℕ) (is : Bool) → before ≢ after → ((c q : ℕ) → v c q ≡ moved_so before after id is w c q)
+    → is ≡ passes (kept_at old id) → passes (kept_at new id) ≡ passes (kept_at old id) → class_at (kept_at old id) ≡ before → class_at (kept_at new id) ≡ after → ((q : ℕ) → q ≢ id → kept_at new q ≡ kept_at old q)
+    → InClass w passes old → InClass v passes new
+moved_class passes w v old new before after id is differ moves own kept was now others h c q = elim (cases_eq q id) [
+  | inl same ↦
+      rw same (moves c id ∙ ap (λ b. if (c == before) && b then false else (if (c == after) && b then is || w c id else w c id)) (itself id)
+      ∙ ap (λ i. if (c == before) && true then false else (if (c == after) && true then i || w c id else w c id)) own
+      ∙ here_moved (passes (kept_at old id)) before after (class_at (kept_at old id)) (class_at (kept_at new id)) c (w c id) differ was now (h c id)
+      ∙ ap (λ b. b && (c == class_at (kept_at new id))) (sym kept))
+  | inr differs ↦
+      moves c q ∙ ap (λ b. if b then false else (if (c == after) && (q == id) then is || w c q else w c q)) (ap (λ b. (c == before) && b) (apart q id differs) ∙ and_false (c == before))
+      ∙ ap (λ b. if b then is || w c q else w c q) (ap (λ b. (c == after) && b) (apart q id differs) ∙ and_false (c == after)) ∙ h c q
+      ∙ ap (λ o. passes o && (c == class_at o)) (sym (others q differs))
+]
+
+pub reclassed : {under_way : Option RequestState} {n : ℕ} (counts : Blocked) (s t : ReadyStreams) (old new : Streams RequestState) (class id : ℕ) (waits : Waits) (before after : RequestState) → Writes old new under_way id after
+    → under_way ≡ Some before → after.incoming.waits_for ≡ before.incoming.waits_for → after.outgoing.pieces ≡ before.outgoing.pieces → end_waits after.outgoing ≡ end_waits before.outgoing
+    → takes_end after.outgoing ≡ takes_end before.outgoing → class ≡ class_at (Some before) → class ≢ class_at (Some after) → HasUrgency after → waits.bytes ≡ has_bytes (Some before) → waits.end ≡ has_end (Some before)
+    → waits.may_end ≡ takes_end before.outgoing → Moves class (class_at (Some after)) id waits s t → AreKept counts s n old → AreKept counts t n new
+reclassed counts s t old new class id waits before after writes there same pieces end takes is_class differ urgent bytes ends may moves h =
+    let was = counting.kept_there old new id before after writes there in
+    let sets : Sets old new id after = writes.0 (ap is_some there) in
+    let class_was : class_at (kept_at old id) ≡ class = ap class_at was ∙ sym is_class in
+    record {
+      counted = counting.written counts old new id before after writes there same h.counted;
+      ready =
+          moved_class has_bytes (is_ready s) (is_ready t) old new class (class_at (Some after)) id waits.bytes differ moves.bytes (bytes ∙ ap has_bytes (sym was))
+          (ap has_bytes sets.here ∙ ap (λ p. nat_lt 0 (length (bytes_of p))) pieces ∙ ap has_bytes (sym was)) class_was (ap class_at sets.here) sets.others h.ready;
+      ends = record {
+        ending =
+            moved_class has_end (is_waiting s.ends) (is_waiting t.ends) old new class (class_at (Some after)) id waits.end differ moves.ends (ends ∙ ap has_end (sym was))
+            (ap has_end sets.here ∙ end ∙ ap has_end (sym was)) class_was (ap class_at sets.here) sets.others h.ends.ending;
+        placed =
+            placed_at s.ends t.ends old new id moves.places
+            (λ is. ap (λ o. has_place t.ends (class_at o) id) sets.here ∙ moves.placed (may ∙ sym takes ∙ sym (ap may_end sets.here) ∙ is)) sets.others h.ends;
+      };
+      seen_at_least = seen_set old new id after sets h.seen_at_least;
+      classed = record {
+        few = few_at s old new id (subst (λ o. IfSome o HasUrgency) (sym sets.here) urgent) sets.others h.classed;
+        plain = λ none. absurd (let wrong : true ≡ false = sym moves.classes ∙ none in cc);
+      };
+    }
+
+-- or it stays in its class
+pub class_kept : {under_way : Option RequestState} {n : ℕ} (counts : Blocked) (s : ReadyStreams) (old new : Streams RequestState) (id : ℕ) (before after : RequestState) → Writes old new under_way id after
+    → under_way ≡ Some before → after.incoming.waits_for ≡ before.incoming.waits_for → after.outgoing.pieces ≡ before.outgoing.pieces → end_waits after.outgoing ≡ end_waits before.outgoing
+    → takes_end after.outgoing ≡ takes_end before.outgoing → class_at (Some after) ≡ class_at (Some before) → HasUrgency after → AreKept counts s n old → AreKept counts s n new
+class_kept counts s old new id before after writes there same pieces end takes class urgent h =
+    let was = counting.kept_there old new id before after writes there in
+    let sets : Sets old new id after = writes.0 (ap is_some there) in
+    let now : class_at (kept_at new id) ≡ class_at (Some before) = ap class_at sets.here ∙ class in
+    record {
+      counted = counting.written counts old new id before after writes there same h.counted;
+      ready =
+          ready_at s s old new (class_at (Some before)) id (has_bytes (Some after)) (bytes_before counts s s old id before after was (λ c q. refl) pieces h) (sym (ap has_bytes sets.here)) (ap class_at was) now sets.others h.ready;
+      ends =
+          ends_at s.ends s.ends old new (class_at (Some before)) id (has_end (Some after)) (end_before counts s s old id before after was refl end h) (λ c q differs has. has) (sym (ap has_end sets.here)) (ap class_at was) now
+          (λ may. ap (λ k. has_place s.ends k id) now ∙ place_before counts s s old id before after was refl takes h (sym (ap may_end sets.here) ∙ may)) sets.others h.ends;
+      seen_at_least = seen_set old new id after sets h.seen_at_least;
+      classed = same_classes s s old new id refl (now ∙ sym (ap class_at was)) (subst (λ o. IfSome o HasUrgency) (sym sets.here) urgent) sets.others h.classed;
+    }

@@ -156,6 +156,17 @@ behind ways n =
     let before : suc n - 1 ≡ n = omega arith in
     way_found ways (suc n) some ∙ ap (slice_get ways) before
 
+-- the last way
+get_last : (ways : List Way) (w : Way) → slice_get (ways ++ w ∷ []) (length ways) ≡ Some w
+get_last [] w = refl
+get_last (v ∷ ways) w = get_last ways w
+
+pub at_last : (ways : List Way) (w : Way) (n : ℕ) → n ≡ length ways + 1 → way_at (ways ++ w ∷ []) n ≡ Some w
+at_last ways w n is =
+    let some : n ≢ 0 = omega (arith, is) in
+    let before : n - 1 ≡ length ways = omega (arith, is) in
+    way_found (ways ++ w ∷ []) n some ∙ ap (slice_get (ways ++ w ∷ [])) before ∙ get_last ways w
+
 -- each of the ways is over
 pub way_stands : (ways : List Way) (n : ℕ) (w : Way) → ((way : ℕ) → IfSome (way_at ways way) IsWay) → slice_get ways n ≡ Some w → IsOver w.stream
 way_stands ways n w all at = (subst (λ o. IfSome o IsWay) (behind ways n ∙ at) (all (suc n))).over

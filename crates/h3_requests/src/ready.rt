@@ -198,9 +198,9 @@ impl ReadyStreams {
         self.ends.take(class, id);
     }
 
-    /// A stream goes from one class to another, with what of it waits. An `Err` says that memory was refused: which streams are ready stays as
-    /// it was.
-    pub(crate) fn change_class(
+    // A stream goes from one class to another, with what of it waits. An `Err` says that memory was refused: which streams are ready stays as
+    // it was.
+    fn change_class(
         &mut self,
         before: u64,
         after: u64,
@@ -223,6 +223,30 @@ impl ReadyStreams {
         self.reserved = None;
         self.has_classes = true;
         Ok(())
+    }
+
+    /// A stream goes to a class, if it is of another, with what of it waits. An `Err` says that memory was refused: which streams are ready
+    /// stays as it was.
+    pub(crate) fn settle_class(
+        &mut self,
+        before: u64,
+        after: u64,
+        id: StreamId,
+        waits: Waits,
+    ) -> Result<(), AllocError>
+        requires before { before ≤ 16 }
+        requires after { after ≤ 16 }
+        ensures moves { before ≢ after → OnOk result (Moves before after id waits self.old self.new) }
+        ensures stays { before ≡ after → self.new ≡ self.old }
+        ensures bytes { OnErr result ((c q : ℕ) → is_ready self.new c q ≡ is_ready self.old c q) }
+        ensures ends { OnErr result ((c q : ℕ) → is_waiting self.new.ends c q ≡ is_waiting self.old.ends c q) }
+        ensures places { OnErr result ((c q : ℕ) → has_place self.old.ends c q ≡ true → has_place self.new.ends c q ≡ true) }
+        ensures classes { OnErr result (self.new.has_classes ≡ self.old.has_classes) }
+    {
+        if before == after {
+            return Ok(());
+        }
+        self.change_class(before, after, id, waits)
     }
 
     // Room for a stream in a class, for what of it waits. What is ready stays as it was.

@@ -103,11 +103,9 @@ impl RequestStreams {
             end: stream.outgoing.end_waits(),
             may_end: stream.outgoing.takes_end(),
         };
-        if before != after {
-            let Ok(()) = self.ready.change_class(before, after, id, waits) else {
-                return Err(Refusal::OutOfMemory);
-            };
-        }
+        let Ok(()) = self.ready.settle_class(before, after, id, waits) else {
+            return Err(Refusal::OutOfMemory);
+        };
         stream.outgoing.set_precedence(precedence);
         let is_over = stream.is_over();
         self.streams.retire_if(id, is_over);
