@@ -520,7 +520,7 @@ any_end {counts} {s} {streams} h q = any_of (is_waiting s.ends) has_end streams 
 -- a stream goes to another class, and what of it waits goes along
 here_moved : (passes : Bool) (before after was is c : ℕ) (other : Bool) → before ≢ after → was ≡ before → is ≡ after → other ≡ (passes && (c == was))
     → (if (c == before) && true then false else (if (c == after) && true then passes || other else other)) ≡ (passes && (c == is))
-here_moved passes before after was is c other differ old new same = rw (old, new, same) (by_tests (c == before) refl (c == after) refl)
+here_moved passes before after was is c other differ old new same = rw (same, old, new) (by_tests (c == before) refl (c == after) refl)
   where
     by_tests : (b : Bool) → (c == before) ≡ b → (d : Bool) → (c == after) ≡ d
         → (if b && true then false else (if d && true then passes || (passes && b) else passes && b)) ≡ (passes && d)

@@ -156,17 +156,6 @@ behind ways n =
     let before : suc n - 1 ≡ n = omega arith in
     way_found ways (suc n) some ∙ ap (slice_get ways) before
 
--- the last way
-get_last : (ways : List Way) (w : Way) → slice_get (ways ++ w ∷ []) (length ways) ≡ Some w
-get_last [] w = refl
-get_last (v ∷ ways) w = get_last ways w
-
-pub at_last : (ways : List Way) (w : Way) (n : ℕ) → n ≡ length ways + 1 → way_at (ways ++ w ∷ []) n ≡ Some w
-at_last ways w n is =
-    let some : n ≢ 0 = omega (arith, is) in
-    let before : n - 1 ≡ length ways = omega (arith, is) in
-    way_found (ways ++ w ∷ []) n some ∙ ap (slice_get (ways ++ w ∷ [])) before ∙ get_last ways w
-
 -- each of the ways is over
 pub way_stands : (ways : List Way) (n : ℕ) (w : Way) → ((way : ℕ) → IfSome (way_at ways way) IsWay) → slice_get ways n ≡ Some w → IsOver w.stream
 way_stands ways n w all at = (subst (λ o. IfSome o IsWay) (behind ways n ∙ at) (all (suc n))).over
@@ -341,6 +330,11 @@ at_last : (ways : List Way) (r : Way) (n : ℕ) → n ≡ length ways → slice_
 at_last ways r n is =
     let within : n < length (ways ++ r ∷ []) = omega (arith, is, length-append ways (r ∷ [])) in
     slice_get-get_or (ways ++ r ∷ []) n r within ∙ ap (λ k. Some (get_or (ways ++ r ∷ []) k r)) is ∙ ap Some (get_or-append_seam ways r [] r)
+
+pub way_last : (ways : List Way) (r : Way) (n : ℕ) → n ≡ length ways + 1 → way_at (ways ++ r ∷ []) n ≡ Some r
+way_last ways r n is =
+    let up : n ≡ suc (length ways) = omega (arith, is) in
+    ap (way_at (ways ++ r ∷ [])) up ∙ behind (ways ++ r ∷ []) (length ways) ∙ at_last ways r (length ways) refl
 
 -- what is behind the ways is the last one
 grown_all : (P : Way → Type 0) (ways : List Way) (r : Way) → P r → (way : ℕ) → length ways < way → IfSome (way_at (ways ++ r ∷ []) way) P
