@@ -15,11 +15,14 @@ use Rattle.h3_connection_rows.specs.Worked.{plain}
 
 -- a stream as the scheduler has it
 abbrev pub sender : ℕ × Outgoing → ℕ × Stream
-sender s = (s.0, record {
-  priority = s.1.precedence.priority;
-  is_ready = nat_lt 0 (length (part_bytes_waiting s.1)) || end_waits s.1;
-  is_held = s.1.precedence.is_held;
-})
+sender s = (
+  s.0,
+  record {
+    priority = s.1.precedence.priority;
+    is_ready = nat_lt 0 (length (part_bytes_waiting s.1)) || end_waits s.1;
+    is_held = s.1.precedence.is_held;
+  },
+)
 
 -- who sends next, computed over the list of streams
 abbrev pub next_behind : Option ℕ → EndpointHistory → Option ℕ

@@ -194,10 +194,13 @@ passed_one waits from class h k none c q less = elim (cases_lt c from) [
 
 -- it is the first,
 pub first_there : (waits : ℕ → ℕ → Bool) (from class id : ℕ) → NoneBelow waits from → IsClassFrom waits from (Some class) → IsLeast (waits class) 0 (Some id) → IsFirstClass waits (Some class)
-first_there waits from class id h k found = ((id, found.1), λ c q less. elim (cases_lt c from) [
-  | inl low ↦ h c q low
-  | inr more ↦ k.2 c q more less
-])
+first_there waits from class id h k found = (
+  (id, found.1),
+  λ c q less. elim (cases_lt c from) [
+    | inl low ↦ h c q low
+    | inr more ↦ k.2 c q more less
+  ],
+)
 
 -- or there is none
 pub none_there : (waits : ℕ → ℕ → Bool) (from : ℕ) → NoneBelow waits from → IsClassFrom waits from None → IsFirstClass waits None

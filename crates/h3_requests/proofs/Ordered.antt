@@ -124,8 +124,7 @@ within_eight urgency less = grind (arith, common_steps, less)
 
 pub first_urgency : (s : ReadyStreams) (first : ℕ) → first < 16 → IsFirstClass (stands s) (Some first) → IsFirstUrgency (stands_in s) (Some (first / 2))
 first_urgency s first few h =
-    let half : first / 2 < 8 = omega (arith, few) in
-    (
+    let half : first / 2 < 8 = omega (arith, few) in (
       (
         first % 2 == 1,
         h.0.0,

@@ -171,9 +171,9 @@ next_alike places others rounds (Some id) same h =
         | inl here ↦ inl (least_alike (λ q. takes_at places h.urgency h.plain q && is_in (round_at rounds h.urgency) q) (λ q. takes_at others h.urgency h.plain q && is_in (round_at rounds h.urgency) q) 0 (Some id)
             (λ q. sym (ap (λ b. b && is_in (round_at rounds h.urgency) q) (takes_alike places others h.urgency h.plain same q))) here)
         | inr another ↦ inr (
-            least_alike (λ q. takes_at places h.urgency h.plain q && is_in (round_at rounds h.urgency) q) (λ q. takes_at others h.urgency h.plain q && is_in (round_at rounds h.urgency) q) 0 None
-            (λ q. sym (ap (λ b. b && is_in (round_at rounds h.urgency) q) (takes_alike places others h.urgency h.plain same q))) another.0,
-            least_alike (takes_at places h.urgency h.plain) (takes_at others h.urgency h.plain) 0 (Some id) (λ q. sym (takes_alike places others h.urgency h.plain same q)) another.1,
-          )
+          least_alike (λ q. takes_at places h.urgency h.plain q && is_in (round_at rounds h.urgency) q) (λ q. takes_at others h.urgency h.plain q && is_in (round_at rounds h.urgency) q) 0 None
+              (λ q. sym (ap (λ b. b && is_in (round_at rounds h.urgency) q) (takes_alike places others h.urgency h.plain same q))) another.0,
+          least_alike (takes_at places h.urgency h.plain) (takes_at others h.urgency h.plain) 0 (Some id) (λ q. sym (takes_alike places others h.urgency h.plain same q)) another.1,
+        )
       ];
     }

@@ -160,9 +160,9 @@ sends_by s e urgency incremental id (Some r) h was =
     let f = found s e id r.outgoing h (ap (option_map (λ r. r.outgoing)) was) in
     ap (λ o. unwrap_or (option_map (sends_at urgency incremental) o) false) f.there
     ∙ sym (
-      ap (λ l. (nat_lt 0 (length l) || sent.end_waits r.outgoing) && (not r.outgoing.precedence.is_held && is_class (Some r.outgoing.precedence.priority) urgency incremental)) (waits f.o r.outgoing f.is)
-      ∙ ap (λ b. (nat_lt 0 (length (part_bytes_waiting f.o)) || b) && (not r.outgoing.precedence.is_held && is_class (Some r.outgoing.precedence.priority) urgency incremental)) (end_waiting f.o r.outgoing f.is)
-      ∙ ap (λ (p : Precedence). (nat_lt 0 (length (part_bytes_waiting f.o)) || end_waits f.o) && (not p.is_held && is_class (Some p.priority) urgency incremental)) f.is.precedence
+    ap (λ l. (nat_lt 0 (length l) || sent.end_waits r.outgoing) && (not r.outgoing.precedence.is_held && is_class (Some r.outgoing.precedence.priority) urgency incremental)) (waits f.o r.outgoing f.is)
+    ∙ ap (λ b. (nat_lt 0 (length (part_bytes_waiting f.o)) || b) && (not r.outgoing.precedence.is_held && is_class (Some r.outgoing.precedence.priority) urgency incremental)) (end_waiting f.o r.outgoing f.is)
+    ∙ ap (λ (p : Precedence). (nat_lt 0 (length (part_bytes_waiting f.o)) || end_waits f.o) && (not p.is_held && is_class (Some p.priority) urgency incremental)) f.is.precedence
     )
 
 pub shows_requests : (s : EndpointState) (rounds : List Round) (found : Option ℕ) → first_own_in s ≡ None → rounds ≡ rounds_of s.order.rounds → IsNext (stored.places_in s.requests) rounds found → ShowsNextByPriority s found
