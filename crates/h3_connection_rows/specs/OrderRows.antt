@@ -1,5 +1,5 @@
 -- Worked rows of which stream sends next (RFC 9218, section 10).
-use Rattle.std.specs.Prelude.{ℕ, zero, suc, Bool, ◌||◌, List, [], ◌∷◌, length, map, nat_lt, Option, Some, None}
+use Rattle.std.specs.Prelude.{ℕ, zero, suc, Bool, true, false, ◌||◌, List, [], ◌∷◌, length, map, nat_lt, Option, Some, None}
 use Rattle.h3_priority.specs.Priority.{PriorityParameters}
 use Rattle.h3_proto.specs.declared.stream.Side.TheVariants.{Client}
 use Rattle.h3_scheduler.specs.Streams.{next_of}
@@ -41,10 +41,6 @@ abbrev pub turns : ℕ → EndpointHistory → List (Option ℕ)
 turns zero e = []
 turns (suc n) e = next_in e ∷ turns n (after_turn_of e (next_in e))
 
-abbrev pub after_turns : ℕ → EndpointHistory → EndpointHistory
-after_turns zero e = e
-after_turns (suc n) e = after_turns n (after_turn_of e (next_in e))
-
 abbrev pub urged : EndpointHistory → ℕ → ℕ → Bool → EndpointHistory
 urged e id urgency incremental = (set_priority e id (record { urgency = urgency; incremental = incremental })).1
 
@@ -69,6 +65,6 @@ urgent = urged (urged (urged five 8 3 true) 12 3 true) 16 1 false
 abbrev pub without_16 : EndpointHistory
 without_16 = advance urgent 16 20
 
--- behind six turns, once 0 has no more
+-- and once 0 has no more, behind a turn of its own
 abbrev pub without_0 : EndpointHistory
-without_0 = advance (after_turns 6 without_16) 0 18
+without_0 = advance without_16 0 20
