@@ -79,10 +79,10 @@ impl RequestStreams {
         ensures same { result ≡ false → AllSame self.old self.new }
     {
         let Some(stream) = self.streams.get_mut(id) else {
+            let class = self.class(id);
             if !self.streams.take_end(id) {
                 return false;
             }
-            let class = self.class(id);
             self.ready.settle_end(class, id, false);
             return true;
         };

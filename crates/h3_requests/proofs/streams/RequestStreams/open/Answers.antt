@@ -1,5 +1,5 @@
 -- The count of the stream that was there goes with it.
-use Rattle.std.proofs.Common.{refl}
+use Rattle.std.proofs.Common.{rules, refl}
 use Rattle.h3_requests.proofs.Counts.{has_count_at}
 use Rattle.h3_requests.proofs.Sendable.{inserted, seen_set}
 use Rattle.h3_requests.proofs.streams.RequestStreams.open.Goals as goal

@@ -20,7 +20,7 @@ invariant_of-self-in_default c =
     let told = subst (λ s. c.take_end.result ≡ has_end (over_at s c.args.id)) same c.take_end.ensures.told in
     let taken = subst (λ s. IfSome (over_at s c.args.id) (λ r. Sets (streams_in s) (streams_in c.take_end.new.self) c.args.id (with_end_taken r))) same (c.take_end.ensures.taken c.if-not-take_end.false) in
     over_gone _ _ _ (streams_in c.self.inside.streams) _ _ c.args.id (over_at c.self.inside.streams c.args.id) found over (sym told ∙ c.if-not-take_end.false)
-    c.take_end.ensures.distinct taken (search rules) c.settle_end.ensures.bytes c.settle_end.ensures.end c.settle_end.ensures.places c.settle_end.ensures.classes c.self.invariant
+    c.take_end.ensures.distinct taken (search (rules, found)) c.settle_end.ensures.bytes c.settle_end.ensures.end c.settle_end.ensures.places c.settle_end.ensures.classes c.self.invariant
 
 pub returns-in_default-clause-told : goal.returns-in_default-clause-told
 returns-in_default-clause-told c =

@@ -1,5 +1,5 @@
 -- The count of the stream goes with it.
-use Rattle.std.proofs.Common.{◌∙◌, ap}
+use Rattle.std.proofs.Common.{rules, ◌∙◌, ap}
 use Rattle.std.specs.Prelude.{◌/◌, min}
 use Rattle.h3_requests.proofs.Counts.{has_count_at}
 use Rattle.h3_requests.proofs.Sendable.{removed, seen_left}
