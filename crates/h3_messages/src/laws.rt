@@ -5,7 +5,7 @@ ghost use Rattle.h3_header.specs.BadPart.{refusal_of};
 ghost use Rattle.h3_header.specs.Head.{Head};
 ghost use Rattle.h3_header.specs.HeadRead.{IsHead, IsNone, head_by};
 ghost use Rattle.h3_header.specs.declared.headers.judge.BadPart.{BadPart};
-ghost use Rattle.h3_messages.specs.Content.{content_of_request, content_behind_response, awaited_by};
+ghost use Rattle.h3_messages.specs.Content.{answered_by, content_of_request, content_behind_response, awaited_by};
 ghost use Rattle.h3_messages.specs.InvalidField.{HasInvalidPart, HasSpacedValue, invalid_field};
 ghost use Rattle.h3_messages.specs.Messages.{violation_of_request, violation_of_response, violation_of_trailer};
 ghost use Rattle.h3_messages.specs.OwnMessages.{content_of_own_request, content_of_own_response, violation_of_own_answer, violation_of_own_request, violation_of_own_trailer};
@@ -24,6 +24,7 @@ pub fn rules_see_no_flags()
     ensures asked { (flag : Field → Bool) (fields : List Field) → awaited_by (with_flags flag fields) ≡ awaited_by fields }
     ensures content_of_request { (flag : Field → Bool) (fields : List Field) → content_of_request (with_flags flag fields) ≡ content_of_request fields }
     ensures content_of_response { (flag : Field → Bool) (content : Content) (fields : List Field) → content_behind_response content (with_flags flag fields) ≡ content_behind_response content fields }
+    ensures answered { (flag : Field → Bool) (content : Content) (fields : List Field) → answered_by content (with_flags flag fields) ≡ answered_by content fields }
     ensures request_content { (flag : Field → Bool) (fields : List Field) → content_of_own_request (with_flags flag fields) ≡ content_of_own_request fields }
     ensures response_content { (flag : Field → Bool) (content : Content) (fields : List Field) → content_of_own_response content (with_flags flag fields) ≡ content_of_own_response content fields }
 {}
