@@ -481,24 +481,24 @@ typedef struct {
                                        * stands if its Huffman code is not shorter (RFC 9204,
                                        * section 4.1.2). Without this each is Huffman coded, and one
                                        * of rare bytes takes up to four times its length */
-  uint64_t strict_connection;         /* whether the peer's connection is judged by rules that else
-                                       * are not asked for. It closes the connection with 0x109 if a
-                                       * setting has another value than 0 and 1: 8 (at a client;
-                                       * RFC 8441, section 3), 0x33 (RFC 9297, section 2.1.1), and
-                                       * 0x2b603742 if `webtransport` is set; or if 0x2b603742 is 1
-                                       * and 0x33 is not. With 0x10a if the first frame of the
-                                       * control stream is not SETTINGS, not one of unknown type
-                                       * either (RFC 9114, section 6.2.1). With 0x201 and 0x202 in
-                                       * place of 0x107 if an instruction is too long (RFC 9204,
-                                       * section 7.4). With 0x108 if the id of a WebTransport
-                                       * session is that of no request stream. With 0x200 if a field
-                                       * section names an entry of the dynamic table from its
+  uint64_t strict_connection;         /* whether these rules are enforced. 0x109 closes the
+                                       * connection if setting 0x33 (RFC 9297, section 2.1.1) or, at
+                                       * a client, setting 8 (RFC 8441, section 3) is neither 0 nor
+                                       * 1. If `webtransport` is set, so does 0x2b603742 with
+                                       * another value than 0 and 1, and 0x2b603742 without 0x33.
+                                       * 0x10a closes it if the first frame of the control stream is
+                                       * not SETTINGS; a frame of unknown type is not allowed there
+                                       * either (RFC 9114, section 6.2.1). 0x201 or 0x202 closes it,
+                                       * in place of 0x107, if an instruction is too long (RFC 9204,
+                                       * section 7.4). 0x108 closes it if the id of a WebTransport
+                                       * session is that of no request stream. 0x200 closes it if a
+                                       * field section names an entry of the dynamic table from its
                                        * required insert count on (RFC 9204, section 2.2.3), or if
                                        * `table` is 0 and its encoded count or sign is not (4.5.1.1
-                                       * and 4.5.1.2). A client sends no header section after the
-                                       * peer's GOAWAY on a stream on which nothing was sent:
-                                       * H3_GOING_AWAY (RFC 9114, section 5.2).
-                                       * `webtransport` without `datagram` is refused: H3_SETTING */
+                                       * and 4.5.1.2). After the peer's GOAWAY a client sends no
+                                       * header section on a stream on which nothing was sent:
+                                       * H3_GOING_AWAY (RFC 9114, section 5.2). `webtransport`
+                                       * without `datagram` is refused: H3_SETTING */
 } h3_config;
 
 /* A client with limits for an untrusted peer: it takes field sections of at most 65,536 bytes, and
