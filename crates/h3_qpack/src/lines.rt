@@ -236,13 +236,18 @@ impl<'t> Lines<'t> {
 
     // RFC 9204 2.2.3: entries from the required insert count on
     /// The entry at a distance below the base, if the section may name it.
+    #[inline(always)]
     pub(crate) fn relative(&self, index: usize) -> Result<Entry<'t>, DecoderError>
         ensures { MatchResult result (λ f. entry_at self.now.table (self.now.base - index) ≡ Some f) (λ e. (entry_at self.now.table (self.now.base - index) ≡ None) × (e ≡ InvalidIndex (RelativeIndex index))) }
     {
-        if self.base.saturating_sub(index) > self.most {
+        let number = self.base.saturating_sub(index);
+        if number > self.most {
             return Err(DecoderError::InvalidIndex(vas::Error::RelativeIndex(index)));
         }
-        relative(self.entries, self.base, index)
+        match self.entries.get(number) {
+            Some(entry) => Ok(entry),
+            None => Err(DecoderError::InvalidIndex(vas::Error::RelativeIndex(index))),
+        }
     }
 
     // RFC 9204 3.2.6: post-base index
