@@ -352,6 +352,9 @@ impl Config {
     ///   2.2.3). If the local end announces no table, the encoded count and the sign are 0 (sections 4.5.1.1 and 4.5.1.2). Else
     ///   QPACK_DECOMPRESSION_FAILED.
     ///
+    /// Without WebTransport announced, the frames of type 0x41 and the streams of type 0x54 are of unknown type: they are ignored (RFC 9114,
+    /// section 9).
+    ///
     /// The local end keeps two rules itself: after a GOAWAY of its peer it sends no header section on a stream on which nothing was sent
     /// (RFC 9114, section 5.2), and it does not announce WebTransport without datagrams.
     pub fn with_strict_connection(mut self, strict: bool) -> Self
