@@ -17,7 +17,7 @@ use Rattle.h3_messages.specs.declared.content.Content.TheVariants.{Unsaid, Exact
 use Rattle.h3_proto.specs.declared.stream.Side.{Side}
 use Rattle.h3_proto.specs.declared.stream.Side.TheVariants.{Client, Server}
 use Rattle.h3_wire.specs.ExcessiveFrames.{begins_section, is_excessive}
-use Rattle.h3_wire.specs.Frames.{Front, Whole, Unknown, Refused, Unfinished, frame_at}
+use Rattle.h3_wire.specs.Frames.{Front, Whole, Unknown, Refused, Unfinished, frame_by}
 use Rattle.h3_wire.specs.Pieces.{chunk_of}
 use Rattle.h3_wire.specs.declared.proto.frame.PayloadLen.{PayloadLen}
 use Rattle.h3_wire.specs.declared.proto.frame.Frame.{Frame}
@@ -37,6 +37,7 @@ use Rattle.h3_connection.specs.declared.event.Fault.TheVariants as fault
 use Rattle.h3_connection.specs.declared.event.Item.TheVariants as item
 use Rattle.h3_connection.specs.declared.place.Place.{Place}
 use Rattle.h3_connection.specs.declared.place.Place.TheVariants.{BeforeHead, InBody, AfterTrailer, InSession}
+use Rattle.h3_connection.specs.StrictConnection.{kinds_of}
 
 abbrev is_behind_head : Place → Bool
 is_behind_head InBody = true
@@ -308,7 +309,7 @@ module _ (all n : ℕ) where
 
     next_fine : (i : Incoming) (bytes : List ℕ) → i.section ≡ None → i.body_left ≡ 0 → Going all n i → Fine (next_frame side own id r i bytes)
     next_fine i [] none closed g = either i.ended _ _ (end_fine i i.place g.place closed g) (record { whole = tt; after = leaf i closed g })
-    next_fine i (byte ∷ bytes) none closed g = framed_fine i (frame_at (byte ∷ bytes)) none closed g
+    next_fine i (byte ∷ bytes) none closed g = framed_fine i (frame_by (kinds_of own) (byte ∷ bytes)) none closed g
 
     not_some : (k : ℕ) → nat_lt 0 k ≡ false → k ≡ 0
     not_some k e = grind (arith, common_steps, e)
@@ -327,7 +328,7 @@ module _ (all n : ℕ) where
     message_fine i None is apart g = by_left (nat_lt 0 i.body_left) refl
       where
         bytes : List ℕ
-        bytes = skipped (is_body i.place) (concat i.unread)
+        bytes = skipped (kinds_of own) (is_body i.place) (concat i.unread)
 
         by_left : (b : Bool) → nat_lt 0 i.body_left ≡ b → Fine (if b then at_payload id i else between_frames side own id r i)
         by_left true left = content_fine id i is g

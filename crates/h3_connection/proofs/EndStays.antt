@@ -117,7 +117,7 @@ bytes_elsewhere e q id bytes ServerOpened ne p = refl
 bytes_elsewhere e q id bytes OwnUnidirectional ne p = refl
 bytes_elsewhere e q id bytes PeerUnidirectional ne p =
     let o = unidirectional_at e q in
-    ap (λ s. stream_at s id) (heard_bytes e q o (role_after o.role bytes) p).incoming
+    ap (λ s. stream_at s id) (heard_bytes e q o (role_after _ o.role bytes) p).incoming
 
 end_elsewhere : (e : EndpointHistory) (q id : ℕ) (k : Kind) → (q == id) ≡ false → stream_at (end_at e q k).0.incoming id ≡ stream_at e.incoming id
 end_elsewhere e q id Request ne = arrives_elsewhere e (end_at e q Request).0 q id (with_end (incoming_at e q)) ne refl

@@ -17,7 +17,7 @@ use Rattle.h3_messages.specs.declared.content.Content.{Content}
 use Rattle.h3_messages.specs.declared.content.Content.TheVariants.{NoContent, Exceeded}
 use Rattle.h3_proto.specs.declared.stream.Side.TheVariants.{Client}
 use Rattle.h3_wire.specs.ExcessiveFrames.{begins_section, is_excessive}
-use Rattle.h3_wire.specs.Frames.{Front, Whole, Unknown, Refused, Unfinished, frame_at}
+use Rattle.h3_wire.specs.Frames.{Front, Whole, Unknown, Refused, Unfinished, frame_by}
 use Rattle.h3_wire.specs.Pieces.{chunk_of}
 use Rattle.h3_wire.specs.declared.proto.frame.PayloadLen.{PayloadLen}
 use Rattle.h3_wire.specs.declared.proto.frame.Frame.{Frame}
@@ -44,6 +44,7 @@ use Rattle.h3_connection.specs.declared.event.Item.TheVariants as item
 use Rattle.h3_connection.specs.declared.place.Place.{Place}
 use Rattle.h3_connection.specs.declared.place.Place.TheVariants.{BeforeHead, InBody, AfterTrailer, InSession}
 use Rattle.h3_connection.proofs.Seen.{at_same}
+use Rattle.h3_connection.specs.StrictConnection.{kinds_of}
 
 abbrev is_message : Place → Bool
 is_message InSession = false
@@ -229,7 +230,7 @@ module _ (own : Announced) (id : ℕ) (r : DecoderState) where
 
   next_fine : (i : Incoming) (bytes : List ℕ) → IsEmpty i → Fine (next_frame Client own id r i bytes)
   next_fine i [] e = either i.ended _ _ (at_end_fine i i.place e) (leaf _ i [] tt e)
-  next_fine i (byte ∷ bytes) e = framed_fine i (frame_at (byte ∷ bytes)) e
+  next_fine i (byte ∷ bytes) e = framed_fine i (frame_by (kinds_of own) (byte ∷ bytes)) e
 
   excess_fine : (i : Incoming) (bytes : List ℕ) → IsEmpty i → Fine (excess id i bytes)
   excess_fine i bytes e =
@@ -239,7 +240,7 @@ module _ (own : Announced) (id : ℕ) (r : DecoderState) where
   message_fine : (i : Incoming) (section : Option (List ℕ)) → IsEmpty i → Fine (in_message Client own id r i section)
   message_fine i (Some bytes) e = at_fine i bytes e
   message_fine i None e =
-      let bytes = skipped (is_body i.place) (concat i.unread) in
+      let bytes = skipped (kinds_of own) (is_body i.place) (concat i.unread) in
       either (nat_lt 0 i.body_left) (at_payload id i) (between_frames Client own id r i) (content_fine id i e)
       (either (is_excessive own.choices.unfinished_limit bytes) (excess id i bytes) (next_frame Client own id r (left_with i bytes) bytes) (excess_fine i bytes e)
       (next_fine (left_with i bytes) bytes (record { content = e.content; none = e.none; place = e.place })))

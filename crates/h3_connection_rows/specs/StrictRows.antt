@@ -413,3 +413,95 @@ sign_without_a_table_answers =
     Done ∷
     Pulled (pulls.Fault (fault.Connection 512)) ∷
     []
+
+-- WebTransport is not announced: 0x41 is a frame of unknown type, with a length, in front of a request
+abbrev pub session_frame_not_announced_endpoint : EndpointHistory
+session_frame_not_announced_endpoint = new_endpoint Server (closing 0)
+
+abbrev pub session_frame_not_announced : List Call
+session_frame_not_announced =
+    Deliver 0 (hex (codes "40410461626364")) ∷
+    Deliver 0 (hex (codes "01080000d1d7c1500161")) ∷
+    PullStream 0 ∷
+    []
+
+abbrev pub session_frame_not_announced_answers : List Result
+session_frame_not_announced_answers =
+    Done ∷
+    Done ∷
+    Pulled (pulls.Item (item.Head (head (field (codes ":method") (codes "GET") ∷ field (codes ":scheme") (codes "https") ∷ field (codes ":path") (codes "/") ∷ field (codes ":authority") (codes "a") ∷ [])))) ∷
+    []
+
+-- and of a response
+abbrev pub session_frame_in_a_response_endpoint : EndpointHistory
+session_frame_in_a_response_endpoint = new_endpoint Client (closing 0)
+
+abbrev pub session_frame_in_a_response : List Call
+session_frame_in_a_response =
+    OpenRequest ∷
+    Deliver 0 (hex (codes "40410461626364")) ∷
+    Deliver 0 (hex (codes "01030000d9")) ∷
+    PullStream 0 ∷
+    []
+
+abbrev pub session_frame_in_a_response_answers : List Result
+session_frame_in_a_response_answers =
+    Opened 0 ∷
+    Done ∷
+    Done ∷
+    Pulled (pulls.Item (item.Head (head (field (codes ":status") (codes "200") ∷ [])))) ∷
+    []
+
+-- and behind the settings
+abbrev pub session_frame_on_the_control_stream_endpoint : EndpointHistory
+session_frame_on_the_control_stream_endpoint = new_endpoint Server (closing 0)
+
+abbrev pub session_frame_on_the_control_stream : List Call
+session_frame_on_the_control_stream =
+    Deliver 2 (hex (codes "00040040410461626364")) ∷
+    Deliver 2 (hex (codes "0701004041046162")) ∷
+    Deliver 2 (hex (codes "63640701")) ∷
+    Deliver 2 (hex (codes "04")) ∷
+    []
+
+abbrev pub session_frame_on_the_control_stream_answers : List Result
+session_frame_on_the_control_stream_answers =
+    Done ∷
+    Done ∷
+    Done ∷
+    Refused (refusal.Connection 264) ∷
+    []
+
+-- and 0x54 is a stream of unknown type
+abbrev pub session_stream_not_announced_endpoint : EndpointHistory
+session_stream_not_announced_endpoint = new_endpoint Server (closing 0)
+
+abbrev pub session_stream_not_announced : List Call
+session_stream_not_announced =
+    Deliver 14 (hex (codes "40540161626364")) ∷
+    PullStream 14 ∷
+    []
+
+abbrev pub session_stream_not_announced_answers : List Result
+session_stream_not_announced_answers =
+    Done ∷
+    Pulled pulls.NoMessages ∷
+    []
+
+-- but at an endpoint that does not ask for that a session begins
+abbrev pub session_frame_loosely_endpoint : EndpointHistory
+session_frame_loosely_endpoint = new_endpoint Server (plain 1000 0 0)
+
+abbrev pub session_frame_loosely : List Call
+session_frame_loosely =
+    Deliver 0 (hex (codes "40410461626364")) ∷
+    PullStream 0 ∷
+    PullStream 0 ∷
+    []
+
+abbrev pub session_frame_loosely_answers : List Result
+session_frame_loosely_answers =
+    Done ∷
+    Pulled (pulls.Item (item.Session 4)) ∷
+    Pulled (pulls.Item (item.Raw (hex (codes "61626364")))) ∷
+    []
