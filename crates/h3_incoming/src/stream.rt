@@ -13,6 +13,7 @@ use crate::replies::reply;
 use bytes::Bytes;
 use h3_connection::event::StreamFault;
 use h3_connection::place::Place;
+use h3_connection::setup::Announced;
 use h3_messages::{Content, ResponseSaid};
 use h3_proto::stream::StreamId;
 use h3_wire::frame::FrameBuffer;
@@ -131,7 +132,7 @@ impl IncomingStream {
     /// More bytes came. They are kept as they are, with no copy but of small pieces. Those of a stream that was given up are thrown away,
     /// and those of an unknown frame that is under way are freed. An `Err` changes nothing, and returns the bytes: an allocation failed.
     #[tactic(auto, using(crate::proofs::SomePieces::some_with))]
-    pub fn deliver(&mut self, bytes: Bytes) -> Result<(), Bytes>
+    pub fn deliver(&mut self, announced: &Announced, bytes: Bytes) -> Result<(), Bytes>
         requires { length (concat self.old.unread) + length bytes < 2 ^ 64 }
         ensures ok { OnOk result (self.new ≡ kept self.old bytes) }
         ensures same { OnErr result (self.new ≡ self.old) }
@@ -143,7 +144,7 @@ impl IncomingStream {
         self.came_behind = self.is_over;
         match self.unread.push(bytes) {
             Ok(()) => {
-                self.spare();
+                self.spare(announced);
                 Ok(())
             }
             Err(bytes) => Err(bytes),
@@ -152,11 +153,11 @@ impl IncomingStream {
 
     // If an unknown frame is under way at the front, its bytes are freed.
     #[inline(always)]
-    pub(super) fn spare(&mut self)
+    pub(super) fn spare(&mut self, announced: &Announced)
         ensures { self.new ≡ self.old }
     {
-        if self.unread.len() > 0 && self.begins_frame() {
-            self.unread.spare();
+        if self.unread.len() > 0 && self.begins_frame() && !self.unread.begins_known() {
+            self.unread.spare(announced.kinds());
         }
     }
 

@@ -95,11 +95,12 @@ pub record Closes (old new : Streams Unidirectional) (id : ℕ) (code : Option �
   pub sets : Sets old new id (closed_by (peer_stream old id) code)
   pub critical_is : critical ≡ is_critical (peer_stream old id).role
 
--- What bytes do to their stream: for whom they are, and what tells a role stands in front of the bytes that are for it.
-pub record Receives (old new : Streams Unidirectional) (id : ℕ) (bytes : List ℕ) (received : Received) : Type 0 where
-  pub sets : Sets old new id (with_bytes (peer_stream old id) (role_after (peer_stream old id).role bytes))
-  pub given : received ≡ received_by (role_after (peer_stream old id).role bytes)
-  pub front : (r : Role) (rest : List ℕ) → is_untold r ≡ false → role_after (peer_stream old id).role bytes ≡ (r, rest) → TellsFirst (peer_stream old id).role bytes r rest
+-- What bytes do to their stream, whether sessions are known or not: for whom they are, and what tells a role stands in front of the bytes that
+-- are for it.
+pub record Receives (sessions : Bool) (old new : Streams Unidirectional) (id : ℕ) (bytes : List ℕ) (received : Received) : Type 0 where
+  pub sets : Sets old new id (with_bytes (peer_stream old id) (role_after sessions (peer_stream old id).role bytes))
+  pub given : received ≡ received_by (role_after sessions (peer_stream old id).role bytes)
+  pub front : (r : Role) (rest : List ℕ) → is_untold r ≡ false → role_after sessions (peer_stream old id).role bytes ≡ (r, rest) → TellsFirst sessions (peer_stream old id).role bytes r rest
 
 abbrev pub closing_code : Bool → Option ℕ
 closing_code critical = if critical then Some closed_critical_stream else None
