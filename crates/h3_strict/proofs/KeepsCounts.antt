@@ -26,6 +26,7 @@ use Rattle.h3_connection.specs.declared.event.StreamFault.TheVariants as stream_
 use Rattle.h3_headline.specs.MovesLaws.{set_at}
 use Rattle.h3_strict.specs.Plainly.{is_malformation}
 use Rattle.h3_strict.specs.Tallies.{IsFine}
+use Rattle.h3_connection.specs.StrictConnection.{kinds_of, knows_sessions}
 use Rattle.h3_messages.specs.declared.content.Content.{Content}
 use Rattle.h3_messages.specs.declared.content.Content.TheVariants.{Tunnel, Unanswered, Unsaid}
 use Rattle.h3_proto.specs.declared.stream.Side.{Side}
@@ -150,7 +151,7 @@ either_same false e x y h k = k
 
 held_same : (e : EndpointHistory) → SameStreams e (read_held e).0
 held_same e =
-    let x = read_peer (limit_of e) e.side e.peer in
+    let x = read_peer (kinds_of e.announced) (limit_of e) e.side e.peer in
     either_same (lacks_settings e) e (e, Some missing_settings) (after_peer e x) (same_streams e)
     (either_same (are_refused e e.peer.settings x.0.settings) e (record e { peer = settings_alone e.peer x.0.settings }, Some settings_error) (taken_peer e x)
     (record { incoming = refl; outgoing = refl; announced = refl }) (taken_same e x))
@@ -171,7 +172,7 @@ heard_same e id (Session session) bytes = same_streams e
 heard_same e id (Untold front) bytes = same_streams e
 heard_same e id Ignored bytes = same_streams e
 
-unidirectional_same : (e : EndpointHistory) (id : ℕ) (o : Unidirectional) (x : Role × List ℕ) → SameStreams e (read_unidirectional e id o x).0
+pub unidirectional_same : (e : EndpointHistory) (id : ℕ) (o : Unidirectional) (x : Role × List ℕ) → SameStreams e (read_unidirectional e id o x).0
 unidirectional_same e id o (role, bytes) = then_same e _ _ (record { incoming = refl; outgoing = refl; announced = refl }) (heard_same _ id role bytes)
 
 -- A stream that is set.
@@ -261,7 +262,7 @@ bytes_keep : (e : EndpointHistory) (id : ℕ) (bytes : List ℕ) (k : Kind) → 
 bytes_keep e id bytes Request = comes_keep no_stream e id (kept (incoming_at e id) bytes) _ refl refl (opened_announced e id) (λ h. record { fault = refl; content = refl; left = refl; response = refl }) (λ h. absurd (cc))
 bytes_keep e id bytes ServerOpened = streams_keep no_stream e e (same_streams e)
 bytes_keep e id bytes OwnUnidirectional = streams_keep no_stream e e (same_streams e)
-bytes_keep e id bytes PeerUnidirectional = streams_keep no_stream e _ (unidirectional_same e id (unidirectional_at e id) (role_after (unidirectional_at e id).role bytes))
+bytes_keep e id bytes PeerUnidirectional = streams_keep no_stream e _ (unidirectional_same e id (unidirectional_at e id) (role_after (knows_sessions e.announced) (unidirectional_at e id).role bytes))
 
 end_keeps : (e : EndpointHistory) (id : ℕ) (k : Kind) → KeepsBut no_stream e (end_at e id k).0
 end_keeps e id Request = comes_keep no_stream e id (with_end (incoming_at e id)) _ refl refl (opened_announced e id) (λ h. record { fault = refl; content = refl; left = refl; response = refl }) (λ h. absurd (cc))
