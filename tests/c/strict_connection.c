@@ -6,7 +6,7 @@
 
 enum { CLIENT, SERVER };
 enum { LIMIT = 16384 }; /* on what is unfinished: the least beside a table of 4,096 bytes */
-enum { DECOMPRESSION_FAILED = 0x200, STREAM_ERROR_OF_ENCODER = 0x201, STREAM_ERROR_OF_DECODER = 0x202, EXCESSIVE_LOAD = 0x107, ID_ERROR = 0x108, SETTINGS_ERROR = 0x109, MISSING_SETTINGS = 0x10a };
+enum { DECOMPRESSION_FAILED = 0x200, STREAM_ERROR_OF_ENCODER = 0x201, STREAM_ERROR_OF_DECODER = 0x202, EXCESSIVE_LOAD = 0x107, ID_ERROR = 0x108, SETTINGS_ERROR = 0x109, MISSING_SETTINGS = 0x10a, FRAME_UNEXPECTED = 0x105 };
 
 static h3_endpoint end = H3_NONE_YET;
 static field_list request, wanted;
@@ -239,6 +239,78 @@ static void of_sessions(void) {
     }
 }
 
+/* how many bytes of a stream are held */
+static uint64_t unread_of(uint64_t id) {
+  h3_stream_state stream = {0};
+  IS(h3_stream(&end, id, &stream), H3_OK);
+  return stream.unread;
+}
+
+/* What a pull of stream 0 answers once these bytes came: at once, and byte by byte */
+static void pulls(int side, int strict, int sessions, const char *bytes, size_t len, uint32_t kind, uint64_t number) {
+  for (int pieces = 0; pieces < 2; pieces++) {
+    h3_item item;
+    uint64_t id;
+    make(side, strict, sessions);
+    if (side == CLIENT) {
+      IS(h3_open_request(&end, &id, NULL), H3_OK);
+      IS(send_list(&end, id, &request), H3_OK);
+    }
+    for (size_t i = 0; pieces && i + 1 < len; i++) {
+      IS(h3_deliver(&end, 0, bytes + i, 1, NULL), H3_OK);
+      IS(h3_pull(&end, 0, &item), H3_OK);
+      HOLDS(item.kind == H3_PENDING);
+    }
+    IS(h3_deliver(&end, 0, pieces ? bytes + len - 1 : bytes, pieces ? 1 : len, NULL), H3_OK);
+    IS(h3_pull(&end, 0, &item), H3_OK);
+    HOLDS(item.kind == kind);
+    if (kind == H3_SESSION || kind == H3_FAULT_CONNECTION) HOLDS(item.number == number);
+  }
+}
+
+/* RFC 9114, section 9: where WebTransport is not announced 0x41 is the type of an unknown frame, which has a length, and is passed over at any
+ * place. 0x54 is that of an unknown stream. Where it is, or without the choice, a session begins there */
+#define UNKNOWN_FRAME "\x40\x41\4abcd"
+#define REQUEST_SECTION "\1\x8\0\0\xd1\xd7\xc1\x50\1\x61"
+#define RESPONSE_SECTION "\1\3\0\0\xd9"
+static void of_unknown_types(void) {
+  static const char long_frame[] = "\x40\x41\x80\1\0\0"; /* of 65,536 bytes */
+  static char payload[65536];
+  pulls(SERVER, 1, 0, BYTES(UNKNOWN_FRAME REQUEST_SECTION), H3_HEAD, 0);
+  pulls(SERVER, 1, 0, BYTES(UNKNOWN_FRAME UNKNOWN_FRAME "\x40\x41\0" REQUEST_SECTION), H3_HEAD, 0);
+  pulls(CLIENT, 1, 0, BYTES(UNKNOWN_FRAME RESPONSE_SECTION), H3_HEAD, 0);
+  pulls(SERVER, 1, 0, BYTES("\x40\x41\4abc"), H3_PENDING, 0);
+  for (int side = 0; side < 2; side++) {
+    uint64_t id = control_of(side);
+    closes(side, 1, 0, id, BYTES("\0\4\0" UNKNOWN_FRAME "\x7\1\0" UNKNOWN_FRAME), 0, 0);
+    closes(side, 1, 0, id, BYTES("\0" UNKNOWN_FRAME), MISSING_SETTINGS, 4);
+    closes(side, 1, 1, id, BYTES("\0\4\0\x40\x41\4"), FRAME_UNEXPECTED, 6);
+    closes(side, 0, 0, id, BYTES("\0\4\0\x40\x41\4"), FRAME_UNEXPECTED, 6);
+    closes(side, 1, 0, other_of(side), BYTES("\x40\x54\1abcd"), 0, 0);
+    h3_item item;
+    IS(h3_pull(&end, other_of(side), &item), H3_OK);
+    HOLDS(item.kind == H3_NO_MESSAGES);
+    HOLDS(unread_of(other_of(side)) == 0);
+  }
+  for (int strict = 0; strict < 2; strict++) {
+    pulls(SERVER, strict, 1, BYTES("\x40\x41\4"), H3_SESSION, 4);
+    pulls(CLIENT, strict, 1, BYTES("\x40\x41\4"), H3_FAULT_CONNECTION, FRAME_UNEXPECTED);
+  }
+  pulls(SERVER, 0, 0, BYTES("\x40\x41\4"), H3_SESSION, 4);
+  pulls(CLIENT, 0, 0, BYTES("\x40\x41\4"), H3_FAULT_CONNECTION, FRAME_UNEXPECTED);
+  /* nothing is held of one that is under way, and what follows it is read */
+  h3_item item;
+  make(SERVER, 1, 0);
+  IS(h3_deliver(&end, 0, long_frame, sizeof long_frame - 1, NULL), H3_OK);
+  for (size_t sent = 0; sent < sizeof payload; sent += 4096) {
+    HOLDS(unread_of(0) == 0);
+    IS(h3_deliver(&end, 0, payload, 4096, NULL), H3_OK);
+  }
+  IS(h3_deliver(&end, 0, BYTES(REQUEST_SECTION), NULL), H3_OK);
+  IS(h3_pull(&end, 0, &item), H3_OK);
+  HOLDS(item.kind == H3_HEAD);
+}
+
 /* RFC 9114, section 5.2: no request begins behind the peer's GOAWAY, also on a stream that was opened before. Those that began go on */
 static void of_requests(void) {
   for (int strict = 0; strict < 2; strict++) {
@@ -265,6 +337,7 @@ int main(void) {
   of_instructions();
   of_sections();
   of_sessions();
+  of_unknown_types();
   of_requests();
   h3_free(&end);
   if (!bad) puts("ok strict_connection: a connection is closed for what it was asked to be, and for nothing more");
