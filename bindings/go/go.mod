@@ -1,0 +1,3 @@
+module beanwhile/h3
+
+go 1.19

@@ -1,0 +1,80 @@
+/* priorities.c: the calls about priorities (RFC 9218). Version 0.8 has them under other names, and with another struct. */
+#include <stdlib.h>
+#include <string.h>
+#include "connection.h"
+
+static nghttp3_pri to_struct(priority from) { return (nghttp3_pri){.urgency = from.urgency, .inc = from.is_incremental}; }
+
+static int get_priority(nghttp3_conn *connection, nghttp3_pri *to, int64_t id) {
+  if (!is_request(id)) return NGHTTP3_ERR_INVALID_ARGUMENT;
+  stream *s = stream_find(connection, id);
+  if (!s) return NGHTTP3_ERR_STREAM_NOT_FOUND;
+  *to = to_struct(s->priority);
+  return 0;
+}
+
+static int set_priority(nghttp3_conn *connection, int64_t id, const nghttp3_pri *from) {
+  if (!is_request(id) || from->urgency > NGHTTP3_URGENCY_LOW || (from->inc != 0 && from->inc != 1)) return NGHTTP3_ERR_INVALID_ARGUMENT;
+  stream *s = stream_find(connection, id);
+  if (!s) return NGHTTP3_ERR_STREAM_NOT_FOUND;
+  s->is_prioritized = true;
+  stream_set_priority(connection, s, (priority){from->urgency, from->inc});
+  return 0;
+}
+
+/* Members that the field does not have keep their values. */
+static int parse_priority(nghttp3_pri *to, const uint8_t *value, size_t length) {
+  priority parsed = {to->urgency, to->inc};
+  if (!priority_field_parse(&parsed, value, length)) return NGHTTP3_ERR_INVALID_ARGUMENT;
+  *to = to_struct(parsed);
+  return 0;
+}
+
+#ifndef HAS_VERSION_1
+EXPORT int nghttp3_conn_get_stream_priority(nghttp3_conn *connection, nghttp3_pri *to, int64_t id) {
+  return get_priority(connection, to, id);
+}
+EXPORT int nghttp3_conn_set_stream_priority(nghttp3_conn *connection, int64_t id, const nghttp3_pri *from) {
+  return set_priority(connection, id, from);
+}
+EXPORT int nghttp3_http_parse_priority(nghttp3_pri *to, const uint8_t *value, size_t length) { return parse_priority(to, value, length); }
+#else
+EXPORT int nghttp3_conn_get_stream_priority_versioned(nghttp3_conn *connection, int version, nghttp3_pri *to, int64_t id) {
+  return (void)version, get_priority(connection, to, id);
+}
+
+EXPORT int nghttp3_conn_set_server_stream_priority_versioned(nghttp3_conn *connection, int64_t id, int version, const nghttp3_pri *from) {
+  return (void)version, set_priority(connection, id, from);
+}
+
+EXPORT int nghttp3_pri_parse_priority_versioned(int version, nghttp3_pri *to, const uint8_t *value, size_t length) {
+  return (void)version, parse_priority(to, value, length);
+}
+
+/* A variable-length integer (RFC 9000, section 16); answers the place after it. */
+static uint8_t *write_integer(uint8_t *to, uint64_t number) {
+  int log = number < 64 ? 0 : number < 16384 ? 1 : number < (1 << 30) ? 2 : 3;
+  for (int i = (1 << log) - 1; i >= 0; i--, number >>= 8) to[i] = (uint8_t)number;
+  *to |= (uint8_t)(log << 6);
+  return to + (1 << log);
+}
+
+/* A PRIORITY_UPDATE frame (RFC 9218, section 7.2) goes out after what the endpoint wrote on its control stream, which is whole frames. */
+EXPORT int nghttp3_conn_set_client_stream_priority(nghttp3_conn *connection, int64_t id, const uint8_t *value, size_t length) {
+  enum { PRIORITY_UPDATE = 0xf0700, LONGEST_INTEGER = 8 };
+  if (!is_request(id)) return NGHTTP3_ERR_INVALID_ARGUMENT;
+  if (!stream_find(connection, id)) return NGHTTP3_ERR_STREAM_NOT_FOUND;
+  uint8_t id_bytes[LONGEST_INTEGER];
+  size_t id_length = (size_t)(write_integer(id_bytes, (uint64_t)id) - id_bytes);
+  uint8_t *frame = malloc(3 * LONGEST_INTEGER + length);
+  if (!frame) return NGHTTP3_ERR_NOMEM;
+  uint8_t *end = write_integer(write_integer(frame, PRIORITY_UPDATE), id_length + length);
+  memcpy(end, id_bytes, id_length), end += id_length;
+  if (length > 0) memcpy(end, value, length);
+  may_have_bytes(connection, &connection->control);
+  int error = endpoint_take(connection, &connection->control);
+  if (!error) error = append_copy(connection, &connection->control, frame, (size_t)(end - frame) + length);
+  free(frame);
+  return error;
+}
+#endif

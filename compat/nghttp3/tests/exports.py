@@ -1,0 +1,30 @@
+#!/usr/bin/env python3
+"""exports.py: the drop-in has each symbol that Debian's library has, but for those of LEFT_OUT, and no other."""
+import os
+import subprocess
+import sys
+
+from differences import VERSION
+
+LEFT_OUT = {"nghttp3_conn_get_frame_payload_left", *(["nghttp3_conn_is_remote_qpack_encoder_stream"] if VERSION == "0.8" else [])}
+QPACK_CALLS = 22  # of standalone QPACK: all that begin so, and all left out
+PREFIX = "nghttp3_qpack_"
+
+
+def symbols(path):
+    lines = subprocess.run(["nm", "-D", "--defined-only", path], check=True, capture_output=True, text=True).stdout.splitlines()
+    return {line.split()[2] for line in lines}
+
+
+def main():
+    native, ours = symbols(os.environ["NATIVE"]), symbols(os.environ["OURS"])
+    left_out = LEFT_OUT | {it for it in native if it.startswith(PREFIX)}
+    wrong = sorted((native - left_out) ^ ours)
+    if wrong or not LEFT_OUT <= native or len(left_out) != len(LEFT_OUT) + QPACK_CALLS:
+        print(f"failed exports: {', '.join(wrong) or 'other calls are left out than README.md says'}")
+        sys.exit(1)
+    print(f"ok exports: {len(ours)} calls of {len(native)}")
+
+
+if __name__ == "__main__":
+    main()

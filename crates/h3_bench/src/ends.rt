@@ -1,0 +1,235 @@
+//! The two ends of a session with a dynamic table. Bytes come in any pieces: what is not whole is kept.
+ghost use Rattle.std.specs.Prelude.{◌≡◌, ℕ, nat_lt, IfOk, IfSome, IfNone};
+ghost use Rattle.h3_qpack.specs.DecodedSection.{decode_section, Fields, Missing};
+
+use crate::input::FieldList;
+use crate::report::{Failure, Report};
+use h3_field::waiting::{
+    Wait, decoder_wait, decoder_wait_behind, encoder_wait, encoder_wait_behind,
+};
+use h3_qpack::{
+    BlockWithin, Decoder, DecoderError, DynamicTable, Encoder, FieldBlock, SliceCursor, ack_header,
+    set_dynamic_table_size,
+};
+use std::alloc::Global;
+
+/// Keeps the last `left` bytes. If these are all of them, nothing is moved: else bytes that come one by one would be moved at each.
+fn keep_last(bytes: &mut Vec<u8>, left: usize) {
+    let taken = bytes.len().saturating_sub(left);
+    if taken == 0 {
+        return;
+    }
+    bytes.copy_within(taken.., 0);
+    bytes.truncate(bytes.len() - taken);
+}
+
+/// Appends the instruction of the capacity.
+fn set_limits(
+    table: &mut DynamicTable,
+    capacity: usize,
+    limit: usize,
+    instructions: &mut Vec<u8>,
+) -> Result<(), Failure> {
+    if table.set_max_blocked(limit).is_err() {
+        return Err(Failure::Input);
+    }
+    match set_dynamic_table_size(table, instructions, capacity) {
+        Ok(()) => Ok(()),
+        Err(_) => Err(Failure::Input),
+    }
+}
+
+/// An encoder, and the start of an instruction that is not whole.
+#[derive(Drop)]
+pub(crate) struct Sender {
+    encoder: Encoder,
+    unread: Vec<u8>,
+    wait: Wait,
+}
+
+impl Sender {
+    /// With a table of this capacity, `limit` of whose sections may wait. Appends the capacity's instruction.
+    pub(crate) fn new(
+        alloc: Global,
+        capacity: usize,
+        limit: usize,
+        instructions: &mut Vec<u8>,
+    ) -> Result<Sender, Failure> {
+        let mut table = DynamicTable::new(alloc);
+        match set_limits(&mut table, capacity, limit, instructions) {
+            Ok(()) => Ok(Sender {
+                encoder: Encoder::from(table),
+                unread: Vec::new(alloc),
+                wait: Wait::Bytes(1),
+            }),
+            Err(e) => {
+                drop(table);
+                Err(e)
+            }
+        }
+    }
+
+    /// Appends the list's section, and the instructions to be read before it.
+    pub(crate) fn send(
+        &mut self,
+        stream: u64,
+        list: &FieldList,
+        section: &mut Vec<u8>,
+        instructions: &mut Vec<u8>,
+    ) -> Result<(), Failure> {
+        match self
+            .encoder
+            .encode(stream, section, instructions, list.fields())
+        {
+            Ok(_) => Ok(()),
+            Err(_) => Err(Failure::Memory),
+        }
+    }
+
+    /// Reads what the decoder wrote.
+    pub(crate) fn hear(&mut self, bytes: &[u8]) -> Result<(), Failure> {
+        if self.unread.extend_from_slice(bytes).is_err() {
+            return Err(Failure::Memory);
+        }
+        self.wait = decoder_wait_behind(self.wait, bytes, &self.unread);
+        if self.wait.goes_on() {
+            return Ok(());
+        }
+        let mut read = SliceCursor::new(&self.unread);
+        let heard = self.encoder.on_decoder_recv(&mut read);
+        let left = read.remaining();
+        keep_last(&mut self.unread, left);
+        self.wait = decoder_wait(&self.unread);
+        match heard {
+            Ok(()) => Ok(()),
+            Err(_) => Err(Failure::Refused),
+        }
+    }
+}
+
+/// Decodes a section in place of the fields that the block holds, and answers whether it has to be acknowledged. None: it waits
+/// for insertions.
+fn decode_into(
+    decoder: &Decoder,
+    section: &[u8],
+    block: &mut FieldBlock,
+) -> Result<Option<bool>, Failure>
+    ensures decoded { IfOk result (λ told. IfSome told (λ dyn_ref. (count : ℕ) × (decode_section decoder.now section.now ≡ Fields block.new count) × (dyn_ref ≡ nat_lt 0 count))) }
+    ensures waits { IfOk result (λ told. IfNone told ((count : ℕ) × (decode_section decoder.now section.now ≡ Missing count))) }
+{
+    match decoder.decode_block(&mut SliceCursor::new(section), block) {
+        Ok(told) => Ok(Some(told.dyn_ref)),
+        Err(DecoderError::MissingRefs(_)) => Ok(None),
+        Err(_) => Err(Failure::Refused),
+    }
+}
+
+/// A decoder, the start of an instruction that is not whole, and the fields of the section that was decoded last.
+#[derive(Drop)]
+pub(crate) struct Receiver {
+    decoder: Decoder,
+    unread: Vec<u8>,
+    wait: Wait,
+    // one block for all sections, whose memory serves again
+    block: FieldBlock,
+}
+
+impl Receiver {
+    /// One that announced this capacity.
+    pub(crate) fn new(alloc: Global, capacity: usize) -> Result<Receiver, Failure> {
+        if capacity >= 1 << 30 {
+            return Err(Failure::Input);
+        }
+        Ok(Receiver {
+            decoder: Decoder::announced(alloc, capacity),
+            unread: Vec::new(alloc),
+            wait: Wait::Bytes(1),
+            block: FieldBlock::new(alloc),
+        })
+    }
+
+    /// Reads what the encoder wrote beside its sections, and appends the increment for it.
+    pub(crate) fn hear(&mut self, bytes: &[u8], replies: &mut Vec<u8>) -> Result<(), Failure> {
+        if self.unread.extend_from_slice(bytes).is_err() {
+            return Err(Failure::Memory);
+        }
+        self.wait = encoder_wait_behind(self.wait, bytes, &self.unread);
+        if self.wait.goes_on() {
+            return Ok(());
+        }
+        let mut read = SliceCursor::new(&self.unread);
+        let heard = self.decoder.on_encoder_recv(&mut read, replies);
+        let left = read.remaining();
+        keep_last(&mut self.unread, left);
+        self.wait = encoder_wait(&self.unread);
+        match heard {
+            Ok(_) => Ok(()),
+            Err(_) => Err(Failure::Refused),
+        }
+    }
+
+    /// Decodes a section, and appends the acknowledgment if it names entries. Its fields are lent up to the next section. None:
+    /// it waits for instructions.
+    pub(crate) fn decode(
+        &mut self,
+        stream: u64,
+        section: &[u8],
+        replies: &mut Vec<u8>,
+    ) -> Result<Option<&FieldBlock>, Failure> {
+        match decode_into(&self.decoder, section, &mut self.block) {
+            Ok(Some(dyn_ref)) => {
+                if dyn_ref {
+                    acknowledge(stream, replies)?;
+                }
+                Ok(Some(&self.block))
+            }
+            Ok(None) => Ok(None),
+            Err(e) => Err(e),
+        }
+    }
+
+    /// What the decoder says of a section whose fields are kept up to `max` bytes: how many were kept, and the size of all.
+    pub(crate) fn weigh(&mut self, section: &[u8], max: u64) -> Result<Report, Failure> {
+        let mut section = SliceCursor::new(section);
+        match self
+            .decoder
+            .decode_block_within(&mut section, max, &[], &mut self.block)
+        {
+            Ok(told) => Ok(report_of(&told, self.block.len())),
+            Err(_) => Err(Failure::Refused),
+        }
+    }
+
+    /// Decodes a section that does not have to wait. Returns the count of its fields.
+    pub(crate) fn count(
+        &mut self,
+        stream: u64,
+        section: &[u8],
+        replies: &mut Vec<u8>,
+    ) -> Result<usize, Failure> {
+        match self.decode(stream, section, replies) {
+            Ok(Some(block)) => Ok(block.len()),
+            Ok(None) => Err(Failure::Refused),
+            Err(e) => Err(e),
+        }
+    }
+}
+
+fn report_of(told: &BlockWithin, kept: usize) -> Report {
+    let mut report = Report::new();
+    match told {
+        BlockWithin::Fields(section) => report.add(kept, section.mem_size as usize),
+        BlockWithin::TooLarge(large) => report.add(0, large.mem_size as usize),
+    }
+    report
+}
+
+fn acknowledge(stream: u64, replies: &mut Vec<u8>) -> Result<(), Failure> {
+    if stream >= 1 << 62 {
+        return Err(Failure::Input);
+    }
+    match ack_header(stream, replies) {
+        Ok(()) => Ok(()),
+        Err(_) => Err(Failure::Memory),
+    }
+}

@@ -1,0 +1,177 @@
+//! Frames that are read, of a stream that comes in pieces.
+
+use crate::report::{Failure, Report, answer};
+use bytes::{Buf, Bytes};
+use h3_wire::buf::BufList;
+use h3_wire::frame::FrameDecoder;
+use h3_wire::proto::frame::{Frame, PayloadLen};
+use std::alloc::Global;
+use std::marker::Model;
+
+/// What came and was not taken yet, and how much of a payload is under way.
+#[derive(Drop)]
+struct Reader {
+    unread: BufList<Bytes>,
+    decoder: FrameDecoder,
+    left: usize,
+}
+
+impl Model for Reader {
+    ghost use Rattle.std.specs.Prelude.{◌≡◌, ◌<◌, None};
+    ghost use Rattle.std.specs.List.{concat};
+    ghost use Rattle.h3_wire.specs.Tries.{Decoding, Expects};
+
+    ghost Value = { Decoding };
+
+    ghost view = { λ r. r.decoder };
+
+    // while a payload is under way, no frame is tried
+    ghost invariant = { λ r. Expects r.decoder (concat r.unread.pieces) × (0 < r.left → r.decoder.expected ≡ None) };
+}
+
+impl Reader {
+    fn new(alloc: Global) -> Reader {
+        Reader {
+            unread: BufList::new(alloc),
+            decoder: FrameDecoder::default(),
+            left: 0,
+        }
+    }
+
+    /// One more piece came.
+    fn push(&mut self, piece: &Bytes) -> Result<(), Failure> {
+        if self.unread.remaining() >= 1 << 62 || piece.len() >= 1 << 62 {
+            return Err(Failure::Input);
+        }
+        let Ok(piece) = piece.clone() else {
+            return Err(Failure::Memory);
+        };
+        if self.unread.push(piece).is_err() {
+            return Err(Failure::Memory);
+        }
+        Ok(())
+    }
+
+    /// Takes bytes of the payload under way, as they came. False: none is there.
+    fn take_payload(&mut self, report: &mut Report) -> Result<bool, Failure> {
+        match self.unread.take_chunk(self.left) {
+            Ok(Some(bytes)) => {
+                self.left = self.left.saturating_sub(bytes.len());
+                report.add(0, bytes.len());
+                Ok(true)
+            }
+            Ok(None) => Ok(false),
+            Err(_) => Err(Failure::Memory),
+        }
+    }
+
+    /// Takes the next frame, of DATA the type and length alone, or bytes of its payload. False: more has to come.
+    fn take(&mut self, alloc: Global, report: &mut Report) -> Result<bool, Failure> {
+        if self.left > 0 {
+            return self.take_payload(report);
+        }
+        match self.decoder.decode(alloc, &mut self.unread) {
+            Ok(Some(Frame::Data(PayloadLen(len)))) => {
+                self.left = len;
+                report.add(1, 0);
+                Ok(true)
+            }
+            Ok(Some(Frame::Headers(section))) => {
+                report.add(1, section.len());
+                Ok(true)
+            }
+            Ok(Some(_)) => Err(Failure::Input),
+            Ok(None) => Ok(false),
+            Err(_) => Err(Failure::Refused),
+        }
+    }
+
+    /// Takes all that is there. Each step takes a byte or more.
+    fn take_all(&mut self, alloc: Global, report: &mut Report) -> Result<(), Failure> {
+        for _ in 0..self.unread.remaining() {
+            if !self.take(alloc, report)? {
+                return Ok(());
+            }
+        }
+        Ok(())
+    }
+
+    fn read(
+        &mut self,
+        alloc: Global,
+        pieces: &[Bytes],
+        report: &mut Report,
+    ) -> Result<(), Failure> {
+        for piece in pieces {
+            self.push(piece)?;
+            self.take_all(alloc, report)?;
+        }
+        Ok(())
+    }
+}
+
+/// A stream from its first byte on: its frames, and the bytes of their payloads.
+fn read_stream(alloc: Global, pieces: &[Bytes]) -> Result<Report, Failure> {
+    let mut report = Report::new();
+    let mut reader = Reader::new(alloc);
+    let read = reader.read(alloc, pieces, &mut report);
+    drop(reader);
+    match read {
+        Ok(()) => Ok(report),
+        Err(e) => Err(e),
+    }
+}
+
+/// Copies a piece of a stream, as its packet brings it.
+fn add_piece(alloc: Global, piece: &[u8], pieces: &mut Vec<Bytes>) -> Result<(), Failure> {
+    let Ok(piece) = Bytes::copy_from_slice(alloc, piece) else {
+        return Err(Failure::Memory);
+    };
+    match pieces.push(piece) {
+        Ok(()) => Ok(()),
+        Err(_) => Err(Failure::Memory),
+    }
+}
+
+fn add_pieces(
+    alloc: Global,
+    bytes: &[u8],
+    size: usize,
+    pieces: &mut Vec<Bytes>,
+) -> Result<(), Failure> {
+    if size == 0 {
+        return Err(Failure::Input);
+    }
+    for piece in bytes.chunks(size) {
+        add_piece(alloc, piece, pieces)?;
+    }
+    Ok(())
+}
+
+fn read_rounds(alloc: Global, rounds: u64, pieces: &[Bytes]) -> Result<Report, Failure> {
+    let mut report = Report::new();
+    for _ in 0..rounds {
+        report = read_stream(alloc, pieces)?;
+    }
+    Ok(report)
+}
+
+fn read(alloc: Global, rounds: u64, bytes: &[u8], size: usize) -> Result<Report, Failure> {
+    let mut pieces = Vec::new(alloc);
+    match add_pieces(alloc, bytes, size, &mut pieces) {
+        Ok(()) => read_rounds(alloc, rounds, &pieces),
+        Err(e) => Err(e),
+    }
+}
+
+/// Reads the HEADERS and DATA frames of a stream, which comes in pieces of this size, `rounds` times.
+#[unsafe(no_mangle)]
+pub extern "C" fn h3_bench_frames_read(
+    alloc: Global,
+    rounds: u64,
+    size: usize,
+    bytes: &[u8],
+    report: &mut Report,
+) -> u32 {
+    answer(read(alloc, rounds, bytes, size), report)
+}

@@ -1,0 +1,4 @@
+pub mod Counting
+pub mod CountingLaws
+pub mod SumLaws
+pub mod Sums

@@ -1,0 +1,10 @@
+-- What a contract sees behind a handle.
+use Rattle.h3_connection.specs.State.{EndpointState}
+use Rattle.h3_incoming.specs.declared.fields.FieldsPull.{FieldsPull}
+use Rattle.h3_session.specs.declared.endpoint.events.EventsSeen.{EventsSeen}
+
+-- an endpoint, what the last pull answered, and what was reported of the connection
+pub record Seen : Type 0 where
+  pub endpoint : EndpointState
+  pub last : FieldsPull
+  pub events : EventsSeen

@@ -1,0 +1,100 @@
+//! What a handle owns.
+ghost use Rattle.std.specs.Prelude.{◌≡◌, ◌<◌, ◌≤◌, IfOk, IfErr, Ok};
+ghost use Rattle.h3_connection.specs.SendingContracts.{Creates};
+ghost use Rattle.h3_c.specs.Configs.{side_of, announced_of, Unmakes};
+ghost use Rattle.h3_c.specs.Numbers.{argument};
+ghost use Rattle.h3_session.specs.Events.{nothing_seen};
+ghost use Rattle.h3_incoming.specs.declared.fields.FieldsPull.TheVariants as answer;
+
+use crate::config::{GivenConfig, endpoint_of};
+use crate::numbers::{ARGUMENT, MEMORY, Told, unmade};
+use crate::owned::boxed;
+use h3_field::HeaderField;
+use h3_incoming::BlockPull;
+use h3_proto::frame::RESERVED_NUMBERS;
+use h3_session::EventsSeen;
+use h3_session::endpoint::Endpoint;
+use std::alloc::Global;
+use std::marker::Model;
+
+mod closing;
+mod datagrams;
+mod ending;
+mod events;
+mod heads;
+mod items;
+mod kinds;
+mod outgoing;
+mod reading;
+mod receiving;
+mod sending;
+mod showing;
+mod shutdown;
+mod unblocked;
+
+/// An endpoint, what the last pull answered, and what was reported of the connection. A contract sees each as it is.
+#[derive(Drop)]
+pub struct Connection {
+    endpoint: Endpoint,
+    last: BlockPull,
+    events: EventsSeen,
+    // memory for the list that is sent: no field is in it between two calls
+    spare: Vec<HeaderField>,
+}
+
+impl Model for Connection {
+    ghost use Rattle.h3_c.specs.Seen.{Seen};
+    ghost use Rattle.std.specs.Prelude.{◌≡◌, []};
+
+    ghost Value = { Seen };
+
+    ghost view = { λ c. record { endpoint = c.endpoint; last = c.last; events = c.events } };
+
+    ghost invariant = { λ c. c.spare.items ≡ [] };
+}
+
+impl Connection {
+    /// Nothing was pulled yet, and nothing was reported.
+    pub(crate) fn of(alloc: Global, endpoint: Endpoint) -> Connection
+        ensures { result ≡ record { endpoint = endpoint; last = answer.Pending; events = nothing_seen } }
+    {
+        Connection {
+            endpoint,
+            last: BlockPull::new(alloc),
+            events: EventsSeen::new(),
+            spare: Vec::new(alloc),
+        }
+    }
+}
+
+/// The connection that is asked for.
+pub(crate) fn made(alloc: Global, given: &GivenConfig) -> Result<Box<Connection>, Told>
+    ensures near { IfOk result (λ b. given.now.grease < 0x210842108421083) }
+    ensures made { IfOk result (λ b. Creates (side_of given.now) (announced_of given.now) (Ok b.value.endpoint)) }
+    ensures last { IfOk result (λ b. b.value.last ≡ answer.Pending) }
+    ensures events { IfOk result (λ b. b.value.events ≡ nothing_seen) }
+    ensures far { IfErr result (λ told. 0x210842108421083 ≤ given.now.grease → told ≡ argument) }
+    ensures refused { IfErr result (λ told. given.now.grease < 0x210842108421083 → Unmakes given.now told) }
+{
+    if given.grease >= RESERVED_NUMBERS {
+        return Err(ARGUMENT);
+    }
+    made_in_range(alloc, given)
+}
+
+#[tactic(auto, using(crate::proofs::Making::lacks_memory, crate::proofs::Making::refused))]
+fn made_in_range(alloc: Global, given: &GivenConfig) -> Result<Box<Connection>, Told>
+    requires { given.now.grease < 0x210842108421083 }
+    ensures made { IfOk result (λ b. Creates (side_of given.now) (announced_of given.now) (Ok b.value.endpoint)) }
+    ensures last { IfOk result (λ b. b.value.last ≡ answer.Pending) }
+    ensures events { IfOk result (λ b. b.value.events ≡ nothing_seen) }
+    ensures refused { IfErr result (Unmakes given.now) }
+{
+    match endpoint_of(alloc, given) {
+        Ok(endpoint) => match boxed(alloc, Connection::of(alloc, endpoint)) {
+            Ok(connection) => Ok(connection),
+            Err(_) => Err(MEMORY),
+        },
+        Err(e) => Err(unmade(&e)),
+    }
+}

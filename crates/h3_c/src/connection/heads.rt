@@ -1,0 +1,103 @@
+//! The header and trailer sections that C sends.
+ghost use Rattle.std.specs.Prelude.{List, Option};
+ghost use Rattle.h3_field.specs.Field.{Field};
+ghost use Rattle.h3_session.specs.SendingLists.{SendsFieldList, SendsTrailerList, order_refusal, place_refusal};
+ghost use Rattle.h3_c.specs.Exported.{OnStream, SendsCut};
+ghost use Rattle.h3_c.specs.Given.{fields_given};
+ghost use Rattle.h3_c.specs.Giving.{RefusesFields};
+
+use super::Connection;
+use crate::fields::{FieldSize, given_fields, let_go};
+use crate::numbers::{ARGUMENT, Told, listed, refused};
+use h3_proto::stream::StreamId;
+use std::alloc::Global;
+
+impl Connection {
+    /// A header section goes out on a stream, as it is.
+    pub(crate) fn send_head(
+        &mut self,
+        alloc: Global,
+        id: u64,
+        sizes: &[FieldSize],
+        flags: &[u8],
+        bytes: &'static [u8],
+    ) -> Told
+        ensures { OnStream id result self.old self.new
+            (SendsCut (fields_given sizes.now flags.now bytes.now) (λ e. place_refusal e id) result self.old self.new (λ fields call. SendsFieldList self.old.endpoint self.new.endpoint id fields call)) }
+    {
+        let Ok(stream) = StreamId::try_from(id) else {
+            return ARGUMENT;
+        };
+        match given_fields(&mut self.spare, sizes, flags, bytes) {
+            Ok(()) => {
+                let call = self.endpoint.send_fields(stream, self.spare.as_slice());
+                let told = listed(&call, &self.endpoint, self.spare.as_slice());
+                let_go(alloc, &mut self.spare);
+                told
+            }
+            Err(told) => {
+                let_go(alloc, &mut self.spare);
+                self.head_not_cut(stream, told)
+            }
+        }
+    }
+
+    // The answer for a list that was not cut. If its stream takes none, it says so rather than out of memory.
+    #[tactic(auto, using(crate::proofs::Uncut::no_sizes, crate::proofs::Uncut::not_taken, crate::proofs::Uncut::no_room))]
+    fn head_not_cut(&self, stream: StreamId, told: Told) -> Told
+        ensures { (cut : Option (List Field)) → RefusesFields cut told → SendsCut cut (λ e. place_refusal e stream) result self.now self.now (λ fields call. SendsFieldList self.now.endpoint self.now.endpoint stream fields call) }
+    {
+        if told.number == ARGUMENT.number {
+            return told;
+        }
+        match self.endpoint.head_refusal(stream) {
+            Some(refusal) => refused(refusal),
+            None => told,
+        }
+    }
+
+    /// A trailer section goes out on a stream, as it is.
+    pub(crate) fn send_trailer(
+        &mut self,
+        alloc: Global,
+        id: u64,
+        sizes: &[FieldSize],
+        flags: &[u8],
+        bytes: &'static [u8],
+    ) -> Told
+        ensures { OnStream id result self.old self.new
+            (SendsCut (fields_given sizes.now flags.now bytes.now) (λ e. order_refusal e id) result self.old self.new (λ fields call. SendsTrailerList self.old.endpoint self.new.endpoint id fields call)) }
+    {
+        let Ok(stream) = StreamId::try_from(id) else {
+            return ARGUMENT;
+        };
+        match given_fields(&mut self.spare, sizes, flags, bytes) {
+            Ok(()) => {
+                let call = self
+                    .endpoint
+                    .send_trailer_fields(stream, self.spare.as_slice());
+                let told = listed(&call, &self.endpoint, self.spare.as_slice());
+                let_go(alloc, &mut self.spare);
+                told
+            }
+            Err(told) => {
+                let_go(alloc, &mut self.spare);
+                self.trailer_not_cut(stream, told)
+            }
+        }
+    }
+
+    // The same of a trailer.
+    #[tactic(auto, using(crate::proofs::Uncut::no_sizes, crate::proofs::Uncut::not_taken, crate::proofs::Uncut::no_room))]
+    fn trailer_not_cut(&self, stream: StreamId, told: Told) -> Told
+        ensures { (cut : Option (List Field)) → RefusesFields cut told → SendsCut cut (λ e. order_refusal e stream) result self.now self.now (λ fields call. SendsTrailerList self.now.endpoint self.now.endpoint stream fields call) }
+    {
+        if told.number == ARGUMENT.number {
+            return told;
+        }
+        match self.endpoint.trailer_refusal(stream) {
+            Some(refusal) => refused(refusal),
+            None => told,
+        }
+    }
+}

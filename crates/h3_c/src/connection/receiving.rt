@@ -1,0 +1,66 @@
+//! What comes from the peer.
+ghost use Rattle.std.specs.Prelude.{◌≡◌, ◌<◌, ◌≤◌, ◌^◌, true, false, IfErr, IfOk};
+ghost use Rattle.h3_connection.specs.ReceivingContracts.{Delivers, DeliversEnd, DeliversReset};
+ghost use Rattle.h3_connection.specs.Shutdown.{is_rejected_in};
+ghost use Rattle.h3_c.specs.Exported.{DeliversOn};
+ghost use Rattle.h3_c.specs.Numbers.{argument, rejected, delivery_told};
+
+use super::Connection;
+use crate::numbers::{ARGUMENT, REJECTED, Told, delivered, or_memory};
+use bytes::Bytes;
+use h3_proto::stream::StreamId;
+use std::alloc::Global;
+
+impl Connection {
+    // The stream of this id, or why nothing is delivered on it: the id is invalid, or its request
+    // is rejected.
+    pub(super) fn receiving(&self, id: u64) -> Result<StreamId, Told>
+        ensures ok { IfOk result (λ stream. (stream ≡ id) × (id < 2 ^ 62) × (is_rejected_in self.now.endpoint id ≡ false)) }
+        ensures unknown { IfErr result (λ told. 2 ^ 62 ≤ id → told ≡ argument) }
+        ensures refused { IfErr result (λ told. id < 2 ^ 62 → (told ≡ rejected) × (is_rejected_in self.now.endpoint id ≡ true)) }
+    {
+        let Ok(stream) = StreamId::try_from(id) else {
+            return Err(ARGUMENT);
+        };
+        if self.endpoint.is_rejected(stream) {
+            return Err(REJECTED);
+        }
+        Ok(stream)
+    }
+
+    /// Bytes came on a stream.
+    pub(crate) fn deliver(&mut self, alloc: Global, id: u64, bytes: &[u8]) -> Told
+        ensures { DeliversOn delivery_told id result self.old self.new (λ call. Delivers self.old.endpoint self.new.endpoint id bytes.now call) }
+    {
+        let id = match self.receiving(id) {
+            Ok(id) => id,
+            Err(told) => return told,
+        };
+        let Ok(bytes) = Bytes::copy_from_slice(alloc, bytes) else {
+            return or_memory(self.endpoint.bytes_refusal(id));
+        };
+        delivered(&self.endpoint.deliver(id, bytes))
+    }
+
+    /// The end of a stream came.
+    pub(crate) fn deliver_end(&mut self, id: u64) -> Told
+        ensures { DeliversOn delivery_told id result self.old self.new (λ call. DeliversEnd self.old.endpoint self.new.endpoint id call) }
+    {
+        let id = match self.receiving(id) {
+            Ok(id) => id,
+            Err(told) => return told,
+        };
+        delivered(&self.endpoint.deliver_end(id))
+    }
+
+    /// The sender reset a stream.
+    pub(crate) fn deliver_reset(&mut self, id: u64, code: u64) -> Told
+        ensures { DeliversOn delivery_told id result self.old self.new (λ call. DeliversReset self.old.endpoint self.new.endpoint id code call) }
+    {
+        let id = match self.receiving(id) {
+            Ok(id) => id,
+            Err(told) => return told,
+        };
+        delivered(&self.endpoint.deliver_reset(id, code))
+    }
+}

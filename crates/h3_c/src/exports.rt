@@ -1,0 +1,20 @@
+//! What C calls (`include/h3.h`). Each call on an endpoint takes a handle that an earlier one wrote, and writes the handle for the next.
+
+mod capsules;
+mod closing;
+mod datagrams;
+mod ending;
+mod events;
+mod heads;
+mod items;
+mod kinds;
+mod making;
+mod outgoing;
+mod priority;
+mod reading;
+mod receiving;
+mod sending;
+mod showing;
+mod shutdown;
+mod unblocked;
+mod version;

@@ -1,0 +1,28 @@
+//! What C calls: what the peer's unidirectional streams are.
+ghost use Rattle.std.specs.Prelude.{IsSome};
+ghost use Rattle.h3_c.specs.Does.{Does};
+ghost use Rattle.h3_c.specs.Does.CallOfC.{StreamKind};
+ghost use Rattle.h3_c.specs.Exported.{Steps};
+ghost use Rattle.h3_c.specs.Numbers.{number};
+
+use crate::handle::{Handle, kept, opened};
+use std::alloc::Global;
+
+/// What a unidirectional stream of the peer is.
+#[unsafe(no_mangle)]
+pub extern "C" fn h3_raw_stream_kind(
+    alloc: Global,
+    handle: Handle,
+    id: u64,
+    kind: &mut u32,
+    out: &mut Handle,
+) -> u32
+    requires { IsSome handle.value }
+    ensures there { IsSome out.new.value }
+    ensures goes { Steps handle.value out.new.value (Does (StreamKind id kind.old kind.new (number result 0))) }
+{
+    let connection = opened(alloc, handle);
+    let told = connection.stream_kind(id, kind);
+    *out = kept(connection);
+    told.number
+}

@@ -1,0 +1,6 @@
+pub mod Heads
+pub mod Telling
+pub mod ReadsBack
+pub mod RowsHold
+pub mod Lengths
+pub mod Words

@@ -1,0 +1,5 @@
+pub mod Capsule
+pub mod Told
+pub mod Datagram
+pub mod Rows
+pub mod ReaderStates

@@ -1,0 +1,12 @@
+pub mod Bounds
+pub mod ByteLaws
+pub mod ShortestLaws
+pub mod Reading
+pub mod Opened
+pub mod EncodingLaws
+pub mod Encodings
+pub mod Writing
+pub mod WritingLaws
+pub mod Varint
+pub mod Begins
+pub mod VarintLaws

@@ -1,0 +1,178 @@
+-- The reading of a control stream, cut anywhere, and the settings that stay.
+use Rattle.std.proofs.Common.{◌≡◌, ℕ, zero, suc, ◌<◌, ◌≤◌, Bool, true, false, if◌then◌else◌, List, [], ◌++◌, length, Option, Some, None, refl, ap, sym, ◌∙◌, subst, arith, inl, inr}
+use Rattle.std.specs.Prelude.{◌||◌, ◌&&◌, ◌⊎◌, nat_lt}
+use Rattle.std.proofs.lemmas.Bool.{and_parts, and_right}
+use Rattle.h3_coding.specs.Varint.{varint_at}
+use Rattle.h3_coding.specs.VarintLaws.{cases_number, reads_more}
+use Rattle.h3_proto.specs.Config.{is_limit}
+use Rattle.h3_proto.specs.declared.stream.Side.{Side}
+use Rattle.h3_proto.specs.declared.stream.Side.TheVariants.{Client, Server}
+use Rattle.h3_wire.specs.ExcessiveFrames.{is_excessive, is_kept_whole, is_too_long, says_too_much}
+use Rattle.h3_wire.specs.ExcessiveLaws.{excessive_more, kept_says}
+use Rattle.h3_wire.specs.Frames.{Front, Whole, Unknown, Refused, Unfinished, frame_at}
+use Rattle.h3_wire.specs.FrameLaws.{frame_at-more}
+use Rattle.h3_wire.specs.Fronts.{IsFinished, with_more, IsKnown}
+use Rattle.h3_wire.specs.Known.{known}
+use Rattle.h3_wire.specs.KnownLaws.{known-other, known-more, known_is}
+use Rattle.h3_wire.specs.declared.proto.frame.PayloadLen.{PayloadLen}
+use Rattle.h3_wire.specs.declared.proto.frame.Frame.{Frame}
+use Rattle.h3_wire.specs.declared.proto.frame.Frame.TheVariants as frame
+use Rattle.h3_connection.specs.PeerReading.{Peer, PeerFound, with_unread, is_no_goaway, is_above, is_below, read_max_push, read_frame, unless_fault, at_front, unless_excessive, read_within, read_peer}
+use Rattle.h3_connection.specs.Lasts.{last_id}
+use Rattle.h3_connection.specs.SkippingLaws.{rest_shorter, skipped_step}
+use Rattle.h3_connection.specs.PeerReadingLaws.{peer_step, step_excessive, step_within}
+use Rattle.h3_connection.specs.Skipping.{skip_front, skipped}
+
+-- only what `known` leaves counts
+front_of : (limit : ℕ) (side : Side) (p : Peer) (other bytes : List ℕ) (x : Front) → at_front (read_peer limit side) side p bytes x ≡ at_front (read_peer limit side) side (with_unread p other) bytes x
+front_of limit side p other bytes (Whole f rest) = refl
+front_of limit side p other bytes (Unknown kind rest) = refl
+front_of limit side p other bytes (Refused e) = refl
+front_of limit side p other bytes (Unfinished least) = refl
+
+pub peer_known : (limit : ℕ) (side : Side) (p : Peer) (bytes : List ℕ) → known p.unread ≡ known bytes → read_peer limit side p ≡ read_peer limit side (with_unread p bytes)
+peer_known limit side p bytes e =
+    peer_step limit side p ∙ ap (λ l. unless_excessive limit l p (at_front (read_peer limit side) side p l (frame_at l))) e
+    ∙ ap (unless_excessive limit (known bytes) p) (front_of limit side p bytes (known bytes) (frame_at (known bytes)))
+    ∙ sym (peer_step limit side (with_unread p bytes))
+
+-- a frame does the same whatever is unread
+abbrev with_rest : List ℕ → PeerFound → PeerFound
+with_rest bytes (p, fault) = (with_unread p bytes, fault)
+
+rest_if : (b : Bool) (x y u v : PeerFound) (bytes : List ℕ) → u ≡ with_rest bytes x → v ≡ with_rest bytes y → (if b then u else v) ≡ with_rest bytes (if b then x else y)
+rest_if true x y u v bytes e f = e
+rest_if false x y u v bytes e f = f
+
+push_with : (side : Side) (p : Peer) (bytes : List ℕ) (id : ℕ) → read_max_push side (with_unread p bytes) id ≡ with_rest bytes (read_max_push side p id)
+push_with Client p bytes id = refl
+push_with Server p bytes id = rest_if (is_below id p.most_pushes) _ _ _ _ bytes refl refl
+
+frame_with : (side : Side) (p : Peer) (bytes : List ℕ) (o : Option (List (ℕ × ℕ))) (f : Frame PayloadLen) → read_frame side (with_unread p bytes) o f ≡ with_rest bytes (read_frame side p o f)
+frame_with side p bytes None (frame.Data len) = refl
+frame_with side p bytes None (frame.Headers section) = refl
+frame_with side p bytes None (frame.CancelPush id) = refl
+frame_with side p bytes None (frame.Settings pairs) = refl
+frame_with side p bytes None (frame.PushPromise promise) = refl
+frame_with side p bytes None (frame.Goaway id) = refl
+frame_with side p bytes None (frame.MaxPushId id) = refl
+frame_with side p bytes None (frame.WebTransportStream id) = refl
+frame_with side p bytes None (frame.Grease kind) = refl
+frame_with side p bytes (Some pairs) (frame.Data len) = refl
+frame_with side p bytes (Some pairs) (frame.Headers section) = refl
+frame_with side p bytes (Some pairs) (frame.CancelPush id) = refl
+frame_with side p bytes (Some pairs) (frame.Settings others) = refl
+frame_with side p bytes (Some pairs) (frame.PushPromise promise) = refl
+frame_with side p bytes (Some pairs) (frame.Goaway id) = rest_if (is_no_goaway side id || is_above id (last_id p.goaways)) _ _ _ _ bytes refl refl
+frame_with side p bytes (Some pairs) (frame.MaxPushId id) = push_with side p bytes id
+frame_with side p bytes (Some pairs) (frame.WebTransportStream id) = refl
+frame_with side p bytes (Some pairs) (frame.Grease kind) = refl
+
+-- the first known frame, or a refused one, stays as it is when more follows
+more_known : (x : Front) (more : List ℕ) → IsKnown x → IsKnown (with_more x more)
+more_known (Whole f rest) more h = tt
+more_known (Unknown kind rest) more h = absurd h
+more_known (Refused e) more h = tt
+more_known (Unfinished least) more h = tt
+
+known_longer : (bytes more : List ℕ) → IsFinished (frame_at (known bytes)) → known (bytes ++ more) ≡ known bytes ++ more
+known_longer bytes more h =
+    let there : frame_at (known bytes ++ more) ≡ with_more (frame_at (known bytes)) more = frame_at-more (known bytes) more h in
+    known-more bytes more ∙ known-other (known bytes ++ more) (subst IsKnown (sym there) (more_known (frame_at (known bytes)) more (known_is bytes)))
+
+-- a frame that is too long is so whatever comes behind its head
+no_head : (limit : ℕ) (bytes : List ℕ) → says_too_much limit (varint_at bytes) ≡ false → is_excessive limit bytes ≡ true → ⊥
+no_head limit bytes none large = let wrong : false ≡ true = sym (and_right (is_limit limit) (says_too_much limit (varint_at bytes)) none) ∙ large in cc
+
+said_more : (limit : ℕ) (bytes more : List ℕ) → is_excessive limit bytes ≡ true → is_excessive limit (known (bytes ++ more)) ≡ true
+said_more limit bytes more large = elim (cases_number bytes) [
+  | inl none ↦ absurd (no_head limit bytes (ap (says_too_much limit) none) large)
+  | inr (kind, mid, e) ↦ by_number kind mid e (cases_number mid)
+]
+  where
+    by_number : (kind : ℕ) (mid : List ℕ) → varint_at bytes ≡ Some (kind, mid) → (varint_at mid ≡ None) ⊎ ((v : ℕ) × (rest : List ℕ) × (varint_at mid ≡ Some (v, rest))) → is_excessive limit (known (bytes ++ more)) ≡ true
+    by_number kind mid e (inl none) = absurd (no_head limit bytes (ap (says_too_much limit) e ∙ ap (is_too_long limit kind) none) large)
+    by_number kind mid e (inr (number, behind, k)) =
+        let said : (is_kept_whole kind && nat_lt limit number) ≡ says_too_much limit (varint_at bytes) = sym (ap (says_too_much limit) e ∙ ap (is_too_long limit kind) k) in
+        let parts = and_parts (is_limit limit) (says_too_much limit (varint_at bytes)) large in
+        let both = and_parts (is_kept_whole kind) (nat_lt limit number) (said ∙ parts.1) in
+        kept_says limit kind number (bytes ++ more) (mid ++ more) (behind ++ more) parts.0 both.0 (reads_more kind bytes mid more e) (reads_more number mid behind more k) ∙ both.1
+
+excessive_behind : (limit : ℕ) (bytes more : List ℕ) → is_excessive limit (known bytes) ≡ true → is_excessive limit (known (bytes ++ more)) ≡ true
+excessive_behind limit bytes more large = ap (is_excessive limit) (known-more bytes more) ∙ said_more limit (known bytes) more large
+
+-- What more bytes do behind a reading: a fault stays, and these are left then.
+abbrev pub then_peer : ℕ → Side → List ℕ → List ℕ → PeerFound → PeerFound
+then_peer limit side more left (p, Some code) = (with_unread p left, Some code)
+then_peer limit side more left (p, None) = read_peer limit side (with_unread p (p.unread ++ more))
+
+abbrev pub ReadsMore : ℕ → Side → List ℕ → PeerFound → PeerFound → Type 0
+ReadsMore limit side more all front = (left : List ℕ) × (all ≡ then_peer limit side more left front)
+
+found_more : (limit : ℕ) (side : Side) (more rest : List ℕ) (x : PeerFound)
+    → ((q : Peer) → ReadsMore limit side more (read_peer limit side (with_unread q (rest ++ more))) (read_peer limit side (with_unread q rest)))
+    → ReadsMore limit side more (unless_fault (with_rest (rest ++ more) x) (read_peer limit side)) (unless_fault (with_rest rest x) (read_peer limit side))
+found_more limit side more rest (q, Some code) h = (rest ++ more, refl)
+found_more limit side more rest (q, None) h = h q
+
+waits_more : (limit : ℕ) (side : Side) (p : Peer) (bytes more : List ℕ) → read_peer limit side (with_unread p bytes) ≡ (with_unread p (known bytes), None)
+    → ReadsMore limit side more (read_peer limit side (with_unread p (bytes ++ more))) (read_peer limit side (with_unread p bytes))
+waits_more limit side p bytes more waits =
+    ([], peer_known limit side (with_unread p (bytes ++ more)) (known bytes ++ more) (known-more bytes more) ∙ sym (ap (then_peer limit side more []) waits))
+
+-- behind a frame that is not too long
+front_more : (limit : ℕ) (side : Side) (p : Peer) (bytes more : List ℕ) (x : Front) → frame_at (known bytes) ≡ x → is_excessive limit (known bytes) ≡ false
+    → ((q : Peer) (rest : List ℕ) → length rest < length bytes → ReadsMore limit side more (read_peer limit side (with_unread q (rest ++ more))) (read_peer limit side (with_unread q rest)))
+    → ReadsMore limit side more (read_peer limit side (with_unread p (bytes ++ more))) (read_peer limit side (with_unread p bytes))
+front_more limit side p bytes more x is small go = by_front x is
+  where
+    here : (y : Front) → frame_at (known bytes) ≡ y → read_peer limit side (with_unread p bytes) ≡ at_front (read_peer limit side) side (with_unread p bytes) (known bytes) y
+    here y e = step_within limit side (with_unread p bytes) small ∙ ap (at_front (read_peer limit side) side (with_unread p bytes) (known bytes)) e
+
+    longer : IsFinished (frame_at (known bytes)) → known (bytes ++ more) ≡ known bytes ++ more
+    longer whole = known_longer bytes more whole
+
+    there : (y : Front) → frame_at (known bytes) ≡ y → IsFinished y
+        → read_peer limit side (with_unread p (bytes ++ more)) ≡ at_front (read_peer limit side) side (with_unread p (bytes ++ more)) (known bytes ++ more) (with_more y more)
+    there y e whole =
+        let finished : IsFinished (frame_at (known bytes)) = subst IsFinished (sym e) whole in
+        step_within limit side (with_unread p (bytes ++ more)) (ap (is_excessive limit) (longer finished) ∙ excessive_more limit (known bytes) more finished ∙ small)
+        ∙ ap (λ l. at_front (read_peer limit side) side (with_unread p (bytes ++ more)) l (frame_at l)) (longer finished)
+        ∙ ap (at_front (read_peer limit side) side (with_unread p (bytes ++ more)) (known bytes ++ more)) (frame_at-more (known bytes) more finished ∙ ap (λ z. with_more z more) e)
+
+    by_front : (y : Front) → frame_at (known bytes) ≡ y → ReadsMore limit side more (read_peer limit side (with_unread p (bytes ++ more))) (read_peer limit side (with_unread p bytes))
+    by_front (Whole f rest) e =
+        let found = found_more limit side more rest (read_frame side p p.settings f) (λ q. go q rest (rest_shorter bytes rest f e)) in (
+          found.0,
+          there (Whole f rest) e tt ∙ ap (λ z. unless_fault z (read_peer limit side)) (frame_with side p (rest ++ more) p.settings f)
+              ∙ found.1
+              ∙ sym (ap (then_peer limit side more found.0) (here (Whole f rest) e ∙ ap (λ z. unless_fault z (read_peer limit side)) (frame_with side p rest p.settings f))),
+        )
+    by_front (Refused why) e = (known bytes ++ more, there (Refused why) e tt ∙ sym (ap (then_peer limit side more (known bytes ++ more)) (here (Refused why) e)))
+    by_front (Unknown kind rest) e = waits_more limit side p bytes more (here (Unknown kind rest) e)
+    by_front (Unfinished least) e = waits_more limit side p bytes more (here (Unfinished least) e)
+
+-- one that is too long is so with more bytes behind it
+length_more : (limit : ℕ) (side : Side) (p : Peer) (bytes more : List ℕ) (large : Bool) → is_excessive limit (known bytes) ≡ large
+    → ((q : Peer) (rest : List ℕ) → length rest < length bytes → ReadsMore limit side more (read_peer limit side (with_unread q (rest ++ more))) (read_peer limit side (with_unread q rest)))
+    → ReadsMore limit side more (read_peer limit side (with_unread p (bytes ++ more))) (read_peer limit side (with_unread p bytes))
+length_more limit side p bytes more true e go = (
+  [],
+  step_excessive limit side (with_unread p (bytes ++ more)) (excessive_behind limit bytes more e)
+      ∙ sym (ap (then_peer limit side more []) (step_excessive limit side (with_unread p bytes) e)),
+)
+length_more limit side p bytes more false e go = front_more limit side p bytes more (frame_at (known bytes)) refl e go
+
+more_within : (n limit : ℕ) (side : Side) (p : Peer) (bytes more : List ℕ) → length bytes ≤ n
+    → ReadsMore limit side more (read_peer limit side (with_unread p (bytes ++ more))) (read_peer limit side (with_unread p bytes))
+more_within zero limit side p bytes more h = length_more limit side p bytes more (is_excessive limit (known bytes)) refl (λ q rest less. absurd (omega (arith, less, h)))
+more_within (suc n) limit side p bytes more h =
+    length_more limit side p bytes more (is_excessive limit (known bytes)) refl (λ q rest less. more_within n limit side q rest more (omega (arith, less, h)))
+
+-- However the bytes are cut, they read alike.
+pub peer_more : (limit : ℕ) (side : Side) (p : Peer) (bytes more : List ℕ) → ReadsMore limit side more (read_peer limit side (with_unread p (bytes ++ more))) (read_peer limit side (with_unread p bytes))
+peer_more limit side p bytes more = more_within (length bytes) limit side p bytes more (omega arith)
+
+-- only what `known` leaves counts
+pub skipped_known : (in_body : Bool) (bytes other : List ℕ) → known bytes ≡ known other → skipped in_body bytes ≡ skipped in_body other
+skipped_known in_body bytes other e = skipped_step in_body bytes ∙ ap (λ l. skip_front (skipped in_body) in_body l (frame_at l)) e ∙ sym (skipped_step in_body other)

@@ -1,0 +1,99 @@
+-- What the peer's control stream says (RFC 9114, sections 6.2.1 and 7.2), by that stream alone.
+use Rattle.std.specs.Prelude.{ℕ, zero, suc, ◌%◌, Bool, false, not, ◌||◌, List, [], ◌∷◌, ◌++◌, length, if◌then◌else◌, ◌==◌, nat_lt, Option, Some, None}
+use Rattle.h3_proto.specs.declared.stream.Side.{Side}
+use Rattle.h3_proto.specs.declared.stream.Side.TheVariants.{Client, Server}
+use Rattle.h3_wire.specs.ExcessiveFrames.{is_excessive}
+use Rattle.h3_wire.specs.Frames.{Front, Whole, Unknown, Refused, Unfinished, frame_at}
+use Rattle.h3_wire.specs.Known.{known}
+use Rattle.h3_wire.specs.declared.proto.frame.PayloadLen.{PayloadLen}
+use Rattle.h3_wire.specs.declared.proto.frame.Frame.{Frame}
+use Rattle.h3_wire.specs.declared.proto.frame.Frame.TheVariants as frame
+use Rattle.h3_wire.specs.declared.proto.frame.FrameError.{FrameError}
+use Rattle.h3_wire.specs.declared.proto.frame.FrameError.TheVariants as error
+use Rattle.h3_connection.specs.Codes.{excessive_load, frame_unexpected, id_error, missing_settings, refusal_code, settings_code}
+use Rattle.h3_connection.specs.Lasts.{last_id}
+
+pub record Peer : Type 0 where
+  pub unread : List ℕ
+  pub settings : Option (List (ℕ × ℕ))
+  pub goaways : List ℕ
+  pub most_pushes : Option ℕ
+
+abbrev pub nothing_read : Peer
+nothing_read = record { unread = []; settings = None; goaways = []; most_pushes = None }
+
+-- the peer after its bytes were read, and the code of a connection fault
+abbrev pub PeerFound : Type 0
+PeerFound = Peer × Option ℕ
+
+abbrev pub with_unread : Peer → List ℕ → Peer
+with_unread p bytes = record p { unread = bytes }
+
+abbrev pub is_above : ℕ → Option ℕ → Bool
+is_above id None = false
+is_above id (Some earlier) = nat_lt earlier id
+
+abbrev pub is_below : ℕ → Option ℕ → Bool
+is_below id None = false
+is_below id (Some earlier) = nat_lt id earlier
+
+-- a server names request streams alone
+abbrev pub is_no_goaway : Side → ℕ → Bool
+is_no_goaway Client id = not (id % 4 == 0)
+is_no_goaway Server id = false
+
+-- RFC 9114 5.2: GOAWAY raised, received
+abbrev pub read_goaway : Side → Peer → ℕ → PeerFound
+read_goaway side p id =
+    if is_no_goaway side id || is_above id (last_id p.goaways) then (p, Some id_error)
+    else (record p { goaways = p.goaways ++ id ∷ [] }, None)
+
+-- RFC 9114 7.2.7: MAX_PUSH_ID lowered
+abbrev pub read_max_push : Side → Peer → ℕ → PeerFound
+read_max_push Client p id = (p, Some frame_unexpected)
+read_max_push Server p id =
+    if is_below id p.most_pushes then (p, Some id_error) else (record p { most_pushes = Some id }, None)
+
+-- RFC 9114 7.2: frames out of place on a control stream
+-- RFC 9114 6.2.1: SETTINGS first
+-- a frame: the first has to be the settings, and no later one may
+abbrev pub read_frame : Side → Peer → Option (List (ℕ × ℕ)) → Frame PayloadLen → PeerFound
+read_frame side p None (frame.Settings pairs) = (record p { settings = Some pairs }, None)
+read_frame side p None _ = (p, Some missing_settings)
+read_frame side p (Some pairs) (frame.Goaway id) = read_goaway side p id
+read_frame side p (Some pairs) (frame.CancelPush id) = (p, Some id_error)
+read_frame side p (Some pairs) (frame.MaxPushId id) = read_max_push side p id
+read_frame side p (Some pairs) _ = (p, Some frame_unexpected)
+
+-- a frame that is refused: before the settings it counts as another frame, unless it is theirs
+abbrev pub refused_code : Option (List (ℕ × ℕ)) → FrameError → ℕ
+refused_code (Some pairs) e = refusal_code e
+refused_code None (error.Settings e) = settings_code e
+refused_code None _ = missing_settings
+
+-- what follows, where there is no fault
+abbrev pub unless_fault : PeerFound → (Peer → PeerFound) → PeerFound
+unless_fault (p, Some code) go = (p, Some code)
+unless_fault (p, None) go = go p
+
+abbrev pub at_front : (Peer → PeerFound) → Side → Peer → List ℕ → Front → PeerFound
+at_front go side p bytes (Whole f rest) = unless_fault (read_frame side (with_unread p rest) p.settings f) go
+at_front go side p bytes (Refused e) = (with_unread p bytes, Some (refused_code p.settings e))
+at_front go side p bytes (Unknown kind rest) = (with_unread p bytes, None)
+at_front go side p bytes (Unfinished least) = (with_unread p bytes, None)
+
+-- A frame that is longer than the endpoint takes is a fault of the connection (RFC 9114, sections 8.1 and 10.5), whether its payload came or
+-- not: its head is enough. What came is let go
+abbrev pub unless_excessive : ℕ → List ℕ → Peer → PeerFound → PeerFound
+unless_excessive limit bytes p found = if is_excessive limit bytes then (with_unread p [], Some excessive_load) else found
+
+-- Frames of unknown types are passed over before the settings too: that SETTINGS comes first (RFC 9114, section 6.2.1) is enforced against
+-- those by an endpoint that asks for a strict connection, in front of this reading.
+abbrev pub read_within : ℕ → ℕ → Side → Peer → PeerFound
+read_within zero limit side p = (p, None)
+read_within (suc most) limit side p =
+    unless_excessive limit (known p.unread) p (at_front (read_within most limit side) side p (known p.unread) (frame_at (known p.unread)))
+
+-- all whole frames that were not read, up to the first fault, where the endpoint takes no longer ones than this limit
+unfoldable pub read_peer : ℕ → Side → Peer → PeerFound
+read_peer limit side p = read_within (length p.unread) limit side p

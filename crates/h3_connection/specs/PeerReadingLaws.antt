@@ -1,0 +1,159 @@
+-- The reading of a control stream, step by step.
+use Rattle.std.proofs.Common.{◌≡◌, ℕ, zero, suc, ◌≤◌, Bool, true, false, if◌then◌else◌, List, [], length, Option, Some, None, refl, ap, sym, ◌∙◌, arith}
+use Rattle.std.specs.Prelude.{◌||◌}
+use Rattle.std.proofs.lemmas.List.{nil_from_length}
+use Rattle.h3_coding.specs.VarintLaws.{none_at_end}
+use Rattle.h3_proto.specs.declared.stream.Side.{Side}
+use Rattle.h3_proto.specs.declared.stream.Side.TheVariants.{Client, Server}
+use Rattle.h3_wire.specs.ExcessiveFrames.{is_excessive}
+use Rattle.h3_wire.specs.ExcessiveLaws.{no_kind}
+use Rattle.h3_wire.specs.Frames.{Front, Whole, Unknown, Refused, Unfinished, frame_at}
+use Rattle.h3_wire.specs.FrameLaws.{frame_at-nil}
+use Rattle.h3_wire.specs.Known.{known}
+use Rattle.h3_wire.specs.declared.proto.frame.PayloadLen.{PayloadLen}
+use Rattle.h3_wire.specs.declared.proto.frame.Frame.{Frame}
+use Rattle.h3_wire.specs.declared.proto.frame.Frame.TheVariants as frame
+use Rattle.h3_connection.specs.Codes.{excessive_load}
+use Rattle.h3_connection.specs.Lasts.{last_id}
+use Rattle.h3_connection.specs.PeerReading.{Peer, PeerFound, with_unread, is_no_goaway, is_above, is_below, read_max_push, read_frame, unless_fault, at_front, unless_excessive, read_within, read_peer}
+use Rattle.h3_connection.specs.SkippingLaws.{rest_shorter, known-nil}
+
+kept_if : (b : Bool) (x y : PeerFound) (bytes : List ℕ) → x.0.unread ≡ bytes → y.0.unread ≡ bytes → (if b then x else y).0.unread ≡ bytes
+kept_if true x y bytes e f = e
+kept_if false x y bytes e f = f
+
+push_keeps : (side : Side) (p : Peer) (id : ℕ) → (read_max_push side p id).0.unread ≡ p.unread
+push_keeps Client p id = refl
+push_keeps Server p id = kept_if _ _ _ p.unread refl refl
+
+-- a frame changes no bytes
+pub frame_keeps : (side : Side) (p : Peer) (o : Option (List (ℕ × ℕ))) (f : Frame PayloadLen) → (read_frame side p o f).0.unread ≡ p.unread
+frame_keeps side p None (frame.Data len) = refl
+frame_keeps side p None (frame.Headers section) = refl
+frame_keeps side p None (frame.CancelPush id) = refl
+frame_keeps side p None (frame.Settings pairs) = refl
+frame_keeps side p None (frame.PushPromise promise) = refl
+frame_keeps side p None (frame.Goaway id) = refl
+frame_keeps side p None (frame.MaxPushId id) = refl
+frame_keeps side p None (frame.WebTransportStream id) = refl
+frame_keeps side p None (frame.Grease kind) = refl
+frame_keeps side p (Some pairs) (frame.Data len) = refl
+frame_keeps side p (Some pairs) (frame.Headers section) = refl
+frame_keeps side p (Some pairs) (frame.CancelPush id) = refl
+frame_keeps side p (Some pairs) (frame.Settings others) = refl
+frame_keeps side p (Some pairs) (frame.PushPromise promise) = refl
+frame_keeps side p (Some pairs) (frame.Goaway id) = kept_if _ _ _ p.unread refl refl
+frame_keeps side p (Some pairs) (frame.MaxPushId id) = push_keeps side p id
+frame_keeps side p (Some pairs) (frame.WebTransportStream id) = refl
+frame_keeps side p (Some pairs) (frame.Grease kind) = refl
+
+unless_same : (x : PeerFound) (go other : Peer → PeerFound) → ((q : Peer) → q ≡ x.0 → go q ≡ other q) → unless_fault x go ≡ unless_fault x other
+unless_same (p, Some code) go other h = refl
+unless_same (p, None) go other h = h p refl
+
+front_same : (go other : Peer → PeerFound) (side : Side) (p : Peer) (bytes : List ℕ) (x : Front) → ((f : Frame PayloadLen) (rest : List ℕ) → x ≡ Whole f rest → (q : Peer) → q.unread ≡ rest → go q ≡ other q)
+    → at_front go side p bytes x ≡ at_front other side p bytes x
+front_same go other side p bytes (Whole f rest) h =
+    unless_same (read_frame side (with_unread p rest) p.settings f) go other
+    (λ q is. h f rest refl q (ap (λ (x : Peer). x.unread) is ∙ frame_keeps side (with_unread p rest) p.settings f))
+front_same go other side p bytes (Unknown kind rest) h = refl
+front_same go other side p bytes (Refused e) h = refl
+front_same go other side p bytes (Unfinished least) h = refl
+
+-- no bytes say a length
+none_said : (limit : ℕ) → is_excessive limit [] ≡ false
+none_said limit = ap (is_excessive limit) (sym known-nil) ∙ no_kind limit [] none_at_end
+
+nothing_left : (most limit : ℕ) (side : Side) (p : Peer) → p.unread ≡ [] → read_within most limit side p ≡ (p, None)
+nothing_left zero limit side p e = refl
+nothing_left (suc most) limit side p e =
+    let empty : known p.unread ≡ [] = ap known e ∙ known-nil in
+    ap (λ bytes. unless_excessive limit bytes p (at_front (read_within most limit side) side p bytes (frame_at bytes))) empty
+    ∙ ap (λ b. if b then (with_unread p [], Some excessive_load) else at_front (read_within most limit side) side p [] (frame_at [])) (none_said limit)
+    ∙ ap (λ x. at_front (read_within most limit side) side p [] x) frame_at-nil
+    ∙ ap (λ bytes. (with_unread p bytes, None)) (sym e)
+
+-- no count of steps but the least matters
+within_same : (n m limit : ℕ) (side : Side) (p : Peer) → length p.unread ≤ n → length p.unread ≤ m → read_within n limit side p ≡ read_within m limit side p
+within_same zero m limit side p h k = sym (nothing_left m limit side p (nil_from_length p.unread (omega (arith, h))))
+within_same (suc n) zero limit side p h k = nothing_left (suc n) limit side p (nil_from_length p.unread (omega (arith, k)))
+within_same (suc n) (suc m) limit side p h k =
+    ap (unless_excessive limit (known p.unread) p)
+    (front_same (read_within n limit side) (read_within m limit side) side p (known p.unread) (frame_at (known p.unread))
+    (λ f rest e q is.
+    let less = rest_shorter p.unread rest f e in
+    let size : length q.unread ≡ length rest = ap length is in
+    within_same n m limit side q (omega (arith, less, size, h)) (omega (arith, less, size, k))))
+
+-- one frame, and then the rest
+pub peer_step : (limit : ℕ) (side : Side) (p : Peer)
+    → read_peer limit side p ≡ unless_excessive limit (known p.unread) p (at_front (read_peer limit side) side p (known p.unread) (frame_at (known p.unread)))
+unfolding read_peer
+peer_step limit side p =
+    within_same (length p.unread) (suc (length p.unread)) limit side p (omega arith) (omega arith)
+    ∙ ap (unless_excessive limit (known p.unread) p)
+    (front_same (read_within (length p.unread) limit side) (λ q. read_within (length q.unread) limit side q) side p (known p.unread) (frame_at (known p.unread))
+    (λ f rest e q is.
+    let less = rest_shorter p.unread rest f e in
+    let size : length q.unread ≡ length rest = ap length is in
+    within_same (length p.unread) (length q.unread) limit side q (omega (arith, less, size)) (omega arith)))
+
+-- the same where its length is known to be within the limit, or not
+pub step_within : (limit : ℕ) (side : Side) (p : Peer) → is_excessive limit (known p.unread) ≡ false
+    → read_peer limit side p ≡ at_front (read_peer limit side) side p (known p.unread) (frame_at (known p.unread))
+step_within limit side p small =
+    peer_step limit side p
+    ∙ ap (λ b. if b then (with_unread p [], Some excessive_load) else at_front (read_peer limit side) side p (known p.unread) (frame_at (known p.unread))) small
+
+pub step_excessive : (limit : ℕ) (side : Side) (p : Peer) → is_excessive limit (known p.unread) ≡ true → read_peer limit side p ≡ (with_unread p [], Some excessive_load)
+step_excessive limit side p large =
+    peer_step limit side p
+    ∙ ap (λ b. if b then (with_unread p [], Some excessive_load) else at_front (read_peer limit side) side p (known p.unread) (frame_at (known p.unread))) large
+
+-- no bytes are read
+pub nothing_read_on : (limit : ℕ) (side : Side) (p : Peer) → read_peer limit side (with_unread p []) ≡ (with_unread p [], None)
+unfolding read_peer
+nothing_read_on limit side p = nothing_left 0 limit side (with_unread p []) refl
+
+-- settings that came stay
+settings_if : (b : Bool) (x y : PeerFound) (o : Option (List (ℕ × ℕ))) → x.0.settings ≡ o → y.0.settings ≡ o → (if b then x else y).0.settings ≡ o
+settings_if true x y o e f = e
+settings_if false x y o e f = f
+
+push_settings : (side : Side) (p : Peer) (id : ℕ) → (read_max_push side p id).0.settings ≡ p.settings
+push_settings Client p id = refl
+push_settings Server p id = settings_if (is_below id p.most_pushes) _ _ p.settings refl refl
+
+frame_settings : (side : Side) (p : Peer) (pairs : List (ℕ × ℕ)) (f : Frame PayloadLen) → (read_frame side p (Some pairs) f).0.settings ≡ p.settings
+frame_settings side p pairs (frame.Data len) = refl
+frame_settings side p pairs (frame.Headers section) = refl
+frame_settings side p pairs (frame.CancelPush id) = refl
+frame_settings side p pairs (frame.Settings others) = refl
+frame_settings side p pairs (frame.PushPromise promise) = refl
+frame_settings side p pairs (frame.Goaway id) = settings_if (is_no_goaway side id || is_above id (last_id p.goaways)) _ _ p.settings refl refl
+frame_settings side p pairs (frame.MaxPushId id) = push_settings side p id
+frame_settings side p pairs (frame.WebTransportStream id) = refl
+frame_settings side p pairs (frame.Grease kind) = refl
+
+stay_found : (pairs : List (ℕ × ℕ)) (x : PeerFound) (go : Peer → PeerFound) → x.0.settings ≡ Some pairs → ((q : Peer) → q.settings ≡ Some pairs → (go q).0.settings ≡ Some pairs) → (unless_fault x go).0.settings ≡ Some pairs
+stay_found pairs (q, Some code) go h later = h
+stay_found pairs (q, None) go h later = later q h
+
+stay_front : (side : Side) (p : Peer) (pairs : List (ℕ × ℕ)) (bytes : List ℕ) (x : Front) (go : Peer → PeerFound) → p.settings ≡ Some pairs → ((q : Peer) → q.settings ≡ Some pairs → (go q).0.settings ≡ Some pairs)
+    → (at_front go side p bytes x).0.settings ≡ Some pairs
+stay_front side p pairs bytes (Whole f rest) go h later =
+    stay_found pairs (read_frame side (with_unread p rest) p.settings f) go
+    (ap (λ o. (read_frame side (with_unread p rest) o f).0.settings) h ∙ frame_settings side (with_unread p rest) pairs f ∙ h) later
+stay_front side p pairs bytes (Unknown kind rest) go h later = h
+stay_front side p pairs bytes (Refused e) go h later = h
+stay_front side p pairs bytes (Unfinished least) go h later = h
+
+pub stay_within : (n limit : ℕ) (side : Side) (p : Peer) (pairs : List (ℕ × ℕ)) → p.settings ≡ Some pairs → (read_within n limit side p).0.settings ≡ Some pairs
+stay_within zero limit side p pairs h = h
+stay_within (suc n) limit side p pairs h =
+    settings_if (is_excessive limit (known p.unread)) _ _ (Some pairs) h
+    (stay_front side p pairs (known p.unread) (frame_at (known p.unread)) (read_within n limit side) h (λ q is. stay_within n limit side q pairs is))
+
+pub settings_stay : (limit : ℕ) (side : Side) (p : Peer) (pairs : List (ℕ × ℕ)) → p.settings ≡ Some pairs → (read_peer limit side p).0.settings ≡ Some pairs
+unfolding read_peer
+settings_stay limit side p pairs h = stay_within (length p.unread) limit side p pairs h

@@ -1,0 +1,94 @@
+-- A unidirectional stream of the peer at its receiver.
+use Rattle.std.specs.Prelude.{ℕ, Bool, true, false, ◌||◌, List, [], ◌∷◌, ◌++◌, if◌then◌else◌, ◌==◌, Option, Some, None, is_some}
+use Rattle.h3_coding.specs.Varint.{varint_at}
+use Rattle.h3_wire.specs.Pieces.{with_piece}
+use Rattle.h3_connection.specs.declared.event.Item.TheVariants as item
+use Rattle.h3_connection.specs.declared.event.Pull.{Pull}
+use Rattle.h3_connection.specs.declared.event.Pull.TheVariants as pull
+use Rattle.h3_connection.specs.declared.event.Fault.TheVariants.{Stream}
+use Rattle.h3_connection.specs.declared.event.StreamFault.TheVariants as stream_fault
+
+pub data Role : Type 0 where
+  -- the bytes so far, in which the type, or the id that follows it, is not whole
+  Untold : (front : List ℕ) → Role
+  Control : Role
+  Encoder : Role
+  Decoder : Role
+  Session : (id : ℕ) → Role
+  Push : (id : ℕ) → Role
+  Ignored : Role
+
+pub record Unidirectional : Type 0 where
+  pub role : Role
+  -- what was delivered of a session and not handed out
+  pub unread : List (List ℕ)
+  pub ended : Bool
+  pub reset_code : Option ℕ
+  -- its session was handed out, and its end
+  pub is_told : Bool
+  pub is_over : Bool
+
+abbrev pub untold : Unidirectional
+untold = record { role = Untold []; unread = []; ended = false; reset_code = None; is_told = false; is_over = false }
+
+abbrev pub is_closed : Unidirectional → Bool
+is_closed o = o.ended || is_some o.reset_code
+
+-- the control, encoder and decoder streams may not be closed
+abbrev pub is_critical : Role → Bool
+is_critical Control = true
+is_critical Encoder = true
+is_critical Decoder = true
+is_critical _ = false
+
+-- the role that the first bytes give, and the bytes behind them
+abbrev pub with_id : (ℕ → Role) → List ℕ → Option (ℕ × List ℕ) → Role × List ℕ
+with_id build front None = (Untold front, [])
+with_id build front (Some (id, rest)) = (build id, rest)
+
+-- RFC 9114 6.2: type of a unidirectional stream
+abbrev pub of_kind : List ℕ → Option (ℕ × List ℕ) → Role × List ℕ
+of_kind front None = (Untold front, [])
+of_kind front (Some (kind, rest)) =
+    if kind == 0 then (Control, rest) else (
+    if kind == 1 then with_id Push front (varint_at rest) else (
+    if kind == 2 then (Encoder, rest) else (
+    if kind == 3 then (Decoder, rest) else (
+    if kind == 0x54 then with_id Session front (varint_at rest) else (Ignored, rest)))))
+
+-- the role after further bytes, and those of them that are for that role
+abbrev pub role_after : Role → List ℕ → Role × List ℕ
+role_after (Untold front) bytes = of_kind (front ++ bytes) (varint_at (front ++ bytes))
+role_after role bytes = (role, bytes)
+
+-- bytes of a session wait to be pulled
+abbrev pub with_bytes : Unidirectional → Role × List ℕ → Unidirectional
+with_bytes o (Session id, bytes) = record o { role = Session id; unread = with_piece o.unread bytes }
+with_bytes o (role, bytes) = record o { role = role }
+
+-- the type of a session is whole, and its id is not
+abbrev pub may_be_session : Option (ℕ × List ℕ) → Bool
+may_be_session None = true
+may_be_session (Some kind) = kind.0 == 0x54
+
+abbrev pub untold_pull : Unidirectional → List ℕ → Pull
+untold_pull o front =
+    if is_closed o then pull.NoMessages else (if may_be_session (varint_at front) then pull.Pending else pull.NoMessages)
+
+-- an answer and the stream after it
+abbrev pub raw : Unidirectional → List (List ℕ) → Pull × Unidirectional
+raw o [] = if o.ended then (pull.Item item.End, record o { is_over = true }) else (pull.Pending, o)
+raw o (piece ∷ pieces) = (pull.Item (item.Raw piece), record o { unread = pieces })
+
+abbrev pub pull_session : ℕ → Unidirectional → Option ℕ → Pull × Unidirectional
+pull_session id o (Some code) = (pull.Fault (Stream (stream_fault.Reset code)), o)
+pull_session id o None = if o.is_told then raw o o.unread else (pull.Item (item.Session id), record o { is_told = true })
+
+abbrev pub if_over : Bool → Unidirectional → ℕ → Pull × Unidirectional
+if_over true o id = (pull.Item item.End, o)
+if_over false o id = pull_session id o o.reset_code
+
+abbrev pub pull_unidirectional : Unidirectional → Role → Pull × Unidirectional
+pull_unidirectional o (Untold front) = (untold_pull o front, o)
+pull_unidirectional o (Session id) = if_over o.is_over o id
+pull_unidirectional o _ = (pull.NoMessages, o)

@@ -1,0 +1,17 @@
+use Rattle.h3_field.proofs.Shaped.{first_stops, second_stops, both_read, both_refused}
+use Rattle.h3_field.proofs.shapes.take_two_strings.Goals as goal
+
+pub returns-in-Err-clause-answer : goal.returns-in-Err-clause-answer
+returns-in-Err-clause-answer c = rw c.from.ensures (first_stops _ _ _ _ (rw (c.new-ahead.ensures, c.chunk.ensures) at c.in-Err.ensures.answer))
+
+pub returns-in-Err-take_payload-clause-answer : goal.returns-in-Err-take_payload-clause-answer
+returns-in-Err-take_payload-clause-answer c =
+    rw c.from-in-Err-take_payload.ensures (second_stops _ _ _ _ _ _ (rw (c.new-ahead.ensures, c.chunk.ensures) at c.in-Ok.ensures.answer) c.in-Err-take_payload.ensures.answer)
+
+pub returns-in-Ok-both_strings-clause-answer : goal.returns-in-Ok-both_strings-clause-answer
+returns-in-Ok-both_strings-clause-answer c =
+    both_read _ _ _ _ _ _ _ (rw (c.new-ahead.ensures, c.chunk.ensures) at c.in-Ok.ensures.answer) c.in-Ok-take_payload.ensures.answer c.in-Ok-both_strings.ensures
+
+pub returns-in-Err-both_strings-clause-answer : goal.returns-in-Err-both_strings-clause-answer
+returns-in-Err-both_strings-clause-answer c =
+    both_refused _ _ _ _ _ _ _ (rw (c.new-ahead.ensures, c.chunk.ensures) at c.in-Ok.ensures.answer) c.in-Ok-take_payload.ensures.answer c.in-Err-both_strings.ensures

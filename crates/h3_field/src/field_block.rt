@@ -1,0 +1,260 @@
+//! Fields in one block of memory, which serves again: their names and values lie end to end.
+ghost use Rattle.std.specs.Prelude.{◌≡◌, ◌++◌, ◌+◌, ◌<◌, ◌∷◌, [], length, OnOk, OnErr, IfOk};
+ghost use Rattle.h3_field.specs.Ends.{IsEndOf};
+ghost use Rattle.h3_field.specs.Field.{plain_field};
+ghost use Rattle.h3_field.specs.OntoAnswer.{AnswersField, PushesField, PutsField, IsRefusedString};
+ghost use Rattle.h3_field.specs.StringReading.{string};
+
+use crate::cursor::SliceCursor;
+use crate::field::HeaderField;
+use crate::fields::{FieldRef, Fields};
+use crate::prefix_string::{self, Payload, take_payload};
+use std::alloc::{AllocError, Global};
+use std::marker::Model;
+
+/// So many bytes of names and values are no large block.
+const MOST_BYTES: usize = 65536;
+
+/// Nor are so many fields, with three numbers and a flag for each.
+const MOST_PLACES: usize = 2048;
+
+/// The place of the bytes of a field in its block: the name from `start` to `middle`, and the value from there to `end`. And its flag.
+#[derive(Copy, Clone)]
+pub(crate) struct FieldPlace {
+    pub(crate) start: usize,
+    pub(crate) middle: usize,
+    pub(crate) end: usize,
+    pub(crate) never_indexed: bool,
+}
+
+/// Fields in two blocks of memory that serve again for the next list. One has the bytes of all names and values, end to end, and the other
+/// has the ends of each of them and its flag. A contract sees the list.
+#[derive(Drop)]
+pub struct FieldBlock {
+    bytes: Vec<u8>,
+    places: Vec<FieldPlace>,
+}
+
+impl Model for FieldBlock {
+    ghost use Rattle.std.specs.Prelude.{List};
+    ghost use Rattle.h3_field.specs.Field.{Field};
+    ghost use Rattle.h3_field.specs.FieldBlock.{fields_at, IsBlock};
+
+    ghost Value = { List Field };
+
+    ghost view = { λ b. fields_at b.bytes.items b.places.items };
+
+    ghost invariant = { λ b. IsBlock b.bytes.items b.places.items };
+}
+
+impl FieldBlock {
+    ghost use Rattle.h3_field.specs.FieldBlock.{end_to_end};
+
+    /// A block of no fields. It takes no memory.
+    pub fn new(alloc: Global) -> FieldBlock
+        ensures { result ≡ [] }
+    {
+        FieldBlock {
+            bytes: Vec::new(alloc),
+            places: Vec::new(alloc),
+        }
+    }
+
+    /// How many fields there are.
+    pub fn len(&self) -> usize
+        ensures { result ≡ length self.now }
+    {
+        self.places.len()
+    }
+
+    /// Whether its memory is more than the usual section takes: above 64 KiB for either block. No clause says so: it decides what memory is
+    /// kept, and no answer depends on it.
+    pub fn is_large(&self) -> bool {
+        self.bytes.capacity() > MOST_BYTES || self.places.capacity() > MOST_PLACES
+    }
+
+    /// The fields.
+    pub fn fields(&self) -> Fields<'_>
+        ensures { result ≡ self.now }
+    {
+        Fields::of_block(self.places.as_slice(), self.bytes.as_slice())
+    }
+
+    /// The bytes of all names and values: the name of a field, its value, and so on with the next field.
+    pub fn bytes(&self) -> &[u8]
+        ensures { result.now ≡ end_to_end self.now }
+    {
+        self.bytes.as_slice()
+    }
+
+    /// Lets all fields go. Their memory stays for the next ones.
+    pub fn clear(&mut self)
+        ensures { self.new ≡ [] }
+    {
+        self.bytes.clear();
+        self.places.clear();
+    }
+
+    /// Adds copies of a name and a value, as a field without the flag. A refusal adds nothing.
+    pub fn push(&mut self, name: &[u8], value: &[u8]) -> Result<(), AllocError>
+        ensures ok { OnOk result (self.new ≡ self.old ++ plain_field name.now value.now ∷ []) }
+        ensures err { OnErr result (self.new ≡ self.old) }
+    {
+        self.push_field(&FieldRef::new(name, value))
+    }
+
+    /// Adds a copy of a field that lies elsewhere, with its flag. A refusal adds nothing.
+    pub fn push_field(&mut self, field: &FieldRef<'_>) -> Result<(), AllocError>
+        ensures ok { OnOk result (self.new ≡ self.old ++ field.now ∷ []) }
+        ensures err { OnErr result (self.new ≡ self.old) }
+    {
+        let start = self.bytes.len();
+        let place = match put_field(&mut self.bytes, field) {
+            Ok(place) => place,
+            Err(e) => return Err(e),
+        };
+        if let Err(_) = put_place(&mut self.places, place) {
+            self.bytes.truncate(start);
+            return Err(AllocError);
+        }
+        Ok(())
+    }
+
+    /// Takes a string from the front, and adds the field of a copied name, of the string and of the flag, which is the bit N in front of
+    /// the name (RFC 9204, section 4.5.4). It takes no memory of its own. A refused read takes nothing, and adds nothing.
+    pub fn push_value_read(
+        &mut self,
+        name: &[u8],
+        never_indexed: bool,
+        buf: &mut SliceCursor<'_>,
+    ) -> Result<(), prefix_string::Error>
+        ensures answer { AnswersField name.now never_indexed (string 8 buf.old) buf.old buf.new self.old self.new result }
+        ensures rest { IsEndOf buf.old buf.new }
+    {
+        let mut ahead = SliceCursor::new(buf.chunk());
+        let payload = match take_payload(8, &mut ahead) {
+            Ok((_, payload)) => payload,
+            Err(e) => return Err(prefix_string::Error::from(e)),
+        };
+        match self.push_payload(name, never_indexed, &payload) {
+            Ok(()) => {
+                *buf = ahead;
+                Ok(())
+            }
+            Err(e) => Err(e),
+        }
+    }
+
+    // Adds the field of a copied name, of the string of a payload and of the flag. A refusal adds nothing.
+    fn push_payload(
+        &mut self,
+        name: &[u8],
+        never_indexed: bool,
+        value: &Payload<'_>,
+    ) -> Result<(), prefix_string::Error>
+        ensures { PushesField name.now never_indexed value.now self.old self.new result }
+    {
+        let start = self.bytes.len();
+        let place = match put_payload(&mut self.bytes, name, never_indexed, value) {
+            Ok(place) => place,
+            Err(e) => return Err(e),
+        };
+        if let Err(_) = put_place(&mut self.places, place) {
+            self.bytes.truncate(start);
+            return Err(prefix_string::Error::OutOfMemory);
+        }
+        Ok(())
+    }
+
+    /// The fields, each with bytes of its own and its flag. No fields take no memory.
+    pub fn to_fields(&self, alloc: Global) -> Result<Vec<HeaderField>, AllocError>
+        ensures ok { IfOk result (λ fields. fields.items ≡ self.now) }
+        ensures err { OnErr result (0 < length self.now) }
+    {
+        let fields = self.fields();
+        let mut list = Vec::with_capacity(alloc, fields.len())?;
+        for place in 0..fields.len() {
+            let field = fields.get(place);
+            list.push(field.copied(alloc)?)?;
+        }
+        Ok(list)
+    }
+}
+
+/// The places of so many fields are asked for at once.
+const SOME_PLACES: usize = 16;
+
+/// Appends a place. A refusal appends nothing.
+#[inline(always)]
+fn put_place(places: &mut Vec<FieldPlace>, place: FieldPlace) -> Result<(), AllocError>
+    ensures ok { OnOk result (places.new.items ≡ places.old.items ++ place ∷ []) }
+    ensures err { OnErr result (places.new.items ≡ places.old.items) }
+{
+    if places.len() == places.capacity() {
+        places.reserve(SOME_PLACES)?;
+    }
+    places.push_reserved(place);
+    Ok(())
+}
+
+/// Appends name and value of a field, and answers where they lie, with its flag. A refusal appends nothing.
+fn put_field(bytes: &mut Vec<u8>, field: &FieldRef<'_>) -> Result<FieldPlace, AllocError>
+    ensures ok { OnOk result (bytes.new.items ≡ bytes.old.items ++ field.now.name ++ field.now.value) }
+    ensures start { IfOk result (λ place. place.start ≡ length bytes.old.items) }
+    ensures middle { IfOk result (λ place. place.middle ≡ length bytes.old.items + length field.now.name) }
+    ensures end { IfOk result (λ place. place.end ≡ length bytes.old.items + length field.now.name + length field.now.value) }
+    ensures flag { IfOk result (λ place. place.never_indexed ≡ field.now.never_indexed) }
+    ensures err { OnErr result (bytes.new.items ≡ bytes.old.items) }
+{
+    let start = bytes.len();
+    bytes.extend_from_slice(field.name())?;
+    let middle = bytes.len();
+    if let Err(e) = bytes.extend_from_slice(field.value()) {
+        bytes.truncate(start);
+        return Err(e);
+    }
+    let end = bytes.len();
+    Ok(FieldPlace {
+        start,
+        middle,
+        end,
+        never_indexed: field.is_never_indexed(),
+    })
+}
+
+/// Why the string of a payload is refused, if there is no memory for what stands before it.
+fn refusal_of(value: &Payload<'_>) -> prefix_string::Error
+    ensures { IsRefusedString value.now result }
+{
+    if value.is_string() {
+        return prefix_string::Error::OutOfMemory;
+    }
+    prefix_string::Error::HuffmanDecoding
+}
+
+/// Appends a name and the string of a payload, and answers where they lie, with the flag. A refusal appends nothing.
+fn put_payload(
+    bytes: &mut Vec<u8>,
+    name: &[u8],
+    never_indexed: bool,
+    value: &Payload<'_>,
+) -> Result<FieldPlace, prefix_string::Error>
+    ensures { PutsField name.now never_indexed value.now bytes.old.items bytes.new.items result }
+{
+    let start = bytes.len();
+    if bytes.extend_from_slice(name).is_err() {
+        return Err(refusal_of(value));
+    }
+    let middle = bytes.len();
+    if let Err(e) = value.append_to(bytes) {
+        bytes.truncate(start);
+        return Err(e);
+    }
+    let end = bytes.len();
+    Ok(FieldPlace {
+        start,
+        middle,
+        end,
+        never_indexed,
+    })
+}

@@ -1,0 +1,402 @@
+//! String literals (RFC 9204, section 4.1.2; RFC 7541, section 5.2): as they stand or Huffman coded, after their length.
+ghost use Rattle.std.specs.Prelude.{◌≡◌, ◌+◌, ◌*◌, ◌-◌, ◌^◌, ◌<◌, ◌≤◌, ◌++◌, OnOk, OnErr, IfSome, Result, length, take, Some};
+ghost use Rattle.h3_huffman.specs.Huffman.{huffman};
+ghost use Rattle.h3_field.specs.Ends.{IsEndOf};
+ghost use Rattle.h3_field.specs.ErrorTexts.{string_text};
+ghost use Rattle.std.specs.Result.{IsOkUnless};
+ghost use Rattle.h3_field.specs.StringLiteral.{string_literal, huffman_text, plain_text, coded};
+ghost use Rattle.h3_field.specs.StringReading.{string};
+ghost use Rattle.h3_field.specs.StringAnswer.{AnswersString, of_integer};
+ghost use Rattle.h3_field.specs.declared.prefix_string.Error.TheVariants as error;
+
+mod bitwin;
+mod payload;
+mod short_string;
+pub mod string_decode;
+pub mod string_encode;
+
+use crate::cursor::SliceCursor;
+use crate::prefix_int;
+pub use bitwin::BitWindow;
+pub(crate) use payload::{Payload, take_payload};
+pub use short_string::ShortString;
+use std::alloc::{AllocError, Global};
+use std::fmt;
+pub use string_decode::{DecodeIter, HpackStringDecode};
+pub use string_encode::HpackStringEncode;
+
+/// Why no string was read or written.
+#[derive(Copy, Clone, PartialEq, Eq, Debug)]
+pub enum Error {
+    /// The string is not whole.
+    UnexpectedEnd,
+    /// Its length is out of range.
+    Integer(prefix_int::Error),
+    /// Its bytes are no string's Huffman encoding.
+    HuffmanDecoding,
+    /// Never arises: every string has a Huffman encoding.
+    HuffmanEncoding,
+    /// Never arises: sizes have 64 bits.
+    BufSize,
+    OutOfMemory,
+}
+
+impl Error {
+    fn text(&self) -> &'static str
+        ensures { result.now ≡ string_text self.now }
+    {
+        match self {
+            Error::UnexpectedEnd => "UnexpectedEnd",
+            Error::Integer(_) => "Integer",
+            Error::HuffmanDecoding => "HuffmanDecoding",
+            Error::HuffmanEncoding => "HuffmanEncoding",
+            Error::BufSize => "BufSize",
+            Error::OutOfMemory => "out of memory",
+        }
+    }
+}
+
+impl fmt::Display for Error {
+    ghost output = { λ e. Some (string_text e) };
+
+    fn fmt<W: fmt::Write>(&self, f: &mut fmt::Formatter<W>) -> fmt::Result {
+        f.write_str(self.text())
+    }
+}
+
+impl std::error::Error for Error {}
+
+impl From<prefix_int::Error> for Error {
+    ghost from_gives = { λ i e. e ≡ of_integer i };
+
+    fn from(e: prefix_int::Error) -> Error {
+        match e {
+            prefix_int::Error::UnexpectedEnd => Error::UnexpectedEnd,
+            prefix_int::Error::Overflow => Error::Integer(e),
+        }
+    }
+}
+
+impl From<AllocError> for Error {
+    ghost from_gives = { λ _ e. e ≡ error.OutOfMemory };
+
+    fn from(_e: AllocError) -> Error {
+        Error::OutOfMemory
+    }
+}
+
+impl From<string_decode::Error> for Error {
+    ghost from_gives = { λ _ e. e ≡ error.HuffmanDecoding };
+
+    fn from(_e: string_decode::Error) -> Error {
+        Error::HuffmanDecoding
+    }
+}
+
+impl From<string_encode::Error> for Error {
+    ghost from_gives = { λ _ e. e ≡ error.OutOfMemory };
+
+    fn from(_e: string_encode::Error) -> Error {
+        Error::OutOfMemory
+    }
+}
+
+/// Takes a string from the front. The flags above its `size` bits are ignored. A refused read takes nothing.
+pub fn decode(alloc: Global, size: u8, buf: &mut SliceCursor<'_>) -> Result<Vec<u8>, Error>
+    requires least { 2 ≤ size }
+    requires most { size ≤ 8 }
+    ensures answer { AnswersString (string size buf.old) buf.old buf.new result }
+    ensures rest { IsEndOf buf.old buf.new }
+{
+    let mut ahead = SliceCursor::new(buf.chunk());
+    let payload = match take_payload(size, &mut ahead) {
+        Ok((_, payload)) => payload,
+        Err(prefix_int::Error::UnexpectedEnd) => return Err(Error::UnexpectedEnd),
+        Err(prefix_int::Error::Overflow) => return Err(Error::Integer(prefix_int::Error::Overflow)),
+    };
+    match payload.to_bytes(alloc, 0) {
+        Ok(bytes) => {
+            *buf = ahead;
+            Ok(bytes)
+        }
+        Err(e) => Err(e),
+    }
+}
+
+/// The longest string that is encoded in one pass.
+const SHORT: usize = 63;
+
+/// The longest string that is encoded into an array of its own: its length most often takes one byte, whatever `size` is.
+const VERY_SHORT: usize = 8;
+
+/// Whether a string is written Huffman coded, of which the code has `len` bytes: if `shortest`, only if that is shorter; else always.
+#[inline(always)]
+fn is_coded(value: &[u8], shortest: bool, len: usize) -> bool
+    requires { len ≡ length (huffman value.now) }
+    ensures { result ≡ (coded shortest value.now).is_huffman }
+{
+    !shortest || len < value.len()
+}
+
+/// Appends the length of a string, and the string as it stands. A refusal may leave a part of them.
+fn put_plain(size: u8, flags: u8, value: &[u8], buf: &mut Vec<u8>) -> Result<(), AllocError>
+    requires least { 2 ≤ size }
+    requires most { size ≤ 8 }
+    requires flags { flags < 2 ^ (8 - size) }
+    requires value { length value.now < 2 ^ 62 }
+    ensures ok { OnOk result (buf.new.items ≡ buf.old.items ++ string_literal size flags (plain_text value.now)) }
+    ensures err { OnErr result (take (length buf.old.items) buf.new.items ≡ buf.old.items) }
+{
+    prefix_int::encode(size - 1, 2 * flags, value.len() as u64, buf)?;
+    buf.extend_from_slice(value)
+}
+
+/// Writes the Huffman encoding of a string to the front of `room`, and appends its length and what was written, or the string as it stands.
+/// A refusal may leave a part of them.
+#[inline(always)]
+fn put_by_way_of(
+    room: &mut [u8],
+    size: u8,
+    flags: u8,
+    value: &[u8],
+    shortest: bool,
+    buf: &mut Vec<u8>,
+) -> Result<(), AllocError>
+    requires least { 2 ≤ size }
+    requires most { size ≤ 8 }
+    requires flags { flags < 2 ^ (8 - size) }
+    requires short { length value.now ≤ 63 }
+    requires room { 4 * length value.now + 4 ≤ length room.old }
+    ensures ok { OnOk result (buf.new.items ≡ buf.old.items ++ string_literal size flags (coded shortest value.now)) }
+    ensures err { OnErr result (take (length buf.old.items) buf.new.items ≡ buf.old.items) }
+{
+    let len = h3_huffman::encode::encode_front(value, room);
+    if !is_coded(value, shortest, len) {
+        return put_plain(size, flags, value, buf);
+    }
+    prefix_int::encode(size - 1, 2 * flags + 1, len as u64, buf)?;
+    buf.extend_from_slice(&room[..len])
+}
+
+/// Appends the length of a string that is empty, and has an empty encoding. It is not shorter, so if `shortest` the string is written as it
+/// stands.
+fn put_empty(
+    size: u8,
+    flags: u8,
+    value: &[u8],
+    shortest: bool,
+    buf: &mut Vec<u8>,
+) -> Result<(), AllocError>
+    requires least { 2 ≤ size }
+    requires most { size ≤ 8 }
+    requires flags { flags < 2 ^ (8 - size) }
+    requires empty { length value.now ≡ 0 }
+    ensures ok { OnOk result (buf.new.items ≡ buf.old.items ++ string_literal size flags (coded shortest value.now)) }
+    ensures err { OnErr result (take (length buf.old.items) buf.new.items ≡ buf.old.items) }
+{
+    if shortest {
+        return put_plain(size, flags, value, buf);
+    }
+    prefix_int::encode(size - 1, 2 * flags + 1, value.len() as u64, buf)
+}
+
+/// Writes the length of a short string, and the string as it stands, to the front of `out`, and returns how many bytes they are.
+#[inline(always)]
+fn write_plain(value: &[u8], out: &mut [u8]) -> usize
+    requires short { length value.now ≤ 63 }
+    requires room { length value.now + 1 ≤ length out.old }
+    ensures within { result ≤ length out.new }
+    ensures literal { take result out.new ≡ string_literal 8 0 (plain_text value.now) }
+{
+    let len = value.len();
+    out[1..len + 1].copy_from_slice(value);
+    out[0] = len as u8;
+    len + 1
+}
+
+/// Writes the length and the Huffman encoding of a short string to the front of `out`, or the string as it stands, and returns how many
+/// bytes they are. None: the length takes more than one byte.
+#[inline(always)]
+fn write_value(value: &[u8], shortest: bool, out: &mut [u8]) -> Option<usize>
+    requires short { length value.now ≤ 63 }
+    requires room { 4 * length value.now + 5 ≤ length out.old }
+    ensures within { IfSome result (λ count. count ≤ length out.new) }
+    ensures literal { IfSome result (λ count. take count out.new ≡ string_literal 8 0 (coded shortest value.now)) }
+{
+    let len = h3_huffman::encode::encode_front(value, &mut out[1..]);
+    if !is_coded(value, shortest, len) {
+        return Some(write_plain(value, out));
+    }
+    if len >= 127 {
+        return None;
+    }
+    out[0] = 128 + len as u8;
+    Some(len + 1)
+}
+
+/// Appends a short string with no flags. It is encoded in its final place. A refusal may leave a part of it.
+fn put_value(value: &[u8], shortest: bool, buf: &mut Vec<u8>) -> Result<(), AllocError>
+    requires short { length value.now ≤ 63 }
+    ensures ok { OnOk result (buf.new.items ≡ buf.old.items ++ string_literal 8 0 (coded shortest value.now)) }
+    ensures err { OnErr result (take (length buf.old.items) buf.new.items ≡ buf.old.items) }
+{
+    let start = buf.len();
+    // the length, at most four bytes of code for each, and what the encoder writes after its last bits
+    buf.resize(start.saturating_add(4 * value.len() + 5), 0)?;
+    let Some(count) = write_value(value, shortest, &mut buf[start..]) else {
+        buf.truncate(start);
+        return put_long(8, 0, value, shortest, buf);
+    };
+    buf.truncate(start + count);
+    Ok(())
+}
+
+/// Writes the length, which takes two bytes, and the Huffman encoding of a short string to the front of `out`, and returns how many bytes
+/// they are. None: the length takes one byte, or more than two, or the string is to be written as it stands.
+#[inline(always)]
+fn write_name(size: u8, flags: u8, value: &[u8], shortest: bool, out: &mut [u8]) -> Option<usize>
+    requires least { 2 ≤ size }
+    requires most { size ≤ 8 }
+    requires flags { flags < 2 ^ (8 - size) }
+    requires short { length value.now ≤ 63 }
+    requires room { 4 * length value.now + 6 ≤ length out.old }
+    ensures within { IfSome result (λ count. count ≤ length out.new) }
+    ensures literal { IfSome result (λ count. take count out.new ≡ string_literal size flags (coded shortest value.now)) }
+{
+    let len = h3_huffman::encode::encode_front(value, &mut out[2..]);
+    if !is_coded(value, shortest, len) {
+        return None;
+    }
+    let Some((first, second)) = prefix_int::two_bytes(size - 1, 2 * flags + 1, len as u64) else {
+        return None;
+    };
+    out[0] = first;
+    out[1] = second;
+    Some(len + 2)
+}
+
+/// Appends a short string, of which the length most often takes two bytes. It is encoded in its final place. A refusal may leave a part of
+/// it.
+fn put_name(
+    size: u8,
+    flags: u8,
+    value: &[u8],
+    shortest: bool,
+    buf: &mut Vec<u8>,
+) -> Result<(), AllocError>
+    requires least { 2 ≤ size }
+    requires most { size ≤ 8 }
+    requires flags { flags < 2 ^ (8 - size) }
+    requires short { length value.now ≤ 63 }
+    ensures ok { OnOk result (buf.new.items ≡ buf.old.items ++ string_literal size flags (coded shortest value.now)) }
+    ensures err { OnErr result (take (length buf.old.items) buf.new.items ≡ buf.old.items) }
+{
+    let start = buf.len();
+    // the length, at most four bytes of code for each, and what the encoder writes after its last bits
+    buf.resize(start.saturating_add(4 * value.len() + 6), 0)?;
+    let Some(count) = write_name(size, flags, value, shortest, &mut buf[start..]) else {
+        buf.truncate(start);
+        return put_long(size, flags, value, shortest, buf);
+    };
+    buf.truncate(start + count);
+    Ok(())
+}
+
+/// Appends the length of a short string and its Huffman encoding, or the string as it stands. A refusal may leave a part of them.
+fn put_short(
+    size: u8,
+    flags: u8,
+    value: &[u8],
+    shortest: bool,
+    buf: &mut Vec<u8>,
+) -> Result<(), AllocError>
+    requires least { 2 ≤ size }
+    requires most { size ≤ 8 }
+    requires flags { flags < 2 ^ (8 - size) }
+    requires short { length value.now ≤ 63 }
+    ensures ok { OnOk result (buf.new.items ≡ buf.old.items ++ string_literal size flags (coded shortest value.now)) }
+    ensures err { OnErr result (take (length buf.old.items) buf.new.items ≡ buf.old.items) }
+{
+    if size == 8 {
+        return put_value(value, shortest, buf);
+    }
+    if value.len() <= VERY_SHORT {
+        let mut room = [0u8; 4 * VERY_SHORT + 4];
+        return put_by_way_of(&mut room, size, flags, value, shortest, buf);
+    }
+    put_name(size, flags, value, shortest, buf)
+}
+
+/// Appends the length of a string and its Huffman encoding, or the string as it stands. The encoding is counted first. A refusal may leave
+/// a part of them.
+fn put_long(
+    size: u8,
+    flags: u8,
+    value: &[u8],
+    shortest: bool,
+    buf: &mut Vec<u8>,
+) -> Result<(), AllocError>
+    requires least { 2 ≤ size }
+    requires most { size ≤ 8 }
+    requires flags { flags < 2 ^ (8 - size) }
+    requires value { length value.now < 2 ^ 62 }
+    ensures ok { OnOk result (buf.new.items ≡ buf.old.items ++ string_literal size flags (coded shortest value.now)) }
+    ensures err { OnErr result (take (length buf.old.items) buf.new.items ≡ buf.old.items) }
+{
+    let len = h3_huffman::encode::payload_len(value);
+    if !is_coded(value, shortest, len) {
+        return put_plain(size, flags, value, buf);
+    }
+    buf.reserve(len)?;
+    prefix_int::encode(size - 1, 2 * flags + 1, len as u64, buf)?;
+    let start = buf.len();
+    buf.resize(start + len, 0)?;
+    h3_huffman::encode::encode_into(value, &mut buf[start..]);
+    Ok(())
+}
+
+/// Appends a string, Huffman coded, in the low `size` bits of a byte below `flags`. A refusal appends nothing.
+pub fn encode(size: u8, flags: u8, value: &[u8], buf: &mut Vec<u8>) -> Result<(), Error>
+    requires least { 2 ≤ size }
+    requires most { size ≤ 8 }
+    requires flags { flags < 2 ^ (8 - size) }
+    requires value { length value.now < 2 ^ 62 }
+    ensures memory { IsOkUnless result error.OutOfMemory }
+    ensures ok { OnOk result (buf.new.items ≡ buf.old.items ++ string_literal size flags (huffman_text value.now)) }
+    ensures err { OnErr result (buf.new.items ≡ buf.old.items) }
+{
+    write(size, flags, value, false, buf)
+}
+
+// RFC 9204 4.1.2: shortest strings
+/// Appends a string in the low `size` bits of a byte below `flags`: Huffman coded, or as it stands if `shortest` and its Huffman code is
+/// not shorter. A refusal appends nothing.
+pub fn write(
+    size: u8,
+    flags: u8,
+    value: &[u8],
+    shortest: bool,
+    buf: &mut Vec<u8>,
+) -> Result<(), Error>
+    requires least { 2 ≤ size }
+    requires most { size ≤ 8 }
+    requires flags { flags < 2 ^ (8 - size) }
+    requires value { length value.now < 2 ^ 62 }
+    ensures memory { IsOkUnless result error.OutOfMemory }
+    ensures ok { OnOk result (buf.new.items ≡ buf.old.items ++ string_literal size flags (coded shortest value.now)) }
+    ensures err { OnErr result (buf.new.items ≡ buf.old.items) }
+{
+    let start = buf.len();
+    let appended = if value.len() == 0 {
+        put_empty(size, flags, value, shortest, buf)
+    } else if value.len() <= SHORT {
+        put_short(size, flags, value, shortest, buf)
+    } else {
+        put_long(size, flags, value, shortest, buf)
+    };
+    if appended.is_err() {
+        buf.truncate(start);
+        return Err(Error::OutOfMemory);
+    }
+    Ok(())
+}

@@ -1,0 +1,11 @@
+mod Accepted
+mod ComesLaws
+mod Cuts
+mod DeliverEventLaws
+mod DeliverLaws
+mod EventLaws
+mod OwnEventLaws
+mod OwnStandsLaws
+mod OwnWritesLaws
+mod PulledAndSentLaws
+mod RunLaws

@@ -1,0 +1,164 @@
+-- What a side sent on a request stream, and what the other side was handed out of it, by the events and their answers alone.
+use Rattle.std.specs.Prelude.{ℕ, List, Bool, false, ◌==◌, [], true, if◌then◌else◌, ◌∷◌, map, flat_map, fold, ◌&&◌, ◌++◌, ◌||◌, ◌≡◌, ◌<◌, ◌≤◌, Option, Some, None, bytes_eq, codes}
+use Rattle.http_header.specs.FieldName.{IsHeaderName}
+use Rattle.h3_field.specs.Field.{Field, plain_field, section_size}
+use Rattle.h3_connection.specs.declared.event.Item.{Item}
+use Rattle.h3_connection.specs.declared.event.Item.TheVariants as item
+use Rattle.h3_proto.specs.declared.stream.Side.{Side}
+use Rattle.h3_proto.specs.declared.stream.Side.TheVariants.{Client, Server}
+use Rattle.h3_world.specs.declared.event.Answer.{Answer}
+use Rattle.h3_world.specs.declared.event.Answer.TheVariants as answer
+use Rattle.h3_world.specs.declared.lists.ListItem.{ListItem}
+use Rattle.h3_world.specs.declared.lists.ListItem.TheVariants as listed
+use Rattle.h3_world.specs.declared.lists.ListPull.TheVariants as list
+use Rattle.h3_header.specs.Head.{head_fields}
+use Rattle.h3_header.specs.Reads.{status_number}
+use Rattle.h3_connection.specs.Pulling.{is_interim}
+use Rattle.h3_world.specs.declared.event.Event.{Event}
+use Rattle.h3_world.specs.declared.event.Event.TheVariants as event
+use Rattle.h3_connection.specs.declared.event.Pull.TheVariants as pull
+
+pub data SectionKind : Type 0 where
+  OfInterim : SectionKind
+  OfHead : SectionKind
+  OfTrailer : SectionKind
+
+-- What a message carries, in order (RFC 9114, section 4.1). A body is its bytes, since it is handed out in any pieces.
+pub data MessageContent : Type 0 where
+  -- a section of these fields, as a list or as a header
+  FieldSection : (kind : SectionKind) (as_list : Bool) (fields : List Field) → MessageContent
+  Byte : (byte : ℕ) → MessageContent
+  -- in the place of a field section above the reader's limit, its size
+  TooLarge : (size : ℕ) → MessageContent
+  -- what belongs to no message of a request
+  Foreign : MessageContent
+
+-- the call is the side's, on the stream
+abbrev pub is_on : Side → ℕ → Side → ℕ → Bool
+is_on Client id Client i = i == id
+is_on Client id Server i = false
+is_on Server id Client i = false
+is_on Server id Server i = i == id
+
+-- what is accepted, of a call that is on the stream
+abbrev pub if_done : Answer → Bool → List MessageContent → List MessageContent
+if_done answer.Done on contents = if on then contents else []
+if_done _ on contents = []
+
+abbrev pub is_done : Answer → Bool
+is_done answer.Done = true
+is_done _ = false
+
+-- a head with this status
+abbrev pub head_section : Option ℕ → Bool → List Field → MessageContent
+head_section status as_list fields = FieldSection (if is_interim status then OfInterim else OfHead) as_list fields
+
+-- the status behind one more field of a list: that of the last `:status`
+abbrev pub status_after : Option ℕ → Field → Option ℕ
+status_after status f = if bytes_eq f.name (codes ":status") then Some (status_number f.value) else status
+
+-- what an event sends on the stream, where it was accepted
+abbrev pub sent_in : Side → ℕ → Event → Answer → List MessageContent
+sent_in side id (event.Head s i head) a = if_done a (is_on side id s i) (head_section head.status false (head_fields head) ∷ [])
+sent_in side id (event.Fields s i fields) a = if_done a (is_on side id s i) (head_section (fold status_after None fields) true fields ∷ [])
+sent_in side id (event.Body s i bytes) a = if_done a (is_on side id s i) (map Byte bytes)
+sent_in side id (event.Trailer s i trailer) a = if_done a (is_on side id s i) (FieldSection OfTrailer false (head_fields trailer) ∷ [])
+sent_in side id (event.TrailerFields s i fields) a = if_done a (is_on side id s i) (FieldSection OfTrailer true fields ∷ [])
+sent_in side id _ a = []
+
+-- whether it completes the message
+abbrev pub finished_in : Side → ℕ → Event → Answer → Bool
+finished_in side id (event.Finish acting i) a = is_done a && is_on side id acting i
+finished_in side id _ a = false
+
+abbrev pub item_contents : Item → List MessageContent
+item_contents (item.Interim head) = FieldSection OfInterim false (head_fields head) ∷ []
+item_contents (item.Head head) = FieldSection OfHead false (head_fields head) ∷ []
+item_contents (item.Body bytes) = map Byte bytes
+item_contents (item.Trailer trailer) = FieldSection OfTrailer false (head_fields trailer) ∷ []
+item_contents (item.TooLarge size) = TooLarge size ∷ []
+item_contents item.End = []
+item_contents i = Foreign ∷ []
+
+abbrev pub listed_contents : ListItem → List MessageContent
+listed_contents (listed.Interim fields) = FieldSection OfInterim true fields ∷ []
+listed_contents (listed.Head fields) = FieldSection OfHead true fields ∷ []
+listed_contents (listed.Body bytes) = map Byte bytes
+listed_contents (listed.Trailer fields) = FieldSection OfTrailer true fields ∷ []
+listed_contents (listed.TooLarge size) = TooLarge size ∷ []
+listed_contents listed.End = []
+listed_contents i = Foreign ∷ []
+
+-- what an answer hands out
+abbrev pub contents_of : Answer → List MessageContent
+contents_of (answer.Pulled (pull.Item i)) = item_contents i
+contents_of (answer.Listed (list.Item i)) = listed_contents i
+contents_of _ = []
+
+-- whether it is the end
+abbrev pub is_end_of : Answer → Bool
+is_end_of (answer.Pulled (pull.Item item.End)) = true
+is_end_of (answer.Listed (list.Item listed.End)) = true
+is_end_of _ = false
+
+-- what an event hands out of the stream
+abbrev pub pulled_in : Side → ℕ → Event → Answer → List MessageContent
+pulled_in side id (event.Pull acting i) a = if is_on side id acting i then contents_of a else []
+pulled_in side id (event.PullFields acting i) a = if is_on side id acting i then contents_of a else []
+pulled_in side id _ a = []
+
+abbrev pub ended_in : Side → ℕ → Event → Answer → Bool
+ended_in side id (event.Pull acting i) a = is_on side id acting i && is_end_of a
+ended_in side id (event.PullFields acting i) a = is_on side id acting i && is_end_of a
+ended_in side id _ a = false
+
+-- over all events and their answers
+abbrev pub all_of : (Event → Answer → List MessageContent) → List Event → List Answer → List MessageContent
+all_of f [] answers = []
+all_of f (e ∷ events) [] = []
+all_of f (e ∷ events) (a ∷ answers) = f e a ++ all_of f events answers
+
+abbrev pub any_of : (Event → Answer → Bool) → List Event → List Answer → Bool
+any_of f [] answers = false
+any_of f (e ∷ events) [] = false
+any_of f (e ∷ events) (a ∷ answers) = f e a || any_of f events answers
+
+-- what the side sent on the stream, and whether it has finished
+abbrev pub sent : Side → ℕ → List Event → List Answer → List MessageContent
+sent side id events answers = all_of (sent_in side id) events answers
+
+abbrev pub has_finished : Side → ℕ → List Event → List Answer → Bool
+has_finished side id events answers = any_of (finished_in side id) events answers
+
+-- what the side was handed out of the stream, and whether the end was among it
+abbrev pub pulled : Side → ℕ → List Event → List Answer → List MessageContent
+pulled side id events answers = all_of (pulled_in side id) events answers
+
+abbrev pub has_pulled_end : Side → ℕ → List Event → List Answer → Bool
+has_pulled_end side id events answers = any_of (ended_in side id) events answers
+
+-- the names and values of fields
+abbrev pub plainly : List Field → List Field
+plainly fields = map (λ f. plain_field f.name f.value) fields
+
+-- the values of a name, in their order
+abbrev pub values_of : List ℕ → List Field → List (List ℕ)
+values_of name fields = flat_map (λ f. if bytes_eq f.name name then f.value ∷ [] else []) fields
+
+-- They are those that were sent, in their order; a header that is pulled of a list has those of each regular field.
+abbrev pub HasFields : Bool → Bool → List Field → List Field → Type 0
+HasFields false true given fields = (name : List ℕ) → IsHeaderName name → values_of name given ≡ values_of name fields
+HasFields as_list was_list given fields = plainly given ≡ plainly fields
+
+-- What is handed out is what was sent: of a section above the reader's limit its size alone (RFC 9114, section 4.2.2).
+abbrev pub Is : ℕ → MessageContent → MessageContent → Type 0
+Is most (FieldSection kind list given) (FieldSection k l fields) = (kind ≡ k) × HasFields list l given fields × (section_size fields ≤ most)
+Is most (TooLarge size) (FieldSection k l fields) = (size ≡ section_size fields) × (most < section_size fields)
+Is most (Byte b) (Byte c) = b ≡ c
+Is most _ _ = ⊥
+
+-- the others begin so
+abbrev pub IsFrontOf : (MessageContent → MessageContent → Type 0) → List MessageContent → List MessageContent → Type 0
+IsFrontOf R [] sent = Unit {0}
+IsFrontOf R (c ∷ handed) (d ∷ sent) = R c d × IsFrontOf R handed sent
+IsFrontOf R (c ∷ handed) [] = ⊥

@@ -1,0 +1,25 @@
+use Rattle.std.proofs.Common.{◌≡◌, ◌-◌, ◌<◌, ◌≤◌, length}
+use Rattle.h3_huffman.specs.Writing.{Written}
+use Rattle.h3_huffman.proofs.encode.put_words.Given as goal
+
+abbrev pub invariant-fours : goal.invariant-fours
+invariant-fours l = record {
+  standing : Written l.plain l.out l.place l.acc l.count l.written;
+  few : l.count < 32;
+  within : l.place ≤ length l.plain;
+  same : length l.out ≡ length l.fn.out;
+}
+
+abbrev pub decreases-fours : goal.decreases-fours
+decreases-fours l = length l.plain - l.place
+
+abbrev pub invariant-ones : goal.invariant-ones
+invariant-ones l = record {
+  standing : Written l.plain l.out l.place l.acc l.count l.written;
+  few : l.count < 32;
+  within : l.place ≤ length l.plain;
+  same : length l.out ≡ length l.fn.out;
+}
+
+abbrev pub decreases-ones : goal.decreases-ones
+decreases-ones l = length l.plain - l.place

@@ -1,0 +1,12 @@
+-- A payload in the midst of its writing.
+use Rattle.std.specs.Prelude.{◌≡◌, ℕ, ◌≤◌, List, ◌++◌, length, take, flat_map}
+use Rattle.std.specs.List.{AllByRecursion}
+use Rattle.h3_huffman.specs.Huffman.{bits, huffman, code_word}
+use Rattle.h3_huffman.specs.Payload.{IsByte}
+
+-- What was written are whole bytes of the words of the first symbols, and the rest of these words is pending.
+pub record Written (plain out : List ℕ) (index acc count written : ℕ) : Type 0 where
+  pub parts : flat_map (bits 8) (take written out) ++ bits count acc ≡ flat_map code_word (take index plain)
+  pub within : written ≤ length out
+  pub room : length (huffman plain) ≤ length out
+  pub bytes : AllByRecursion IsByte (take written out)

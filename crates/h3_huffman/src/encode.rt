@@ -1,0 +1,197 @@
+//! Writes Huffman payloads.
+ghost use Rattle.std.specs.Prelude.{◌≡◌, ℕ, List, ◌+◌, ◌*◌, ◌^◌, ◌<◌, ◌≤◌, ◌++◌, IfSome, take, length, flat_map};
+ghost use Rattle.std.specs.Int.{w32, to_be_bytes};
+ghost use Rattle.h3_huffman.specs.Huffman.{huffman, bits, code_word};
+ghost use Rattle.h3_huffman.specs.Writing.{Written};
+
+use crate::tables::{WORD_LENGTHS, WORDS};
+
+/// How many bits the word of a byte has.
+fn word_len(byte: u8) -> u64
+    ensures value { result ≡ length (code_word byte) }
+    ensures most { result ≤ 30 }
+{
+    let length = WORD_LENGTHS[byte as usize];
+    u64::from(length)
+}
+
+/// The word of a byte, as a number.
+fn word_of(byte: u8) -> u64
+    ensures value { bits (length (code_word byte)) result ≡ code_word byte }
+    ensures below { result < 2 ^ length (code_word byte) }
+{
+    let word = WORDS[byte as usize];
+    u64::from(word)
+}
+
+/// Writes the four bytes of a number, the high one first.
+fn put_word(out: &mut [u8], place: usize, word: u32)
+    requires { place + 4 ≤ length out.old }
+    ensures { take (place + 4) out.new ≡ take place out.old ++ to_be_bytes w32 word }
+{
+    out[place..place + 4].copy_from_slice(&word.to_be_bytes());
+}
+
+/// How many bits the words of a string have, if their sum fits 64 bits.
+fn word_bits(plain: &[u8]) -> u64
+    requires { length plain.now < 2 ^ 58 }
+    ensures value { result ≡ length (flat_map code_word plain.now) }
+    ensures most { result ≤ 30 * length plain.now }
+{
+    let mut total: u64 = 0;
+    for byte in plain {
+        total += word_len(*byte);
+    }
+    total
+}
+
+/// How many bits the words of a very long string have.
+fn wide_word_bits(plain: &[u8]) -> u128
+    requires { length plain.now < 2 ^ 62 }
+    ensures value { result ≡ length (flat_map code_word plain.now) }
+    ensures most { result ≤ 30 * length plain.now }
+{
+    let mut total: u128 = 0;
+    for byte in plain {
+        total += u128::from(word_len(*byte));
+    }
+    total
+}
+
+/// How many bytes the Huffman encoding of a string has.
+#[tactic(auto, using(crate::proofs::Writing::huffman_length))]
+pub fn payload_len(plain: &[u8]) -> usize
+    requires { length plain.now < 2 ^ 62 }
+    ensures value { result ≡ length (huffman plain.now) }
+    ensures most { result ≤ 4 * length plain.now }
+{
+    if plain.len() < 1 << 58 {
+        ((word_bits(plain) + 7) / 8) as usize
+    } else {
+        ((wide_word_bits(plain) + 7) / 8) as usize
+    }
+}
+
+/// What is not yet written: the low `count` bits of `acc`, which go to `out[written]` on.
+struct Pending {
+    acc: u64,
+    count: u64,
+    written: usize,
+}
+
+/// The low `count` bits of `acc`, which are not yet written.
+#[derive(Copy, Clone)]
+struct Ahead {
+    acc: u64,
+    count: u64,
+}
+
+/// Adds the words of four bytes. None: with them the bits are more than 63.
+#[inline(always)]
+fn add_four(plain: &[u8], place: usize, acc: u64, count: u64) -> Option<Ahead>
+    requires there { place + 4 ≤ length plain.now }
+    requires few { count < 32 }
+    ensures standing { IfSome result (λ ahead. (out : List ℕ) (written : ℕ) → Written plain.now out place acc count written → Written plain.now out (place + 4) ahead.acc ahead.count written) }
+    ensures fits { IfSome result (λ ahead. ahead.count < 64) }
+{
+    let first_length = word_len(plain[place]);
+    let second_length = word_len(plain[place + 1]);
+    let third_length = word_len(plain[place + 2]);
+    let fourth_length = word_len(plain[place + 3]);
+    let all = count + first_length + second_length + third_length + fourth_length;
+    if all >= 64 {
+        return None;
+    }
+    let first = acc << first_length | word_of(plain[place]);
+    let second = first << second_length | word_of(plain[place + 1]);
+    let third = second << third_length | word_of(plain[place + 2]);
+    let fourth = third << fourth_length | word_of(plain[place + 3]);
+    Some(Ahead {
+        acc: fourth,
+        count: all,
+    })
+}
+
+/// Writes the words of a string, save for the last bits of fewer than four bytes.
+#[inline(always)]
+fn put_words(plain: &[u8], out: &mut [u8]) -> Pending
+    requires { length (huffman plain.now) ≤ length out.old }
+    ensures standing { Written plain.now out.new (length plain.now) result.acc result.count result.written }
+    ensures few { result.count < 32 }
+    ensures same { length out.new ≡ length out.old }
+{
+    let mut acc: u64 = 0;
+    let mut count: u64 = 0;
+    let mut written: usize = 0;
+    let mut place: usize = 0;
+    // (the labels name the loops in their proofs)
+    'fours: while plain.len() - place >= 4 {
+        let Some(ahead) = add_four(plain, place, acc, count) else {
+            break;
+        };
+        acc = ahead.acc;
+        count = ahead.count;
+        place += 4;
+        if count >= 32 {
+            count -= 32;
+            put_word(out, written, ((acc >> count) % (1 << 32)) as u32);
+            written += 4;
+        }
+    }
+    'ones: while place < plain.len() {
+        let length = word_len(plain[place]);
+        acc = acc << length | word_of(plain[place]);
+        count += length;
+        place += 1;
+        if count >= 32 {
+            count -= 32;
+            put_word(out, written, ((acc >> count) % (1 << 32)) as u32);
+            written += 4;
+        }
+    }
+    Pending {
+        acc,
+        count,
+        written,
+    }
+}
+
+/// Writes the Huffman encoding of a string.
+pub fn encode_into(plain: &[u8], out: &mut [u8])
+    requires { length out.old ≡ length (huffman plain.now) }
+    ensures { out.new ≡ huffman plain.now }
+{
+    let Pending {
+        acc,
+        mut count,
+        mut written,
+    } = put_words(plain, out);
+    // (the label names the loop in its proof)
+    'last: while count >= 8 {
+        count -= 8;
+        out[written] = ((acc >> count) % 256) as u8;
+        written += 1;
+    }
+    if count > 0 {
+        out[written] = ((acc << (8 - count) | 255 >> count) % 256) as u8;
+    }
+}
+
+/// Writes the Huffman encoding of a string to the front of `out`, and returns its length. It needs no length before and has no loop over
+/// the last bytes, so it is the faster one for short strings. It writes up to four bytes after the encoding.
+pub fn encode_front(plain: &[u8], out: &mut [u8]) -> usize
+    requires { 4 * length plain.now + 4 ≤ length out.old }
+    ensures payload { take result out.new ≡ huffman plain.now }
+    ensures value { result ≡ length (huffman plain.now) }
+    ensures most { result ≤ 4 * length plain.now }
+    ensures same { length out.new ≡ length out.old }
+{
+    let Pending {
+        acc,
+        count,
+        written,
+    } = put_words(plain, out);
+    let last = acc << (32 - count) | 0xffff_ffff >> count;
+    put_word(out, written, (last % (1 << 32)) as u32);
+    written + ((count + 7) / 8) as usize
+}

@@ -1,0 +1,168 @@
+-- What a field section is at its place.
+use Rattle.std.proofs.Common.{◌≡◌, ℕ, ◌<◌, ◌≤◌, false, nat_lt, if◌then◌else◌, List, [], ◌∷◌, inl, inr, refl, ap, sym, ◌∙◌, subst}
+use Rattle.std.proofs.lemmas.Bool.{lt-ltb, le-ltb}
+use Rattle.std.specs.Prelude.{Option, Some, None, IfSome, Result, Ok, Err, IfOk, codes, Bool}
+use Rattle.h3_field.specs.Field.{Field}
+use Rattle.h3_field.specs.Instruction.{DecoderInstruction}
+use Rattle.h3_qpack.specs.DecoderState.{DecoderState}
+use Rattle.h3_header.specs.Head.{Head}
+use Rattle.h3_header.specs.HeadRead.{HeadRead, HeadRefusal, IsHead, IsNone, head_by, told}
+use Rattle.h3_header.specs.Reads.{kind_of, with_field, RefusesAt, RefusesOne}
+use Rattle.h3_header.specs.declared.headers.error.HeaderError.{HeaderError}
+use Rattle.h3_header.specs.declared.headers.error.HeaderError.TheVariants as error
+use Rattle.h3_header.specs.declared.headers.kind.FieldKind.{FieldKind}
+use Rattle.h3_proto.specs.declared.stream.Side.{Side}
+use Rattle.h3_connection.specs.declared.event.Item.{Item}
+use Rattle.h3_connection.specs.declared.event.Item.TheVariants as item
+use Rattle.h3_connection.specs.declared.event.Malformation.{Malformation}
+use Rattle.h3_connection.specs.declared.event.Pull.{Pull}
+use Rattle.h3_connection.specs.declared.event.Pull.TheVariants as pull
+use Rattle.h3_connection.specs.declared.place.Place.{Place}
+use Rattle.h3_connection.specs.declared.setup.Announced.{Announced}
+use Rattle.h3_connection.specs.Announcing.{section_of}
+use Rattle.h3_messages.specs.declared.content.Content.{Content}
+use Rattle.h3_connection.specs.StrictMessages.{broken_rule, if_whole, large_content_at, response_at}
+use Rattle.h3_qpack.specs.DecodedSection.{DecodedSection, decode_section}
+use Rattle.h3_connection.specs.Incoming.{Incoming}
+use Rattle.h3_incoming.specs.Gives.{Gives}
+use Rattle.h3_qpack.specs.Sizes.{last_value, told_size, IsBlockWithin}
+use Rattle.h3_qpack.specs.declared.block_within.BlockWithin.{BlockWithin}
+use Rattle.h3_qpack.specs.declared.block_within.BlockWithin.TheVariants as within
+use Rattle.h3_qpack.specs.declared.block_within.SectionSummary.{SectionSummary}
+use Rattle.h3_incoming.specs.declared.judge.Judged.{Judged}
+use Rattle.h3_incoming.specs.declared.judge.Judged.TheVariants as judge
+use Rattle.h3_proto.specs.declared.stream.Side.TheVariants.{Client, Server}
+use Rattle.h3_incoming.specs.Judging.{HasItem, HasList, Tells, judged_as}
+use Rattle.h3_incoming.specs.Outline.{outline_of, is_read_outline, list_read}
+use Rattle.h3_incoming.specs.declared.outline.Outline.{Outline}
+use Rattle.h3_incoming.specs.declared.outline.ListRead.{ListRead}
+use Rattle.h3_incoming.specs.declared.outline.ListRead.TheVariants as read
+use Rattle.h3_connection.specs.Pulling.{Pulled, is_for, is_memory, malformation_of, malformed, next_place, head_or_trailer, judged, with_content, read_section, decoded, at_section}
+
+-- a refusal that tells no malformation is for want of memory
+memory_at : (any : Bool) (at : FieldKind) (h : Head) (f : Field) (e : HeaderError) → RefusesAt any at h f e → told e ≡ None → RefusesAt any at h f error.OutOfMemory
+memory_at any at h f (error.InvalidHeaderName _) why none = absurd (cc)
+memory_at any at h f (error.InvalidHeaderValue _) why none = absurd (cc)
+memory_at any at h f error.TooManyFields why none = absurd (cc)
+memory_at any at h f error.InvalidRequest why none = absurd why
+memory_at any at h f error.MissingMethod why none = absurd why
+memory_at any at h f error.MissingStatus why none = absurd why
+memory_at any at h f error.MissingAuthority why none = absurd why
+memory_at any at h f error.ContradictedAuthority why none = absurd why
+memory_at any at h f error.OutOfMemory why none = why
+
+pub wants_memory : (any : Bool) (h : Head) (fields : List Field) (e : HeaderError) → RefusesOne any h fields e → told e ≡ None → RefusesOne any h fields error.OutOfMemory
+unfolding RefusesOne
+wants_memory any h [] e why none = absurd why
+wants_memory any h (f ∷ fields) e (inl here) none = inl (memory_at any (kind_of f.name) h f e here none)
+wants_memory any h (f ∷ fields) e (inr later) none = inr (later.0, wants_memory any (with_field h f) fields e later.1 none)
+
+-- a list is no head where its reading told so, or where it says so itself
+pub tells_none : (any : Bool) (fields : List Field) (e : HeaderError) (why : HeadRefusal) → (told e ≡ Some why → head_by any fields ≡ IsNone why) → Tells any fields e why → head_by any fields ≡ IsNone why
+tells_none any fields e why law (inl here) = law here
+tells_none any fields e why law (inr is) = is
+
+-- so it is told to be malformed
+pub refused_reads : (any : Bool) (fields : List Field) (e : HeaderError) (why : HeadRefusal) (r : ListRead) → (told e ≡ Some why → head_by any fields ≡ IsNone why) → Tells any fields e why → r ≡ read.Malformed (malformation_of why)
+    → r ≡ list_read (head_by any fields)
+refused_reads any fields e why r law tells is = is ∙ ap list_read (sym (tells_none any fields e why law tells))
+
+pub refused_never : (any : Bool) (fields : List Field) (e : HeaderError) (why : HeadRefusal) (h : Head) → (told e ≡ Some why → head_by any fields ≡ IsNone why) → Tells any fields e why → head_by any fields ≡ IsHead h → ⊥
+refused_never any fields e why h law tells is = let wrong : IsHead h ≡ IsNone why = sym is ∙ tells_none any fields e why law tells in cc
+
+-- a list has one head
+pub one_head : (r : HeadRead) (header h : Head) → r ≡ IsHead header → r ≡ IsHead h → header ≡ h
+one_head r header h is other = cc
+
+-- what is said of the fields that are kept is said of the section
+pub judged_within : {E : Type 0} (result : Result Judged E) (side : Side) (own : Announced) (place : Place) (content : Content) (known : Option Content) (answer : Pull) (block : List Field) (d : SectionSummary) (w : BlockWithin) → w ≡ within.Fields d
+    → IfOk result (λ j. (id : ℕ) (r : DecoderState) (i : Incoming) (replies : List DecoderInstruction) → told_size block ≤ section_of own → i.place ≡ place → i.content ≡ content → i.response ≡ known
+    → read_section side own id r i replies block ≡ judged_as id i replies answer j)
+    → IfOk result (λ j. (id : ℕ) (r : DecoderState) (i : Incoming) (replies : List DecoderInstruction) (dyn_ref : Bool) (fields : List Field)
+    → IsBlockWithin (section_of own) (codes ":status") dyn_ref fields w block → i.place ≡ place → i.content ≡ content → i.response ≡ known → read_section side own id r i replies fields ≡ judged_as id i replies answer j)
+judged_within (Err e) side own place left known answer block d w is h = h
+judged_within (Ok j) side own place before known answer block d w is h = λ id r i replies dyn_ref fields k at left told.
+    let size = subst (λ x. IsBlockWithin (section_of own) (codes ":status") dyn_ref fields x block) is k in
+    subst (λ fs. read_section side own id r i replies fs ≡ judged_as id i replies answer j) size.1 (h id r i replies (subst (λ fs. told_size fs ≤ section_of own) (sym size.1) size.0) at left told)
+
+pub listed_within : {E : Type 0} (result : Result Judged E) (limit : ℕ) (listed : Option (List Field)) (block : List Field) (d : SectionSummary) (w : BlockWithin) → w ≡ within.Fields d
+    → IfOk result (λ j. HasList j listed block) → IfOk result (λ j. (dyn_ref : Bool) (fields : List Field) → IsBlockWithin limit (codes ":status") dyn_ref fields w block → HasList j listed fields)
+listed_within (Err e) limit listed block d w is h = h
+listed_within (Ok j) limit listed block d w is h = λ dyn_ref fields k.
+    let size = subst (λ x. IsBlockWithin limit (codes ":status") dyn_ref fields x block) is k in
+    subst (HasList j listed) size.1 h
+
+-- what is made of it overwrites the content
+pub judged_behind : (id : ℕ) (i : Incoming) (content : Content) (known : Option Content) (replies : List DecoderInstruction) (answer : Pull) (j : Judged) → judged_as id (record i { content = content; response = known }) replies answer j ≡ judged_as id i replies answer j
+judged_behind id i before known replies answer (judge.HandsOut place left told) = refl
+judged_behind id i before known replies answer (judge.Malformed why told) = refl
+
+-- an item is no want of memory
+pub has_item : (j : Judged) (answer : Pull) (i : Item) → answer ≡ pull.Item i → HasItem j answer
+has_item (judge.HandsOut place left told) answer i is = ap is_memory is
+has_item (judge.Malformed why told) answer i is = tt
+
+pub has_list : (j : Judged) (listed : Option (List Field)) (fields : List Field) → IfSome listed (λ l. l ≡ fields) → HasList j listed fields
+has_list (judge.HandsOut place left told) listed fields h = h
+has_list (judge.Malformed why told) listed fields h = tt
+
+-- an outline tells as much of a head as its place asks
+pub is_read : (side : Side) (h : Head) → is_read_outline side (outline_of h) ≡ is_for side h
+is_read Client h = refl
+is_read Server h = refl
+
+-- what a list is told to be says what it reads as
+pub reads_head : (r : HeadRead) (o : Outline) → read.Head o ≡ list_read r → (P : Type 0) → ((h : Head) → r ≡ IsHead h → o ≡ outline_of h → P) → P
+reads_head (IsHead h) o is P given = given h refl (cc)
+reads_head (IsNone why) o is P given = absurd (cc)
+
+pub reads_none : (r : HeadRead) (m : Malformation) → read.Malformed m ≡ list_read r → (P : Type 0) → ((why : HeadRefusal) → r ≡ IsNone why → m ≡ malformation_of why → P) → P
+reads_none (IsNone why) m is P given = given why refl (cc)
+reads_none (IsHead h) m is P given = absurd (cc)
+
+module _ (side : Side) (own : Announced) (id : ℕ) (r : DecoderState) where
+  -- a section that is too large
+  abbrev large_as : ℕ → Incoming → Place → Content → Option Content → List DecoderInstruction → Pulled
+  large_as size i place content known replies = record { answer = pull.Item (item.TooLarge size); incoming = record i { place = place; content = content; response = known }; replies = replies }
+
+  pub read_large : (i : Incoming) (replies : List DecoderInstruction) (fields : List Field) (place behind : Place) (content expected : Content) (known : Option Content) (size : ℕ) → section_of own < told_size fields
+      → size ≡ told_size fields → i.place ≡ place → i.content ≡ content → i.response ≡ known → behind ≡ next_place side place fields → expected ≡ large_content_at side own place content (last_value (codes ":status") fields)
+      → read_section side own id r i replies fields ≡ large_as size i behind expected known replies
+  read_large i replies fields place behind content expected known size large is at left told next says =
+      let status = last_value (codes ":status") fields in
+      ap (λ b. if b then large_as (told_size fields) i (next_place side i.place fields) (large_content_at side own i.place i.content status) i.response replies else judged side id (with_content side own i fields) replies (if_whole i.content (broken_rule side own i.place fields)) (head_by own.choices.extensions.any_protocol fields)) (lt-ltb (section_of own) (told_size fields) large)
+      ∙ ap (λ n. large_as n i (next_place side i.place fields) (large_content_at side own i.place i.content status) i.response replies) (sym is)
+      ∙ ap (λ q. large_as size i (next_place side q fields) (large_content_at side own q i.content status) i.response replies) at
+      ∙ ap (λ c. large_as size i (next_place side place fields) (large_content_at side own place c status) i.response replies) left
+      ∙ ap (λ q. large_as size i q (large_content_at side own place content status) i.response replies) (sym next) ∙ ap (λ c. large_as size i behind c i.response replies) (sym says)
+      ∙ ap (λ k. large_as size i behind expected k replies) told
+
+  -- a section that is small enough, and a head
+  pub read_head : (i : Incoming) (replies : List DecoderInstruction) (fields : List Field) (place : Place) (h : Head) → told_size fields ≤ section_of own
+      → head_by own.choices.extensions.any_protocol fields ≡ IsHead h → i.place ≡ place → read_section side own id r i replies fields ≡ head_or_trailer side id (with_content side own i fields) replies (if_whole i.content (broken_rule side own place fields)) place h
+  read_head i replies fields place h few e at =
+      rw (le-ltb (section_of own) (told_size fields) few)
+      (ap (judged side id (with_content side own i fields) replies (if_whole i.content (broken_rule side own i.place fields))) e
+      ∙ ap (λ q. head_or_trailer side id (with_content side own i fields) replies (if_whole i.content (broken_rule side own q fields)) q h) at)
+
+  -- and one that is no head
+  pub read_none : (i : Incoming) (replies : List DecoderInstruction) (fields : List Field) (place : Place) (known response : Option Content) (m : Malformation) (why : HeadRefusal) → told_size fields ≤ section_of own
+      → head_by own.choices.extensions.any_protocol fields ≡ IsNone why → m ≡ malformation_of why → i.place ≡ place → i.response ≡ known → response ≡ response_at side own place known fields
+      → read_section side own id r i replies fields ≡ malformed id m (record i { response = response }) replies
+  read_none i replies fields place known response m why few e is at told says =
+      let kept : (with_content side own i fields).response ≡ response =
+      ap (λ q. response_at side own q i.response fields) at ∙ ap (λ k. response_at side own place k fields) told ∙ sym says in
+      rw (le-ltb (section_of own) (told_size fields) few)
+      (ap (judged side id (with_content side own i fields) replies (if_whole i.content (broken_rule side own i.place fields))) e
+      ∙ ap (λ n. malformed id n (with_content side own i fields) replies) (sym is)
+      ∙ ap (λ k. malformed id m (record i { response = k }) replies) kept)
+
+  pub tried_section : (i : Incoming) (bytes : List ℕ) (section : DecodedSection) → nat_lt r.table.inserted i.waits_for ≡ false → decode_section r bytes ≡ section
+      → at_section side own id r i bytes ≡ decoded side own id r i section
+  tried_section i bytes section there e = rw there (ap (decoded side own id r i) e)
+
+  pub section_gives : (i : Incoming) (section : Option (List ℕ)) (bytes : List ℕ) (answer : Pull) (new : Incoming) (before after : List ℕ) → section ≡ Some bytes
+      → (is_memory answer ≡ false → Gives (at_section side own id r i bytes) answer new before after)
+      → IfSome section (λ b. is_memory answer ≡ false → Gives (at_section side own id r i b) answer new before after)
+  section_gives i section bytes answer new before after e h =
+      subst (λ o. IfSome o (λ b. is_memory answer ≡ false → Gives (at_section side own id r i b) answer new before after)) (sym e) h

@@ -1,0 +1,292 @@
+-- A pull that memory cut short loses nothing.
+use Rattle.std.proofs.Common.{◌≡◌, ℕ, zero, suc, ◌<◌, ◌≤◌, Bool, true, false, if◌then◌else◌, ◌&&◌, ◌==◌, List, [], ◌++◌, length, refl, ap, sym, ◌∙◌, subst, arith, inl, inr, ◌⊎◌}
+use Rattle.std.specs.Prelude.{None, Some, Option, nat_lt}
+use Rattle.std.specs.List.{concat}
+use Rattle.std.proofs.lemmas.List.{length-drop}
+use Rattle.std.proofs.lemmas.List.Folds.{concat-append}
+use Rattle.h3_wire.specs.ExcessiveFrames.{is_excessive}
+use Rattle.h3_wire.specs.Frames.{Whole, frame_at}
+use Rattle.h3_wire.specs.Pieces.{IsRest, chunk_of}
+use Rattle.h3_wire.specs.PieceLaws.{rest_behind, concat-without}
+use Rattle.h3_wire.specs.declared.proto.frame.PayloadLen.{PayloadLen}
+use Rattle.h3_wire.specs.declared.proto.frame.Frame.{Frame}
+use Rattle.h3_wire.specs.declared.proto.frame.Frame.TheVariants as frame
+use Rattle.h3_proto.specs.declared.stream.Side.{Side}
+use Rattle.h3_qpack.specs.DecoderState.{DecoderState}
+use Rattle.h3_connection.specs.declared.event.StreamFault.{StreamFault}
+use Rattle.h3_connection.specs.declared.place.Place.{Place}
+use Rattle.h3_connection.specs.declared.place.Place.TheVariants.{BeforeHead, InBody, AfterTrailer, InSession}
+use Rattle.h3_connection.specs.declared.setup.Announced.{Announced}
+use Rattle.h3_connection.specs.Coming.{HasNoHeader, fields_in, fields_next, next_section, section_in, section_of_frame}
+use Rattle.h3_connection.specs.Incoming.{Incoming, Passes, is_body, given_up}
+use Rattle.h3_connection.specs.Skipping.{skipped, is_empty_data}
+use Rattle.h3_connection.specs.Codes.{frame_error, frame_unexpected}
+use Rattle.h3_connection.specs.declared.event.Malformation.TheVariants as malformation
+use Rattle.h3_messages.specs.Content.{is_exceeded}
+use Rattle.h3_connection.specs.Pulling.{Pulled, begun_section, begun_payload, left_with, at_payload, body_of, in_payload, malformed, new_section, connection_fault, excess, at_frame, next_frame, between_frames, pull_stream}
+use Rattle.h3_incoming.specs.Finding.{FindsFrame, KeepsWithin, PassesFrames}
+use Rattle.h3_incoming.specs.Placing.{is_session}
+use Rattle.h3_incoming.specs.Resuming.{Begins, Resumes, delivered}
+use Rattle.h3_connection.specs.SkippingLaws.{skipped-length, found_not_empty}
+use Rattle.h3_incoming.proofs.PullLaws.{pull_of_section, pull_of_payload, pull_of_frame, left_is, left_left, place_passed, between_frame}
+
+pub resumes_same : (own : Announced) (old new : Incoming) → new ≡ old → Resumes own old new
+resumes_same own old new e = subst (λ x. Resumes own old x) (sym e) (record {
+  pulls = λ side id r pieces ends. refl;
+  lists = λ side id r pieces ends. inr refl;
+  gives_up = λ fault. refl;
+  place = refl;
+  response = refl;
+  is_over = refl;
+  waits_for = refl;
+  tries = refl;
+  ended = refl;
+  was_reset = refl;
+  fault = refl;
+})
+
+-- A message between frames.
+pub record IsBetween (i : Incoming) : Type 0 where
+  pub no_fault : i.fault ≡ None
+  pub goes_on : i.is_over ≡ false
+  pub message : is_session i.place ≡ false
+  pub none : i.section ≡ None
+  pub closed : i.body_left ≡ 0
+  pub waits : i.waits_for ≡ 0
+
+between_pull : (side : Side) (own : Announced) (id : ℕ) (r : DecoderState) (i : Incoming) (pieces : List (List ℕ)) (ends : Bool) → IsBetween i
+    → pull_stream side own id r (delivered i pieces ends) ≡ between_frames side own id r (delivered i pieces ends)
+between_pull side own id r i pieces ends b = pull_of_frame side own id r (delivered i pieces ends) b.no_fault b.goes_on b.message b.none b.closed
+
+abbrev with_unread : List (List ℕ) → Incoming → Incoming
+with_unread l i = record i { unread = l }
+
+not_true : false ≡ true → ⊥
+not_true h = cc
+
+rest_short : (all new : List (List ℕ)) → IsRest all new → length (concat new) ≤ length (concat all)
+rest_short all new a = omega (arith, ap length (ap concat a.2 ∙ concat-without a.0 all), length-drop a.0 (concat all))
+
+-- more pieces at the end
+passes_behind : (old mid : Incoming) (pieces : List (List ℕ)) (ends : Bool) → Passes old mid → Passes (delivered old pieces ends) (delivered mid pieces ends)
+passes_behind old mid pieces ends p = record {
+  same = ap (λ (i : Incoming). with_unread (mid.unread ++ pieces) (delivered i pieces ends)) p.same;
+  rest = rest_behind old.unread mid.unread pieces p.rest;
+}
+
+-- what came is let go
+let_go_alike : (id : ℕ) (bytes : List ℕ) (old new : Incoming) → Passes old new → excess id new bytes ≡ excess id old bytes
+let_go_alike id bytes old new p = ap {A = Incoming} (λ i. excess id i bytes) p.same
+
+between_passed : (old new : Incoming) → Passes old new → IsBetween old → IsBetween new
+between_passed old new p b = subst IsBetween (sym p.same) (record { no_fault = b.no_fault; goes_on = b.goes_on; message = b.message; none = b.none; closed = b.closed; waits = b.waits })
+
+-- the list of a stream on which no section waits
+none_next : (r : DecoderState) (i : Incoming) → i.section ≡ None → fields_next r i ≡ fields_in r (section_in (frame_at (skipped (is_body i.place) (concat i.unread))))
+none_next r i none = ap (λ s. fields_in r (next_section i s)) none
+
+-- Some frames were passed, and the next was not read.
+pub resumes_passed : (own : Announced) (old new : Incoming) → IsBetween old → Passes old new → PassesFrames (is_body old.place) (concat old.unread) (concat new.unread) → Resumes own old new
+resumes_passed own old new b p skips = record {
+  pulls = λ side id r pieces ends. goes_on_alike side id r pieces ends;
+  lists = λ side id r pieces ends. inr (lists_alike r pieces ends);
+  gives_up = λ fault. ap {A = Incoming} (λ i. given_up i fault) p.same;
+  place = ap {A = Incoming} (λ i. i.place) p.same;
+  response = ap {A = Incoming} (λ i. i.response) p.same;
+  is_over = ap {A = Incoming} (λ i. i.is_over) p.same;
+  waits_for = ap {A = Incoming} (λ i. i.waits_for) p.same;
+  tries = ap {A = Incoming} (λ i. i.tries) p.same;
+  ended = ap {A = Incoming} (λ i. i.ended) p.same;
+  was_reset = ap {A = Incoming} (λ i. i.was_reset) p.same;
+  fault = ap {A = Incoming} (λ i. i.fault) p.same;
+}
+  where
+    -- the next frame that gives something is the same
+    next_alike : (pieces : List (List ℕ)) → skipped (is_body new.place) (concat (new.unread ++ pieces)) ≡ skipped (is_body old.place) (concat (old.unread ++ pieces))
+    next_alike pieces =
+        ap (λ q. skipped (is_body q) (concat (new.unread ++ pieces))) (place_passed old new p)
+        ∙ ap (skipped (is_body old.place)) (concat-append new.unread pieces) ∙ skips (concat pieces)
+        ∙ sym (ap (skipped (is_body old.place)) (concat-append old.unread pieces))
+
+    lists_alike : (r : DecoderState) (pieces : List (List ℕ)) (ends : Bool) → fields_next r (delivered new pieces ends) ≡ fields_next r (delivered old pieces ends)
+    lists_alike r pieces ends =
+        none_next r (delivered new pieces ends) (between_passed old new p b).none
+        ∙ ap (λ l. fields_in r (section_in (frame_at l))) (next_alike pieces)
+        ∙ sym (none_next r (delivered old pieces ends) b.none)
+
+    goes_on_alike : (side : Side) (id : ℕ) (r : DecoderState) (pieces : List (List ℕ)) (ends : Bool)
+        → pull_stream side own id r (delivered new pieces ends) ≡ pull_stream side own id r (delivered old pieces ends)
+    goes_on_alike side id r pieces ends =
+        let o = delivered old pieces ends in
+        let n = delivered new pieces ends in
+        let bytes = skipped (is_body old.place) (concat o.unread) in
+        let same : skipped (is_body n.place) (concat n.unread) ≡ bytes = next_alike pieces in
+        let short : length bytes ≤ length (concat n.unread) = subst (λ l. length l ≤ length (concat n.unread)) same (skipped-length (is_body n.place) (concat n.unread)) in
+        let behind = passes_behind old new pieces ends p in
+        let left : left_with n bytes ≡ left_with o bytes =
+        ap (λ (i : Incoming). left_with i bytes) (left_is o n behind)
+        ∙ left_left o (concat n.unread) bytes short (rest_short o.unread n.unread behind.rest) in
+        between_pull side own id r new pieces ends (between_passed old new p b)
+        ∙ ap (λ l. if is_excessive own.choices.unfinished_limit l then excess id n l else next_frame side own id r (left_with n l) l) same
+        ∙ ap (λ (i : Incoming). if is_excessive own.choices.unfinished_limit bytes then excess id n bytes else next_frame side own id r i bytes) left
+        ∙ ap (λ x. if is_excessive own.choices.unfinished_limit bytes then x else next_frame side own id r (left_with o bytes) bytes) (let_go_alike id bytes o n behind)
+        ∙ sym (between_pull side own id r old pieces ends b)
+
+-- The next frame has begun what it gives.
+section_alike : (side : Side) (own : Announced) (id : ℕ) (r : DecoderState) (pieces : List (List ℕ)) (ends : Bool) (mid : Incoming) (bytes : List ℕ) → IsBetween mid
+    → pull_stream side own id r (delivered (begun_section mid bytes) pieces ends) ≡ new_section side own id r (delivered mid pieces ends) bytes
+section_alike side own id r pieces ends mid bytes b = pull_of_section side own id r (delivered (begun_section mid bytes) pieces ends) bytes b.no_fault b.goes_on b.message refl
+
+some_left : (n : ℕ) → (n == 0) ≡ false → 0 < n
+some_left n h = elim (cases_zero n) [ inl z ↦ absurd (differ n z h) | inr s ↦ s ]
+  where
+    cases_zero : (n : ℕ) → (n ≡ 0) ⊎ (0 < n)
+    cases_zero zero = inl refl
+    cases_zero (suc n) = inr (omega arith)
+
+    differ : (n : ℕ) → n ≡ 0 → (n == 0) ≡ false → ⊥
+    differ n z h = let wrong : (0 == 0) ≡ false = subst (λ m. (m == 0) ≡ false) z h in cc
+
+payload_alike : (side : Side) (own : Announced) (id : ℕ) (r : DecoderState) (pieces : List (List ℕ)) (ends : Bool) (mid : Incoming) (size : ℕ) → IsBetween mid → 0 < size
+    → pull_stream side own id r (delivered (begun_payload mid size) pieces ends) ≡ at_payload id (begun_payload (delivered mid pieces ends) size)
+payload_alike side own id r pieces ends mid size b some = pull_of_payload side own id r (delivered (begun_payload mid size) pieces ends) b.no_fault b.goes_on b.message b.none some
+
+begun_alike : (side : Side) (own : Announced) (id : ℕ) (r : DecoderState) (pieces : List (List ℕ)) (ends : Bool) (mid new : Incoming) (f : Frame PayloadLen) (place : Place)
+    → IsBetween mid → Begins place f mid new → (is_body place && is_empty_data f) ≡ false
+    → pull_stream side own id r (delivered new pieces ends) ≡ at_frame side own id r side (delivered mid pieces ends) place f
+begun_alike side own id r pieces ends mid new (frame.Headers bytes) BeforeHead b h some = ap (λ (i : Incoming). pull_stream side own id r (delivered i pieces ends)) h.1 ∙ section_alike side own id r pieces ends mid bytes b
+begun_alike side own id r pieces ends mid new (frame.Headers bytes) InBody b h some =
+    ap (λ (i : Incoming). pull_stream side own id r (delivered i pieces ends)) h.1 ∙ section_alike side own id r pieces ends mid bytes b
+    ∙ sym (ap (λ takes. if takes then new_section side own id r (delivered mid pieces ends) bytes else connection_fault frame_unexpected (delivered mid pieces ends)) h.0)
+begun_alike side own id r pieces ends mid new (frame.Headers bytes) AfterTrailer b h some = absurd (not_true h.0)
+begun_alike side own id r pieces ends mid new (frame.Headers bytes) InSession b h some = absurd (not_true h.0)
+begun_alike side own id r pieces ends mid new (frame.Data len) InBody b h some = ap (λ (i : Incoming). pull_stream side own id r (delivered i pieces ends)) h.1 ∙ payload_alike side own id r pieces ends mid len.0 b (some_left len.0 some)
+begun_alike side own id r pieces ends mid new (frame.Data len) BeforeHead b h some = absurd (not_true h.0)
+begun_alike side own id r pieces ends mid new (frame.Data len) AfterTrailer b h some = absurd (not_true h.0)
+begun_alike side own id r pieces ends mid new (frame.Data len) InSession b h some = absurd (not_true h.0)
+begun_alike side own id r pieces ends mid new (frame.CancelPush push) place b h some = absurd h
+begun_alike side own id r pieces ends mid new (frame.Settings settings) place b h some = absurd h
+begun_alike side own id r pieces ends mid new (frame.PushPromise promise) place b h some = absurd h
+begun_alike side own id r pieces ends mid new (frame.Goaway number) place b h some = absurd h
+begun_alike side own id r pieces ends mid new (frame.MaxPushId push) place b h some = absurd h
+begun_alike side own id r pieces ends mid new (frame.WebTransportStream session) place b h some = absurd h
+begun_alike side own id r pieces ends mid new (frame.Grease kind) place b h some = absurd h
+
+-- what is the same of a receiver that has begun what a frame gives
+record IsBegun (old new : Incoming) : Type 0 where
+  gives_up : (fault : StreamFault) → given_up new fault ≡ given_up old fault
+  place : new.place ≡ old.place
+  response : new.response ≡ old.response
+  is_over : new.is_over ≡ old.is_over
+  waits_for : new.waits_for ≡ 0
+  tries : new.tries ≡ old.tries
+  ended : new.ended ≡ old.ended
+  was_reset : new.was_reset ≡ old.was_reset
+  fault : new.fault ≡ old.fault
+
+section_begun : (mid : Incoming) (bytes : List ℕ) → IsBegun mid (begun_section mid bytes)
+section_begun mid bytes = record { gives_up = λ fault. refl; place = refl; response = refl; is_over = refl; waits_for = refl; tries = refl; ended = refl; was_reset = refl; fault = refl }
+
+payload_begun : (mid : Incoming) (size : ℕ) → mid.waits_for ≡ 0 → IsBegun mid (begun_payload mid size)
+payload_begun mid size none = record { gives_up = λ fault. refl; place = refl; response = refl; is_over = refl; waits_for = none; tries = refl; ended = refl; was_reset = refl; fault = refl }
+
+is_begun : (mid new : Incoming) (f : Frame PayloadLen) (place : Place) → mid.waits_for ≡ 0 → Begins place f mid new → IsBegun mid new
+is_begun mid new (frame.Headers bytes) place none h = subst (λ x. IsBegun mid x) (sym h.1) (section_begun mid bytes)
+is_begun mid new (frame.Data len) place none h = subst (λ x. IsBegun mid x) (sym h.1) (payload_begun mid len.0 none)
+is_begun mid new (frame.CancelPush push) place none h = absurd h
+is_begun mid new (frame.Settings settings) place none h = absurd h
+is_begun mid new (frame.PushPromise promise) place none h = absurd h
+is_begun mid new (frame.Goaway number) place none h = absurd h
+is_begun mid new (frame.MaxPushId push) place none h = absurd h
+is_begun mid new (frame.WebTransportStream session) place none h = absurd h
+is_begun mid new (frame.Grease kind) place none h = absurd h
+
+-- what a payload gives has no header
+body_without : (i : Incoming) (chunk : Option (List ℕ) × List (List ℕ)) → HasNoHeader (body_of i chunk).answer
+body_without i (None, pieces) = tt
+body_without i (Some bytes, pieces) = tt
+
+payload_without : (id : ℕ) (i : Incoming) → HasNoHeader (at_payload id i).answer
+payload_without id i = by_content (is_exceeded i.content)
+  where
+    by_end : (b : Bool) → HasNoHeader (if b then connection_fault frame_error i else body_of i (chunk_of i.body_left i.unread)).answer
+    by_end true = tt
+    by_end false = body_without i (chunk_of i.body_left i.unread)
+
+    by_content : (b : Bool) → HasNoHeader (if b then malformed id malformation.ContentLength i [] else in_payload i).answer
+    by_content true = tt
+    by_content false = by_end (i.ended && nat_lt (length (concat i.unread)) i.body_left)
+
+-- the list that comes next, if the frame has a section; else the answer has no header
+begun_lists : (side : Side) (own : Announced) (id : ℕ) (r : DecoderState) (pieces : List (List ℕ)) (ends : Bool) (mid new : Incoming) (f : Frame PayloadLen) (place : Place)
+    → IsBetween mid → Begins place f mid new → (is_body place && is_empty_data f) ≡ false
+    → HasNoHeader (pull_stream side own id r (delivered new pieces ends)).answer ⊎ (fields_next r (delivered new pieces ends) ≡ fields_in r (section_of_frame f))
+begun_lists side own id r pieces ends mid new (frame.Headers bytes) place b h some = inr (ap (λ (i : Incoming). fields_next r (delivered i pieces ends)) h.1)
+begun_lists side own id r pieces ends mid new (frame.Data len) InBody b h some =
+    inl (subst (λ (x : Pulled). HasNoHeader x.answer) (sym (ap (λ (i : Incoming). pull_stream side own id r (delivered i pieces ends)) h.1 ∙ payload_alike side own id r pieces ends mid len.0 b (some_left len.0 some)))
+    (payload_without id (begun_payload (delivered mid pieces ends) len.0)))
+begun_lists side own id r pieces ends mid new (frame.Data len) BeforeHead b h some = absurd (not_true h.0)
+begun_lists side own id r pieces ends mid new (frame.Data len) AfterTrailer b h some = absurd (not_true h.0)
+begun_lists side own id r pieces ends mid new (frame.Data len) InSession b h some = absurd (not_true h.0)
+begun_lists side own id r pieces ends mid new (frame.CancelPush push) place b h some = absurd h
+begun_lists side own id r pieces ends mid new (frame.Settings settings) place b h some = absurd h
+begun_lists side own id r pieces ends mid new (frame.PushPromise promise) place b h some = absurd h
+begun_lists side own id r pieces ends mid new (frame.Goaway number) place b h some = absurd h
+begun_lists side own id r pieces ends mid new (frame.MaxPushId push) place b h some = absurd h
+begun_lists side own id r pieces ends mid new (frame.WebTransportStream session) place b h some = absurd h
+begun_lists side own id r pieces ends mid new (frame.Grease kind) place b h some = absurd h
+
+pub resumes_begun : (own : Announced) (old mid new : Incoming) (f : Frame PayloadLen) → IsBetween old → Passes old mid → FindsFrame (is_body old.place) f (concat old.unread) (concat mid.unread)
+    → KeepsWithin own.choices.unfinished_limit (is_body old.place) (concat old.unread) → Begins mid.place f mid new → Resumes own old new
+resumes_begun own old mid new f b p finds small begins =
+    let here = between_passed old mid p b in
+    let begun = is_begun mid new f mid.place here.waits begins in
+    record {
+      pulls = λ side id r pieces ends. goes_on_alike side id r pieces ends here;
+      lists = λ side id r pieces ends. lists_alike side id r pieces ends here;
+      gives_up = λ fault. begun.gives_up fault ∙ ap {A = Incoming} (λ i. given_up i fault) p.same;
+      place = begun.place ∙ ap {A = Incoming} (λ i. i.place) p.same;
+      response = begun.response ∙ ap {A = Incoming} (λ i. i.response) p.same;
+      is_over = begun.is_over ∙ ap {A = Incoming} (λ i. i.is_over) p.same;
+      waits_for = begun.waits_for ∙ sym b.waits;
+      tries = begun.tries ∙ ap {A = Incoming} (λ i. i.tries) p.same;
+      ended = begun.ended ∙ ap {A = Incoming} (λ i. i.ended) p.same;
+      was_reset = begun.was_reset ∙ ap {A = Incoming} (λ i. i.was_reset) p.same;
+      fault = begun.fault ∙ ap {A = Incoming} (λ i. i.fault) p.same;
+    }
+  where
+    -- the frame is found in what comes
+    found_there : (pieces : List (List ℕ)) → frame_at (skipped (is_body old.place) (concat (old.unread ++ pieces))) ≡ Whole f (concat (mid.unread ++ pieces))
+    found_there pieces =
+        ap (λ l. frame_at (skipped (is_body old.place) l)) (concat-append old.unread pieces) ∙ finds (concat pieces) ∙ ap (λ l. Whole f l) (sym (concat-append mid.unread pieces))
+
+    goes_on_alike : (side : Side) (id : ℕ) (r : DecoderState) (pieces : List (List ℕ)) (ends : Bool) → IsBetween mid
+        → pull_stream side own id r (delivered new pieces ends) ≡ pull_stream side own id r (delivered old pieces ends)
+    goes_on_alike side id r pieces ends here =
+        let o = delivered old pieces ends in
+        let m = delivered mid pieces ends in
+        let there : frame_at (skipped (is_body old.place) (concat o.unread)) ≡ Whole f (concat m.unread) = found_there pieces in
+        let some = found_not_empty (is_body old.place) (concat o.unread) (concat m.unread) f there in
+        let place = place_passed old mid p in
+        begun_alike side own id r pieces ends mid new f mid.place here begins (subst (λ q. (is_body q && is_empty_data f) ≡ false) (sym place) some)
+        ∙ ap (λ q. at_frame side own id r side m q f) place
+        ∙ sym (between_frame side own id r o m f (passes_behind old mid pieces ends p) there
+        (ap (λ l. is_excessive own.choices.unfinished_limit (skipped (is_body old.place) l)) (concat-append old.unread pieces) ∙ small (concat pieces)))
+        ∙ sym (between_pull side own id r old pieces ends b)
+
+    lists_alike : (side : Side) (id : ℕ) (r : DecoderState) (pieces : List (List ℕ)) (ends : Bool) → IsBetween mid
+        → HasNoHeader (pull_stream side own id r (delivered old pieces ends)).answer ⊎ (fields_next r (delivered new pieces ends) ≡ fields_next r (delivered old pieces ends))
+    lists_alike side id r pieces ends here =
+        let o = delivered old pieces ends in
+        let m = delivered mid pieces ends in
+        let place = place_passed old mid p in
+        let some = found_not_empty (is_body old.place) (concat o.unread) (concat m.unread) f (found_there pieces) in
+        let old_list : fields_next r o ≡ fields_in r (section_of_frame f) = none_next r o b.none ∙ ap (λ x. fields_in r (section_in x)) (found_there pieces) in
+        either (begun_lists side own id r pieces ends mid new f mid.place here begins (subst (λ q. (is_body q && is_empty_data f) ≡ false) (sym place) some)) old_list (goes_on_alike side id r pieces ends here)
+      where
+        either : HasNoHeader (pull_stream side own id r (delivered new pieces ends)).answer ⊎ (fields_next r (delivered new pieces ends) ≡ fields_in r (section_of_frame f))
+            → fields_next r (delivered old pieces ends) ≡ fields_in r (section_of_frame f)
+            → pull_stream side own id r (delivered new pieces ends) ≡ pull_stream side own id r (delivered old pieces ends)
+            → HasNoHeader (pull_stream side own id r (delivered old pieces ends)).answer ⊎ (fields_next r (delivered new pieces ends) ≡ fields_next r (delivered old pieces ends))
+        either (inl without) is same = inl (subst (λ (x : Pulled). HasNoHeader x.answer) same without)
+        either (inr lists) is same = inr (lists ∙ sym is)

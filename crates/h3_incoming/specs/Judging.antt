@@ -1,0 +1,31 @@
+-- What a decoded field section is at its place.
+use Rattle.std.specs.Prelude.{◌≡◌, ◌⊎◌, ℕ, Bool, false, List, Option, Some, IfSome}
+use Rattle.h3_field.specs.Field.{Field}
+use Rattle.h3_field.specs.Instruction.{DecoderInstruction}
+use Rattle.h3_header.specs.HeadRead.{HeadRefusal, IsNone, head_by, told}
+use Rattle.h3_header.specs.declared.headers.error.HeaderError.{HeaderError}
+use Rattle.h3_connection.specs.Incoming.{Incoming}
+use Rattle.h3_connection.specs.Pulling.{Pulled, is_memory, malformed}
+use Rattle.h3_connection.specs.declared.event.Pull.{Pull}
+use Rattle.h3_incoming.specs.declared.judge.Judged.{Judged}
+use Rattle.h3_incoming.specs.declared.judge.Judged.TheVariants as judged
+
+-- what a pull makes of it, whose answer was written
+abbrev pub judged_as : ℕ → Incoming → List DecoderInstruction → Pull → Judged → Pulled
+judged_as id i replies answer (judged.HandsOut place expected known) =
+    record { answer = answer; incoming = record i { place = place; content = expected; response = known }; replies = replies }
+judged_as id i replies answer (judged.Malformed why known) = malformed id why (record i { response = known }) replies
+
+-- What was written is an item, unless the section is malformed.
+abbrev pub HasItem : Judged → Pull → Type 0
+HasItem (judged.HandsOut place expected known) answer = is_memory answer ≡ false
+HasItem (judged.Malformed why known) answer = Unit {0}
+
+-- What is kept of it as a list is this one.
+abbrev pub HasList : Judged → Option (List Field) → List Field → Type 0
+HasList (judged.HandsOut place expected known) listed fields = IfSome listed (λ l. l ≡ fields)
+HasList (judged.Malformed why known) listed fields = Unit {0}
+
+-- The list is no head for this, as its reading told, or as the list says itself.
+abbrev pub Tells : Bool → List Field → HeaderError → HeadRefusal → Type 0
+Tells any fields error why = (told error ≡ Some why) ⊎ (head_by any fields ≡ IsNone why)

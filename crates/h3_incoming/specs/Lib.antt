@@ -1,0 +1,15 @@
+pub mod Finding
+pub mod Replying
+pub mod Judging
+pub mod Left
+pub mod Trying
+pub mod Placing
+pub mod Gives
+pub mod Resuming
+pub mod Beginning
+pub mod Outline
+pub mod Answering
+pub mod FieldsPulls
+pub mod BlockPulls
+pub mod BodyPlaces
+pub mod SomePieces

@@ -1,0 +1,195 @@
+//! The answer of a pull whose header and trailer sections are the lists of fields that came, in a block of memory that serves again.
+ghost use Rattle.std.specs.Prelude.{◌≡◌, ◌<◌, ℕ, List, Option, length, IfSome};
+ghost use Rattle.h3_field.specs.Field.{Field};
+ghost use Rattle.h3_header.specs.Reads.{head_of_fields};
+ghost use Rattle.h3_incoming.specs.Answering.{fault_told, plain_pull};
+ghost use Rattle.h3_incoming.specs.BlockPulls.{fields_kept, status_kept, told_with, HasStatus};
+ghost use Rattle.h3_incoming.specs.FieldsPulls.{list_of, listed_as, pull_of};
+ghost use Rattle.h3_incoming.specs.declared.fields.FieldsPull.TheVariants as answer;
+
+use crate::answer::{Answer, MessageKind, Plain, kind_at};
+use crate::outline::{ListRead, read_unless};
+use h3_connection::event::Fault;
+use h3_connection::place::Place;
+use h3_field::{FieldBlock, Fields};
+use h3_proto::stream::Side;
+use http::StatusCode;
+use std::alloc::{AllocError, Global};
+use std::marker::Model;
+use std::mem;
+
+/// What an answer says beside the fields of a header or trailer section.
+#[derive(Drop)]
+pub enum Told {
+    /// The fields are those of a header or trailer section, and this is the status of a response's header section.
+    Message(MessageKind, Option<StatusCode>),
+    /// There is none.
+    Plain(Plain),
+}
+
+/// An answer as `FieldsPull` has it, whose fields lie in a block. The next header or trailer section is written in the place of the last
+/// one, and takes memory only if it is longer. A contract sees the `FieldsPull` that it stands for.
+#[derive(Drop)]
+pub struct BlockPull {
+    told: Told,
+    block: FieldBlock,
+}
+
+impl Model for BlockPull {
+    ghost use Rattle.h3_incoming.specs.BlockPulls.{told_with, HasStatus};
+    ghost use Rattle.h3_incoming.specs.declared.fields.FieldsPull.{FieldsPull};
+
+    ghost Value = { FieldsPull };
+
+    ghost view = { λ p. told_with p.told p.block };
+
+    ghost invariant = { λ p. HasStatus p.told p.block };
+}
+
+impl BlockPull {
+    /// That the next item isn't there yet. It takes no memory.
+    pub fn new(alloc: Global) -> BlockPull
+        ensures { result ≡ answer.Pending }
+    {
+        BlockPull {
+            told: Told::Plain(Plain::Pending),
+            block: FieldBlock::new(alloc),
+        }
+    }
+
+    /// What the answer says, the fields aside.
+    pub fn told(&self) -> &Told
+        ensures is { self.now ≡ told_with result.now (fields_kept self.now) }
+        ensures status { HasStatus result.now (fields_kept self.now) }
+    {
+        &self.told
+    }
+
+    /// The block with the fields of a header or trailer section. After another answer it holds anything.
+    pub fn block(&self) -> &FieldBlock
+        ensures { IfSome (list_of self.now) (λ fields. result.now ≡ fields) }
+    {
+        &self.block
+    }
+
+    /// The fields of a header or trailer section, as they came and in the order in which they came. After another answer they are any.
+    pub fn fields(&self) -> Fields<'_>
+        ensures { IfSome (list_of self.now) (λ fields. result ≡ fields) }
+    {
+        self.block.fields()
+    }
+
+    /// The status of a response's header section, as its `Header` has it. It takes no look at the fields.
+    pub fn status(&self) -> Option<StatusCode>
+        ensures { result ≡ status_kept self.now }
+    {
+        status_of(&self.told)
+    }
+
+    // The fields of a header or trailer section with this status, or none.
+    fn hold(&mut self, kind: MessageKind, status: Option<StatusCode>, block: FieldBlock)
+        requires { status ≡ (head_of_fields block).status }
+        ensures { self.new ≡ answer.Item (listed_as kind block) }
+    {
+        self.told = Told::Message(kind, status);
+        self.block = block;
+    }
+
+    // The answer is that the next item isn't there yet, and the memory of these fields is kept.
+    fn keep(&mut self, block: FieldBlock)
+        ensures { self.new ≡ answer.Pending }
+    {
+        self.told = Told::Plain(Plain::Pending);
+        self.block = block;
+    }
+}
+
+impl Answer for BlockPull {
+    ghost told = { pull_of };
+
+    ghost listed = { list_of };
+
+    ghost asks = { λ any fields. 24576 < length fields };
+
+    fn give(&mut self, answer: Plain) {
+        self.told = Told::Plain(answer);
+    }
+
+    fn give_message(
+        &mut self,
+        alloc: Global,
+        side: Side,
+        place: Place,
+        any_protocol: bool,
+        known: Option<ListRead>,
+        fields: FieldBlock,
+    ) -> Result<ListRead, AllocError> {
+        h3_header::laws::lists_are_their_value();
+        match read_unless(known, alloc, &fields.fields(), any_protocol) {
+            Ok(ListRead::Head(outline)) => {
+                let kind = kind_at(side, place, &outline);
+                self.hold(kind, outline.status(), fields);
+                Ok(ListRead::Head(outline))
+            }
+            Ok(ListRead::Malformed(why)) => {
+                self.keep(fields);
+                Ok(ListRead::Malformed(why))
+            }
+            Err(e) => {
+                self.keep(fields);
+                Err(e)
+            }
+        }
+    }
+
+    fn keeps_lists() -> bool {
+        true
+    }
+
+    fn room(&mut self, alloc: Global) -> FieldBlock {
+        self.told = Told::Plain(Plain::Pending);
+        let mut block = mem::replace(&mut self.block, FieldBlock::new(alloc));
+        block.clear();
+        block
+    }
+
+    fn fault(&self) -> Option<Fault> {
+        fault_of(&self.told)
+    }
+}
+
+// The status that the answer has.
+fn status_of(told: &Told) -> Option<StatusCode>
+    ensures { (fields : List Field) → HasStatus told.now fields → result ≡ status_kept (told_with told.now fields) }
+{
+    match told {
+        Told::Message(_, status) => *status,
+        Told::Plain(_) => None,
+    }
+}
+
+// The fault that the answer has.
+fn fault_of(told: &Told) -> Option<Fault>
+    ensures { (fields : List Field) → result ≡ fault_told (pull_of (told_with told.now fields)) }
+{
+    match told {
+        Told::Message(_, _) => None,
+        Told::Plain(plain) => fault_in(plain),
+    }
+}
+
+fn fault_in(plain: &Plain) -> Option<Fault>
+    ensures { result ≡ fault_told (plain_pull plain.now) }
+{
+    match plain {
+        Plain::Fault(fault) => Some(*fault),
+        Plain::Body(_)
+        | Plain::Raw(_)
+        | Plain::Session(_)
+        | Plain::TooLarge(_)
+        | Plain::End
+        | Plain::Pending
+        | Plain::Waiting(_)
+        | Plain::NoMessages => None,
+    }
+}

@@ -1,0 +1,249 @@
+//! What a decoded field section is at its place of a message (RFC 9114, sections 4.1 to 4.3).
+ghost use Rattle.std.specs.Prelude.{◌≡◌, ◌<◌, ◌≤◌, ℕ, Bool, false, List, Some, None, IfOk, OnErr, option_map, codes};
+ghost use Rattle.h3_field.specs.Field.{Field};
+ghost use Rattle.h3_field.specs.Instruction.{DecoderInstruction};
+ghost use Rattle.h3_qpack.specs.DecoderState.{DecoderState};
+ghost use Rattle.h3_header.specs.BadPart.{IsHeadUnlessMany};
+ghost use Rattle.h3_header.specs.Head.{Head};
+ghost use Rattle.h3_connection.specs.Incoming.{Incoming};
+ghost use Rattle.h3_connection.specs.declared.event.Item.TheVariants as item;
+ghost use Rattle.h3_connection.specs.declared.event.Pull.TheVariants as pull;
+ghost use Rattle.h3_qpack.specs.Sizes.{IsLarge, IsBlockWithin, last_value, told_size};
+ghost use Rattle.h3_connection.specs.Announcing.{section_of};
+ghost use Rattle.h3_connection.specs.Pulling.{read_section, whole_head, whole_trailer, head_or_trailer, next_place, is_interim_text, is_client};
+ghost use Rattle.h3_incoming.specs.Answering.{message_at};
+ghost use Rattle.h3_incoming.specs.Judging.{HasItem, HasList, judged_as};
+ghost use Rattle.h3_incoming.specs.Outline.{outline_of};
+
+use crate::answer::{Answer, Plain};
+use crate::outline::{ListRead, Outline};
+use crate::strict::{if_whole, large_content_at, read_at};
+use h3_connection::event::Malformation;
+use h3_connection::place::Place;
+use h3_connection::setup::Announced;
+use h3_field::FieldBlock;
+use h3_messages::{Content, is_interim_status};
+use h3_proto::stream::Side;
+use h3_qpack::{BlockWithin, LargeSection};
+use std::alloc::{AllocError, Global};
+
+/// What a field section is at its place.
+#[derive(Drop)]
+pub(crate) enum Judged {
+    /// It is returned, and this is the place after it, the content that is left to come, and what is known of that of a response.
+    HandsOut(Place, Content, Option<Content>),
+    /// Why it is malformed, and what is known of the content of a response.
+    Malformed(Malformation, Option<Content>),
+}
+
+// RFC 9204 2.2.2.1: section acknowledgment, written
+/// Whether a section named an entry of the table: then it has to be acknowledged (RFC 9204, section 4.4.1).
+pub(crate) fn names_entries(decoded: &BlockWithin) -> bool
+    ensures { (max : ℕ) (name : List ℕ) (dyn_ref : Bool) (fields block : List Field) → IsBlockWithin max name dyn_ref fields decoded.now block → result ≡ dyn_ref }
+{
+    match decoded {
+        BlockWithin::Fields(summary) => summary.dyn_ref,
+        BlockWithin::TooLarge(large) => large.dyn_ref,
+    }
+}
+
+/// What a decoded field section is at a place, whose fields stand in this block. The item that is returned of it is written to `out`. Of
+/// one whose fields sum to more than was announced, that item is its size alone.
+pub(crate) fn judge<O: Answer>(
+    alloc: Global,
+    side: Side,
+    announced: &Announced,
+    place: Place,
+    content: Content,
+    known: Option<Content>,
+    decoded: BlockWithin,
+    block: FieldBlock,
+    out: &mut O,
+) -> Result<Judged, AllocError>
+    ensures judged { IfOk result (λ j. (id : ℕ) (r : DecoderState) (i : Incoming) (replies : List DecoderInstruction) (dyn_ref : Bool) (fields : List Field)
+        → IsBlockWithin (section_of announced.now) (codes ":status") dyn_ref fields decoded block → i.place ≡ place → i.content ≡ content → i.response ≡ known → read_section side announced.now id r i replies fields ≡ judged_as id i replies (O.told out.new) j) }
+    ensures item { IfOk result (λ j. HasItem j (O.told out.new)) }
+    ensures list { IfOk result (λ j. (dyn_ref : Bool) (fields : List Field) → IsBlockWithin (section_of announced.now) (codes ":status") dyn_ref fields decoded block → HasList j (O.listed out.new) fields) }
+{
+    match decoded {
+        BlockWithin::Fields(_) => {
+            judge_fields(alloc, side, announced, place, content, known, block, out)
+        }
+        BlockWithin::TooLarge(large) => Ok(judge_large(
+            side, announced, place, content, known, large, out,
+        )),
+    }
+}
+
+// RFC 9114 4.2.2: size of a section, received
+// A section that is too large.
+fn judge_large<O: Answer>(
+    side: Side,
+    announced: &Announced,
+    place: Place,
+    content: Content,
+    known: Option<Content>,
+    large: LargeSection,
+    out: &mut O,
+) -> Judged
+    ensures judged { (id : ℕ) (r : DecoderState) (i : Incoming) (replies : List DecoderInstruction) (dyn_ref : Bool) (fields : List Field)
+        → section_of announced.now < told_size fields → IsLarge (codes ":status") dyn_ref fields large → i.place ≡ place → i.content ≡ content → i.response ≡ known
+        → read_section side announced.now id r i replies fields ≡ judged_as id i replies (O.told out.new) result }
+    ensures item { HasItem result (O.told out.new) }
+    ensures none { (fields : List Field) → HasList result (O.listed out.new) fields }
+{
+    let expected = large_content_at(side, announced, place, content, &large.last_value);
+    let behind = place_behind(side, place, large.last_value);
+    out.give(Plain::TooLarge(large.mem_size));
+    Judged::HandsOut(behind, expected, known)
+}
+
+// A section that is not too large. An allocation fails only for a list for which such an answer asks for memory. It fails for no malformed
+// list, unless that has more fields than a map has names for.
+fn judge_fields<O: Answer>(
+    alloc: Global,
+    side: Side,
+    announced: &Announced,
+    place: Place,
+    content: Content,
+    known: Option<Content>,
+    fields: FieldBlock,
+    out: &mut O,
+) -> Result<Judged, AllocError>
+    ensures judged { IfOk result (λ j. (id : ℕ) (r : DecoderState) (i : Incoming) (replies : List DecoderInstruction)
+        → told_size fields ≤ section_of announced.now → i.place ≡ place → i.content ≡ content → i.response ≡ known → read_section side announced.now id r i replies fields ≡ judged_as id i replies (O.told out.new) j) }
+    ensures item { IfOk result (λ j. HasItem j (O.told out.new)) }
+    ensures list { IfOk result (λ j. HasList j (O.listed out.new) fields) }
+    ensures memory { OnErr result (O.asks announced.now.choices.extensions.any_protocol fields) }
+    ensures good { OnErr result (IsHeadUnlessMany announced.now.choices.extensions.any_protocol fields) }
+{
+    let any_protocol = announced.choices.extensions.any_protocol;
+    let keeps_lists = O::keeps_lists();
+    let read = read_at(
+        keeps_lists,
+        side,
+        announced,
+        place,
+        content,
+        known,
+        &fields.fields(),
+    );
+    let strict = read.strict;
+    let broken = if_whole(content, strict.broken);
+    match out.give_message(alloc, side, place, any_protocol, read.list, fields) {
+        Ok(ListRead::Head(outline)) => Ok(judge_message(
+            side,
+            place,
+            strict.content,
+            strict.response,
+            broken,
+            &outline,
+        )),
+        Ok(ListRead::Malformed(why)) => Ok(Judged::Malformed(why, strict.response)),
+        Err(e) => Err(e),
+    }
+}
+
+// A header or trailer section of this outline, whose list breaks this rule or none, and after which so much content is left.
+fn judge_message(
+    side: Side,
+    place: Place,
+    behind: Content,
+    known: Option<Content>,
+    broken: Option<Malformation>,
+    outline: &Outline,
+) -> Judged
+    ensures { (id : ℕ) (i : Incoming) (replies : List DecoderInstruction) (h : Head) → outline.now ≡ outline_of h → i.place ≡ place → i.content ≡ behind → i.response ≡ known
+        → head_or_trailer side id i replies broken place h ≡ judged_as id i replies (pull.Item (message_at side place h)) result }
+{
+    match place {
+        Place::BeforeHead => judge_head(side, behind, known, broken, outline),
+        Place::InBody | Place::AfterTrailer | Place::InSession => {
+            judge_trailer(behind, known, broken, outline)
+        }
+    }
+}
+
+// RFC 9110 15.2: interim responses, as 103, received
+// A header section: a client reads responses, interim ones among them, and a server requests.
+fn judge_head(
+    side: Side,
+    behind: Content,
+    known: Option<Content>,
+    broken: Option<Malformation>,
+    outline: &Outline,
+) -> Judged
+    ensures { (id : ℕ) (i : Incoming) (replies : List DecoderInstruction) (h : Head) → outline.now ≡ outline_of h → i.place ≡ Place.BeforeHead → i.content ≡ behind → i.response ≡ known
+        → whole_head side id i replies broken h ≡ judged_as id i replies (pull.Item (message_at side Place.BeforeHead h)) result }
+{
+    if !outline.is_read_by(side) {
+        return Judged::Malformed(Malformation::WrongSide, known);
+    }
+    if let Some(why) = broken {
+        return Judged::Malformed(why, known);
+    }
+    if is_client(side) && outline.is_interim() {
+        return Judged::HandsOut(Place::BeforeHead, behind, known);
+    }
+    Judged::HandsOut(Place::InBody, behind, known)
+}
+
+fn is_client(side: Side) -> bool
+    ensures { result ≡ is_client side }
+{
+    match side {
+        Side::Client => true,
+        Side::Server => false,
+    }
+}
+
+// RFC 9114 4.3: pseudo-header fields in a trailer section
+// A trailer section, which has no pseudo-header field (RFC 9114, section 4.3).
+fn judge_trailer(
+    behind: Content,
+    known: Option<Content>,
+    broken: Option<Malformation>,
+    outline: &Outline,
+) -> Judged
+    ensures { (id : ℕ) (i : Incoming) (replies : List DecoderInstruction) (h : Head) → outline.now ≡ outline_of h → i.content ≡ behind → i.response ≡ known
+        → whole_trailer id i replies broken h ≡ judged_as id i replies (pull.Item (item.Trailer h)) result }
+{
+    if outline.has_pseudo() {
+        return Judged::Malformed(Malformation::PseudoInTrailer, known);
+    }
+    if let Some(why) = broken {
+        return Judged::Malformed(why, known);
+    }
+    Judged::HandsOut(Place::AfterTrailer, behind, known)
+}
+
+// RFC 9110 15.2: interim responses, as 103, received
+// The place after a section that is too large: after an interim response, a client goes on to wait for the final one.
+fn place_behind(side: Side, place: Place, status: Option<Vec<u8>>) -> Place
+    ensures { (fields : List Field) → option_map (λ v. v.items) status ≡ last_value (codes ":status") fields → result ≡ next_place side place fields }
+{
+    match place {
+        Place::BeforeHead => match side {
+            Side::Client => {
+                if counts_as_interim(status) {
+                    return Place::BeforeHead;
+                }
+                Place::InBody
+            }
+            Side::Server => Place::InBody,
+        },
+        Place::InBody => Place::AfterTrailer,
+        Place::AfterTrailer => Place::AfterTrailer,
+        Place::InSession => Place::InSession,
+    }
+}
+
+// Whether a status is one of an interim response.
+fn counts_as_interim(status: Option<Vec<u8>>) -> bool
+    ensures { result ≡ is_interim_text (option_map (λ v. v.items) status) }
+{
+    match status {
+        Some(text) => is_interim_status(text.as_slice()),
+        None => false,
+    }
+}

@@ -1,0 +1,241 @@
+//! Which rule of well-formed messages a field list breaks, and how much content follows it, if the endpoint asks for these rules (RFC 9114,
+//! sections 4.1.2 and 4.2 to 4.5).
+ghost use Rattle.std.specs.Prelude.{◌≡◌, ◌≤◌, option_map, length, true, IfSome};
+ghost use Rattle.h3_header.specs.HeadRead.{head_by};
+ghost use Rattle.h3_connection.specs.StrictMessages.{broken_rule, malformation_by, violation_at, violation_of_head, content_of_head, content_behind, content_behind_large, content_at, large_content_at, response_of_head, response_behind, response_at, if_whole};
+ghost use Rattle.h3_incoming.specs.Outline.{list_read};
+
+use crate::outline::{ListRead, malformation_by, read_survey};
+use h3_connection::event::Malformation;
+use h3_connection::place::Place;
+use h3_connection::setup::Announced;
+use h3_field::Fields;
+use h3_header::MOST_NAMES;
+use h3_messages::{
+    Content, Seen, Survey, Violation, request_by, response_by, trailer_violation_by,
+};
+use h3_proto::stream::Side;
+
+/// What the rules of strict messages make of a field list at its place.
+#[derive(Clone, Copy)]
+pub(crate) struct StrictRead {
+    /// The rule that the list breaks.
+    pub(crate) broken: Option<Malformation>,
+    /// The content after it.
+    pub(crate) content: Content,
+    /// What is known after it of the content of a response.
+    pub(crate) response: Option<Content>,
+}
+
+/// What a list is, if the walk that the rules ask for finds that, and what the rules make of it.
+#[derive(Clone, Copy)]
+pub(crate) struct OneRead {
+    pub(crate) list: Option<ListRead>,
+    pub(crate) strict: StrictRead,
+}
+
+/// What a field list says at its place. In front of it such content was left, and this was known of the content of a response. If a strict
+/// endpoint keeps it as a list, one walk also finds what the list is. If a field is malformed, a second walk finds what the list says.
+#[inline(always)]
+pub(crate) fn read_at(
+    keeps_lists: bool,
+    side: Side,
+    announced: &Announced,
+    place: Place,
+    content: Content,
+    known: Option<Content>,
+    fields: &Fields<'_>,
+) -> OneRead
+    ensures list { IfSome result.list (λ r. r ≡ list_read (head_by announced.now.choices.extensions.any_protocol fields.now)) }
+    ensures broken { result.strict.broken ≡ broken_rule side announced.now place fields.now }
+    ensures content { result.strict.content ≡ content_at side announced.now place content fields.now }
+    ensures response { result.strict.response ≡ response_at side announced.now place known fields.now }
+{
+    if keeps_lists && announced.choices.strict_messages && fields.len() <= MOST_NAMES {
+        return read_once(side, announced, place, content, known, fields);
+    }
+    OneRead {
+        list: None,
+        strict: read_strictly(side, announced, place, content, known, fields),
+    }
+}
+
+// The same of a list of so few fields that a map has room for all their names, if messages are strict.
+fn read_once(
+    side: Side,
+    announced: &Announced,
+    place: Place,
+    content: Content,
+    known: Option<Content>,
+    fields: &Fields<'_>,
+) -> OneRead
+    requires strict { announced.now.choices.strict_messages ≡ true }
+    requires few { length fields.now ≤ 24576 }
+    ensures list { IfSome result.list (λ r. r ≡ list_read (head_by announced.now.choices.extensions.any_protocol fields.now)) }
+    ensures broken { result.strict.broken ≡ broken_rule side announced.now place fields.now }
+    ensures content { result.strict.content ≡ content_at side announced.now place content fields.now }
+    ensures response { result.strict.response ≡ response_at side announced.now place known fields.now }
+{
+    let any_protocol = announced.choices.extensions.any_protocol;
+    let mut seen = Seen::new();
+    match seen.take_good(fields, any_protocol) {
+        Ok(()) => {
+            let survey = Survey::of(fields, &seen);
+            OneRead {
+                list: read_survey(&survey, any_protocol),
+                strict: survey_at(side, announced, place, content, known, &survey),
+            }
+        }
+        Err(part) => OneRead {
+            list: Some(ListRead::Malformed(malformation_by(part))),
+            strict: read_strictly(side, announced, place, content, known, fields),
+        },
+    }
+}
+
+// What the rules make of a list. An endpoint that asks for no strict messages looks at no field.
+fn read_strictly(
+    side: Side,
+    announced: &Announced,
+    place: Place,
+    content: Content,
+    known: Option<Content>,
+    fields: &Fields<'_>,
+) -> StrictRead
+    ensures broken { result.broken ≡ broken_rule side announced.now place fields.now }
+    ensures content { result.content ≡ content_at side announced.now place content fields.now }
+    ensures response { result.response ≡ response_at side announced.now place known fields.now }
+{
+    if !announced.choices.strict_messages {
+        return StrictRead {
+            broken: None,
+            content,
+            response: known,
+        };
+    }
+    let mut seen = Seen::new();
+    seen.take_all(fields);
+    survey_at(
+        side,
+        announced,
+        place,
+        content,
+        known,
+        &Survey::of(fields, &seen),
+    )
+}
+
+// What a list says at its place, over which the walk was made.
+#[inline(always)]
+fn survey_at(
+    side: Side,
+    announced: &Announced,
+    place: Place,
+    content: Content,
+    known: Option<Content>,
+    survey: &Survey<'_>,
+) -> StrictRead
+    ensures broken { result.broken ≡ option_map malformation_by (violation_at side announced.now place survey.now.fields.now) }
+    ensures content { result.content ≡ content_behind side place content survey.now.fields.now }
+    ensures response { result.response ≡ response_behind side place known survey.now.fields.now }
+{
+    match place {
+        Place::BeforeHead => read_head(side, announced, content, known, survey),
+        Place::InBody | Place::AfterTrailer | Place::InSession => StrictRead {
+            broken: told(trailer_violation_by(survey)),
+            content,
+            response: known,
+        },
+    }
+}
+
+// What a header section says: a client reads responses, and a server requests.
+#[inline(always)]
+fn read_head(
+    side: Side,
+    announced: &Announced,
+    awaited: Content,
+    known: Option<Content>,
+    survey: &Survey<'_>,
+) -> StrictRead
+    ensures broken { result.broken ≡ option_map malformation_by (violation_of_head side announced.now survey.now.fields.now) }
+    ensures content { result.content ≡ content_of_head side awaited survey.now.fields.now }
+    ensures response { result.response ≡ response_of_head side known survey.now.fields.now }
+{
+    match side {
+        Side::Client => {
+            let head = response_by(awaited, survey);
+            StrictRead {
+                broken: told(head.violation),
+                content: head.content,
+                response: known,
+            }
+        }
+        Side::Server => {
+            let head = request_by(survey, announced.extended_connect());
+            StrictRead {
+                broken: told(head.violation),
+                content: head.content,
+                response: Some(head.awaited),
+            }
+        }
+    }
+}
+
+// A broken rule as the malformation of a message.
+fn told(violation: Option<Violation>) -> Option<Malformation>
+    ensures { result ≡ option_map malformation_by violation }
+{
+    match violation {
+        Some(violation) => Some(Malformation::by(violation)),
+        None => None,
+    }
+}
+
+/// The content after a section that is too large, of which only the last status is known. That of a response tells whether content may
+/// follow.
+pub(crate) fn large_content_at(
+    side: Side,
+    announced: &Announced,
+    place: Place,
+    content: Content,
+    status: &Option<Vec<u8>>,
+) -> Content
+    ensures { result ≡ large_content_at side announced.now place content (option_map (λ v. v.items) status.now) }
+{
+    let asks = announced.choices.strict_messages;
+    if asks {
+        return content_behind_large(side, place, content, status);
+    }
+    content
+}
+
+fn content_behind_large(
+    side: Side,
+    place: Place,
+    content: Content,
+    status: &Option<Vec<u8>>,
+) -> Content
+    ensures { result ≡ content_behind_large side place content (option_map (λ v. v.items) status.now) }
+{
+    if let Side::Server = side {
+        return content;
+    }
+    let Place::BeforeHead = place else {
+        return content;
+    };
+    match status {
+        Some(text) => content.behind_status(text.as_slice()),
+        None => content.behind_status(b""),
+    }
+}
+
+/// The rule that is broken if a trailer section may not come yet, and else this one (RFC 9114, section 4.1.2).
+pub(crate) fn if_whole(content: Content, broken: Option<Malformation>) -> Option<Malformation>
+    ensures { result ≡ if_whole content broken }
+{
+    if content.may_end() {
+        return broken;
+    }
+    Some(Malformation::ContentLength)
+}

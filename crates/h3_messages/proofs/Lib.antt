@@ -1,0 +1,11 @@
+pub mod ContentRows
+pub mod KindNames
+pub mod Names
+pub mod OwnRows
+pub mod Pushes
+pub mod RequestRows
+pub mod ResponseRows
+pub mod Rules
+pub mod Steps
+pub mod Surveys
+pub mod Written

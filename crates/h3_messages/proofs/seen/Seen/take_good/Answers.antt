@@ -1,0 +1,44 @@
+use Rattle.std.proofs.Common.{◌≡◌, ◌≤◌, true, None, Some, length, sym, subst, ◌∙◌, arith, take_all}
+use Rattle.std.specs.Prelude.{All}
+use Rattle.std.proofs.lemmas.List.Elements.{All-more}
+use Rattle.std.proofs.lemmas.Option.{get_or_from_slice_get, slice_get_within}
+use Rattle.h3_header.specs.BadPart.{bad_part}
+use Rattle.h3_header.specs.HeadRead.{is_name_at}
+use Rattle.h3_header.specs.Reads.{kind_of}
+use Rattle.h3_messages.specs.KindLaws.{name_is_good}
+use Rattle.h3_messages.proofs.Surveys.{seen_at}
+use Rattle.h3_messages.proofs.seen.Seen.take_good.Goals as goal
+
+pub returns-in-Err-clause-err : goal.returns-in-Err-clause-err
+returns-in-Err-clause-err c =
+    let any = c.args.any_protocol in
+    let fields = c.args.fields.now in
+    let i = c.fields.place in
+    let field = c.get-field.result in
+    let here = subst (λ f. bad_part any f ≡ Some c.in-Err.part) (sym (get_or_from_slice_get fields i field field c.get-field.ensures)) c.in-Err.ensures.err in
+    c.fields_are_judged_alone.ensures.refused any fields i field c.in-Err.part c.requires.few (slice_get_within fields i field c.get-field.ensures) c.fields.invariant.1 here
+
+pub take_of-requires-clause-good : goal.take_of-requires-clause-good
+take_of-requires-clause-good c =
+    let field = c.get-field.result in
+    let good = name_is_good c.args.any_protocol (kind_of field.name) field c.in-Ok.ensures.ok.1 in
+    subst (λ k. is_name_at k field.name ≡ true) (sym c.in-Ok.ensures.ok.0) good
+
+pub fields-preserved : goal.fields-preserved
+fields-preserved c =
+    let any = c.args.any_protocol in
+    let fields = c.args.fields.now in
+    let i = c.fields.place in
+    let field = c.get-field.result in
+    let same = get_or_from_slice_get fields i field field c.get-field.ensures in
+    let inside = slice_get_within fields i field c.get-field.ensures in (
+      seen_at fields i field _ _ c.get-field.ensures c.fields.invariant.0 c.take_of.ensures,
+      All-more (λ f. bad_part any f ≡ None) fields i field inside c.fields.invariant.1 (subst (λ f. bad_part any f ≡ None) (sym same) c.in-Ok.ensures.ok.1),
+    )
+
+pub returns-clause-good : goal.returns-clause-good
+returns-clause-good c =
+    let any = c.args.any_protocol in
+    let fields = c.args.fields.now in
+    let past : length fields ≤ c.fields.place = omega arith in
+    subst (All (λ f. bad_part any f ≡ None)) (take_all c.fields.place fields past ∙ sym (take_all 24576 fields c.requires.few)) c.fields.invariant.1

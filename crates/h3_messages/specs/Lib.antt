@@ -1,0 +1,12 @@
+pub mod Content
+pub mod KindLaws
+pub mod Known
+pub mod Messages
+pub mod OwnMessageLaws
+pub mod OwnMessages
+pub mod FlagLaws
+pub mod InvalidField
+pub mod FirstInvalid
+pub mod InvalidFieldLaws
+pub mod ResponseSaid
+pub mod Survey

@@ -1,0 +1,59 @@
+//! What the header section of a response that is sent says of the content after it, whatever its request asked (RFC 9114, 4.1.2; RFC 9110,
+//! 6.4.1, 8.6, 9.3.6 and 15.3.6).
+ghost use Rattle.std.specs.Prelude.{◌≡◌, List, if◌then◌else◌};
+ghost use Rattle.h3_field.specs.Field.{Field};
+ghost use Rattle.h3_messages.specs.OwnMessages.{content_of_own_response};
+ghost use Rattle.h3_messages.specs.ResponseSaid.{response_said, said_by};
+ghost use Rattle.h3_messages.specs.declared.content.Content.TheVariants.{Tunnel};
+
+use crate::content::{Asked, Content, content_of_status, is_interim_status};
+use crate::own::is_reset_content;
+use crate::text::byte_at;
+
+/// What the header section of a response says of the content after it.
+#[derive(Clone, Copy, Debug, PartialEq, Eq)]
+pub struct ResponseSaid {
+    /// Whether it is interim, and so leaves what was awaited.
+    pub is_interim: bool,
+    /// Whether a tunnel begins after it, if its request was CONNECT.
+    pub opens_tunnel: bool,
+    /// The content after a final one, except after HEAD and in a tunnel.
+    pub content: Content,
+}
+
+impl ResponseSaid {
+    // What this status and this `content-length` say.
+    pub(crate) fn by(status: &[u8], size: &[u8]) -> ResponseSaid
+        ensures { result ≡ said_by status.now size.now }
+    {
+        ResponseSaid {
+            is_interim: is_interim_status(status),
+            opens_tunnel: byte_at(status, 0) == b'2',
+            content: content_of_status(status, size).or_nothing(is_reset_content(status)),
+        }
+    }
+
+    /// The content after such a header section, before which this was awaited.
+    pub fn behind(self, awaited: Content) -> Content
+        ensures { (fields : List Field) → self ≡ response_said fields → result ≡ content_of_own_response awaited fields }
+    {
+        if self.is_interim {
+            return awaited;
+        }
+        match awaited.asked() {
+            Asked::Head => Content::NoContent,
+            Asked::Connect => self.behind_connect(),
+            Asked::Other => self.content,
+        }
+    }
+
+    // The content after a final response to CONNECT.
+    fn behind_connect(self) -> Content
+        ensures { result ≡ (if self.opens_tunnel then Tunnel else self.content) }
+    {
+        if self.opens_tunnel {
+            return Content::Tunnel;
+        }
+        self.content
+    }
+}

@@ -1,0 +1,4 @@
+mod Headers
+mod Queues
+mod Filling
+mod HeldFronts

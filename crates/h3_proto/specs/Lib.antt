@@ -1,0 +1,13 @@
+pub mod Codes
+pub mod Config
+pub mod Ids
+pub mod Kept
+pub mod KeptLaws
+pub mod PairLaws
+pub mod Pairs
+pub mod PayloadLaws
+pub mod Payloads
+pub mod Announced
+pub mod ReceivedLaws
+pub mod Settings
+pub mod StreamIds

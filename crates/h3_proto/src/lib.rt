@@ -1,0 +1,10 @@
+//! The ids, stream types, error codes and settings of HTTP/3.
+#![tactic(auto)]
+
+pub mod config;
+pub mod error;
+pub mod frame;
+pub mod laws;
+pub mod push;
+pub mod stream;
+pub mod webtransport;

@@ -1,0 +1,12 @@
+use Rattle.h3_qpack.specs.HearingLaws.{heard_as_value, heard_is}
+use Rattle.h3_qpack.specs.StreamCutLaws.{cuts_are_heard_alike}
+use Rattle.h3_qpack.proofs.laws.encoder_bytes_are_their_value.Goals as goal
+
+pub returns-clause-value : goal.returns-clause-value
+returns-clause-value c = heard_as_value
+
+pub returns-clause-only : goal.returns-clause-only
+returns-clause-only c = heard_is
+
+pub returns-clause-cuts : goal.returns-clause-cuts
+returns-clause-cuts c = cuts_are_heard_alike

@@ -1,0 +1,13 @@
+use Rattle.std.proofs.Common.{sym, ◌∙◌, ap, Some}
+use Rattle.h3_field.specs.ShapeAnswer.{AtInteger}
+use Rattle.h3_field.specs.LineReading.{post_base}
+use Rattle.h3_field.specs.LineAnswer.{post_base_line}
+use Rattle.h3_field.specs.ShorterLaws.{post_base_less}
+use Rattle.h3_field.specs.SectionLaws.{line_post_base}
+use Rattle.h3_qpack.proofs.LinesAt.{begins_with}
+use Rattle.h3_qpack.proofs.lines.Lines.take_post_base.Goals as goal
+
+pub returns-in-Ok-post_base : goal.returns-in-Ok-post_base
+returns-in-Ok-post_base c =
+    rw (← c.self.view_is) (begins_with AtInteger c.self.inside.entries.now c.self.inside.base post_base_line post_base _ _ _ _ post_base_less (line_post_base _ c.requires.some c.requires.own) (c.in-Ok.ensures.own c.requires.own)
+    (rw c.in-Ok.field-0-is (c.in-Ok-post_base.ensures ∙ ap Some (sym c.entry.ensures))))

@@ -1,0 +1,118 @@
+-- A walk over words in the order of their numbers.
+use Rattle.std.proofs.Common.{arith, ◌≡◌, ◌<◌, ◌≤◌, ◌^◌, ℕ, Bool, true, false, List, [], ◌∷◌, cond, refl, sym, ◌∙◌, ap, subst}
+use Rattle.std.specs.Prelude.{◌&&◌, ◌≢◌, filter, Some, None, nat_lt}
+use Rattle.std.proofs.lemmas.Grind.{common_steps}
+use Rattle.std.proofs.lemmas.Map.{lookup-none}
+use Rattle.std.proofs.lemmas.Map.Entries.{lookup-filter-keys, none_past_head, none_below_head}
+use Rattle.std.proofs.lemmas.Map.Keys.{sorted_tail, IsDistinct-from_sorted}
+use Rattle.std.specs.BTreeMap.{is_at}
+use Rattle.std.specs.BTreeMap.Range.{range_contains, entries_between}
+use Rattle.std.specs.Cmp.{nat_cmp_total, eq_by_cmp_equiv}
+use Rattle.std.specs.List.{AllByRecursion}
+use Rattle.std.specs.List.Sorted.{IsStrictlySortedBy}
+use Rattle.std.specs.Map.{keys_of, lookup}
+use Rattle.std.specs.Ordering.{is_le, nat_cmp}
+use Rattle.std.specs.declared.cmp.Ordering.TheVariants.{Less}
+use Rattle.std.specs.declared.ops.Bound.TheVariants.{Included, Unbounded}
+use Rattle.h3_requests.specs.FirstWord.{IsFirstWord}
+use Rattle.h3_requests.specs.Words.{waiting_of}
+use Rattle.h3_requests.specs.declared.waiting.word.Word.{Word}
+
+abbrev pub waits_in : List (ℕ × Word) → ℕ → ℕ
+waits_in es q = waiting_of (lookup (is_at (nat_cmp q)) es)
+
+-- Of the words from a number on these are left, and the others have no bits.
+pub record Left (es : List (ℕ × Word)) (from : ℕ) (rest : List (ℕ × Word)) : Type 0 where
+  pub sorted : IsStrictlySortedBy nat_cmp (keys_of rest)
+  pub within : AllByRecursion (λ e. from ≤ e.0) rest
+  pub left : (q : ℕ) → from ≤ q → waits_in es q ≡ waits_in rest q
+
+level : (a b : ℕ) → is_at (nat_cmp a) b ≡ true → a ≡ b
+level a b h = grind (arith, common_steps, h)
+
+itself : (a : ℕ) → is_at (nat_cmp a) a ≡ true
+itself a = grind (arith, common_steps)
+
+less : (a b : ℕ) → a < b → nat_cmp a b ≡ Less
+less a b lt = let e : nat_lt a b ≡ true = grind (arith, common_steps) in rw e refl
+
+from_there : (from q : ℕ) → is_le (nat_cmp from q) ≡ true → from ≤ q
+from_there from q h = grind (arith, common_steps, h)
+
+there_from : (from q : ℕ) → from ≤ q → is_le (nat_cmp from q) ≡ true
+there_from from q h = grind (arith, common_steps, h)
+
+is_from : ℕ → ℕ → Bool
+is_from from q = range_contains nat_cmp (Included from) Unbounded q
+
+all_behind : (k : ℕ) (p : ℕ → Bool) (es : List (ℕ × Word)) → AllByRecursion (λ y. nat_cmp k y ≡ Less) (keys_of es) → AllByRecursion (λ y. nat_cmp k y ≡ Less) (keys_of (filter (λ e. p e.0) es))
+all_behind k p [] h = h
+all_behind k p (e ∷ es) h = by_test (p e.0) (all_behind k p es h.1)
+  where
+    by_test : (b : Bool) → AllByRecursion (λ y. nat_cmp k y ≡ Less) (keys_of (filter (λ e. p e.0) es))
+        → AllByRecursion (λ y. nat_cmp k y ≡ Less) (keys_of (cond b (e ∷ filter (λ e. p e.0) es) (filter (λ e. p e.0) es)))
+    by_test true later = (h.0, later)
+    by_test false later = later
+
+sorted_part : (p : ℕ → Bool) (es : List (ℕ × Word)) → IsStrictlySortedBy nat_cmp (keys_of es) → IsStrictlySortedBy nat_cmp (keys_of (filter (λ e. p e.0) es))
+unfolding IsStrictlySortedBy
+sorted_part p [] h = h
+sorted_part p (e ∷ es) h = by_test (p e.0) (sorted_part p es h.1)
+  where
+    by_test : (b : Bool) → IsStrictlySortedBy nat_cmp (keys_of (filter (λ e. p e.0) es)) → IsStrictlySortedBy nat_cmp (keys_of (cond b (e ∷ filter (λ e. p e.0) es) (filter (λ e. p e.0) es)))
+    by_test true later = (all_behind e.0 p es h.0, later)
+    by_test false later = later
+
+within_part : (from : ℕ) (es : List (ℕ × Word)) → AllByRecursion (λ e. from ≤ e.0) (entries_between nat_cmp (Included from) Unbounded es)
+within_part from [] = tt
+within_part from (e ∷ es) = by_test (range_contains nat_cmp (Included from) Unbounded e.0) refl (within_part from es)
+  where
+    first : (a b : Bool) → (a && b) ≡ true → a ≡ true
+    first true b h = refl
+    first false b h = absurd (cc)
+
+    by_test : (b : Bool) → range_contains nat_cmp (Included from) Unbounded e.0 ≡ b → AllByRecursion (λ e. from ≤ e.0) (entries_between nat_cmp (Included from) Unbounded es)
+        → AllByRecursion (λ e. from ≤ e.0) (cond b (e ∷ entries_between nat_cmp (Included from) Unbounded es) (entries_between nat_cmp (Included from) Unbounded es))
+    by_test true is later = (from_there from e.0 (first _ _ is), later)
+    by_test false is later = later
+
+-- at first all are left
+pub all_left : (es : List (ℕ × Word)) (from : ℕ) (rest : List (ℕ × Word)) → rest ≡ entries_between nat_cmp (Included from) Unbounded es → IsStrictlySortedBy nat_cmp (keys_of es) → Left es from rest
+all_left es from rest is sorted =
+    subst (Left es from) (sym is) (record {
+      sorted = sorted_part (range_contains nat_cmp (Included from) Unbounded) es sorted;
+      within = within_part from es;
+      left = λ q there. sym (ap waiting_of (lookup-filter-keys (is_at (nat_cmp q)) (range_contains nat_cmp (Included from) Unbounded) true
+          (λ k at. ap (range_contains nat_cmp (Included from) Unbounded) (sym (level q k at)) ∙ rw (there_from from q there) refl) es));
+    })
+
+-- one is passed that has no bits
+pub passed : (es : List (ℕ × Word)) (from : ℕ) (rest : List (ℕ × Word)) (e : ℕ × Word) (later : List (ℕ × Word)) → rest ≡ e ∷ later → e.1.waiting ≡ 0 → Left es from rest → Left es from later
+passed es from rest e later is none h = go (subst (Left es from) is h)
+  where
+    go : Left es from (e ∷ later) → Left es from later
+    go h = record { sorted = sorted_tail nat_cmp e.0 (keys_of later) h.sorted; within = h.within.1; left = λ q there. h.left q there ∙ by_test q (is_at (nat_cmp q) e.0) refl }
+      where
+        by_test : (q : ℕ) (b : Bool) → is_at (nat_cmp q) e.0 ≡ b → waiting_of (cond b (Some e.1) (lookup (is_at (nat_cmp q)) later)) ≡ waits_in later q
+        by_test q true at =
+            none ∙ sym (ap waiting_of (lookup-none (is_at (nat_cmp q)) later
+            (none_past_head (eq_by_cmp_equiv nat_cmp_total) q e later (IsDistinct-from_sorted nat_cmp (keys_of (e ∷ later)) h.sorted) at)))
+        by_test q false at = refl
+
+-- the first that has some
+pub first_found : (es : List (ℕ × Word)) (from : ℕ) (rest : List (ℕ × Word)) (e : ℕ × Word) (later : List (ℕ × Word)) → rest ≡ e ∷ later → e.1.waiting ≢ 0 → e.1.waiting < 2 ^ 64 → Left es from rest
+    → IsFirstWord (waits_in es) from (Some (e.0, e.1.waiting))
+first_found es from rest e later is some fits h = go (subst (Left es from) is h)
+  where
+    go : Left es from (e ∷ later) → IsFirstWord (waits_in es) from (Some (e.0, e.1.waiting))
+    go h = (
+      h.within.0,
+      h.left e.0 h.within.0 ∙ rw (itself e.0) refl,
+      omega (arith, some),
+      fits,
+      λ q there before. h.left q there ∙ ap waiting_of (lookup-none (is_at (nat_cmp q)) (e ∷ later) (none_below_head nat_cmp_total q e later h.sorted (less q e.0 before))),
+    )
+
+-- where none is left none has any
+pub none_found : (es : List (ℕ × Word)) (from : ℕ) (rest : List (ℕ × Word)) → rest ≡ [] → Left es from rest → IsFirstWord (waits_in es) from None
+none_found es from rest is h = λ q there. h.left q there ∙ ap (λ l. waits_in l q) is

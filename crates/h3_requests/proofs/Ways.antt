@@ -1,0 +1,574 @@
+-- Streams that are over, and the ways in which they are.
+use Rattle.std.proofs.Common.{arith, Bor, ◌≡◌, ◌<◌, ◌≤◌, ℕ, zero, suc, ◌+◌, ◌-◌, Bool, true, false, List, [], ◌∷◌, ◌++◌, length, ◌^◌, get_or, length-append, refl, sym, ◌∙◌, ap, subst, min, inl, inr}
+use Rattle.std.specs.Prelude.{◌≢◌, ◌&&◌, ◌||◌, ◌==◌, not, Option, Some, None, if◌then◌else◌, is_some, option_copied, option_map, slice_get, IfSome, nat_lt}
+use Rattle.std.proofs.lemmas.Bool.{cases_eq, lt-ltb}
+use Rattle.std.proofs.Math.Seq.{get_or-append_seam}
+use Rattle.std.proofs.lemmas.Grind.{common_steps}
+use Rattle.std.proofs.lemmas.List.{get_or_append_left}
+use Rattle.std.proofs.lemmas.Option.{slice_get-get_or, slice_get_past, slice_get_read}
+use Rattle.h3_blocked.specs.Counting.{waits_at}
+use Rattle.h3_blocked.specs.Sums.{TakesOut}
+use Rattle.h3_connection.specs.Calls.{Sets}
+use Rattle.h3_connection.specs.Incoming.{Incoming}
+use Rattle.h3_connection.specs.Refusals.{or_later}
+use Rattle.h3_connection.specs.State.{OutgoingState, RequestState, kept_at}
+use Rattle.h3_connection.specs.StreamSets.{Streams}
+use Rattle.h3_connection.specs.WaitingPieces.{bytes_of, without_front}
+use Rattle.h3_connection.specs.declared.event.Refusal.{Refusal}
+use Rattle.h3_connection.specs.declared.event.Refusal.TheVariants as refusal
+use Rattle.h3_outgoing.specs.Sent.{end_waits, is_sent_off, is_open, takes_head, takes_body, takes_end, taken_from}
+use Rattle.h3_requests.specs.HasBytes.{has_bytes}
+use Rattle.h3_requests.specs.Listed.{streams_of}
+use Rattle.h3_requests.specs.Marks.{HaveSameMarks, IsOneMark}
+use Rattle.h3_requests.specs.Over.{AddsWays, AreAlike, AreMarked, HasWays, IsOver, IsPaired, IsWay, codeless, ended_way, over_in, over_so, reset_with, way_at, with_end_taken, without_code, ReceivesAlike, SendsAlike}
+use Rattle.h3_requests.specs.declared.over.Way.{Way}
+use Rattle.h3_connection.specs.declared.event.StreamFault.TheVariants.{Reset}
+use Rattle.h3_requests.specs.Refused.{refused_over, head_refused_at, body_refused_at, data_refused_at, end_refused_at, reset_refused_at, cancel_refused_at}
+use Rattle.h3_requests.proofs.Found.{few, found, sets, takes_out}
+use Rattle.h3_requests.proofs.Listed as listed
+
+both : (a b : Bool) → (a && b) ≡ true → (a ≡ true) × (b ≡ true)
+both true b h = (refl, h)
+both false b h = absurd (cc)
+
+empty : {X : Type 0} (xs : List X) → (length xs == 0) ≡ true → xs ≡ []
+empty [] h = refl
+empty (x ∷ xs) h = absurd (grind (arith, common_steps, h))
+
+zero_of : (n : ℕ) → (n == 0) ≡ true → n ≡ 0
+zero_of n h = grind (arith, common_steps, h)
+
+none_of : {X : Type 0} (o : Option X) → not (is_some o) ≡ true → o ≡ None
+none_of None h = refl
+none_of (Some x) h = absurd (cc)
+
+-- what is known of a stream that is over
+record Parts (r : RequestState) : Type 0 where
+  ended : (r.incoming.ended || r.incoming.was_reset) ≡ true
+  settled : (r.incoming.is_over || is_some r.incoming.fault) ≡ true
+  unread : r.incoming.unread ≡ []
+  section : r.incoming.section ≡ None
+  body_left : r.incoming.body_left ≡ 0
+  waits_for : r.incoming.waits_for ≡ 0
+  sent_off : is_sent_off r.outgoing ≡ true
+  pieces : r.outgoing.pieces ≡ []
+
+parts : (r : RequestState) → IsOver r → Parts r
+parts r h =
+    let a = both _ _ h in
+    let b = both _ _ a.0 in
+    let c = both _ _ b.0 in
+    let d = both _ _ c.0 in
+    let e = both _ _ c.1 in
+    let f = both _ _ e.0 in
+    let g = both _ _ f.0 in
+    record {
+      ended = d.0;
+      settled = d.1;
+      unread = empty _ g.0;
+      section = none_of _ g.1;
+      body_left = zero_of _ f.1;
+      waits_for = zero_of _ e.1;
+      sent_off = b.1;
+      pieces = empty _ a.1;
+    }
+
+received_alike : (a b : Incoming) → a.unread ≡ b.unread → a.section ≡ b.section → a.body_left ≡ b.body_left → a.waits_for ≡ b.waits_for → ReceivesAlike a b → a ≡ b
+received_alike a b unread section body_left waits_for same =
+    let e : record { unread = a.unread; section = a.section; body_left = a.body_left; content = a.content; response = a.response; place = a.place; waits_for = a.waits_for; tries = a.tries; ended = a.ended; was_reset = a.was_reset; is_over = a.is_over; fault = a.fault }
+    ≡ record { unread = b.unread; section = b.section; body_left = b.body_left; content = b.content; response = b.response; place = b.place; waits_for = b.waits_for; tries = b.tries; ended = b.ended; was_reset = b.was_reset; is_over = b.is_over; fault = b.fault } =
+    rw (unread, section, body_left, waits_for, same.content, same.response, same.place, same.tries, same.ended, same.was_reset, same.is_over, same.fault) refl in
+    e
+
+sent_alike : (a b : OutgoingState) → a.pieces ≡ [] → b.pieces ≡ [] → SendsAlike a b → a ≡ b
+sent_alike a b an bn same =
+    let left : a ≡ record { pieces = []; place = b.place; content = b.content; is_finished = b.is_finished; is_reset = b.is_reset; end_taken = b.end_taken } = rw (sym an, sym same.place, sym same.content, sym same.is_finished, sym same.is_reset, sym same.end_taken) refl in
+    let right : record { pieces = []; place = b.place; content = b.content; is_finished = b.is_finished; is_reset = b.is_reset; end_taken = b.end_taken } ≡ b = rw (sym bn) refl in
+    left ∙ right
+
+-- Streams that are over alike are the same.
+pub over_alike : (a b : RequestState) → IsOver a → IsOver b → ReceivesAlike a.incoming b.incoming → SendsAlike a.outgoing b.outgoing → a ≡ b
+over_alike a b h k received sent =
+    let p = parts a h in
+    let q = parts b k in
+    let incoming : a.incoming ≡ b.incoming = received_alike a.incoming b.incoming (p.unread ∙ sym q.unread) (p.section ∙ sym q.section) (p.body_left ∙ sym q.body_left) (p.waits_for ∙ sym q.waits_for) received in
+    let outgoing : a.outgoing ≡ b.outgoing = sent_alike a.outgoing b.outgoing p.pieces q.pieces sent in
+    ap (λ i. record { incoming = i; outgoing = a.outgoing }) incoming ∙ ap (λ o. record { incoming = b.incoming; outgoing = o }) outgoing
+
+-- A stream that is over waits for nothing,
+pub over_waits : (o : Option RequestState) → IfSome o IsOver → waits_at o ≡ 0
+over_waits None h = refl
+over_waits (Some r) h = (parts r h).waits_for
+
+-- no bytes wait on it,
+pub over_bytes : (r : RequestState) → IsOver r → has_bytes (Some r) ≡ false
+over_bytes r h = ap (λ pieces. nat_lt 0 (length (bytes_of pieces))) (parts r h).pieces
+
+pub over_pieces : (r : RequestState) → IsOver r → r.outgoing.pieces ≡ []
+over_pieces r h = (parts r h).pieces
+
+-- nothing more comes on it, and nothing more is handed out of it,
+pub over_ended : (r : RequestState) → IsOver r → (r.incoming.ended || r.incoming.was_reset) ≡ true
+over_ended r h = (parts r h).ended
+
+pub over_settled : (r : RequestState) → IsOver r → (r.incoming.is_over || is_some r.incoming.fault) ≡ true
+over_settled r h = (parts r h).settled
+
+-- and nothing more is sent on it
+pub over_sent : (r : RequestState) → IsOver r → is_sent_off r.outgoing ≡ true
+over_sent r h = (parts r h).sent_off
+
+closed_by : (o : OutgoingState) (reset finished : Bool) → o.is_reset ≡ reset → o.is_finished ≡ finished → is_sent_off o ≡ true → is_open o ≡ false
+closed_by o true finished is_reset is_finished h = grind (arith, common_steps, is_reset)
+closed_by o false true is_reset is_finished h = rw is_finished refl
+closed_by o false false is_reset is_finished h = absurd (let off : false ≡ true = sym (rw (is_reset, is_finished) refl) ∙ h in cc)
+
+pub over_closed : (r : RequestState) → IsOver r → is_open r.outgoing ≡ false
+over_closed r h = closed_by r.outgoing r.outgoing.is_reset r.outgoing.is_finished refl refl (over_sent r h)
+
+takes_none : (a b : Bool) → a ≡ false → (a && b) ≡ false
+takes_none a b h = rw h refl
+
+pub over_takes_head : (r : RequestState) → IsOver r → takes_head r.outgoing ≡ false
+over_takes_head r h = takes_none _ _ (over_closed r h)
+
+pub over_takes_body : (r : RequestState) → IsOver r → takes_body r.outgoing ≡ false
+over_takes_body r h = takes_none _ _ (over_closed r h)
+
+pub over_takes_end : (r : RequestState) → IsOver r → takes_end r.outgoing ≡ false
+over_takes_end r h = takes_none _ _ (over_closed r h)
+
+none_taken : (count : ℕ) (o : OutgoingState) → o.pieces ≡ [] → taken_from o count ≡ o
+none_taken count o none =
+    let same : without_front count o.pieces ≡ o.pieces = rw none refl in
+    ap (λ pieces. record o { pieces = pieces }) same
+
+-- so as much is taken of it as waits, which is nothing
+pub over_taken : (r : RequestState) (count : ℕ) → IsOver r → record r { outgoing = taken_from r.outgoing (min count (length (bytes_of r.outgoing.pieces))) } ≡ r
+over_taken r count h = ap (λ o. record r { outgoing = o }) (none_taken (min count (length (bytes_of r.outgoing.pieces))) r.outgoing (parts r h).pieces)
+
+pub way_found : (ways : List Way) (way : ℕ) → way ≢ 0 → way_at ways way ≡ slice_get ways (way - 1)
+way_found ways way some = let e : (way == 0) ≡ false = grind (arith, common_steps) in rw e refl
+
+behind : (ways : List Way) (n : ℕ) → way_at ways (suc n) ≡ slice_get ways n
+behind ways n =
+    let some : suc n ≢ 0 = omega arith in
+    let before : suc n - 1 ≡ n = omega arith in
+    way_found ways (suc n) some ∙ ap (slice_get ways) before
+
+-- each of the ways is over
+pub way_stands : (ways : List Way) (n : ℕ) (w : Way) → ((way : ℕ) → IfSome (way_at ways way) IsWay) → slice_get ways n ≡ Some w → IsOver w.stream
+way_stands ways n w all at = (subst (λ o. IfSome o IsWay) (behind ways n ∙ at) (all (suc n))).over
+
+all_true : (a b c d e : Bool) → a ≡ true → b ≡ true → c ≡ true → d ≡ true → e ≡ true → (a && b && c && d && e) ≡ true
+all_true a b c d e p q r s t = rw (p, q, r, s, t) refl
+
+or_true : (b : Bool) → (b || true) ≡ true
+or_true true = refl
+or_true false = refl
+
+-- A stream that is over is over with another code too.
+pub reset_over : (r : RequestState) (code : ℕ) → IsOver r → IsOver (reset_with r code)
+reset_over r code h =
+    let a = both _ _ h in
+    let b = both _ _ a.0 in
+    let c = both _ _ b.0 in
+    let d = both _ _ c.0 in
+    all_true _ _ _ _ _ d.0 (or_true r.incoming.is_over) c.1 b.1 a.1
+
+-- with its own code it is what it is
+pub reset_again : (r : RequestState) (code : ℕ) → r.incoming.fault ≡ Some (Reset code) → reset_with r code ≡ r
+reset_again r code is = ap (λ fault. record r { incoming = record r.incoming { fault = fault } }) (sym is)
+
+over_by : (has_code : Bool) (r : RequestState) (code : ℕ) → IsOver r → IsOver (if has_code then reset_with r code else r)
+over_by true r code h = reset_over r code h
+over_by false r code h = h
+
+-- What is over in a way is over,
+pub way_over : (w : Way) (code : ℕ) → IsWay w → IsOver (over_so w code)
+way_over w code h = over_by w.has_code w.stream code h.over
+
+-- and is what stands for it, but for its code.
+alike_by : (has_code : Bool) (r : RequestState) (code : ℕ) → (has_code ≡ true → r.incoming.fault ≡ Some (Reset 0)) → codeless r ≡ codeless (if has_code then reset_with r code else r)
+alike_by true r code h = ap (λ fault. record r { incoming = record r.incoming { fault = without_code fault } }) (h refl)
+alike_by false r code h = refl
+
+abbrev pub told : Option Way → ℕ → Option RequestState
+told o code = option_map (λ w. over_so w code) o
+
+pub told_over : (o : Option Way) (code : ℕ) → IfSome o IsWay → IfSome (told o code) IsOver
+told_over None code h = tt
+told_over (Some w) code h = way_over w code h
+
+told_alike : (o : Option Way) (code : ℕ) → IfSome o IsWay → AreAlike (option_map (λ w. w.stream) o) (told o code)
+told_alike None code h = refl
+told_alike (Some w) code h = ap Some (alike_by w.has_code w.stream code h.code)
+
+pub told_some : (o : Option Way) (code : ℕ) → is_some (told o code) ≡ is_some o
+told_some None code = refl
+told_some (Some w) code = refl
+
+-- What is found among the streams that are over, by the mark of an id.
+pub over_found : (ways : List Way) (marks codes : ℕ → ℕ) (model : Streams RequestState) (number id way : ℕ) → streams_of (over_in ways marks codes) ≡ model → number ≡ id → number < 2 ^ 62 → way ≡ marks number
+    → kept_at model id ≡ told (way_at ways way) (codes number)
+over_found ways marks codes model number id way is same below marked =
+    ap (λ l. kept_at l id) (sym is) ∙ found (over_in ways marks codes) id (few number id same below) ∙ ap (over_in ways marks codes) (sym same) ∙ ap (λ m. told (way_at ways m) (codes number)) (sym marked)
+
+-- It is over.
+pub over_known : (ways : List Way) (marks codes : ℕ → ℕ) (model : Streams RequestState) (number id : ℕ) → streams_of (over_in ways marks codes) ≡ model → number ≡ id → number < 2 ^ 62 → AreMarked ways marks
+    → IfSome (kept_at model id) IsOver
+over_known ways marks codes model number id is same below h =
+    subst (λ o. IfSome o IsOver) (sym (over_found ways marks codes model number id (marks number) is same below refl)) (told_over (way_at ways (marks number)) (codes number) (h.over (marks number)))
+
+-- What stands for its way is like it.
+pub over_alike_found : (ways : List Way) (marks codes : ℕ → ℕ) (model : Streams RequestState) (number id way : ℕ) → streams_of (over_in ways marks codes) ≡ model → number ≡ id → number < 2 ^ 62 → way ≡ marks number → AreMarked ways marks
+    → AreAlike (option_map (λ w. w.stream) (way_at ways way)) (kept_at model id)
+over_alike_found ways marks codes model number id way is same below marked h =
+    told_alike (way_at ways way) (codes number) (h.over way) ∙ ap (option_map codeless) (sym (over_found ways marks codes model number id way is same below marked))
+
+there : (ways : List Way) (n : ℕ) → n < length ways → is_some (slice_get ways n) ≡ true
+there [] n within = absurd (omega (arith, within))
+there (w ∷ ways) n within = ap is_some (slice_get-get_or (w ∷ ways) n w within)
+
+pub way_there : (ways : List Way) (way : ℕ) → way ≤ length ways → is_some (way_at ways way) ≡ nat_lt 0 way
+way_there ways zero known = refl
+way_there ways (suc n) known =
+    let within : n < length ways = omega (arith, known) in
+    ap is_some (behind ways n) ∙ there ways n within ∙ sym (lt-ltb 0 (suc n) (omega arith))
+
+-- A mark that is not 0 is one of a stream that is there.
+pub over_there : (ways : List Way) (marks codes : ℕ → ℕ) (model : Streams RequestState) (number id way : ℕ) → streams_of (over_in ways marks codes) ≡ model → number ≡ id → number < 2 ^ 62 → way ≡ marks number → AreMarked ways marks
+    → nat_lt 0 way ≡ is_some (kept_at model id)
+over_there ways marks codes model number id way is same below marked h =
+    let known : way ≤ length ways = omega (arith, marked, h.known number) in
+    sym (ap is_some (over_found ways marks codes model number id way is same below marked) ∙ told_some (way_at ways way) (codes number) ∙ way_there ways way known)
+
+-- where nothing is marked none is
+pub none_marked : (ways : List Way) (marks codes : ℕ → ℕ) → ((id : ℕ) → marks id ≡ 0) → streams_of (over_in ways marks codes) ≡ []
+none_marked ways marks codes none = listed.nothing (over_in ways marks codes) (λ id. rw (none id) refl)
+
+-- the marks are the same, and the ways that they name, and the codes of what is marked
+pub same_marked : (ways others : List Way) (marks later codes recodes : ℕ → ℕ) → AreMarked ways marks → HasWays ways others → HaveSameMarks marks later → ((q : ℕ) → marks q ≢ 0 → recodes q ≡ codes q)
+    → streams_of (over_in others later recodes) ≡ streams_of (over_in ways marks codes)
+same_marked ways others marks later codes recodes h has same kept =
+    listed.same_streams (over_in ways marks codes) (over_in others later recodes) (λ q. elim (cases_eq (marks q) 0) [
+      | inl none ↦
+          let before : over_in ways marks codes q ≡ None = ap (λ m. told (way_at ways m) (codes q)) none in
+          let after : over_in others later recodes q ≡ None = ap (λ m. told (way_at others m) (recodes q)) (same q ∙ none) in
+          after ∙ sym before
+      | inr some ↦ ap (told (way_at others (later q))) (kept q some) ∙ ap (λ o. told o (codes q)) (ap (way_at others) (same q) ∙ has.same (marks q) (h.known q))
+    ])
+
+-- one stream is marked
+pub one_marked : (ways others : List Way) (marks later codes recodes : ℕ → ℕ) (number id way : ℕ) (r : RequestState) → AreMarked ways marks → HasWays ways others → number ≡ id → number < 2 ^ 62
+    → IsOneMark number way marks later → ((q : ℕ) → q ≢ number → recodes q ≡ codes q) → told (way_at others way) (recodes number) ≡ Some r
+    → Sets (streams_of (over_in ways marks codes)) (streams_of (over_in others later recodes)) id r
+one_marked ways others marks later codes recodes number id way r h has is below one kept found_ =
+    sets (over_in ways marks codes) (over_in others later recodes) id r (few number id is below)
+    (ap (over_in others later recodes) (sym is) ∙ ap (λ m. told (way_at others m) (recodes number)) one.own ∙ found_)
+    (λ q differs.
+    let other : q ≢ number = λ same. differs (same ∙ is) in
+    ap (told (way_at others (later q))) (kept q other) ∙ ap (λ o. told o (codes q)) (ap (way_at others) (one.others q other) ∙ has.same (marks q) (h.known q)))
+
+pub marked_in : (ways others : List Way) (marks later codes recodes : ℕ → ℕ) (model : Streams RequestState) (number id way : ℕ) (r : RequestState) → streams_of (over_in ways marks codes) ≡ model → AreMarked ways marks
+    → HasWays ways others → number ≡ id → number < 2 ^ 62 → IsOneMark number way marks later → ((q : ℕ) → q ≢ number → recodes q ≡ codes q) → told (way_at others way) (recodes number) ≡ Some r
+    → Sets model (streams_of (over_in others later recodes)) id r
+marked_in ways others marks later codes recodes model number id way r view h has is below one kept found_ =
+    subst (λ l. Sets l (streams_of (over_in others later recodes)) id r) view (one_marked ways others marks later codes recodes number id way r h has is below one kept found_)
+
+-- by a way of its own,
+pub told_plain : (ways : List Way) (way code : ℕ) (r : RequestState) → way_at ways way ≡ Some (record { stream = r; has_code = false }) → told (way_at ways way) code ≡ Some r
+told_plain ways way code r is = ap (λ o. told o code) is
+
+-- or by one of which each has a code of its own
+pub told_coded : (ways : List Way) (way code kept : ℕ) (r alike : RequestState) → way_at ways way ≡ Some (record { stream = alike; has_code = true }) → alike ≡ reset_with r 0 → kept ≡ code → r.incoming.fault ≡ Some (Reset code)
+    → told (way_at ways way) kept ≡ Some r
+told_coded ways way code kept r alike is stands same reset = ap (λ o. told o kept) is ∙ ap (λ s. Some (reset_with s kept)) stands ∙ ap (λ n. Some (reset_with r n)) same ∙ ap Some (reset_again r code reset)
+
+-- or none is in its place
+pub one_unmarked : (ways : List Way) (marks later codes : ℕ → ℕ) (number id : ℕ) → number ≡ id → number < 2 ^ 62 → IsOneMark number 0 marks later
+    → TakesOut (streams_of (over_in ways marks codes)) (streams_of (over_in ways later codes)) id
+one_unmarked ways marks later codes number id is below one =
+    takes_out (over_in ways marks codes) (over_in ways later codes) id (few number id is below) (ap (over_in ways later codes) (sym is) ∙ ap (λ m. told (way_at ways m) (codes number)) one.own)
+    (λ q differs. ap (λ m. told (way_at ways m) (codes q)) (one.others q (λ same. differs (same ∙ is))))
+
+pub none_unmarked : (ways : List Way) (marks later codes : ℕ → ℕ) (number id : ℕ) → number ≡ id → number < 2 ^ 62 → HaveSameMarks marks later → marks number ≡ 0
+    → TakesOut (streams_of (over_in ways marks codes)) (streams_of (over_in ways later codes)) id
+none_unmarked ways marks later codes number id is below same none =
+    takes_out (over_in ways marks codes) (over_in ways later codes) id (few number id is below) (ap (over_in ways later codes) (sym is) ∙ ap (λ m. told (way_at ways m) (codes number)) (same number ∙ none))
+    (λ q differs. ap (λ m. told (way_at ways m) (codes q)) (same q))
+
+-- or may be, whether its mark was set or was none
+pub unmarked : (ways : List Way) (marks later codes : ℕ → ℕ) (model : Streams RequestState) (number id : ℕ) (is_set : Bool) → streams_of (over_in ways marks codes) ≡ model → number ≡ id → number < 2 ^ 62
+    → (is_set ≡ true → IsOneMark number 0 marks later) → (is_set ≡ false → HaveSameMarks marks later) → (is_set ≡ false → marks number ≡ 0) → TakesOut model (streams_of (over_in ways later codes)) id
+unmarked ways marks later codes model number id true view is below set same none = subst (λ l. TakesOut l (streams_of (over_in ways later codes)) id) view (one_unmarked ways marks later codes number id is below (set refl))
+unmarked ways marks later codes model number id false view is below set same none =
+    subst (λ l. TakesOut l (streams_of (over_in ways later codes)) id) view (none_unmarked ways marks later codes number id is below (same refl) (none refl))
+
+-- what is lent of a row
+lent : (xs : List Way) (i : ℕ) (o : Option (Bor Way)) → is_some o ≡ nat_lt i (length xs) → IfSome o (λ x. x.now ≡ get_or xs i x.now) → option_copied o ≡ slice_get xs i
+lent xs i None is h = let past : length xs ≤ i = grind (arith, common_steps, is) in sym (slice_get_past xs i past)
+lent xs i (Some x) is h = let within : i < length xs = grind (arith, common_steps, is) in sym (slice_get_read xs (length xs) i x.now refl within h)
+
+-- the way that is lent
+pub way_is : (xs ways : List Way) (way : ℕ) (o : Option (Bor Way)) (w : Bor Way) → xs ≡ ways → way ≢ 0 → is_some o ≡ nat_lt (way - 1) (length xs) → IfSome o (λ x. x.now ≡ get_or xs (way - 1) x.now) → o ≡ Some w
+    → way_at ways way ≡ Some w.now
+way_is xs ways way o w same some is h lends = way_found ways way some ∙ ap (λ l. slice_get l (way - 1)) (sym same) ∙ sym (lent xs (way - 1) o is h) ∙ ap option_copied lends
+
+-- a way more
+seen : (ways : List Way) (r : Way) (way : ℕ) → way ≤ length ways → way_at (ways ++ r ∷ []) way ≡ way_at ways way
+seen ways r zero least = refl
+seen ways r (suc n) least =
+    let within : n < length ways = omega (arith, least) in
+    let longer : n < length (ways ++ r ∷ []) = omega (arith, within, length-append ways (r ∷ [])) in
+    behind (ways ++ r ∷ []) n ∙ slice_get-get_or (ways ++ r ∷ []) n r longer ∙ ap Some (get_or_append_left ways (r ∷ []) r n within) ∙ sym (slice_get-get_or ways n r within) ∙ sym (behind ways n)
+
+pub grown : (ways : List Way) (r : Way) → HasWays ways (ways ++ r ∷ [])
+grown ways r = record { longer = omega (arith, length-append ways (r ∷ [])); same = seen ways r }
+
+at_last : (ways : List Way) (r : Way) (n : ℕ) → n ≡ length ways → slice_get (ways ++ r ∷ []) n ≡ Some r
+at_last ways r n is =
+    let within : n < length (ways ++ r ∷ []) = omega (arith, is, length-append ways (r ∷ [])) in
+    slice_get-get_or (ways ++ r ∷ []) n r within ∙ ap (λ k. Some (get_or (ways ++ r ∷ []) k r)) is ∙ ap Some (get_or-append_seam ways r [] r)
+
+-- what is behind the ways is the last one
+grown_all : (P : Way → Type 0) (ways : List Way) (r : Way) → P r → (way : ℕ) → length ways < way → IfSome (way_at (ways ++ r ∷ []) way) P
+grown_all P ways r h zero more = absurd (omega (arith, more))
+grown_all P ways r h (suc n) more = subst (λ o. IfSome o P) (sym (behind (ways ++ r ∷ []) n)) (by_test (n == length ways) refl)
+  where
+    by_test : (t : Bool) → (n == length ways) ≡ t → IfSome (slice_get (ways ++ r ∷ []) n) P
+    by_test true e = let is : n ≡ length ways = grind (arith, common_steps, e) in subst (λ o. IfSome o P) (sym (at_last ways r n is)) h
+    by_test false e =
+        let differs : n ≢ length ways = grind (arith, common_steps, e) in
+        let past : length (ways ++ r ∷ []) ≤ n = omega (arith, more, differs, length-append ways (r ∷ [])) in
+        subst (λ o. IfSome o P) (sym (slice_get_past (ways ++ r ∷ []) n past)) tt
+
+one_longer : (ways : List Way) (r : Way) → length (ways ++ r ∷ []) ≡ length ways + 1
+one_longer ways r = length-append ways (r ∷ [])
+
+-- one way more, whose end does not wait
+pub grown_one : (ways : List Way) (r : Way) → IsWay r → end_waits r.stream.outgoing ≡ false → length ways < 255 → AddsWays ways (ways ++ r ∷ [])
+grown_one ways r h none less = record {
+  over = grown_all IsWay ways r h;
+  paired = λ way more. grown_all (IsPaired (ways ++ r ∷ []) way) ways r (λ waits. absurd (let wrong : false ≡ true = sym none ∙ waits in cc)) way more;
+  few = λ known. omega (arith, less, one_longer ways r);
+}
+
+-- the way with its end taken is one too
+ended_is : (w : Way) → IsWay w → IsWay (ended_way w)
+ended_is w h = record { over = h.over; code = h.code }
+
+abbrev two : List Way → Way → Way → List Way
+two ways r t = (ways ++ r ∷ []) ++ t ∷ []
+
+-- or two more, of which the other is the one with its end taken
+pub grown_two : (ways : List Way) (r : Way) → IsWay r → length ways + 1 < 255 → AddsWays ways ((ways ++ r ∷ []) ++ ended_way r ∷ [])
+grown_two ways r h less = record { over = over; paired = paired; few = λ known. omega (arith, less, one_longer ways r, one_longer (ways ++ r ∷ []) t) }
+  where
+    t : Way
+    t = ended_way r
+
+    taken : end_waits t.stream.outgoing ≡ false
+    taken = by_test r.stream.outgoing.is_finished
+      where
+        by_test : (b : Bool) → (b && false) ≡ false
+        by_test true = refl
+        by_test false = refl
+
+    over : (way : ℕ) → length ways < way → IfSome (way_at (two ways r t) way) IsWay
+    over way more = by_test (nat_lt (length (ways ++ r ∷ [])) way) refl
+      where
+        by_test : (b : Bool) → nat_lt (length (ways ++ r ∷ [])) way ≡ b → IfSome (way_at (two ways r t) way) IsWay
+        by_test true e = grown_all IsWay (ways ++ r ∷ []) t (ended_is r h) way (grind (arith, common_steps, e))
+        by_test false e =
+            let least : way ≤ length (ways ++ r ∷ []) = grind (arith, common_steps, e) in
+            subst (λ o. IfSome o IsWay) (sym ((grown (ways ++ r ∷ []) t).same way least)) (grown_all IsWay ways r h way more)
+
+    next : (way : ℕ) → way ≡ length ways + 1 → way_at (two ways r t) (way + 1) ≡ Some t
+    next way is =
+        let place : way ≡ length (ways ++ r ∷ []) = omega (arith, is, one_longer ways r) in
+        let up : way + 1 ≡ suc way = omega arith in
+        ap (way_at (two ways r t)) up ∙ behind (two ways r t) way ∙ at_last (ways ++ r ∷ []) t way place
+
+    paired : (way : ℕ) → length ways < way → IfSome (way_at (two ways r t) way) (IsPaired (two ways r t) way)
+    paired way more = by_test (nat_lt (length (ways ++ r ∷ [])) way) refl
+      where
+        by_test : (b : Bool) → nat_lt (length (ways ++ r ∷ [])) way ≡ b → IfSome (way_at (two ways r t) way) (IsPaired (two ways r t) way)
+        by_test true e =
+            grown_all (IsPaired (two ways r t) way) (ways ++ r ∷ []) t (λ waits. absurd (let wrong : false ≡ true = sym taken ∙ waits in cc)) way (grind (arith, common_steps, e))
+        by_test false e =
+            let least : way ≤ length (ways ++ r ∷ []) = grind (arith, common_steps, e) in
+            let is : way ≡ length ways + 1 = omega (arith, least, more, one_longer ways r) in
+            subst (λ o. IfSome o (IsPaired (two ways r t) way)) (sym ((grown (ways ++ r ∷ []) t).same way least)) (grown_all (IsPaired (two ways r t) way) ways r (λ waits. next way is) way more)
+
+pub grown_both : (ways : List Way) (r t : Way) → HasWays ways ((ways ++ r ∷ []) ++ t ∷ [])
+grown_both ways r t =
+    let one = grown ways r in
+    let other = grown (ways ++ r ∷ []) t in
+    record { longer = omega (arith, one.longer, other.longer); same = λ way least. other.same way (omega (arith, least, one.longer)) ∙ one.same way least }
+
+-- the first of the two is the way of the stream
+pub at_first : (ways : List Way) (r t : Way) (way : ℕ) → way ≡ length ways + 1 → way_at ((ways ++ r ∷ []) ++ t ∷ []) way ≡ Some r
+at_first ways r t way is =
+    let least : way ≤ length (ways ++ r ∷ []) = omega (arith, is, one_longer ways r) in
+    let up : way ≡ suc (length ways) = omega (arith, is) in
+    (grown (ways ++ r ∷ []) t).same way least ∙ ap (way_at (ways ++ r ∷ [])) up ∙ behind (ways ++ r ∷ []) (length ways) ∙ at_last ways r (length ways) refl
+
+-- no way more
+pub none_more : (ways : List Way) → AddsWays ways ways
+none_more ways = record {
+  over = λ way more. past IsWay way more;
+  paired = λ way more. past (IsPaired ways way) way more;
+  few = λ known. known;
+}
+  where
+    past : (P : Way → Type 0) (way : ℕ) → length ways < way → IfSome (way_at ways way) P
+    past P way more =
+        let some : way ≢ 0 = omega (arith, more) in
+        subst (λ o. IfSome o P) (sym (way_found ways way some ∙ slice_get_past ways (way - 1) (omega (arith, more)))) tt
+
+-- the number of a way is one more than its place
+pub at_place : (ways : List Way) (place way : ℕ) (r : Way) → way ≡ place + 1 → place < length ways → get_or ways place r ≡ r → way_at ways way ≡ Some r
+at_place ways place way r is within same =
+    rw is (let e : way_at ways (place + 1) ≡ slice_get ways place = grind (arith, common_steps) in e ∙ slice_get-get_or ways place r within ∙ ap Some same)
+
+over_each : (ways others : List Way) (marks : ℕ → ℕ) → AreMarked ways marks → HasWays ways others → ((way : ℕ) → length ways < way → IfSome (way_at others way) IsWay) → (way : ℕ)
+    → IfSome (way_at others way) IsWay
+over_each ways others marks h has over way = by_test (nat_lt (length ways) way) refl
+  where
+    by_test : (t : Bool) → nat_lt (length ways) way ≡ t → IfSome (way_at others way) IsWay
+    by_test true e = over way (grind (arith, common_steps, e))
+    by_test false e = let least : way ≤ length ways = grind (arith, common_steps, e) in subst (λ o. IfSome o IsWay) (sym (has.same way least)) (h.over way)
+
+-- a way that is there has a place
+within_ways : (ways : List Way) (way : ℕ) (r : Way) → way_at ways way ≡ Some r → way ≤ length ways
+within_ways ways way r there = by_test (nat_lt (length ways) way) refl
+  where
+    by_test : (t : Bool) → nat_lt (length ways) way ≡ t → way ≤ length ways
+    by_test false e = grind (arith, common_steps, e)
+    by_test true e =
+        let past : length ways < way = grind (arith, common_steps, e) in
+        let some : way ≢ 0 = omega (arith, past) in
+        let none : way_at ways way ≡ None = way_found ways way some ∙ slice_get_past ways (way - 1) (omega (arith, past)) in
+        absurd (let wrong : None ≡ Some r = sym none ∙ there in cc)
+
+paired_each : (ways others : List Way) (marks : ℕ → ℕ) → AreMarked ways marks → HasWays ways others → ((way : ℕ) → length ways < way → IfSome (way_at others way) (IsPaired others way)) → (way : ℕ)
+    → IfSome (way_at others way) (IsPaired others way)
+paired_each ways others marks h has paired way = by_test (nat_lt (length ways) way) refl
+  where
+    there : (o : Option Way) → way_at ways way ≡ o → IfSome o (IsPaired ways way) → IfSome o (IsPaired others way)
+    there None is p = tt
+    there (Some r) is p = λ waits. let next = p waits in has.same (way + 1) (within_ways ways (way + 1) (ended_way r) next) ∙ next
+
+    by_test : (t : Bool) → nat_lt (length ways) way ≡ t → IfSome (way_at others way) (IsPaired others way)
+    by_test true e = paired way (grind (arith, common_steps, e))
+    by_test false e =
+        let least : way ≤ length ways = grind (arith, common_steps, e) in
+        subst (λ o. IfSome o (IsPaired others way)) (sym (has.same way least)) (there (way_at ways way) refl (h.paired way))
+
+-- marks name ways that are there still
+pub still_marked : (ways others : List Way) (marks later : ℕ → ℕ) → AreMarked ways marks → HasWays ways others → AddsWays ways others → HaveSameMarks marks later → AreMarked others later
+still_marked ways others marks later h has adds same = record {
+  over = λ way. over_each ways others marks h has adds.over way;
+  known = λ id. let k = h.known id in let e = same id in omega (arith, k, e, has.longer);
+  paired = paired_each ways others marks h has adds.paired;
+  few = adds.few h.few;
+}
+
+pub marked_too : (ways others : List Way) (marks later : ℕ → ℕ) (number way : ℕ) → AreMarked ways marks → HasWays ways others → AddsWays ways others → IsOneMark number way marks later → way ≤ length others
+    → AreMarked others later
+marked_too ways others marks later number way h has adds one known = record {
+  over = λ way. over_each ways others marks h has adds.over way;
+  known = λ id. elim (cases_eq id number) [
+    | inl same ↦ let e = ap later same ∙ one.own in omega (arith, known, e)
+    | inr differs ↦ let k = h.known id in let e = one.others id differs in omega (arith, k, e, has.longer)
+  ];
+  paired = paired_each ways others marks h has adds.paired;
+  few = adds.few h.few;
+}
+
+-- whether the mark was set or was not
+pub still_or_too : (ways others : List Way) (marks later : ℕ → ℕ) (number way : ℕ) (is_set : Bool) → AreMarked ways marks → HasWays ways others → AddsWays ways others
+    → (is_set ≡ true → IsOneMark number way marks later) → (is_set ≡ false → HaveSameMarks marks later) → way ≤ length others → AreMarked others later
+still_or_too ways others marks later number way true h has adds set same known = marked_too ways others marks later number way h has adds (set refl) known
+still_or_too ways others marks later number way false h has adds set same known = still_marked ways others marks later h has adds (same refl)
+
+-- Nothing is taken of a stream that is over.
+pub over_advanced : (m : Streams RequestState) (id count : ℕ) (o : Option RequestState) → kept_at m id ≡ o → IfSome o IsOver
+    → IfSome (kept_at m id) (λ r. Sets m m id (record r { outgoing = taken_from r.outgoing (min count (length (bytes_of r.outgoing.pieces))) }))
+over_advanced m id count None is h = rw is tt
+over_advanced m id count (Some r) is h = rw is (record { here = is ∙ ap Some (sym (over_taken r count h)); others = λ q differs. refl })
+
+-- What refuses a call on a stream that is over, or that is not there.
+pub refused_head : (o : Option RequestState) → IfSome o IsOver → Some (refused_over o refusal.OutOfOrder) ≡ head_refused_at o
+refused_head None h = refl
+refused_head (Some r) h = rw (over_takes_head r h) refl
+
+pub refused_body : (o : Option RequestState) → IfSome o IsOver → Some (refused_over o refusal.OutOfOrder) ≡ body_refused_at o
+refused_body None h = refl
+refused_body (Some r) h = rw (over_takes_body r h) refl
+
+-- and it comes before what refuses a trailer,
+pub refused_trailer : (o : Option RequestState) (later : Option Refusal) → IfSome o IsOver → Some (refused_over o refusal.OutOfOrder) ≡ or_later (body_refused_at o) later
+refused_trailer None later h = refl
+refused_trailer (Some r) later h = rw (over_takes_body r h) refl
+
+-- or a body by its size
+pub refused_data : (o : Option RequestState) (size : ℕ) → IfSome o IsOver → Some (refused_over o refusal.OutOfOrder) ≡ data_refused_at o size
+refused_data None size h = refl
+refused_data (Some r) size h = rw (over_takes_body r h) refl
+
+pub refused_end : (o : Option RequestState) → IfSome o IsOver → Some (refused_over o refusal.OutOfOrder) ≡ end_refused_at o
+refused_end None h = refl
+refused_end (Some r) h = rw (over_takes_end r h) refl
+
+pub refused_reset : (o : Option RequestState) → IfSome o IsOver → Some (refused_over o refusal.Ended) ≡ reset_refused_at o
+refused_reset None h = refl
+refused_reset (Some r) h = rw (over_sent r h) refl
+
+pub refused_cancel : (o : Option RequestState) → IfSome o IsOver → Some (refused_over o refusal.Ended) ≡ cancel_refused_at o
+refused_cancel None h = refl
+refused_cancel (Some r) h = rw (over_settled r h) refl
+
+-- the way with the end taken is one of the ways
+pub next_way : (ways : List Way) (marks : ℕ → ℕ) (way : ℕ) (w : Way) → AreMarked ways marks → way_at ways way ≡ Some w → end_waits w.stream.outgoing ≡ true
+    → (way_at ways (way + 1) ≡ Some (ended_way w)) × (way + 1 ≤ 255) × (way + 1 ≤ length ways)
+next_way ways marks way w h there waits =
+    let paired : IsPaired ways way w = subst (λ o. IfSome o (IsPaired ways way)) there (h.paired way) in
+    let next = paired waits in
+    let within = within_ways ways (way + 1) (ended_way w) next in
+    (next, omega (arith, within, h.few), within)
+
+pub same_ways : (ways : List Way) → HasWays ways ways
+same_ways ways = record { longer = omega arith; same = λ way least. refl }
+
+-- a mark that is not 0 can be set
+pub was_set : (is_set : Bool) (mark way : ℕ) → (is_set ≡ false → mark ≡ 0) → way ≡ mark → way ≢ 0 → is_set ≡ true
+was_set true mark way none is some = refl
+was_set false mark way none is some = absurd (some (is ∙ none refl))
+
+-- the end waits whatever the code is
+pub so_waits : (w : Way) (code : ℕ) → end_waits (over_so w code).outgoing ≡ end_waits w.stream.outgoing
+so_waits w code = by_test w.has_code
+  where
+    by_test : (b : Bool) → end_waits (if b then reset_with w.stream code else w.stream).outgoing ≡ end_waits w.stream.outgoing
+    by_test true = refl
+    by_test false = refl
+
+-- and the way with the end taken is what is over in that way, with its end taken
+so_taken : (w : Way) (code : ℕ) → over_so (ended_way w) code ≡ with_end_taken (over_so w code)
+so_taken w code = by_test w.has_code
+  where
+    by_test : (b : Bool) → (if b then reset_with (with_end_taken w.stream) code else with_end_taken w.stream) ≡ with_end_taken (if b then reset_with w.stream code else w.stream)
+    by_test true = refl
+    by_test false = refl
+
+-- the stream is in that way then
+pub goes_on : (ways : List Way) (marks later codes : ℕ → ℕ) (model : Streams RequestState) (number id way : ℕ) (w : Way) → streams_of (over_in ways marks codes) ≡ model → AreMarked ways marks → number ≡ id → number < 2 ^ 62
+    → IsOneMark number (way + 1) marks later → way_at ways way ≡ Some w → end_waits w.stream.outgoing ≡ true → kept_at model id ≡ Some (over_so w (codes number))
+    → IfSome (kept_at model id) (λ s. Sets model (streams_of (over_in ways later codes)) id (with_end_taken s))
+goes_on ways marks later codes model number id way w view h is below one there waits found_ =
+    let next = (next_way ways marks way w h there waits).0 in
+    let so : told (way_at ways (way + 1)) (codes number) ≡ Some (with_end_taken (over_so w (codes number))) = ap (λ o. told o (codes number)) next ∙ ap Some (so_taken w (codes number)) in
+    subst (λ o. IfSome o (λ s. Sets model (streams_of (over_in ways later codes)) id (with_end_taken s))) (sym found_)
+    (marked_in ways ways marks later codes codes model number id (way + 1) (with_end_taken (over_so w (codes number))) view h (same_ways ways) is below one (λ q differs. refl) so)

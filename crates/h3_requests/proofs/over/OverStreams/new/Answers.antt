@@ -1,0 +1,7 @@
+-- Nothing is marked.
+use Rattle.h3_requests.specs.Marks.{code_at, mark_at}
+use Rattle.h3_requests.proofs.Ways.{none_marked}
+use Rattle.h3_requests.proofs.over.OverStreams.new.Goals as goal
+
+pub returns : goal.returns
+returns c = none_marked c.new-2.result.items (mark_at c.new.result) (code_at c.new-3.result) c.new.ensures.none

@@ -1,0 +1,19 @@
+-- The stream waits for as much as before, and room alone is taken.
+use Rattle.std.proofs.Common.{rules}
+use Rattle.h3_requests.proofs.Sendable.{both_kept, written}
+use Rattle.h3_requests.proofs.streams.RequestStreams.reserve_head.Goals as goal
+
+pub invariant_of-self-then-not-takes_head : goal.invariant_of-self-then-not-takes_head
+invariant_of-self-then-not-takes_head c = written _ _ _ _ c.args.id c.in-Some.stream.now _ (c.get_mut.follows.holds _) (search rules) (search rules) (search rules) c.self.invariant
+
+pub invariant_of-self-in-Some-later : goal.invariant_of-self-in-Some-later
+invariant_of-self-in-Some-later c = written _ _ _ _ c.args.id c.in-Some.stream.now _ (c.get_mut.follows.holds _) (search rules) (search rules) (search rules) c.self.invariant
+
+pub invariant_of-self-in_default-reserve : goal.invariant_of-self-in_default-reserve
+invariant_of-self-in_default-reserve c = written _ _ _ _ c.args.id c.in-Some.stream.now _ (c.get_mut.follows.holds _) (search rules) (search rules) (search rules) c.self.invariant
+
+pub invariant_of-self-in_default-reserve_both : goal.invariant_of-self-in_default-reserve_both
+invariant_of-self-in_default-reserve_both c = both_kept {s = c.self.inside.ready} {t = c.reserve_both.new.self} c.reserve_both.ensures.same c.reserve_both.ensures.ending c.reserve_both.ensures.places (written _ _ _ _ c.args.id c.in-Some.stream.now _ (c.get_mut.follows.holds _) (search rules) (search rules) (search rules) c.self.invariant)
+
+pub invariant_of-self-2 : goal.invariant_of-self-2
+invariant_of-self-2 c = both_kept {s = c.self.inside.ready} {t = c.reserve_both.new.self} c.reserve_both.ensures.same c.reserve_both.ensures.ending c.reserve_both.ensures.places (written _ _ _ _ c.args.id c.in-Some.stream.now _ (c.get_mut.follows.holds _) (search rules) (search rules) (search rules) c.self.invariant)

@@ -1,0 +1,87 @@
+//! What stands of a request stream, by its id.
+ghost use Rattle.std.specs.Prelude.{◌≡◌, ◌≤◌, Some, is_some, option_copied, option_map, unwrap_or};
+ghost use Rattle.h3_connection.specs.Keeping.{is_settled_request};
+ghost use Rattle.h3_connection.specs.State.{kept_at};
+ghost use Rattle.h3_requests.specs.Changing.{receiver_refusal};
+
+use super::RequestStreams;
+use h3_connection::event::Refusal;
+use h3_incoming::IncomingStream;
+use h3_outgoing::OutgoingStream;
+use h3_proto::stream::{Side, StreamId};
+use h3_wire::frame::FrameBuffer;
+
+impl RequestStreams {
+    /// Whether the stream is there.
+    pub fn contains(&self, id: StreamId) -> bool
+        ensures { result ≡ is_some (kept_at self.now id) }
+    {
+        self.streams.contains(id)
+    }
+
+    /// What is sent on a stream, if it is there.
+    pub fn outgoing(&self, id: StreamId) -> Option<&OutgoingStream>
+        ensures { option_copied result ≡ option_map (λ r. r.outgoing) (kept_at self.now id) }
+    {
+        match self.streams.get_alike(id) {
+            Some(stream) => Some(stream.outgoing()),
+            None => None,
+        }
+    }
+
+    /// The bytes that came on a stream and were not read, if it is there.
+    pub fn frames(&self, id: StreamId) -> Option<&FrameBuffer>
+        ensures { option_map (λ frames. frames.pieces) (option_copied result) ≡ option_map (λ r. r.incoming.unread) (kept_at self.now id) }
+    {
+        match self.streams.get_alike(id) {
+            Some(stream) => Some(stream.incoming().frames()),
+            None => None,
+        }
+    }
+
+    /// How often the field section that is next on a stream was tried, else the last one: at most twice, and 0 if the stream is not there.
+    pub fn tries(&self, id: StreamId) -> u8
+        ensures value { result ≡ unwrap_or (option_map (λ r. r.incoming.tries) (kept_at self.now id)) 0 }
+        ensures bound { result ≤ 2 }
+    {
+        match self.streams.get_alike(id) {
+            Some(stream) => stream.incoming().tries(),
+            None => 0,
+        }
+    }
+
+    /// Whether nothing more is returned of a stream: its end was, or it was given up.
+    pub fn is_settled(&self, id: StreamId) -> bool
+        ensures { result ≡ is_settled_request (option_map (λ r. r.incoming) (kept_at self.now id)) }
+    {
+        match self.streams.get_alike(id) {
+            Some(stream) => is_settled(stream.incoming()),
+            None => false,
+        }
+    }
+
+    /// Why what comes on a stream is refused: its end or reset came, or it is not there and the peer does not open it.
+    pub fn delivery_refusal(&self, side: Side, id: StreamId) -> Option<Refusal>
+        ensures { result ≡ receiver_refusal side (kept_at self.now id) }
+    {
+        match self.streams.get_alike(id) {
+            Some(stream) => {
+                if stream.has_ended() {
+                    return Some(Refusal::AfterEnd);
+                }
+                None
+            }
+            None => match side {
+                Side::Client => Some(Refusal::NotOpen),
+                Side::Server => None,
+            },
+        }
+    }
+}
+
+// Whether it was given up, or its end was returned.
+fn is_settled(stream: &IncomingStream) -> bool
+    ensures { result ≡ is_settled_request (Some stream.now) }
+{
+    stream.fault().is_some() || stream.is_over()
+}

@@ -1,0 +1,314 @@
+//! Request streams on which something waits, found in the order of their ids: bytes, or an end.
+ghost use Rattle.std.specs.Prelude.{◌≡◌, ◌≢◌, ◌<◌, ◌≤◌, ◌+◌, ◌*◌, ◌/◌, ◌%◌, ◌^◌, ◌==◌, ℕ, true, false, bit_and, bit_or, IfSome, IfNone, OnOk, OnErr};
+ghost use Rattle.std.specs.Int.{bit_not, w64};
+ghost use Rattle.h3_connection.specs.NextWaiting.{IsLeast};
+ghost use Rattle.h3_requests.specs.FirstWord.{IsFirstWord};
+ghost use Rattle.h3_requests.specs.Waiting.{has_place, is_waiting, places_at, waiting_at, IsOneWord, HaveSameWords};
+ghost use Rattle.h3_requests.specs.Ready.{IsOneTest};
+
+use h3_proto::stream::StreamId;
+use std::alloc::{AllocError, Global};
+
+mod bounded;
+mod bounds;
+mod near;
+mod word;
+mod words;
+
+use bounded::BoundedWords;
+use word::Word;
+
+/// The ids of request streams are four apart (RFC 9000, section 2.1).
+const STEP: u64 = 4;
+
+/// How many streams share a word.
+const WORD: u64 = 64;
+
+/// So many words have the bits of all request streams.
+const WORDS: u64 = 1 << 54;
+
+/// The streams on which something waits, by a bit each in words of 64, and those that have a place. One that has a place is put in with no
+/// memory.
+#[derive(Drop)]
+pub(crate) struct WaitingStreams {
+    // of each number the streams from 256 times that on, if one has a place or something waits on it
+    words: BoundedWords,
+}
+
+/// The number of the word in which a stream has its bit.
+fn word_of(stream: u64) -> u64
+    ensures { result ≡ stream / 256 }
+{
+    stream / (STEP * WORD)
+}
+
+/// The stream's bit in its word.
+fn bit_of(stream: u64) -> u64
+    ensures { result ≡ 1 * 2 ^ (stream / 4 % 64) % 2 ^ 64 }
+{
+    1 << (stream / STEP % WORD)
+}
+
+/// The stream of a place in a word; none beyond the last stream id.
+fn stream_at(number: u64, place: u64) -> Option<StreamId>
+    requires { place < 64 }
+    ensures some { IfSome result (λ id. (id ≡ number * 256 + place * 4) × (id < 2 ^ 62)) }
+    ensures none { IfNone result (2 ^ 62 ≤ number * 256 + place * 4) }
+{
+    if number >= WORDS {
+        return None;
+    }
+    let Ok(id) = StreamId::try_from((number * WORD + place) * STEP) else {
+        return None;
+    };
+    Some(id)
+}
+
+impl WaitingStreams {
+    /// No stream. It takes no memory.
+    pub(crate) fn new(alloc: Global) -> WaitingStreams
+        ensures { (q : ℕ) → is_waiting result q ≡ false }
+    {
+        WaitingStreams {
+            words: BoundedWords::new(alloc),
+        }
+    }
+
+    /// Whether a request stream has a place in a word that is found with no search.
+    pub(crate) fn has_near_place(&self, id: StreamId) -> bool
+        ensures { result ≡ true → has_place self.now id ≡ true }
+    {
+        let number = id.into_inner();
+        let Some(word) = self.words.near(word_of(number)) else {
+            return false;
+        };
+        number % STEP == 0 && (word.places >> (number / STEP % WORD)) % 2 == 1
+    }
+
+    /// A place for a request stream, so that something can come to wait on it with no memory. On which it waits stays as it was.
+    pub(crate) fn reserve(&mut self, id: StreamId) -> Result<(), AllocError>
+        ensures placed { OnOk result (has_place self.new id ≡ true) }
+        ensures kept { (q : ℕ) → has_place self.old q ≡ true → has_place self.new q ≡ true }
+        ensures same { (q : ℕ) → is_waiting self.new q ≡ is_waiting self.old q }
+    {
+        let number = id.into_inner();
+        if number % STEP != 0 {
+            return Err(AllocError);
+        }
+        self.add_places(word_of(number), bit_of(number))
+    }
+
+    // Places are added to a word. (One that stands in the row is looked up once.)
+    fn add_places(&mut self, number: u64, bits: u64) -> Result<(), AllocError>
+        ensures ok { OnOk result (IsOneWord number (bit_or (places_at self.old number) bits) (places_at self.old) (places_at self.new)) }
+        ensures err { OnErr result (HaveSameWords (places_at self.old) (places_at self.new)) }
+        ensures waiting { HaveSameWords (waiting_at self.old) (waiting_at self.new) }
+    {
+        let Some(word) = self.words.near(number) else {
+            return self.add_far_places(number, bits);
+        };
+        self.words.set_near_places(
+            number,
+            Word {
+                places: word.places | bits,
+                waiting: word.waiting,
+            },
+        );
+        Ok(())
+    }
+
+    // The same wherever the word stands, and where it is not there.
+    #[inline(never)]
+    fn add_far_places(&mut self, number: u64, bits: u64) -> Result<(), AllocError>
+        ensures ok { OnOk result (IsOneWord number (bit_or (places_at self.old number) bits) (places_at self.old) (places_at self.new)) }
+        ensures err { OnErr result (HaveSameWords (places_at self.old) (places_at self.new)) }
+        ensures waiting { HaveSameWords (waiting_at self.old) (waiting_at self.new) }
+    {
+        let there = self.words.get(number);
+        self.words.put(
+            number,
+            Word {
+                places: there.places | bits,
+                waiting: there.waiting,
+            },
+        )
+    }
+
+    /// On a stream that has a place something waits from now on. It takes no memory.
+    pub(crate) fn put(&mut self, id: StreamId)
+        requires { has_place self.old id ≡ true }
+        ensures put { IsOneTest id true (is_waiting self.old) (is_waiting self.new) }
+        ensures places { (q : ℕ) → has_place self.new q ≡ has_place self.old q }
+    {
+        let number = id.into_inner();
+        self.add_waiting(word_of(number), bit_of(number));
+    }
+
+    // Streams are added to a word that is there.
+    fn add_waiting(&mut self, number: u64, bits: u64)
+        requires { places_at self.old number ≢ 0 }
+        ensures waiting { IsOneWord number (bit_or (waiting_at self.old number) bits) (waiting_at self.old) (waiting_at self.new) }
+        ensures places { HaveSameWords (places_at self.old) (places_at self.new) }
+    {
+        let Some(word) = self.words.near(number) else {
+            self.add_far_waiting(number, bits);
+            return;
+        };
+        self.words.set_near(
+            number,
+            Word {
+                places: word.places,
+                waiting: word.waiting | bits,
+            },
+        );
+    }
+
+    // The same wherever the word stands.
+    #[inline(never)]
+    fn add_far_waiting(&mut self, number: u64, bits: u64)
+        requires { places_at self.old number ≢ 0 }
+        ensures waiting { IsOneWord number (bit_or (waiting_at self.old number) bits) (waiting_at self.old) (waiting_at self.new) }
+        ensures places { HaveSameWords (places_at self.old) (places_at self.new) }
+    {
+        let there = self.words.get(number);
+        self.words.set(
+            number,
+            Word {
+                places: there.places,
+                waiting: there.waiting | bits,
+            },
+        );
+    }
+
+    /// Nothing waits on a stream any longer, and its place goes. It takes no memory.
+    pub(crate) fn take(&mut self, id: StreamId)
+        ensures taken { IsOneTest id false (is_waiting self.old) (is_waiting self.new) }
+        ensures places { (q : ℕ) → q ≢ id → has_place self.new q ≡ has_place self.old q }
+    {
+        let number = id.into_inner();
+        if number % STEP != 0 {
+            return;
+        }
+        self.take_bits(word_of(number), bit_of(number));
+    }
+
+    // Takes bits out of a word.
+    fn take_bits(&mut self, number: u64, bits: u64)
+        ensures waiting { IsOneWord number (bit_and (waiting_at self.old number) (bit_not w64 bits)) (waiting_at self.old) (waiting_at self.new) }
+        ensures places { IsOneWord number (bit_and (places_at self.old number) (bit_not w64 bits)) (places_at self.old) (places_at self.new) }
+    {
+        let Some(word) = self.words.near(number) else {
+            self.take_far_bits(number, bits);
+            return;
+        };
+        self.words.set_near(
+            number,
+            Word {
+                places: word.places & !bits,
+                waiting: word.waiting & !bits,
+            },
+        );
+    }
+
+    // The same wherever the word stands, and where it is not there.
+    #[inline(never)]
+    fn take_far_bits(&mut self, number: u64, bits: u64)
+        ensures waiting { IsOneWord number (bit_and (waiting_at self.old number) (bit_not w64 bits)) (waiting_at self.old) (waiting_at self.new) }
+        ensures places { IsOneWord number (bit_and (places_at self.old number) (bit_not w64 bits)) (places_at self.old) (places_at self.new) }
+    {
+        let there = self.words.get(number);
+        if there.is_empty() {
+            return;
+        }
+        self.words.set(
+            number,
+            Word {
+                places: there.places & !bits,
+                waiting: there.waiting & !bits,
+            },
+        );
+    }
+
+    /// The first stream from this id on on which something waits. It takes no memory, and looks at 64 streams at once.
+    pub(crate) fn next(&self, from: u64) -> Option<StreamId>
+        ensures { IsLeast (is_waiting self.now) from result }
+    {
+        let Some(end) = from.checked_add(STEP - 1) else {
+            return None;
+        };
+        let first = end / STEP;
+        let number = first / WORD;
+        let place = first % WORD;
+        let here = self.waiting_in(number) >> place;
+        if here != 0 {
+            return stream_at(number, place + here.trailing_zeros() as u64);
+        }
+        let Some((number, word)) = self.next_word(number + 1) else {
+            return None;
+        };
+        stream_at(number, word.trailing_zeros() as u64)
+    }
+
+    /// A stream has its place no longer. On which streams something waits stays as it was. It takes no memory.
+    pub(crate) fn release(&mut self, id: StreamId)
+        ensures same { (q : ℕ) → is_waiting self.new q ≡ is_waiting self.old q }
+        ensures places { (q : ℕ) → q ≢ id → has_place self.new q ≡ has_place self.old q }
+    {
+        let number = id.into_inner();
+        if number % STEP != 0 {
+            return;
+        }
+        self.take_places(word_of(number), bit_of(number));
+    }
+
+    // Takes places out of a word.
+    fn take_places(&mut self, number: u64, bits: u64)
+        ensures waiting { HaveSameWords (waiting_at self.old) (waiting_at self.new) }
+        ensures places { IsOneWord number (bit_and (places_at self.old number) (bit_not w64 bits)) (places_at self.old) (places_at self.new) }
+    {
+        let Some(word) = self.words.near(number) else {
+            self.take_far_places(number, bits);
+            return;
+        };
+        self.words.set_near_places(
+            number,
+            Word {
+                places: word.places & !bits,
+                waiting: word.waiting,
+            },
+        );
+    }
+
+    // The same wherever the word stands, and where it is not there.
+    #[inline(never)]
+    fn take_far_places(&mut self, number: u64, bits: u64)
+        ensures waiting { HaveSameWords (waiting_at self.old) (waiting_at self.new) }
+        ensures places { IsOneWord number (bit_and (places_at self.old number) (bit_not w64 bits)) (places_at self.old) (places_at self.new) }
+    {
+        let there = self.words.get(number);
+        if there.is_empty() {
+            return;
+        }
+        self.words.set(
+            number,
+            Word {
+                places: there.places & !bits,
+                waiting: there.waiting,
+            },
+        );
+    }
+
+    // On which streams of a word something waits.
+    fn waiting_in(&self, number: u64) -> u64
+        ensures { result ≡ waiting_at self.now number }
+    {
+        self.words.get(number).waiting
+    }
+
+    // The first word from this number on that has a stream on which something waits.
+    fn next_word(&self, from: u64) -> Option<(u64, u64)>
+        ensures { IsFirstWord (waiting_at self.now) from result }
+    {
+        self.words.next(from)
+    }
+}

@@ -1,0 +1,16 @@
+pub mod Bodies
+pub mod Cuts
+pub mod Denials
+pub mod Fields
+pub mod HeadWords
+pub mod Lines
+pub mod MadeSetups
+pub mod Numbers
+pub mod OneRefusal
+mod PrintedLines
+pub mod Reading
+pub mod Requests
+pub mod ScriptSums
+pub mod Scripts
+pub mod SectionLines
+pub mod Unique

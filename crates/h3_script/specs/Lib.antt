@@ -1,0 +1,10 @@
+pub mod BodyLine
+pub mod Few
+pub mod HeadText
+pub mod Inputs
+pub mod LineErrors
+pub mod Lines
+pub mod Pieces
+pub mod Script
+pub mod ScriptLine
+pub mod Words

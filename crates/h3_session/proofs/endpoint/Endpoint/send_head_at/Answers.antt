@@ -1,0 +1,26 @@
+use Rattle.std.proofs.Common.{None, refl, sym}
+use Rattle.h3_connection.specs.Pulling.{is_interim}
+use Rattle.h3_session.specs.SendingFields.{asking}
+use Rattle.h3_session.proofs.InvalidFields.{head_judged_names, section_names}
+use Rattle.h3_session.proofs.Remembering.{before_trailer}
+use Rattle.h3_session.proofs.SendingHeads.{head_judged, head_sent_judged}
+use Rattle.h3_session.proofs.endpoint.Endpoint.send_head_at.Goals as goal
+
+pub returns-in-Err-clause-sends : goal.returns-in-Err-clause-sends
+returns-in-Err-clause-sends c = λ head sent at.
+    head_judged c.args.self.now c.reserve_head.new.self c.args.id head c.args.fields.now c.args.place c.in-Err.refusal c.judged_or.result c.requires.open sent at
+    c.reserve_head.ensures.rest c.reserve_head.ensures.same c.in-Err.ensures.why c.judged_or.ensures
+
+pub returns-in-Err-clause-names : goal.returns-in-Err-clause-names
+returns-in-Err-clause-names c = λ head reads behind.
+    head_judged_names c.args.self.now c.reserve_head.new.self c.args.fields.now c.args.place c.reserve_head.ensures.rest head reads c.args.id c.in-Err.refusal c.judged_or.result c.in-Err.ensures.why c.judged_or.ensures
+
+pub returns-clause-sends : goal.returns-clause-sends
+returns-clause-sends c = λ head sent at.
+    head_sent_judged c.args.self.now c.reserve_head.new.self c.send_head_section.new.self c.args.id head None c.args.fields.now c.args.fields.now c.args.place c.send_head_section.result c.requires.open (sym sent)
+    c.reserve_head.ensures.rest c.reserve_head.ensures.same c.in-Ok.ensures.taken refl at ((rw c.in-Ok.ensures.room at c.send_head_section.ensures) (before_trailer (is_interim head.status) c.args.place at))
+
+pub returns-clause-names : goal.returns-clause-names
+returns-clause-names c = λ head reads behind.
+    section_names c.args.self.now c.reserve_head.new.self c.args.fields.now c.args.place c.reserve_head.ensures.rest head reads (asking c.in-Ok.room c.args.fields.now) c.send_head_section.new.self c.in-Ok.room _
+    (c.send_head_section.ensures behind)

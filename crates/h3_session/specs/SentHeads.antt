@@ -1,0 +1,29 @@
+-- What a head that is sent says of content, as one walk over its list tells it.
+use Rattle.std.specs.Prelude.{◌≡◌, ℕ, true, false, List, Option}
+use Rattle.h3_field.specs.Field.{Field}
+use Rattle.h3_messages.specs.Content.{awaited_by}
+use Rattle.h3_messages.specs.OwnMessages.{content_of_own_request}
+use Rattle.h3_messages.specs.ResponseSaid.{response_said}
+use Rattle.h3_connection.specs.StrictSending.{violation_of_own_head}
+use Rattle.h3_connection.specs.declared.setup.Announced.{Announced}
+use Rattle.h3_proto.specs.declared.stream.Side.{Side}
+use Rattle.h3_proto.specs.declared.stream.Side.TheVariants.{Client, Server}
+use Rattle.h3_session.specs.declared.endpoint.strict.Said.{Said}
+use Rattle.h3_session.specs.declared.endpoint.strict.Said.TheVariants.{Nothing, Request, Response}
+use Rattle.h3_session.specs.declared.endpoint.strict.SentRead.{SentRead}
+
+-- by the side that sends it: a client sends requests, and a server responses
+abbrev pub IsSaidBy : Side → List Field → Said → Type 0
+IsSaidBy side fields Nothing = ⊥
+IsSaidBy side fields (Request awaited content) = (side ≡ Client) × (awaited ≡ awaited_by fields) × (content ≡ content_of_own_request fields)
+IsSaidBy side fields (Response said) = (side ≡ Server) × (said ≡ response_said fields)
+
+-- where rules are asked
+abbrev pub IsSaid : Side → Announced → List Field → Said → Type 0
+IsSaid side own fields Nothing = own.choices.strict_messages ≡ false
+IsSaid side own fields (Request awaited content) = (own.choices.strict_messages ≡ true) × IsSaidBy side fields (Request awaited content)
+IsSaid side own fields (Response said) = (own.choices.strict_messages ≡ true) × IsSaidBy side fields (Response said)
+
+-- a walk told of a head the rule that it breaks, and what it says, by the peer's settings
+abbrev pub IsReadOf : Side → Option (List (ℕ × ℕ)) → List Field → SentRead → Type 0
+IsReadOf side settings fields read = (read.violation ≡ violation_of_own_head side settings fields) × IsSaidBy side fields read.said

@@ -1,0 +1,135 @@
+//! What the rules of well-formed messages make of a list that is to be sent (RFC 9114, sections 4.1.2 and 4.2 to 4.5). That is which of
+//! them the list breaks, as a strict peer would judge it and by the rules of its sender, and what it says of content.
+ghost use Rattle.std.specs.Prelude.{◌≡◌, ◌≢◌, None, Some, IfOk, IfErr, IfSome, OnOk};
+ghost use Rattle.h3_connection.specs.StrictSending.{peer_connects, violation_of_own_head};
+ghost use Rattle.h3_connection.specs.declared.place.SendPlace.TheVariants.{TrailerSent};
+ghost use Rattle.h3_session.specs.Refused.{violation_behind, broken_behind};
+ghost use Rattle.h3_session.specs.SentHeads.{IsReadOf, IsSaid, IsSaidBy};
+
+use super::Endpoint;
+use h3_connection::event::Malformation;
+use h3_connection::place::SendPlace;
+use h3_field::{Fields, HeaderField};
+use h3_messages::{
+    Content, ResponseSaid, Seen, Survey, Violation, own_request_by, own_response_by,
+    own_trailer_violation,
+};
+use h3_proto::frame::SettingId;
+use h3_proto::stream::Side;
+
+/// What a list that is sent says of content, if its endpoint asks for strict messages.
+#[derive(Clone, Copy)]
+pub(crate) enum Said {
+    /// Nothing that is asked.
+    Nothing,
+    /// A request: what is awaited in front of its response, and its own content.
+    Request(Content, Content),
+    /// A response.
+    Response(ResponseSaid),
+}
+
+/// What one walk over a list tells.
+#[derive(Clone, Copy)]
+pub(crate) struct SentRead {
+    pub(crate) violation: Option<Violation>,
+    pub(crate) said: Said,
+}
+
+impl Endpoint {
+    // What a list says, or the rule that it breaks, by the place of its message after it. An endpoint that asks for no strict messages
+    // looks at no field. What a walk told of a header section is asked of no second one.
+    #[inline(always)]
+    pub(super) fn read_sent(
+        &self,
+        fields: &[HeaderField],
+        place: SendPlace,
+        known: Option<SentRead>,
+    ) -> Result<Said, Malformation>
+        requires { IfSome known (IsReadOf self.now.side self.now.peer.settings fields.now) }
+        ensures kept { OnOk result (broken_behind place self.now fields.now ≡ None) }
+        ensures broken { IfErr result (λ why. broken_behind place self.now fields.now ≡ Some why) }
+        ensures said { IfOk result (λ said. place ≢ TrailerSent → IsSaid self.now.side self.now.announced fields.now said) }
+    {
+        if !self.announced.choices.strict_messages {
+            return Ok(Said::Nothing);
+        }
+        let read = self.read_strictly(fields, place, known);
+        match read.violation {
+            Some(violation) => Err(Malformation::by(violation)),
+            None => Ok(read.said),
+        }
+    }
+
+    // The same if rules are asked: of a header section or of a trailer.
+    #[inline(always)]
+    fn read_strictly(
+        &self,
+        fields: &[HeaderField],
+        place: SendPlace,
+        known: Option<SentRead>,
+    ) -> SentRead
+        requires { IfSome known (IsReadOf self.now.side self.now.peer.settings fields.now) }
+        ensures violation { result.violation ≡ violation_behind place self.now fields.now }
+        ensures said { place ≢ TrailerSent → IsSaidBy self.now.side fields.now result.said }
+    {
+        match place {
+            SendPlace::NothingSent | SendPlace::HeadSent => match known {
+                Some(read) => read,
+                None => self.read_head(&Fields::of(fields)),
+            },
+            SendPlace::TrailerSent => SentRead {
+                violation: own_trailer_violation(fields),
+                said: Said::Nothing,
+            },
+        }
+    }
+
+    // That of a header section of the request that a client sends, or of the response that a server sends.
+    #[inline(never)]
+    fn read_head(&self, fields: &Fields<'_>) -> SentRead
+        ensures violation { result.violation ≡ violation_of_own_head self.now.side self.now.peer.settings fields.now }
+        ensures said { IsSaidBy self.now.side fields.now result.said }
+    {
+        let mut seen = Seen::new();
+        seen.take_all(fields);
+        self.read_survey(&Survey::of(fields, &seen))
+    }
+
+    // The same of one over which the walk was made.
+    pub(super) fn read_survey(&self, survey: &Survey<'_>) -> SentRead
+        ensures violation { result.violation ≡ violation_of_own_head self.now.side self.now.peer.settings survey.now.fields.now }
+        ensures said { IsSaidBy self.now.side survey.now.fields.now result.said }
+    {
+        match self.side {
+            Side::Client => {
+                let head = own_request_by(survey, self.peer_connects());
+                SentRead {
+                    violation: head.violation,
+                    said: Said::Request(head.awaited, head.content),
+                }
+            }
+            Side::Server => {
+                let head = own_response_by(survey);
+                SentRead {
+                    violation: head.violation,
+                    said: Said::Response(head.said),
+                }
+            }
+        }
+    }
+
+    // Whether the peer takes requests of extended CONNECT, as far as its settings came.
+    fn peer_connects(&self) -> bool
+        ensures { result ≡ peer_connects self.now.peer.settings }
+    {
+        match self.streams.peer.settings() {
+            Some(settings) => {
+                settings
+                    .get(SettingId::ENABLE_CONNECT_PROTOCOL)
+                    .unwrap_or(0)
+                    != 0
+            }
+            None => false,
+        }
+    }
+}

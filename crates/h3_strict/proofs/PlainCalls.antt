@@ -1,0 +1,73 @@
+-- What a call of an endpoint is beside that of the same endpoint without strict messages, by its refusal and what it does.
+use Rattle.std.proofs.Common.{◌≡◌, ℕ, Bool, true, false, List, ◌∷◌, refl, ap, sym, subst, Option, Some, None}
+use Rattle.h3_connection.specs.Control.{Found}
+use Rattle.h3_connection.specs.Delivering.{closed_by, taken}
+use Rattle.h3_connection.specs.Endpoint.{EndpointHistory}
+use Rattle.h3_connection.specs.Refusals.{first_of}
+use Rattle.h3_connection.specs.Sending.{does, closed_or}
+use Rattle.h3_connection.specs.StrictSending.{unless_malformed}
+use Rattle.h3_connection.specs.declared.event.Malformation.{Malformation}
+use Rattle.h3_connection.specs.declared.event.Refusal.{Refusal}
+use Rattle.h3_connection.specs.declared.event.Refusal.TheVariants as refusal
+use Rattle.h3_strict.specs.Plainly.{is_malformed, plainly}
+
+-- the same answer, and the endpoint after it without strict messages
+abbrev pub plain_result : {A : Type 0} → A × EndpointHistory → A × EndpointHistory
+plain_result x = (x.0, plainly x.1)
+
+abbrev pub tells : Option Refusal → Bool
+tells None = false
+tells (Some r) = is_malformed r
+
+-- A refusal as malformed, with nothing changed; or the same.
+pub data CallsPlainly (e : EndpointHistory) (x y : Option Refusal × EndpointHistory) : Type 0 where
+  Malforms : tells x.0 ≡ true → x.1 ≡ e → CallsPlainly e x y
+  Does : tells x.0 ≡ false → y ≡ plain_result x → CallsPlainly e x y
+
+-- rules in order: one of strict messages refuses, or the same rule as without them
+pub data RulesPlainly (p q : Option Refusal) : Type 0 where
+  Breaks : (why : Malformation) → p ≡ Some (refusal.Malformed why) → RulesPlainly p q
+  Agrees : q ≡ p → RulesPlainly p q
+
+pub behind : (b : Bool) (r : Refusal) (l m : List (Bool × Refusal)) → RulesPlainly (first_of l) (first_of m) → RulesPlainly (first_of ((b, r) ∷ l)) (first_of ((b, r) ∷ m))
+behind true r l m h = Agrees refl
+behind false r l m h = h
+
+pub if_broken : (b : Bool) (why : Malformation) (l m : List (Bool × Refusal)) → RulesPlainly (first_of l) (first_of m) → RulesPlainly (first_of ((b, refusal.Malformed why) ∷ l)) (first_of m)
+if_broken true why l m h = Breaks why refl
+if_broken false why l m h = h
+
+pub unless_broken : (broken : Option Malformation) (l m : List (Bool × Refusal)) → RulesPlainly (first_of l) (first_of m) → RulesPlainly (first_of (unless_malformed broken l)) (first_of m)
+unless_broken (Some why) l m h = Breaks why refl
+unless_broken None l m h = h
+
+pub if_open : (closed : Option ℕ) (p q : Option Refusal) → RulesPlainly p q → RulesPlainly (closed_or closed p) (closed_or closed q)
+if_open (Some code) p q h = Agrees refl
+if_open None p q h = h
+
+-- a call by its rules
+by_refusal : (r : Option Refusal) (e f g : EndpointHistory) → g ≡ plainly f → CallsPlainly e (does r e f) (does r (plainly e) g)
+by_refusal None e f g is = Does refl (ap (λ (x : EndpointHistory). let y : Option Refusal × EndpointHistory = (None, x) in y) is)
+by_refusal (Some r) e f g is = by_rule (is_malformed r) refl
+  where
+    by_rule : (b : Bool) → is_malformed r ≡ b → CallsPlainly e (Some r, e) (Some r, plainly e)
+    by_rule true told = Malforms told refl
+    by_rule false told = Does told refl
+
+pub does_plainly : (p q : Option Refusal) (e f g : EndpointHistory) → RulesPlainly p q → g ≡ plainly f → CallsPlainly e (does p e f) (does q (plainly e) g)
+does_plainly p q e f g (Breaks why broken) is = subst (λ o. CallsPlainly e (does o e f) (does q (plainly e) g)) (sym broken) (Malforms refl refl)
+does_plainly p q e f g (Agrees same) is = subst (λ o. CallsPlainly e (does p e f) (does o (plainly e) g)) (sym same) (by_refusal p e f g is)
+
+-- what comes, by its rules and what is found
+closed_plainly : (e : EndpointHistory) (x : Found) → CallsPlainly e (closed_by x) (closed_by (plainly x.0, x.1))
+closed_plainly e (f, None) = Does refl refl
+closed_plainly e (f, Some code) = Does refl refl
+
+pub taken_plainly : (closed : Option ℕ) (r : Option Refusal) (e : EndpointHistory) (x y : Found) → y ≡ (plainly x.0, x.1) → CallsPlainly e (taken closed r e x) (taken closed r (plainly e) y)
+taken_plainly (Some code) r e x y is = Does refl refl
+taken_plainly None (Some r) e x y is = by_rule (is_malformed r) refl
+  where
+    by_rule : (b : Bool) → is_malformed r ≡ b → CallsPlainly e (Some r, e) (Some r, plainly e)
+    by_rule true told = Malforms told refl
+    by_rule false told = Does told refl
+taken_plainly None None e x y is = subst (λ z. CallsPlainly e (closed_by x) (closed_by z)) (sym is) (closed_plainly e x)

@@ -1,0 +1,299 @@
+-- Each call of a sender, and a cancellation, beside the same without strict messages.
+use Rattle.std.proofs.Common.{◌≡◌, ℕ, ◌+◌, Bool, true, false, if◌then◌else◌, List, [], ◌∷◌, ◌++◌, length, refl, ap, sym, ◌∙◌, subst, Option, Some, None}
+use Rattle.std.specs.Prelude.{not, ◌||◌, is_some, option_map, unwrap_or}
+use Rattle.h3_field.specs.Field.{Field, section_size}
+use Rattle.h3_header.specs.Head.{Head, head_fields, has_pseudo}
+use Rattle.h3_messages.specs.Content.{awaited_by, may_end}
+use Rattle.h3_messages.specs.declared.content.Content.{Content}
+use Rattle.h3_connection.specs.Lasts.{last_id}
+use Rattle.h3_connection.specs.OwnIds.{other}
+use Rattle.h3_connection.specs.Pulling.{is_for}
+use Rattle.h3_connection.specs.Delivering.{incoming_at, opened_at, given_up_by, give_up}
+use Rattle.h3_connection.specs.Endpoint.{EndpointHistory, is_critical_id}
+use Rattle.h3_connection.specs.Incoming.{Incoming, nothing_came, awaiting}
+use Rattle.h3_connection.specs.Outgoing.{Outgoing, OwnPart, nothing_sent, takes_head, takes_body, takes_end, is_sent_off, with_body, with_finish, with_reset, with_said}
+use Rattle.h3_connection.specs.Outgoing.OwnPart.{OwnTrailer}
+use Rattle.h3_connection.specs.Sections.{written_section}
+use Rattle.h3_connection.specs.Refusals.{first_of, is_too_large, unless_going}
+use Rattle.h3_connection.specs.Sending.{closed_or, open_refusal, open_request, body_refusal, finish_refusal, reset_refusal, goaway_refusal, goaway, cancel_refusal, cancel, send_head, send_body, send_trailer, finish, reset, sent_bytes, counted, encoded, appended, head_part, fields_cost, outgoing_at, asked, awaiting_at, content_of_own, known_of, remembers, saying_at, advance_at, advance, does}
+use Rattle.h3_connection.specs.StreamSets.{Streams, stream_at, set_stream}
+use Rattle.h3_connection.specs.StrictConnection.{begins_none_after}
+use Rattle.h3_connection.specs.StrictSending.{broken_head, broken_protocol, broken_trailer, early_trailer, passes_content, unless_malformed}
+use Rattle.h3_connection.specs.declared.event.Malformation.{Malformation}
+use Rattle.h3_connection.specs.declared.event.Malformation.TheVariants as malformation
+use Rattle.h3_connection.specs.declared.event.Refusal.{Refusal}
+use Rattle.h3_connection.specs.declared.event.Refusal.TheVariants as refusal
+use Rattle.h3_connection.specs.declared.event.StreamFault.{StreamFault}
+use Rattle.h3_connection.specs.declared.event.StreamFault.TheVariants as stream_fault
+use Rattle.h3_header.specs.Reads.{head_of_fields}
+use Rattle.h3_world.specs.EndLists.{after_trailer_fields, send_fields, send_trailer_fields}
+use Rattle.h3_world.specs.Lists.{unreadable}
+use Rattle.h3_world.specs.Setup.{takes_any}
+use Rattle.h3_strict.proofs.SentLaws.{head_judged, trailer_judged}
+use Rattle.h3_proto.specs.declared.stream.Side.{Side}
+use Rattle.h3_proto.specs.declared.stream.Side.TheVariants.{Client, Server}
+use Rattle.h3_connection.specs.declared.setup.Announced.{Announced}
+use Rattle.h3_strict.specs.Plainly.{each_stream, plain, plain_incoming, plain_outgoing, plainly}
+use Rattle.h3_strict.proofs.PlainCalls.{CallsPlainly, RulesPlainly, Agrees, behind, if_broken, unless_broken, if_open, does_plainly}
+use Rattle.h3_strict.proofs.PlainStreams.{at_each, set_each, set_alike, in_at, out_at}
+
+-- one sender changes
+sets_out : (e : EndpointHistory) (id : ℕ) (g : Outgoing → Outgoing) → ((o : Outgoing) → plain_outgoing (g o) ≡ g (plain_outgoing o))
+    → set_stream (plainly e).outgoing id (g (outgoing_at (plainly e) id)) ≡ each_stream plain_outgoing (set_stream e.outgoing id (g (outgoing_at e id)))
+sets_out e id g same =
+    ap (λ o. set_stream (plainly e).outgoing id (g o)) (out_at e id) ∙ ap (λ o. set_stream (plainly e).outgoing id o) (sym (same (outgoing_at e id)))
+    ∙ set_each plain_outgoing e.outgoing id (g (outgoing_at e id))
+
+with_out : (e f : EndpointHistory) (id : ℕ) (g : Outgoing → Outgoing) → ((o : Outgoing) → plain_outgoing (g o) ≡ g (plain_outgoing o))
+    → record (plainly f) { outgoing = set_stream (plainly e).outgoing id (g (outgoing_at (plainly e) id)) } ≡ plainly (record f { outgoing = set_stream e.outgoing id (g (outgoing_at e id)) })
+with_out e f id g same = ap (λ (t : Streams Outgoing). record (plainly f) { outgoing = t }) (sets_out e id g same)
+
+-- the rules of a sender, by what is there of the stream
+abbrev going_of : EndpointHistory → Option ℕ
+going_of e = begins_none_after e.announced e.side (last_id e.peer.goaways)
+
+going_plain : (own : Announced) (side : Side) (last : Option ℕ) → begins_none_after (plain own) side last ≡ begins_none_after own side last
+going_plain own Client last = refl
+going_plain own Server last = refl
+
+abbrev head_rules : EndpointHistory → Option ℕ → Option Outgoing → Head → List Field → Option Malformation → Option Malformation → Option Refusal
+head_rules e going o head fields protocol broken = closed_or e.closed (first_of (
+    (not (is_some o), refusal.NotOpen) ∷
+    (not (takes_head (unwrap_or o nothing_sent)), refusal.OutOfOrder) ∷
+    unless_going going (
+    unless_malformed protocol (
+    (not (is_for (other e.side) head), refusal.WrongSide) ∷
+    unless_malformed broken (
+    (is_too_large e.peer.settings fields, refusal.TooLarge (section_size fields)) ∷ [])))))
+
+abbrev body_rules : EndpointHistory → Option Outgoing → ℕ → Option Refusal
+body_rules e o size = closed_or e.closed (first_of (
+    (not (is_some o), refusal.NotOpen) ∷
+    (not (takes_body (unwrap_or o nothing_sent)), refusal.OutOfOrder) ∷
+    (passes_content (unwrap_or o nothing_sent).content size, refusal.Malformed malformation.ContentLength) ∷ []))
+
+abbrev trailer_rules : EndpointHistory → Option Outgoing → Head → List Field → Option Malformation → Option Malformation → Option Refusal
+trailer_rules e o head fields protocol broken = closed_or e.closed (first_of (
+    (not (is_some o), refusal.NotOpen) ∷
+    (not (takes_body (unwrap_or o nothing_sent)), refusal.OutOfOrder) ∷
+    unless_malformed protocol (
+    (has_pseudo head, refusal.PseudoInTrailer) ∷
+    unless_malformed (early_trailer (unwrap_or o nothing_sent).content) (unless_malformed broken (
+    (is_too_large e.peer.settings fields, refusal.TooLarge (section_size fields)) ∷ [])))))
+
+abbrev finish_rules : EndpointHistory → Option Outgoing → Option Refusal
+finish_rules e o = closed_or e.closed (first_of (
+    (not (is_some o), refusal.NotOpen) ∷
+    (not (takes_end (unwrap_or o nothing_sent)), refusal.OutOfOrder) ∷
+    (not (may_end (unwrap_or o nothing_sent).content), refusal.Malformed malformation.ContentLength) ∷ []))
+
+abbrev reset_rules : EndpointHistory → ℕ → Option Outgoing → Option Refusal
+reset_rules e id o = closed_or e.closed (first_of (
+    (is_critical_id e id, refusal.Critical) ∷
+    (not (is_some o), refusal.NotOpen) ∷
+    (is_sent_off (unwrap_or o nothing_sent), refusal.Ended) ∷ []))
+
+abbrev cancel_rules : EndpointHistory → ℕ → Option Incoming → Option Refusal
+cancel_rules e id o = closed_or e.closed (first_of (
+    (is_critical_id e id, refusal.Critical) ∷
+    (not (is_some o), refusal.NotOpen) ∷
+    ((unwrap_or o nothing_came).is_over || is_some (unwrap_or o nothing_came).fault, refusal.Ended) ∷ []))
+
+-- what an endpoint is after a head
+abbrev head_sent : EndpointHistory → ℕ → Head → List Field → EndpointHistory
+head_sent e id head fields = asked (counted (appended (encoded e id fields) id (head_part head (written_section e.encoder id fields))) (fields_cost fields)) id fields
+
+module _ (e : EndpointHistory) (id : ℕ) where
+  abbrev sent : Option Outgoing
+  sent = stream_at e.outgoing id
+
+  found : (P : Option Outgoing → Type 0) → P (option_map plain_outgoing sent) → P (stream_at (plainly e).outgoing id)
+  found P h = subst P (sym (at_each plain_outgoing e.outgoing id)) h
+
+  -- the rule behind those of strict messages
+  abbrev too_large : List Field → List (Bool × Refusal)
+  too_large fields = (is_too_large e.peer.settings fields, refusal.TooLarge (section_size fields)) ∷ []
+
+  -- a rule that both ends ask
+  both_unless : (rule : Option Malformation) (one two : List (Bool × Refusal)) → RulesPlainly (first_of one) (first_of two) → RulesPlainly (first_of (unless_malformed rule one)) (first_of (unless_malformed rule two))
+  both_unless None one two h = h
+  both_unless (Some why) one two h = Agrees refl
+
+  both_going : (going : Option ℕ) (one two : List (Bool × Refusal)) → RulesPlainly (first_of one) (first_of two) → RulesPlainly (first_of (unless_going going one)) (first_of (unless_going going two))
+  both_going None one two h = h
+  both_going (Some last) one two h = Agrees refl
+
+  head_rules_plain : (head : Head) (fields : List Field) (protocol broken : Option Malformation) (o : Option Outgoing)
+      → RulesPlainly (head_rules e (going_of e) o head fields protocol broken) (head_rules e (going_of e) (option_map plain_outgoing o) head fields protocol None)
+  head_rules_plain head fields protocol broken None = if_open e.closed _ _ (Agrees refl)
+  head_rules_plain head fields protocol broken (Some o) =
+      let size = too_large fields in
+      let judges = unless_malformed broken size in
+      let sides : Bool × Refusal = (not (is_for (other e.side) head), refusal.WrongSide) in
+      let one = unless_malformed protocol (sides ∷ judges) in
+      let two = unless_malformed protocol (sides ∷ size) in
+      if_open e.closed _ _ (behind (not (takes_head o)) refusal.OutOfOrder (unless_going (going_of e) one) (unless_going (going_of e) two)
+      (both_going (going_of e) one two (both_unless protocol (sides ∷ judges) (sides ∷ size) (behind sides.0 sides.1 judges size (unless_broken broken size size (Agrees refl))))))
+
+  -- a head that goes out as these fields
+  head_as_plainly : (protocol : Option Malformation) (head : Head) (fields : List Field)
+      → CallsPlainly e (does (head_judged e id protocol head fields) e (head_sent e id head fields)) (does (head_judged (plainly e) id protocol head fields) (plainly e) (head_sent (plainly e) id head fields))
+  head_as_plainly protocol head fields =
+      does_plainly (head_judged e id protocol head fields) (head_judged (plainly e) id protocol head fields) e _ _
+      (subst (λ g. RulesPlainly (head_rules e (going_of e) sent head fields protocol broken) (head_rules e g (stream_at (plainly e).outgoing id) head fields protocol None)) (sym (going_plain e.announced e.side (last_id e.peer.goaways)))
+      (found (λ o. RulesPlainly (head_rules e (going_of e) sent head fields protocol broken) (head_rules e (going_of e) o head fields protocol None)) (head_rules_plain head fields protocol broken sent)))
+      (ap (λ (t : Streams Outgoing). record (plainly new) { incoming = each_stream plain_incoming e.incoming; outgoing = t }) outgoing_is
+      ∙ ap (λ (s : Streams Incoming). record (plainly new) { incoming = s }) (sym incoming_is))
+    where
+      broken : Option Malformation
+      broken = broken_head e.side e.announced e.peer.settings fields
+
+      part : OwnPart
+      part = head_part head (written_section e.encoder id fields)
+
+      with_part : Outgoing → Outgoing
+      with_part o = record o { parts = o.parts ++ part ∷ [] }
+
+      now : Streams Outgoing
+      now = set_stream e.outgoing id (with_part (outgoing_at e id))
+
+      said : Content
+      said = content_of_own e.side (known_of (stream_at e.incoming id)) fields
+
+      new : EndpointHistory
+      new = asked (counted (appended (encoded e id fields) id part) (fields_cost fields)) id fields
+
+      awaits : (o : Option Incoming) → stream_at e.incoming id ≡ o → each_stream plain_incoming (awaiting_at e.incoming id (awaited_by fields) o) ≡ each_stream plain_incoming e.incoming
+      awaits None is = refl
+      awaits (Some i) is = set_alike plain_incoming e.incoming id i (awaiting i (awaited_by fields)) is refl
+
+      if_asked : (b : Bool) → each_stream plain_incoming (if b then awaiting_at e.incoming id (awaited_by fields) (stream_at e.incoming id) else e.incoming) ≡ each_stream plain_incoming e.incoming
+      if_asked true = awaits (stream_at e.incoming id) refl
+      if_asked false = refl
+
+      incoming_is : each_stream plain_incoming new.incoming ≡ each_stream plain_incoming e.incoming
+      incoming_is = if_asked (remembers e.side e.announced)
+
+      says : (o : Option Outgoing) → stream_at now id ≡ o → each_stream plain_outgoing (saying_at now id said o) ≡ each_stream plain_outgoing now
+      says None is = refl
+      says (Some o) is = set_alike plain_outgoing now id o (with_said o said) is refl
+
+      if_said : (b : Bool) → each_stream plain_outgoing (if b then saying_at now id said (stream_at now id) else now) ≡ each_stream plain_outgoing now
+      if_said true = says (stream_at now id) refl
+      if_said false = refl
+
+      outgoing_is : set_stream (plainly e).outgoing id (with_part (outgoing_at (plainly e) id)) ≡ each_stream plain_outgoing new.outgoing
+      outgoing_is = sets_out e id with_part (λ o. refl) ∙ sym (if_said e.announced.choices.strict_messages)
+
+  pub heads_plainly : (head : Head) → CallsPlainly e (send_head e id head) (send_head (plainly e) id head)
+  heads_plainly head = head_as_plainly (broken_protocol e.announced head) head (head_fields head)
+
+  pub fields_plainly : (fields : List Field) → CallsPlainly e (send_fields e id fields) (send_fields (plainly e) id fields)
+  fields_plainly fields = head_as_plainly (unreadable (takes_any e.announced) fields) (head_of_fields fields) fields
+
+  body_rules_plain : (size : ℕ) (o : Option Outgoing) → RulesPlainly (body_rules e o size) (body_rules e (option_map plain_outgoing o) size)
+  body_rules_plain size None = if_open e.closed _ _ (Agrees refl)
+  body_rules_plain size (Some o) =
+      let passes = passes_content o.content size in
+      if_open e.closed _ _ (behind (not (takes_body o)) refusal.OutOfOrder ((passes, refusal.Malformed malformation.ContentLength) ∷ []) ((false, refusal.Malformed malformation.ContentLength) ∷ [])
+      (if_broken passes malformation.ContentLength [] ((false, refusal.Malformed malformation.ContentLength) ∷ []) (Agrees refl)))
+
+  body_is : (bytes : List ℕ) → counted (sent_bytes (plainly e) id bytes) (length bytes) ≡ plainly (counted (sent_bytes e id bytes) (length bytes))
+  body_is [] = refl
+  body_is (byte ∷ bytes) = with_out e (counted (sent_bytes e id (byte ∷ bytes)) (length (byte ∷ bytes))) id (λ o. with_body o (byte ∷ bytes)) (λ o. refl)
+
+  pub bodies_plainly : (bytes : List ℕ) → CallsPlainly e (send_body e id bytes) (send_body (plainly e) id bytes)
+  bodies_plainly bytes =
+      does_plainly (body_refusal e id (length bytes)) (body_refusal (plainly e) id (length bytes)) e _ _
+      (found (λ o. RulesPlainly (body_rules e sent (length bytes)) (body_rules e o (length bytes))) (body_rules_plain (length bytes) sent)) (body_is bytes)
+
+  trailer_rules_plain : (head : Head) (fields : List Field) (protocol broken : Option Malformation) (o : Option Outgoing) → RulesPlainly (trailer_rules e o head fields protocol broken) (trailer_rules e (option_map plain_outgoing o) head fields protocol None)
+  trailer_rules_plain head fields protocol broken None = if_open e.closed _ _ (Agrees refl)
+  trailer_rules_plain head fields protocol broken (Some o) =
+      let size = too_large fields in
+      let judges = unless_malformed broken size in
+      let early = unless_malformed (early_trailer o.content) judges in
+      let pseudo : Bool × Refusal = (has_pseudo head, refusal.PseudoInTrailer) in
+      if_open e.closed _ _ (behind (not (takes_body o)) refusal.OutOfOrder (unless_malformed protocol (pseudo ∷ early)) (unless_malformed protocol (pseudo ∷ size))
+      (both_unless protocol (pseudo ∷ early) (pseudo ∷ size) (behind pseudo.0 pseudo.1 early size
+      (unless_broken (early_trailer o.content) judges size (unless_broken broken size size (Agrees refl))))))
+
+  trailer_as_plainly : (protocol : Option Malformation) (head : Head) (fields : List Field)
+      → CallsPlainly e (does (trailer_judged e id protocol head fields) e (after_trailer_fields e id fields)) (does (trailer_judged (plainly e) id protocol head fields) (plainly e) (after_trailer_fields (plainly e) id fields))
+  trailer_as_plainly protocol head fields =
+      let broken = broken_trailer e.announced fields in
+      let part : OwnPart = OwnTrailer (written_section e.encoder id fields) in
+      let new : EndpointHistory = counted (appended (encoded e id fields) id part) (fields_cost fields) in
+      does_plainly (trailer_judged e id protocol head fields) (trailer_judged (plainly e) id protocol head fields) e _ _
+      (found (λ o. RulesPlainly (trailer_rules e sent head fields protocol broken) (trailer_rules e o head fields protocol None)) (trailer_rules_plain head fields protocol broken sent))
+      (with_out e new id (λ o. record o { parts = o.parts ++ part ∷ [] }) (λ o. refl))
+
+  pub trailers_plainly : (head : Head) → CallsPlainly e (send_trailer e id head) (send_trailer (plainly e) id head)
+  trailers_plainly head = trailer_as_plainly (broken_protocol e.announced head) head (head_fields head)
+
+  pub trailer_fields_plainly : (fields : List Field) → CallsPlainly e (send_trailer_fields e id fields) (send_trailer_fields (plainly e) id fields)
+  trailer_fields_plainly fields = trailer_as_plainly (unreadable (takes_any e.announced) fields) (head_of_fields fields) fields
+
+  finish_rules_plain : (o : Option Outgoing) → RulesPlainly (finish_rules e o) (finish_rules e (option_map plain_outgoing o))
+  finish_rules_plain None = if_open e.closed _ _ (Agrees refl)
+  finish_rules_plain (Some o) =
+      let early = not (may_end o.content) in
+      if_open e.closed _ _ (behind (not (takes_end o)) refusal.OutOfOrder ((early, refusal.Malformed malformation.ContentLength) ∷ []) ((false, refusal.Malformed malformation.ContentLength) ∷ [])
+      (if_broken early malformation.ContentLength [] ((false, refusal.Malformed malformation.ContentLength) ∷ []) (Agrees refl)))
+
+  pub ends_plainly : CallsPlainly e (finish e id) (finish (plainly e) id)
+  ends_plainly =
+      does_plainly (finish_refusal e id) (finish_refusal (plainly e) id) e _ _
+      (found (λ o. RulesPlainly (finish_rules e sent) (finish_rules e o)) (finish_rules_plain sent)) (with_out e e id with_finish (λ o. refl))
+
+  reset_rules_plain : (o : Option Outgoing) → RulesPlainly (reset_rules e id o) (reset_rules e id (option_map plain_outgoing o))
+  reset_rules_plain None = Agrees refl
+  reset_rules_plain (Some o) = Agrees refl
+
+  pub resets_plainly : CallsPlainly e (reset e id) (reset (plainly e) id)
+  resets_plainly =
+      does_plainly (reset_refusal e id) (reset_refusal (plainly e) id) e _ _
+      (found (λ o. RulesPlainly (reset_rules e id sent) (reset_rules e id o)) (reset_rules_plain sent)) (with_out e e id with_reset (λ o. refl))
+
+  pub goaways_plainly : CallsPlainly e (goaway e id) (goaway (plainly e) id)
+  goaways_plainly = does_plainly (goaway_refusal e id) (goaway_refusal (plainly e) id) e _ _ (Agrees refl) refl
+
+  -- a stream is given up
+  gives_up_by : (i : Incoming) (fault : StreamFault) (first : Option StreamFault) → given_up_by (plain_incoming i) fault first ≡ plain_incoming (given_up_by i fault first)
+  gives_up_by i fault (Some why) = refl
+  gives_up_by i fault None = refl
+
+  pub gives_up_plainly : (i : Incoming) (fault : StreamFault) → give_up (plainly e) id (plain_incoming i) fault ≡ plainly (give_up e id i fault)
+  gives_up_plainly i fault =
+      ap (λ (s : Streams Incoming). record (plainly (give_up e id i fault)) { incoming = s })
+      (ap (λ j. set_stream (plainly e).incoming id j) (gives_up_by i fault i.fault) ∙ set_each plain_incoming e.incoming id (given_up_by i fault i.fault))
+
+  cancel_rules_plain : (o : Option Incoming) → RulesPlainly (cancel_rules e id o) (cancel_rules e id (option_map plain_incoming o))
+  cancel_rules_plain None = Agrees refl
+  cancel_rules_plain (Some i) = Agrees refl
+
+  pub cancels_plainly : CallsPlainly e (cancel e id) (cancel (plainly e) id)
+  cancels_plainly =
+      does_plainly (cancel_refusal e id) (cancel_refusal (plainly e) id) e _ _
+      (subst (λ o. RulesPlainly (cancel_rules e id (stream_at e.incoming id)) (cancel_rules e id o)) (sym (at_each plain_incoming e.incoming id)) (cancel_rules_plain (stream_at e.incoming id)))
+      (ap (λ i. give_up (plainly e) id i stream_fault.Canceled) (in_at e id) ∙ gives_up_plainly (incoming_at e id) stream_fault.Canceled)
+
+  -- some bytes were taken
+  advances_by : (count : ℕ) (o : Option Outgoing) → advance_at (plainly e) id count (option_map plain_outgoing o) ≡ plainly (advance_at e id count o)
+  advances_by count None = refl
+  advances_by count (Some o) = ap (λ (t : Streams Outgoing). record (plainly e) { outgoing = t }) (set_each plain_outgoing e.outgoing id (record o { taken = o.taken + count }))
+
+  pub advances_plainly : (count : ℕ) → advance (plainly e) id count ≡ plainly (advance e id count)
+  advances_plainly count = ap (advance_at (plainly e) id count) (at_each plain_outgoing e.outgoing id) ∙ advances_by count sent
+
+-- a request stream of which nothing came is opened
+pub opens_as : (e : EndpointHistory) (id : ℕ) (o : Option Incoming) → opened_at (plainly e) id (option_map plain_incoming o) ≡ plainly (opened_at e id o)
+opens_as e id (Some i) = refl
+opens_as e id None =
+    ap (λ (s : Streams Incoming). record (plainly e) { incoming = s; outgoing = set_stream (plainly e).outgoing id nothing_sent }) (set_each plain_incoming e.incoming id nothing_came)
+    ∙ ap (λ (t : Streams Outgoing). record (plainly (opened_at e id None)) { outgoing = t }) (set_each plain_outgoing e.outgoing id nothing_sent)
+
+pub opens_plainly : (e : EndpointHistory) → CallsPlainly e (open_request e) (open_request (plainly e))
+opens_plainly e =
+    does_plainly (open_refusal e) (open_refusal (plainly e)) e _ _ (Agrees refl)
+    (ap (λ (f : EndpointHistory). record f { next_id = e.next_id + 4 }) (opens_as e e.next_id None))

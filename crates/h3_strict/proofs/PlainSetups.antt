@@ -1,0 +1,45 @@
+-- New endpoints, and setups, without strict messages.
+use Rattle.std.proofs.Common.{◌≡◌, refl}
+use Rattle.h3_proto.specs.declared.stream.Side.{Side}
+use Rattle.h3_proto.specs.declared.stream.Side.TheVariants.{Client, Server}
+use Rattle.h3_connection.specs.Endpoint.{new_endpoint}
+use Rattle.h3_connection.specs.declared.setup.Announced.{Announced}
+use Rattle.h3_world.specs.Ends.{new_ends}
+use Rattle.h3_world.specs.Setup.{IsMade, IsMadeSetup, JudgesPlainly, announced_at, takes_any}
+use Rattle.h3_world.specs.declared.setup.Setup.{Setup}
+use Rattle.h3_strict.specs.PlainEnds.{plain_ends, plain_setup}
+use Rattle.h3_strict.specs.Plainly.{plain, plainly}
+
+pub new_plainly : (side : Side) (announced : Announced) → plainly (new_endpoint side announced) ≡ new_endpoint side (plain announced)
+new_plainly side announced = refl
+
+pub new_ends_plainly : (setup : Setup) → plain_ends (new_ends setup) ≡ new_ends (plain_setup setup)
+new_ends_plainly setup = refl
+
+-- some configuration announces it
+made_plainly : (a : Announced) → IsMade a → IsMade (plain a)
+made_plainly a h =
+    record {
+      settings = h.settings;
+      sends_grease = h.sends_grease;
+      grease = h.grease;
+      small = h.small;
+      section = h.section;
+      sessions = h.sessions;
+      are = h.are;
+      table = h.table;
+      blocked = h.blocked;
+      within = refl;
+    }
+
+pub setup_plainly : (setup : Setup) → IsMadeSetup setup → IsMadeSetup (plain_setup setup)
+setup_plainly setup h = record { client = made_plainly setup.client h.client; server = made_plainly setup.server h.server; takes = h.takes }
+
+-- the same protocols are taken
+pub same_protocols : (setup : Setup) (side : Side) → takes_any (announced_at (plain_setup setup) side) ≡ takes_any (announced_at setup side)
+same_protocols setup Client = refl
+same_protocols setup Server = refl
+
+pub judges_plainly : (setup : Setup) → JudgesPlainly (plain_setup setup)
+judges_plainly setup Client = (refl, refl)
+judges_plainly setup Server = (refl, refl)

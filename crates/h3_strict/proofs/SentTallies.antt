@@ -1,0 +1,129 @@
+-- A send at two strict ends that is taken: the part breaks no rule of its reader, and both count on.
+use Rattle.std.proofs.Common.{◌≡◌, ℕ, Bool, true, false, List, [], ◌∷◌, ◌++◌, refl, sym, ap, ◌∙◌, subst, Option, Some, None, if◌then◌else◌}
+use Rattle.std.specs.Prelude.{◌==◌, ◌&&◌, not, flat_map, unwrap_or}
+use Rattle.h3_field.specs.Field.{Field}
+use Rattle.h3_header.specs.Head.{Head}
+use Rattle.h3_messages.specs.Content.{awaited_by}
+use Rattle.h3_messages.specs.declared.content.Content.{Content}
+use Rattle.h3_proto.specs.declared.stream.Side.{Side}
+use Rattle.h3_proto.specs.declared.stream.Side.TheVariants.{Client, Server}
+use Rattle.h3_connection.specs.Announcing.{connects}
+use Rattle.h3_connection.specs.Endpoint.{EndpointHistory}
+use Rattle.h3_connection.specs.Incoming.{Incoming, nothing_came}
+use Rattle.h3_connection.specs.Outgoing.{Outgoing, OwnPart, is_unsent, nothing_sent, with_said}
+use Rattle.h3_connection.specs.OwnIds.{other}
+use Rattle.h3_connection.specs.Pulling.{is_client}
+use Rattle.h3_connection.specs.Sections.{written_section}
+use Rattle.h3_connection.specs.Sending.{appended, asked, awaiting_at, content_of_own, counted, encoded, fields_cost, head_part, known_of, outgoing_at, saying_at}
+use Rattle.h3_connection.specs.StreamSetLaws.{set-here, set-set}
+use Rattle.h3_connection.specs.StreamSets.{Streams, set_stream, stream_at}
+use Rattle.h3_connection.specs.StrictMessages.{broken_rule}
+use Rattle.h3_connection.specs.StrictSending.{peer_connects}
+use Rattle.h3_connection.specs.StrictSendingLaws.{head_taken}
+use Rattle.h3_connection.specs.declared.place.Place.TheVariants.{BeforeHead}
+use Rattle.h3_connection.specs.declared.setup.Announced.{Announced}
+use Rattle.h3_world.specs.Ends.{Ends, end_at}
+use Rattle.h3_world.specs.Flow.{own_part}
+use Rattle.h3_world.specs.Order.{outgoing_of}
+use Rattle.h3_world.specs.Setup.{announced_at}
+use Rattle.h3_world.specs.Streams.{flow, is_open}
+use Rattle.h3_world.specs.World.{World, party}
+use Rattle.h3_world.specs.declared.setup.Setup.{Setup}
+use Rattle.h3_headline.specs.SettingsLaws.{value_with_meaning}
+use Rattle.h3_headline.specs.Standing.{StandsAt, Stands, are_settings_there, with_meaning}
+use Rattle.h3_strict.proofs.KeepsCounts.{out_set}
+use Rattle.h3_strict.proofs.PlainStreams.{out_at}
+use Rattle.h3_strict.proofs.SentLaws.{TakesHead, head_is_open, unsent_along}
+use Rattle.h3_strict.specs.PlainEnds.{plain_ends, plain_setup}
+use Rattle.h3_strict.specs.Plainly.{plain_outgoing, plainly}
+use Rattle.h3_strict.specs.Tallies.{Tallies}
+use Rattle.h3_strict.specs.Unbroken.{content_along}
+
+-- The end of a side without strict messages stands in the world.
+pub stands_at : (setup : Setup) (w : World) (ends : Ends) (s : Side) → Stands (plain_setup setup) w (plain_ends ends) → StandsAt (plain_setup setup) w s (plainly (end_at ends s))
+stands_at setup w ends Client h = h.at_client
+stands_at setup w ends Server h = h.at_server
+
+plain_settings : (setup : Setup) (s : Side) → (announced_at (plain_setup setup) s).settings ≡ (announced_at setup s).settings
+plain_settings setup Client = refl
+plain_settings setup Server = refl
+
+-- what an endpoint knows of extended CONNECT its peer announced
+connects_known : (announced : Announced) (settings : Option (List (ℕ × ℕ))) (there : Bool) → settings ≡ (if there then Some (with_meaning announced.settings) else None) → peer_connects settings ≡ true → connects announced ≡ true
+connects_known announced settings true is known =
+    ap (λ o. not (unwrap_or o 0 == 0)) (sym (value_with_meaning 8 announced.settings refl)) ∙ sym (ap peer_connects is) ∙ known
+connects_known announced settings false is known = absurd (let never : false ≡ true = sym (ap peer_connects is) ∙ known in cc)
+
+pub knows_peer : (setup : Setup) (w : World) (ends : Ends) (s : Side) → Stands (plain_setup setup) w (plain_ends ends) → peer_connects (end_at ends s).peer.settings ≡ true → connects (announced_at setup (other s)) ≡ true
+knows_peer setup w ends s h known =
+    let there = are_settings_there (plain_setup setup) (other s) (party w (other s)).own.control_taken in
+    connects_known (announced_at setup (other s)) (end_at ends s).peer.settings there
+    ((stands_at setup w ends s h).control.settings ∙ ap (λ (l : List (ℕ × ℕ)). if there then Some (with_meaning l) else None) (plain_settings setup (other s))) known
+
+-- what a sender has of an open stream
+pub sender_has : (setup : Setup) (w : World) (ends : Ends) (s : Side) (i : ℕ) → Stands (plain_setup setup) w (plain_ends ends) → is_open w s i ≡ true → plain_outgoing (outgoing_at (end_at ends s) i) ≡ outgoing_of (flow w s i)
+sender_has setup w ends s i h opened =
+    sym (out_at (end_at ends s) i) ∙ ap (λ o. unwrap_or o nothing_sent) ((stands_at setup w ends s h).outgoing i ∙ ap (λ b. if b then Some (outgoing_of (flow w s i)) else None) opened)
+
+pub parts_are : (setup : Setup) (w : World) (ends : Ends) (s : Side) (i : ℕ) → Stands (plain_setup setup) w (plain_ends ends) → is_open w s i ≡ true → (outgoing_at (end_at ends s) i).parts ≡ flat_map own_part (flow w s i).sent
+parts_are setup w ends s i h opened = ap (λ (o : Outgoing). o.parts) (sender_has setup w ends s i h opened)
+
+-- what a server knows of the response
+pub known_is : (o : Option Incoming) → known_of o ≡ (unwrap_or o nothing_came).response
+known_is None = refl
+known_is (Some i) = refl
+
+pub side_of : (setup : Setup) (w : World) (ends : Ends) (s : Side) → Stands (plain_setup setup) w (plain_ends ends) → (end_at ends s).side ≡ s
+side_of setup w ends s h = (stands_at setup w ends s h).side_is
+
+-- The parts that a strict end may send.
+pub head_unbroken : (setup : Setup) (w : World) (ends : Ends) (known : ℕ → Bool) (s : Side) (i : ℕ) (head : Head) (fields : List Field) → Stands (plain_setup setup) w (plain_ends ends) → Tallies setup w ends known → (announced_at setup s).choices.strict_messages ≡ true
+    → TakesHead (end_at ends s) i head fields → broken_rule (other s) (announced_at setup (other s)) BeforeHead fields ≡ None
+head_unbroken setup w ends known s i head fields h t strict takes =
+    let e = end_at ends s in
+    subst (λ d. broken_rule (other d) (announced_at setup (other s)) BeforeHead fields ≡ None) (side_of setup w ends s h)
+    (head_taken e.side e.announced (announced_at setup (other s)) e.peer.settings fields (ap (λ (a : Announced). a.choices.strict_messages) (t.announced s) ∙ strict) (knows_peer setup w ends s h) takes.rule)
+
+-- in front of a final head the parts are interim ones
+pub head_along : (setup : Setup) (w : World) (ends : Ends) (s : Side) (i : ℕ) (head : Head) (fields : List Field) (reader : Side) (awaited : Content) → Stands (plain_setup setup) w (plain_ends ends) → is_open w s i ≡ true → TakesHead (end_at ends s) i head fields
+    → content_along reader awaited (flow w s i).sent ≡ awaited
+head_along setup w ends s i head fields reader awaited h opened takes =
+    unsent_along reader awaited (flow w s i).sent (ap is_unsent (sym (parts_are setup w ends s i h opened)) ∙ (head_is_open (outgoing_at (end_at ends s) i) takes.takes).1)
+
+-- What a strict endpoint is after a head.
+module _ (e : EndpointHistory) (i : ℕ) (head : Head) (fields : List Field) (strict : e.announced.choices.strict_messages ≡ true) where
+  head_wrote : OwnPart
+  head_wrote = head_part head (written_section e.encoder i fields)
+
+  head_content : Content
+  head_content = content_of_own e.side (known_of (stream_at e.incoming i)) fields
+
+  abbrev pub wrote_head : Outgoing
+  wrote_head = record (outgoing_at e i) { parts = (outgoing_at e i).parts ++ head_part head (written_section e.encoder i fields) ∷ [] }
+
+  abbrev pub said_head : Outgoing
+  said_head = with_said wrote_head (content_of_own e.side (known_of (stream_at e.incoming i)) fields)
+
+  abbrev pub after_head : EndpointHistory
+  after_head = asked (counted (appended (encoded e i fields) i (head_part head (written_section e.encoder i fields))) (fields_cost fields)) i fields
+
+  pub head_outgoing : after_head.outgoing ≡ set_stream e.outgoing i said_head
+  head_outgoing =
+      let content = content_of_own e.side (known_of (stream_at e.incoming i)) fields in
+      let streams = set_stream e.outgoing i wrote_head in
+      ap (λ b. if b then saying_at streams i content (stream_at streams i) else streams) strict
+      ∙ ap (saying_at streams i content) (set-here e.outgoing i wrote_head)
+      ∙ set-set e.outgoing i wrote_head said_head
+
+  pub head_out : (j : ℕ) → outgoing_at after_head j ≡ (if i == j then said_head else outgoing_at e j)
+  head_out j = ap (λ (s : Streams Outgoing). unwrap_or (stream_at s j) nothing_sent) head_outgoing ∙ out_set e.outgoing i said_head j
+
+  pub server_incoming : e.side ≡ Server → after_head.incoming ≡ e.incoming
+  server_incoming is =
+      ap (λ b. if b && is_client e.side then awaiting_at e.incoming i (awaited_by fields) (stream_at e.incoming i) else e.incoming) strict
+      ∙ ap (λ d. if is_client d then awaiting_at e.incoming i (awaited_by fields) (stream_at e.incoming i) else e.incoming) is
+
+  pub client_incoming : e.side ≡ Client → after_head.incoming ≡ awaiting_at e.incoming i (awaited_by fields) (stream_at e.incoming i)
+  client_incoming is =
+      ap (λ b. if b && is_client e.side then awaiting_at e.incoming i (awaited_by fields) (stream_at e.incoming i) else e.incoming) strict
+      ∙ ap (λ d. if is_client d then awaiting_at e.incoming i (awaited_by fields) (stream_at e.incoming i) else e.incoming) is

@@ -1,0 +1,7 @@
+//! Two endpoints that ask for strict messages, and what they are without that.
+#![tactic(auto)]
+
+pub mod laws;
+pub mod limits;
+pub mod strict;
+pub mod worked;

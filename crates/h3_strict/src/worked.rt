@@ -1,0 +1,41 @@
+//! Worked schedules of two sides that ask for strict messages, or limit what is unfinished: these laws compute. The answers were worked out
+//! from the standards.
+
+ghost use Rattle.std.specs.Prelude.{◌≡◌};
+ghost use Rattle.h3_world.specs.Ends.{answers_of_ends, new_ends};
+ghost use Rattle.h3_strict.specs.PlainEnds.{answers_without_malformed, before_judged, plain_setup, without_malformed};
+ghost use Rattle.h3_strict.specs.WorkedStrict.{early_answers, early_front, early_run, left_answers, left_run, refused_answers, refused_run, strict_setup};
+
+/// A header section without a path, more content than was said and an end before all of it are refused. What is sent comes out: as without
+/// strict messages and these three sends.
+pub fn worked_refusals()
+    ensures answers { answers_of_ends (new_ends strict_setup) refused_run ≡ refused_answers }
+    ensures events { without_malformed refused_run refused_answers ≡ left_run }
+    ensures left { answers_without_malformed refused_answers ≡ left_answers }
+    ensures plain { answers_of_ends (new_ends (plain_setup strict_setup)) left_run ≡ left_answers }
+    ensures none { before_judged (new_ends strict_setup) refused_run ≡ refused_run }
+{}
+
+/// A server that answers HEAD with content before it reads the request: the client's second pull finds the response malformed, and the
+/// schedule up to there is the front.
+pub fn worked_judgment()
+    ensures answers { answers_of_ends (new_ends strict_setup) early_run ≡ early_answers }
+    ensures front { before_judged (new_ends strict_setup) early_run ≡ early_front }
+{}
+
+ghost use Rattle.h3_strict.specs.Limits.{LimitsTakeWhatIsSent};
+ghost use Rattle.h3_strict.specs.WorkedLimits.{close_client, inserting_answers, inserting_run, settled_answers, settled_run, small_server, waiting_answers, waiting_run};
+
+/// A client cancels nineteen requests, and what its decoder says of them comes to a server whose limit takes what is sent (`limits`).
+/// Before the client's settings it waits, and may pass the limit (`waits`), and after them it is read (`settled`).
+pub fn worked_cancellations()
+    ensures limits { LimitsTakeWhatIsSent small_server }
+    ensures waits { answers_of_ends (new_ends small_server) waiting_run ≡ waiting_answers }
+    ensures settled { answers_of_ends (new_ends small_server) settled_run ≡ settled_answers }
+{}
+
+/// A server inserts a field of bytes that are rare ones for a client whose limit is as long as the lists that it announces. The insertion
+/// is longer, since every string is written in the Huffman code, and is refused as soon as that is known.
+pub fn worked_insertion()
+    ensures { answers_of_ends (new_ends close_client) inserting_run ≡ inserting_answers }
+{}

@@ -1,0 +1,15 @@
+pub mod Searches
+pub mod Chains
+pub mod ReferenceCounts
+pub mod Blockings
+pub mod ByStream
+pub mod Streams
+pub mod Placed
+pub mod Taking
+pub mod Alones
+pub mod Rows
+pub mod StreamSets
+pub mod Laid
+pub mod PutLast
+pub mod Evictions
+pub mod Releases

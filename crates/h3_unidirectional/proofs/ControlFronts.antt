@@ -1,0 +1,158 @@
+-- What is read of a control stream by its front.
+use Rattle.std.proofs.Common.{◌≡◌, ℕ, ◌<◌, Bool, true, false, if◌then◌else◌, List, [], ◌∷◌, ◌++◌, append-nil, append_assoc, length, Option, Some, None, Result, Ok, Err, refl, ap, sym, ◌∙◌, subst}
+use Rattle.std.specs.Prelude.{OnOk}
+use Rattle.h3_proto.specs.declared.stream.Side.{Side}
+use Rattle.h3_proto.specs.declared.stream.Side.TheVariants.{Client, Server}
+use Rattle.h3_wire.specs.ExcessiveFrames.{is_excessive}
+use Rattle.h3_wire.specs.ExcessiveLaws.{excessive_more}
+use Rattle.h3_wire.specs.Frames.{Front, Whole, Unknown, Refused, Unfinished, frame_at}
+use Rattle.h3_wire.specs.Known.{known, Gives}
+use Rattle.h3_wire.specs.declared.frame.errors.FrameStreamError.{FrameStreamError}
+use Rattle.h3_wire.specs.declared.frame.errors.FrameStreamError.TheVariants as stream
+use Rattle.h3_wire.specs.KnownLaws.{known-other}
+use Rattle.h3_wire.specs.Fronts.{IsFinished, IsKnown}
+use Rattle.h3_wire.specs.declared.proto.frame.PayloadLen.{PayloadLen}
+use Rattle.h3_wire.specs.declared.proto.frame.Frame.{Frame}
+use Rattle.h3_wire.specs.declared.proto.frame.Frame.TheVariants as frame
+use Rattle.h3_connection.specs.Codes.{excessive_load}
+use Rattle.h3_connection.specs.PeerReading.{Peer, PeerFound, with_unread, read_max_push, read_frame, at_front, unless_excessive, read_peer}
+use Rattle.h3_unidirectional.proofs.PeerLaws.{peer_frame, peer_fault, peer_less}
+use Rattle.h3_unidirectional.specs.Fronts.{ReadsFront}
+use Rattle.h3_unidirectional.proofs.FrameFronts.{Precedes, followed_by, frame_front, unknown_front}
+use Rattle.h3_connection.specs.PeerReadingLaws.{frame_keeps, peer_step, step_excessive}
+
+-- the same finding, over other bytes
+abbrev over : PeerFound → List ℕ → PeerFound
+over x bytes = (with_unread x.0 bytes, x.1)
+
+over_if : (b : Bool) (x y : PeerFound) (bytes : List ℕ) → (if b then over x bytes else over y bytes) ≡ over (if b then x else y) bytes
+over_if true x y bytes = refl
+over_if false x y bytes = refl
+
+push_over : (side : Side) (p : Peer) (id : ℕ) (bytes : List ℕ) → read_max_push side (with_unread p bytes) id ≡ over (read_max_push side p id) bytes
+push_over Client p id bytes = refl
+push_over Server p id bytes = over_if _ _ _ bytes
+
+-- what a frame does rests on no bytes
+frame_over : (side : Side) (p : Peer) (o : Option (List (ℕ × ℕ))) (f : Frame PayloadLen) (bytes : List ℕ) → read_frame side (with_unread p bytes) o f ≡ over (read_frame side p o f) bytes
+frame_over side p None (frame.Data len) bytes = refl
+frame_over side p None (frame.Headers section) bytes = refl
+frame_over side p None (frame.CancelPush id) bytes = refl
+frame_over side p None (frame.Settings pairs) bytes = refl
+frame_over side p None (frame.PushPromise promise) bytes = refl
+frame_over side p None (frame.Goaway id) bytes = refl
+frame_over side p None (frame.MaxPushId id) bytes = refl
+frame_over side p None (frame.WebTransportStream id) bytes = refl
+frame_over side p None (frame.Grease kind) bytes = refl
+frame_over side p (Some pairs) (frame.Data len) bytes = refl
+frame_over side p (Some pairs) (frame.Headers section) bytes = refl
+frame_over side p (Some pairs) (frame.CancelPush id) bytes = refl
+frame_over side p (Some pairs) (frame.Settings others) bytes = refl
+frame_over side p (Some pairs) (frame.PushPromise promise) bytes = refl
+frame_over side p (Some pairs) (frame.Goaway id) bytes = over_if _ _ _ bytes
+frame_over side p (Some pairs) (frame.MaxPushId id) bytes = push_over side p id bytes
+frame_over side p (Some pairs) (frame.WebTransportStream id) bytes = refl
+frame_over side p (Some pairs) (frame.Grease kind) bytes = refl
+
+front_over : (go : Peer → PeerFound) (side : Side) (p : Peer) (a b bytes : List ℕ) (x : Front) → at_front go side (with_unread p a) bytes x ≡ at_front go side (with_unread p b) bytes x
+front_over go side p a b bytes (Whole f rest) = refl
+front_over go side p a b bytes (Unknown kind rest) = refl
+front_over go side p a b bytes (Refused e) = refl
+front_over go side p a b bytes (Unfinished least) = refl
+
+-- unknown frames at the front do not matter
+known_alike : (limit : ℕ) (side : Side) (p : Peer) (a b : List ℕ) → known a ≡ known b → read_peer limit side (with_unread p a) ≡ read_peer limit side (with_unread p b)
+known_alike limit side p a b e =
+    peer_step limit side (with_unread p a) ∙ ap (λ l. unless_excessive limit l p (at_front (read_peer limit side) side (with_unread p a) l (frame_at l))) e
+    ∙ ap (unless_excessive limit (known b) p) (front_over (read_peer limit side) side p a b (known b) (frame_at (known b))) ∙ sym (peer_step limit side (with_unread p b))
+
+-- a front, by what it leaves to whatever follows
+pub from_front : (limit : ℕ) (side : Side) (old new : Peer) (front : List ℕ) → old.unread ≡ front ++ new.unread
+    → ((more : List ℕ) → read_peer limit side (with_unread old (front ++ more)) ≡ read_peer limit side (with_unread new more)) → ReadsFront limit side old new
+from_front limit side old new front split goes_on =
+    record {
+      front = front;
+      split = split;
+      goes_on = goes_on;
+    }
+
+-- nothing is read
+pub no_front : (limit : ℕ) (side : Side) (p : Peer) → ReadsFront limit side p p
+no_front limit side p = from_front limit side p p [] refl (λ more. refl)
+
+-- unknown frames are passed
+pub unknown_passed : (limit : ℕ) (side : Side) (p : Peer) (left : List ℕ) → left ≡ known p.unread → ReadsFront limit side p (with_unread p left)
+unknown_passed limit side p left is =
+    let u = unknown_front p.unread in
+    from_front limit side p (with_unread p left) u.front (u.split ∙ ap (λ l. u.front ++ l) (sym is)) (λ more. known_alike limit side p (u.front ++ more) more (u.alike more))
+
+-- the head of a whole frame says its length, whatever follows
+front_small : (limit : ℕ) (front rest more : List ℕ) (f : Frame PayloadLen) → front ++ [] ≡ front → frame_at (front ++ []) ≡ Whole f [] → is_excessive limit (front ++ rest) ≡ false → is_excessive limit (front ++ more) ≡ false
+front_small limit front rest more f same whole small =
+    let there : IsFinished (frame_at front) = subst IsFinished (sym (ap frame_at (sym same) ∙ whole)) tt in
+    excessive_more limit front more there ∙ sym (excessive_more limit front rest there) ∙ small
+
+-- a frame is read
+pub frame_read : (limit : ℕ) (side : Side) (p new : Peer) (f : Frame PayloadLen) (rest : List ℕ) → is_excessive limit (known p.unread) ≡ false → frame_at (known p.unread) ≡ Whole f rest → read_frame side (with_unread p rest) p.settings f ≡ (new, None) → ReadsFront limit side p new
+frame_read limit side p new f rest small gives does =
+    let u = unknown_front p.unread in
+    let w = frame_front (known p.unread) rest (subst (λ x. Precedes x rest) (sym gives) refl) in
+    let whole_of : (more : List ℕ) → frame_at (w.front ++ more) ≡ Whole f more = λ more. w.alike more ∙ ap (λ x. followed_by x more) gives in
+    let keeps : new.unread ≡ rest = ap (λ (x : PeerFound). x.0.unread) (sym does) ∙ frame_keeps side (with_unread p rest) p.settings f in
+    from_front limit side p new (u.front ++ w.front)
+    (u.split ∙ ap (λ l. u.front ++ l) (w.split ∙ ap (λ l. w.front ++ l) (sym keeps)) ∙ sym (append_assoc u.front w.front new.unread))
+    (λ more.
+    let whole = whole_of more in
+    let alone : known (w.front ++ more) ≡ w.front ++ more = known-other (w.front ++ more) (subst IsKnown (sym whole) tt) in
+    let here : frame_at (known (w.front ++ more)) ≡ Whole f more = ap frame_at alone ∙ whole in
+    let short : is_excessive limit (known (w.front ++ more)) ≡ false =
+    ap (is_excessive limit) alone ∙ front_small limit w.front rest more f (append-nil w.front) (whole_of []) (ap (is_excessive limit) (sym w.split) ∙ small) in
+    let again : read_frame side (with_unread p more) p.settings f ≡ (with_unread new more, None) = frame_over side (with_unread p rest) p.settings f more ∙ ap (λ x. over x more) does in
+    known_alike limit side p ((u.front ++ w.front) ++ more) (w.front ++ more) (ap known (append_assoc u.front w.front more) ∙ u.alike (w.front ++ more))
+    ∙ peer_frame limit side (with_unread p (w.front ++ more)) f more (with_unread new more, None) short here again)
+
+-- room for another GOAWAY frame changes none
+same_goaways : (side : Side) (p : Peer) (goaways rest : List ℕ) (f : Frame PayloadLen) (x : PeerFound) → goaways ≡ p.goaways → read_frame side (record p { unread = rest; goaways = goaways }) p.settings f ≡ x → read_frame side (with_unread p rest) p.settings f ≡ x
+same_goaways side p goaways rest f x same does = subst (λ g. read_frame side (record p { unread = rest; goaways = g }) p.settings f ≡ x) same does
+
+-- a frame is read, and fewer bytes are left
+pub one_read : (limit : ℕ) (side : Side) (p new : Peer) (goaways rest : List ℕ) (f : Frame PayloadLen) → is_excessive limit (known p.unread) ≡ false → goaways ≡ p.goaways → frame_at (known p.unread) ≡ Whole f rest
+    → read_frame side (record p { unread = rest; goaways = goaways }) p.settings f ≡ (new, None) → ReadsFront limit side p new × (length new.unread < length p.unread)
+one_read limit side p new goaways rest f small same gives does =
+    let here = same_goaways side p goaways rest f (new, None) same does in
+    (frame_read limit side p new f rest small gives here, peer_less side p new f rest None gives here)
+
+-- a frame is a fault
+pub one_fault : (limit : ℕ) (side : Side) (p new : Peer) (goaways rest : List ℕ) (f : Frame PayloadLen) (code : ℕ) → is_excessive limit (known p.unread) ≡ false → goaways ≡ p.goaways → frame_at (known p.unread) ≡ Whole f rest
+    → read_frame side (record p { unread = rest; goaways = goaways }) p.settings f ≡ (new, Some code) → read_peer limit side p ≡ (new, Some code)
+one_fault limit side p new goaways rest f code small same gives does = peer_fault limit side p new f rest code small gives (same_goaways side p goaways rest f (new, Some code) same does)
+
+-- a GOAWAY frame is read
+pub goaway_read : (limit : ℕ) (side : Side) (p : Peer) (goaways after rest : List ℕ) (id : ℕ) (f : Frame PayloadLen) → is_excessive limit (known p.unread) ≡ false → goaways ≡ p.goaways → after ≡ goaways ++ id ∷ [] → frame_at (known p.unread) ≡ Whole f rest
+    → read_frame side (record p { unread = rest; goaways = goaways }) p.settings f ≡ (record p { unread = rest; goaways = goaways ++ id ∷ [] }, None)
+    → ReadsFront limit side p (record p { unread = rest; goaways = after }) × (length rest < length p.unread)
+goaway_read limit side p goaways after rest id f small same more gives does =
+    one_read limit side p (record p { unread = rest; goaways = after }) goaways rest f small same gives (subst (λ g. read_frame side (record p { unread = rest; goaways = goaways }) p.settings f ≡ (record p { unread = rest; goaways = g }, None)) (sym more) does)
+
+left_known : (e : FrameStreamError) (old new : List ℕ) → Gives (Err e) old new → new ≡ known old
+left_known (stream.Proto e) old new h = h.0
+left_known stream.OutOfMemory old new h = h.0
+left_known (stream.Quic e) old new h = absurd h
+left_known stream.UnexpectedEnd old new h = absurd h
+
+-- a frame is too long: what came is let go
+pub one_excessive : (limit : ℕ) (side : Side) (p : Peer) (goaways left : List ℕ) → is_excessive limit (known p.unread) ≡ true → goaways ≡ p.goaways → left ≡ []
+    → read_peer limit side p ≡ (record p { unread = left; goaways = goaways }, Some excessive_load)
+one_excessive limit side p goaways left large same none =
+    step_excessive limit side p large ∙ ap (λ g. (record p { unread = []; goaways = g }, Some excessive_load)) (sym same)
+    ∙ ap (λ l. (record p { unread = l; goaways = goaways }, Some excessive_load)) (sym none)
+
+-- where memory is refused, unknown frames alone are passed
+pub refused_front : (limit : ℕ) (side : Side) (p : Peer) (goaways left : List ℕ) (e : FrameStreamError) → goaways ≡ p.goaways → Gives (Err e) p.unread left → ReadsFront limit side p (record p { unread = left; goaways = goaways })
+refused_front limit side p goaways left e same gives =
+    subst (λ g. ReadsFront limit side p (record p { unread = left; goaways = g })) (sym same) (unknown_passed limit side p left (left_known e p.unread left gives))
+
+-- more bytes are kept behind what is unread
+pub kept_more : {A E : Type 0} (r : Result A E) (stored p : Peer) (unread bytes : List ℕ) → stored ≡ p → OnOk r (unread ≡ stored.unread ++ bytes) → OnOk r (with_unread stored unread ≡ with_unread p (p.unread ++ bytes))
+kept_more (Ok value) stored p unread bytes is h = ap (with_unread stored) h ∙ ap (λ (x : Peer). with_unread x (x.unread ++ bytes)) is
+kept_more (Err e) stored p unread bytes is h = tt

@@ -1,0 +1,15 @@
+pub mod FrameFronts
+pub mod ControlFronts
+pub mod KeptFronts
+mod FirstReads
+mod InstructionFronts
+mod Excess
+mod WindowLaws
+mod Heard
+mod Listened
+mod Waits
+mod Unfinished
+mod Heads
+mod Behind
+mod OwnLaws
+mod PeerLaws

@@ -1,0 +1,25 @@
+-- What a frame of the peer's control stream does.
+use Rattle.std.specs.Prelude.{◌≡◌, ℕ, ◌<◌, true, [], ◌∷◌, ◌++◌, length, Some, None, is_some}
+use Rattle.h3_proto.specs.declared.stream.Side.{Side}
+use Rattle.h3_connection.specs.PeerReading.{Peer, PeerFound, read_peer}
+use Rattle.h3_unidirectional.specs.Fronts.{ReadsFront}
+use Rattle.h3_unidirectional.specs.declared.control.Judged.{Judged}
+use Rattle.h3_unidirectional.specs.declared.control.Judged.TheVariants.{Settings, Goaway, MaxPushId, Fault}
+use Rattle.h3_unidirectional.specs.declared.control.Progress.{Progress}
+use Rattle.h3_unidirectional.specs.declared.control.Progress.TheVariants.{GoesOn, Ends}
+
+-- a frame of a stream whose settings are due: they came, and nothing else changes; or they did not
+abbrev pub KeepsEarlier : Peer → Peer → Progress → Type 0
+KeepsEarlier old new GoesOn = (new ≡ record old { unread = new.unread; settings = new.settings }) × (is_some new.settings ≡ true)
+KeepsEarlier old new (Ends fault) = new.settings ≡ None
+
+abbrev pub done : Peer → Judged → PeerFound
+done p (Settings pairs) = (record p { settings = Some pairs }, None)
+done p (Goaway id) = (record p { goaways = p.goaways ++ id ∷ [] }, None)
+done p (MaxPushId id) = (record p { most_pushes = Some id }, None)
+done p (Fault code) = (p, Some code)
+
+-- a frame was read, and fewer bytes are left; or all was read
+abbrev pub ReadsOne : ℕ → Side → Peer → Peer → Progress → Type 0
+ReadsOne limit side old new GoesOn = ReadsFront limit side old new × (length new.unread < length old.unread)
+ReadsOne limit side old new (Ends fault) = read_peer limit side old ≡ (new, fault)

@@ -1,0 +1,13 @@
+pub mod Owned
+pub mod Fronts
+pub mod Windows
+pub mod Judged
+pub mod Faults
+pub mod Kinds
+pub mod Rows
+pub mod Learned
+pub mod OwnLaws
+pub mod PeerLaws
+pub mod WaitingLaws
+pub mod OwnTexts
+pub mod Told

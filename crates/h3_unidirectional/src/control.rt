@@ -1,0 +1,370 @@
+//! The peer's control stream (RFC 9114, section 6.2.1).
+ghost use Rattle.std.specs.Prelude.{◌≡◌, ◌+◌, ◌^◌, ◌<◌, ◌≤◌, ◌++◌, ℕ, List, [], length, false, Some, None, is_some, IfOk, IfErr, OnOk, OnErr, option_copied};
+ghost use Rattle.std.specs.List.{concat};
+ghost use Rattle.h3_proto.specs.declared.stream.Side.{Side};
+ghost use Rattle.h3_wire.specs.FirstFrames.{begins_other};
+ghost use Rattle.h3_wire.specs.Known.{refusal};
+ghost use Rattle.h3_wire.specs.UnknownSize.{held_length};
+ghost use Rattle.h3_connection.specs.Codes.{settings_code, refusal_code};
+ghost use Rattle.h3_connection.specs.KeptGoaways.{keeps_last, kept_found, kept_peer};
+ghost use Rattle.h3_connection.specs.Lasts.{last_id};
+ghost use Rattle.h3_connection.specs.PeerReading.{Peer, nothing_read, with_unread, is_no_goaway, read_goaway, read_max_push, read_frame, refused_code, read_peer};
+ghost use Rattle.h3_connection.specs.StrictConnection.{settings_refused};
+ghost use Rattle.h3_unidirectional.specs.Fronts.{KeepsOn, KeepsPart, ReadsFront, StopsReading, found_first};
+ghost use Rattle.h3_unidirectional.specs.Judged.{KeepsEarlier, done, ReadsOne};
+
+use crate::limits::keeps_last;
+use bytes::Bytes;
+use h3_coding::varint::VarInt;
+use h3_connection::setup::Announced;
+use h3_proto::config::Choices;
+use h3_proto::error::Code;
+use h3_proto::frame::{Settings, SettingsError};
+use h3_proto::push::PushId;
+use h3_proto::stream::Side;
+use h3_wire::frame::{FrameBuffer, FrameProtocolError, FrameStreamError};
+use h3_wire::proto::frame::{Frame, PayloadLen};
+use std::alloc::{AllocError, Global};
+use std::marker::Model;
+
+/// What was read of the peer's control stream, and the bytes of it that were not.
+#[derive(Drop)]
+pub struct PeerControl {
+    unread: FrameBuffer,
+    settings: Option<Settings>,
+    goaways: Vec<VarInt>,
+    most_pushes: Option<PushId>,
+}
+
+impl Model for PeerControl {
+    ghost use Rattle.std.specs.List.{concat};
+    ghost use Rattle.h3_connection.specs.PeerReading.{Peer};
+
+    ghost Value = { Peer };
+
+    ghost view = { λ p. record { unread = concat p.unread.pieces; settings = p.settings; goaways = p.goaways.items; most_pushes = p.most_pushes } };
+}
+
+/// What a frame does.
+#[derive(Drop)]
+enum Judged {
+    Settings(Settings),
+    Goaway(VarInt),
+    MaxPushId(PushId),
+    Fault(Code),
+}
+
+/// How far a reading has come.
+#[derive(Clone, Copy)]
+enum Progress {
+    /// A frame was read, and there may be more.
+    GoesOn,
+    /// What is left is no whole frame, or there is a fault.
+    Ends(Option<Code>),
+}
+
+/// The fault of refused settings.
+fn settings_code(e: &SettingsError) -> Code
+    ensures { result ≡ settings_code e.now }
+{
+    match e {
+        SettingsError::Malformed => Code::H3_FRAME_ERROR,
+        _ => Code::H3_SETTINGS_ERROR,
+    }
+}
+
+/// The fault of a refused frame, wherever it stands.
+pub fn refusal_code(e: &FrameProtocolError) -> Code
+    ensures { result ≡ refusal_code (refusal e.now) }
+{
+    match e {
+        FrameProtocolError::Settings(e) => settings_code(e),
+        FrameProtocolError::ForbiddenFrame(_) => Code::H3_FRAME_UNEXPECTED,
+        _ => Code::H3_FRAME_ERROR,
+    }
+}
+
+/// Whether an id may not stand in a GOAWAY frame to this side: a server names request streams alone.
+fn is_no_goaway(side: Side, id: u64) -> bool
+    ensures { result ≡ is_no_goaway side id }
+{
+    match side {
+        Side::Client => id % 4 != 0,
+        Side::Server => false,
+    }
+}
+
+// RFC 9114 6.2.1: SETTINGS first
+/// The first frame has to be the settings.
+fn judge_first(frame: Frame<PayloadLen>) -> Judged
+    ensures { (side : Side) (p : Peer) → read_frame side p None frame ≡ done p result }
+{
+    if let Frame::Settings(settings) = frame {
+        return Judged::Settings(settings);
+    }
+    Judged::Fault(Code::H3_MISSING_SETTINGS)
+}
+
+impl PeerControl {
+    /// A stream of which nothing came.
+    pub fn new(alloc: Global) -> PeerControl
+        ensures { result ≡ nothing_read }
+    {
+        PeerControl {
+            unread: FrameBuffer::new(alloc),
+            settings: None,
+            goaways: Vec::new(alloc),
+            most_pushes: None,
+        }
+    }
+
+    /// The peer's settings, once they came.
+    pub fn settings(&self) -> Option<&Settings>
+        ensures { option_copied result ≡ self.now.settings }
+    {
+        self.settings.as_ref()
+    }
+
+    /// Whether the settings came.
+    pub fn has_settings(&self) -> bool
+        ensures { result ≡ is_some self.now.settings }
+    {
+        self.settings.is_some()
+    }
+
+    /// The ids of the GOAWAY frames that are kept, in order.
+    pub fn goaways(&self) -> &[VarInt]
+        ensures { result.now ≡ self.now.goaways }
+    {
+        self.goaways.as_slice()
+    }
+
+    /// The id of the last GOAWAY frame.
+    pub fn last_goaway(&self) -> Option<VarInt>
+        ensures { result ≡ last_id self.now.goaways }
+    {
+        self.goaways.last().copied()
+    }
+
+    /// How many bytes are not read.
+    pub fn unread_len(&self) -> usize
+        ensures { result ≡ length self.now.unread }
+    {
+        self.unread.len()
+    }
+
+    /// How many of them are held: none while an unknown frame is under way at the front. If an allocation failed, the next reading frees
+    /// its bytes.
+    pub fn held(&self) -> usize
+        ensures { result ≡ held_length self.now.unread }
+    {
+        self.unread.held()
+    }
+
+    /// The bytes that are not read. Its `tries` say how often the frame under way was tried, or else the last frame that was read, an
+    /// unknown one too: at most 17 times.
+    pub fn frames(&self) -> &FrameBuffer
+        ensures { concat result.now.pieces ≡ self.now.unread }
+    {
+        &self.unread
+    }
+
+    /// Whether those bytes begin with the type and the length of a frame that is not SETTINGS (RFC 9114, section 6.2.1).
+    pub fn begins_other(&self) -> bool
+        ensures { result ≡ begins_other self.now.unread }
+    {
+        self.unread.begins_other()
+    }
+
+    /// More of the stream, which is kept until it is read. An `Err` changes nothing, and returns the bytes.
+    pub fn push(&mut self, bytes: Bytes) -> Result<(), Bytes>
+        requires { length self.old.unread + length bytes < 2 ^ 64 }
+        ensures ok { OnOk result (self.new ≡ with_unread self.old (self.old.unread ++ bytes)) }
+        ensures err { OnErr result (self.new ≡ self.old) }
+        ensures back { IfErr result (λ back. back ≡ bytes) }
+    {
+        self.unread.push(bytes)
+    }
+
+    // RFC 9114 5.2: GOAWAY raised, received
+    fn judge_goaway(&self, side: Side, id: VarInt) -> Judged
+        ensures { read_goaway side self.now id ≡ done self.now result }
+    {
+        let number = id.into_inner();
+        if is_no_goaway(side, number) {
+            return Judged::Fault(Code::H3_ID_ERROR);
+        }
+        if let Some(earlier) = self.last_goaway() {
+            if number > earlier.into_inner() {
+                return Judged::Fault(Code::H3_ID_ERROR);
+            }
+        }
+        Judged::Goaway(id)
+    }
+
+    // RFC 9114 7.2.7: MAX_PUSH_ID lowered
+    fn judge_max_push(&self, side: Side, id: PushId) -> Judged
+        ensures { read_max_push side self.now id ≡ done self.now result }
+    {
+        match side {
+            Side::Client => Judged::Fault(Code::H3_FRAME_UNEXPECTED),
+            Side::Server => {
+                if let Some(earlier) = self.most_pushes {
+                    if VarInt::from(id).into_inner() < VarInt::from(earlier).into_inner() {
+                        return Judged::Fault(Code::H3_ID_ERROR);
+                    }
+                }
+                Judged::MaxPushId(id)
+            }
+        }
+    }
+
+    // RFC 9114 7.2: frames out of place on a control stream
+    fn judge_later(&self, side: Side, frame: Frame<PayloadLen>) -> Judged
+        ensures { (pairs : List (ℕ × ℕ)) → read_frame side self.now (Some pairs) frame ≡ done self.now result }
+    {
+        match frame {
+            Frame::Goaway(id) => self.judge_goaway(side, id),
+            Frame::CancelPush(_) => Judged::Fault(Code::H3_ID_ERROR),
+            Frame::MaxPushId(id) => self.judge_max_push(side, id),
+            _ => Judged::Fault(Code::H3_FRAME_UNEXPECTED),
+        }
+    }
+
+    fn judge(&self, side: Side, frame: Frame<PayloadLen>) -> Judged
+        ensures { read_frame side self.now self.now.settings frame ≡ done self.now result }
+    {
+        if self.settings.is_some() {
+            return self.judge_later(side, frame);
+        }
+        judge_first(frame)
+    }
+
+    /// The fault of a frame that is refused.
+    fn refused(&self, e: FrameProtocolError) -> Code
+        ensures { result ≡ refused_code self.now.settings (refusal e) }
+    {
+        if self.settings.is_some() {
+            return refusal_code(&e);
+        }
+        match &e {
+            FrameProtocolError::Settings(e) => settings_code(e),
+            _ => Code::H3_MISSING_SETTINGS,
+        }
+    }
+
+    /// Reads the next frame, unless it says a length above `most`: then it frees what came. If an allocation fails, it skips only unknown
+    /// frames.
+    #[tactic(auto, using(crate::specs::PeerLaws::peer_waits, crate::proofs::ControlFronts::no_front, crate::proofs::ControlFronts::unknown_passed))]
+    fn read_one(&mut self, alloc: Global, side: Side, most: u64) -> Result<Progress, AllocError>
+        ensures ok { IfOk result (λ progress. ReadsOne most side self.old self.new progress) }
+        ensures refused { OnErr result (ReadsFront most side self.old self.new) }
+        ensures first { self.old.settings ≡ None → IfOk result (λ progress. KeepsEarlier self.old self.new progress) }
+        ensures unknown { OnErr result (self.new.settings ≡ self.old.settings) }
+    {
+        if self.unread.is_excessive(most) {
+            self.unread = FrameBuffer::new(alloc);
+            return Ok(Progress::Ends(Some(Code::H3_EXCESSIVE_LOAD)));
+        }
+        self.goaways.reserve(1)?;
+        match self.unread.next_frame(alloc) {
+            Ok(None) => Ok(Progress::Ends(None)),
+            Ok(Some(frame)) => match self.judge(side, frame) {
+                Judged::Settings(settings) => {
+                    self.settings = Some(settings);
+                    Ok(Progress::GoesOn)
+                }
+                Judged::Goaway(id) => {
+                    self.goaways.push_reserved(id);
+                    Ok(Progress::GoesOn)
+                }
+                Judged::MaxPushId(id) => {
+                    self.most_pushes = Some(id);
+                    Ok(Progress::GoesOn)
+                }
+                Judged::Fault(code) => Ok(Progress::Ends(Some(code))),
+            },
+            Err(FrameStreamError::Proto(e)) => Ok(Progress::Ends(Some(self.refused(e)))),
+            Err(_) => Err(AllocError),
+        }
+    }
+
+    /// Drops all ids of GOAWAY frames but the last, if that is kept alone. It takes no memory.
+    #[tactic(auto, using(crate::proofs::KeptFronts::none_changed))]
+    fn keep_goaways(&mut self, last_alone: bool)
+        ensures { self.new ≡ kept_peer last_alone self.old }
+    {
+        if !last_alone {
+            return;
+        }
+        let Some(last) = self.last_goaway() else {
+            return;
+        };
+        self.goaways[0] = last;
+        self.goaways.truncate(1);
+    }
+
+    /// Reads all whole frames, up to the first fault, and answers that fault. One that says a length above the limit of the choices is a
+    /// fault, whether its payload came or not (RFC 9114, section 10.5). If the choices limit the ids that are kept, each GOAWAY frame's
+    /// id takes the place of the last. If an allocation fails, the frames that were read stand, and the others stay unread: the next
+    /// reading goes on with them, and answers what this one would have.
+    #[tactic(auto, using(crate::proofs::KeptFronts::none_kept, crate::proofs::KeptFronts::then_kept, crate::proofs::KeptFronts::all_kept, crate::proofs::KeptFronts::stops_kept))]
+    pub fn read(
+        &mut self,
+        alloc: Global,
+        side: Side,
+        choices: Choices,
+    ) -> Result<Option<Code>, AllocError>
+        ensures ok { IfOk result (λ fault. kept_found (keeps_last choices) (read_peer choices.unfinished_limit side self.old) ≡ (self.new, fault)) }
+        ensures refused { OnErr result (StopsReading (keeps_last choices) choices.unfinished_limit side self.old self.new) }
+        ensures front { OnErr result (KeepsOn (keeps_last choices) choices.unfinished_limit side self.old self.new) }
+    {
+        // (the label names the loop in its proof)
+        'frames: loop {
+            let progress = self.read_one(alloc, side, choices.unfinished_limit);
+            self.keep_goaways(keeps_last(choices));
+            match progress {
+                Ok(Progress::Ends(fault)) => return Ok(fault),
+                Ok(Progress::GoesOn) => {}
+                Err(e) => return Err(e),
+            }
+        }
+    }
+
+    /// Whether the settings came, and the endpoint does not take them.
+    fn are_refused(&self, side: Side, own: &Announced) -> bool
+        ensures { result ≡ settings_refused side own.now self.now.settings }
+    {
+        match &self.settings {
+            Some(settings) => own.refuses_settings(side, settings),
+            None => false,
+        }
+    }
+
+    /// The same while the settings have not come. If the endpoint does not take those that come, that is the fault, whatever follows them:
+    /// what came after them is freed.
+    pub fn read_first(
+        &mut self,
+        alloc: Global,
+        side: Side,
+        own: &Announced,
+    ) -> Result<Option<Code>, AllocError>
+        requires { self.old.settings ≡ None }
+        ensures ok { IfOk result (λ fault. kept_found (keeps_last own.now.choices) (found_first side own.now self.old (read_peer own.now.choices.unfinished_limit side self.old)) ≡ (self.new, fault)) }
+        ensures refused { OnErr result (KeepsPart (keeps_last own.now.choices) own.now.choices.unfinished_limit side self.old self.new) }
+        ensures taken { OnErr result (settings_refused side own.now self.new.settings ≡ false) }
+    {
+        let progress = self.read_one(alloc, side, own.choices.unfinished_limit);
+        self.keep_goaways(keeps_last(own.choices));
+        match progress {
+            Ok(Progress::Ends(fault)) => return Ok(fault),
+            Ok(Progress::GoesOn) => {}
+            Err(e) => return Err(e),
+        }
+        if self.are_refused(side, own) {
+            self.unread = FrameBuffer::new(alloc);
+            return Ok(Some(Code::H3_SETTINGS_ERROR));
+        }
+        self.read(alloc, side, own.choices)
+    }
+}

@@ -1,0 +1,71 @@
+-- A limit on frames, where the frame at the front is an unknown one of which bytes were let go.
+use Rattle.std.proofs.Common.{◌≡◌, ℕ, ◌<◌, ◌≤◌, ◌+◌, ◌-◌, Bool, true, false, ◌&&◌, ◌||◌, ◌==◌, List, [], ◌∷◌, ◌++◌, length, drop, arith, inl, inr, refl, sym, ap, ◌∙◌, Some}
+use Rattle.std.proofs.lemmas.Bool.{cases_lt}
+use Rattle.std.specs.List.{concat}
+use Rattle.std.proofs.lemmas.List.Folds.{concat-append}
+use Rattle.std.proofs.Math.Seq.{drop-append-add}
+use Rattle.h3_coding.specs.VarintLaws.{none_at_end}
+use Rattle.h3_proto.specs.Config.{is_limit}
+use Rattle.h3_wire.specs.ExcessiveFrames.{begins_section, is_excessive, is_kept_whole, says_too_much}
+use Rattle.h3_wire.specs.ExcessiveLaws.{none_left, unknown_begins, unknown_says}
+use Rattle.h3_wire.specs.Known.{known}
+use Rattle.h3_wire.specs.KnownLaws.{known-unknown}
+use Rattle.h3_wire.specs.UnknownSize.{AreLetGo, is_known_type, unknown_size}
+use Rattle.h3_wire.proofs.SparedPieces.{none_in_front, size_with_more}
+use Rattle.h3_wire.proofs.LettingGo.{inside, tests, unknown_head, unknown_whole}
+
+none_of : (b : Bool) → false ≡ (b && false)
+none_of true = refl
+none_of false = refl
+
+-- With nothing there, nothing is too long.
+pub nothing_is_long : (most : ℕ) (bytes : List ℕ) → length bytes ≡ 0 → false ≡ is_excessive most (known bytes)
+unfolding known
+nothing_is_long most [] e = none_of (is_limit most) ∙ ap (λ o. is_limit most && says_too_much most o) (sym none_at_end)
+nothing_is_long most (byte ∷ bytes) e = absurd (omega (arith, e))
+
+none_kept : (kind : ℕ) → is_known_type kind ≡ false → is_kept_whole kind ≡ false
+none_kept kind unknown = by_test (is_kept_whole kind) refl
+  where
+    by_test : (b : Bool) → is_kept_whole kind ≡ b → b ≡ false
+    by_test false e = refl
+    by_test true e =
+        let t = tests kind unknown in
+        absurd (none_left kind e t.headers t.cancel t.settings t.promise t.goaway t.most t.http2)
+
+none_handed : (kind : ℕ) → is_known_type kind ≡ false → ((kind == 0) || (kind == 0x41)) ≡ false
+none_handed kind unknown = let t = tests kind unknown in rw (t.plain, t.session) refl
+
+-- While it is under way no frame is told as too long.
+pub none_under_way : (most : ℕ) (bytes : List ℕ) (size : ℕ) → unknown_size bytes ≡ Some size → length bytes < size → is_excessive most (known bytes) ≡ false
+none_under_way most bytes size is few =
+    let h = unknown_head bytes size is in
+    let short : length h.behind < h.number = omega (arith, h.size_is, few, inside bytes size h) in
+    unknown_says most h.kind h.number bytes h.mid h.behind (none_kept h.kind h.unknown) (none_handed h.kind h.unknown) h.kind_at h.number_at short
+
+pub none_begins : (bytes : List ℕ) (size : ℕ) → unknown_size bytes ≡ Some size → length bytes < size → begins_section (known bytes) ≡ false
+none_begins bytes size is few =
+    let h = unknown_head bytes size is in
+    let short : length h.behind < h.number = omega (arith, h.size_is, few, inside bytes size h) in
+    unknown_begins h.kind h.number bytes h.mid h.behind (none_kept h.kind h.unknown) (none_handed h.kind h.unknown) h.kind_at h.number_at short
+
+-- Once it is whole, what stands behind it tells.
+known_behind : (bytes : List ℕ) (size : ℕ) → unknown_size bytes ≡ Some size → size ≤ length bytes → known bytes ≡ known (drop size bytes)
+known_behind bytes size is all = let w = unknown_whole bytes size is all in known-unknown w.0 bytes (drop size bytes) w.1
+
+-- what is kept behind the frame is what is behind it of all
+behind_both : (front kept : List (List ℕ)) (size gone : ℕ) → gone ≡ length (concat front) → gone < size → drop (size - gone) (concat kept) ≡ drop size (concat (front ++ kept))
+behind_both front kept size gone is less =
+    let sum : size ≡ length (concat front) + (size - gone) = omega (arith, is, less) in
+    sym (ap (drop size) (concat-append front kept) ∙ ap (λ n. drop n (concat front ++ concat kept)) sum ∙ drop-append-add (concat front) (concat kept) (size - gone))
+
+-- So the first frame that is not unknown is found behind what was let go, also where that is nothing.
+pub left_behind : (front kept : List (List ℕ)) (size gone : ℕ) → AreLetGo size gone front → size ≤ length (concat (front ++ kept)) → known (drop (size - gone) (concat kept)) ≡ known (concat (front ++ kept))
+left_behind front kept size gone h all = elim (cases_lt 0 size) [
+  | inl some ↦
+      ap known (behind_both front kept size gone h.gone_is (h.under_way some)) ∙ sym (known_behind (concat (front ++ kept)) size (size_with_more front kept size (h.unknown some)) all)
+  | inr few ↦
+      let zero : size ≡ 0 = omega (arith, few) in
+      let none : size - gone ≡ 0 = omega (arith, zero) in
+      ap (λ n. known (drop n (concat kept))) none ∙ ap known (none_in_front size gone front kept h zero)
+]

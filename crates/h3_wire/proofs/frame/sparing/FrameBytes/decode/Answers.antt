@@ -1,0 +1,13 @@
+use Rattle.std.proofs.Common.{◌≡◌, ◌^◌, ap, ◌∙◌}
+use Rattle.h3_wire.specs.UnknownSize.{Sparing}
+use Rattle.h3_wire.proofs.SparedPieces.{decoded_fits, none_spared}
+use Rattle.h3_wire.proofs.frame.sparing.FrameBytes.decode.Goals as goal
+
+pub invariant_of-self : goal.invariant_of-self
+invariant_of-self c =
+    let i = c.self.inside in
+    let none : i.passing ≡ 0 = ap (λ (s : Sparing). s.passing) c.self.view_is ∙ c.requires.none in (
+      c.self.invariant.0,
+      decoded_fits _ i.let_go.pieces i.kept.pieces c.decode.new.src.pieces (2 ^ 64) c.decode.ensures.gives c.self.invariant.1,
+      none_spared i.passing i.gone c.decode.new.src.pieces none,
+    )

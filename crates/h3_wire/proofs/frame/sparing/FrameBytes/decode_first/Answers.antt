@@ -1,0 +1,13 @@
+use Rattle.std.proofs.Common.{◌≡◌, ◌^◌, ap, ◌∙◌}
+use Rattle.h3_wire.specs.UnknownSize.{Sparing}
+use Rattle.h3_wire.proofs.SparedPieces.{none_spared, rest_fits}
+use Rattle.h3_wire.proofs.frame.sparing.FrameBytes.decode_first.Goals as goal
+
+pub invariant_of-self : goal.invariant_of-self
+invariant_of-self c =
+    let i = c.self.inside in
+    let none : i.passing ≡ 0 = ap (λ (s : Sparing). s.passing) c.self.view_is ∙ c.requires.none in (
+      c.self.invariant.0,
+      rest_fits i.let_go.pieces i.kept.pieces c.decode_first.new.src.pieces (2 ^ 64) c.decode_first.ensures.rest c.self.invariant.1,
+      none_spared i.passing i.gone c.decode_first.new.src.pieces none,
+    )

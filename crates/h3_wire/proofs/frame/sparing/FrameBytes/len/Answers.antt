@@ -1,0 +1,16 @@
+use Rattle.std.proofs.Common.{length, arith, ap, ◌∙◌}
+use Rattle.std.specs.List.{concat}
+use Rattle.h3_wire.specs.UnknownSize.{Sparing}
+use Rattle.h3_wire.proofs.SparedPieces.{gone_and_kept}
+use Rattle.h3_wire.proofs.frame.sparing.FrameBytes.len.Goals as goal
+
+pub overflow_add-result : goal.overflow_add-result
+overflow_add-result c =
+    let i = c.self.inside in
+    omega (arith, gone_and_kept i.passing i.gone c.remaining.result i.let_go.pieces i.kept.pieces c.self.invariant.0 c.remaining.ensures, c.self.invariant.1)
+
+pub returns : goal.returns
+returns c =
+    let i = c.self.inside in
+    gone_and_kept i.passing i.gone c.remaining.result i.let_go.pieces i.kept.pieces c.self.invariant.0 c.remaining.ensures
+    ∙ ap (λ (s : Sparing). length (concat s.pieces)) c.self.view_is

@@ -1,0 +1,50 @@
+-- Frames that are longer than their reader takes (RFC 9114, section 10.5).
+use Rattle.std.specs.Prelude.{ℕ, Bool, false, ◌&&◌, ◌||◌, ◌==◌, List, nat_le, nat_lt, Option, Some, None}
+use Rattle.h3_coding.specs.Varint.{varint_at}
+use Rattle.h3_proto.specs.Config.{is_limit}
+
+-- the types of frames whose payload is kept until it is whole: all below 10 but DATA, and MAX_PUSH_ID. They are HEADERS 1, CANCEL_PUSH 3,
+-- SETTINGS 4, PUSH_PROMISE 5 and GOAWAY 7 (RFC 9114, section 7.2), and those of HTTP/2 that are refused (section 7.2.8)
+abbrev pub is_kept_whole : ℕ → Bool
+is_kept_whole kind = (nat_le 1 kind && nat_le kind 9) || (kind == 13)
+
+-- behind a type of these the length is above the limit
+abbrev pub is_too_long : ℕ → ℕ → Option (ℕ × List ℕ) → Bool
+is_too_long most kind None = false
+is_too_long most kind (Some p) = is_kept_whole kind && nat_lt most p.0
+
+abbrev pub says_too_much : ℕ → Option (ℕ × List ℕ) → Bool
+says_too_much most None = false
+says_too_much most (Some p) = is_too_long most p.0 (varint_at p.1)
+
+-- the type is there, and is this one
+abbrev pub is_of_type : ℕ → Option (ℕ × List ℕ) → Bool
+is_of_type kind None = false
+is_of_type kind (Some p) = p.0 == kind
+
+-- what the head says, as far as it came: its type, and its length, or 0 where that is not there
+abbrev pub length_said : Option (ℕ × List ℕ) → ℕ
+length_said None = 0
+length_said (Some p) = p.0
+
+abbrev pub head_said : Option (ℕ × List ℕ) → Option (ℕ × ℕ)
+head_said None = None
+head_said (Some p) = Some (p.0, length_said (varint_at p.1))
+
+-- by that it is one whose payload is kept, and longer; or it has this type
+abbrev pub tells_too_much : ℕ → Option (ℕ × ℕ) → Bool
+tells_too_much most None = false
+tells_too_much most (Some h) = is_kept_whole h.0 && nat_lt most h.1
+
+abbrev pub tells_type : ℕ → Option (ℕ × ℕ) → Bool
+tells_type kind None = false
+tells_type kind (Some h) = h.0 == kind
+
+-- The bytes begin with HEADERS (RFC 9114, section 7.2.2)
+abbrev pub begins_section : List ℕ → Bool
+begins_section bytes = is_of_type 1 (varint_at bytes)
+
+-- RFC 9114 10.5: unfinished_limit of frames
+-- There is a limit, and the bytes begin with the head of a frame whose payload is kept, and that is longer. The payload need not be there.
+abbrev pub is_excessive : ℕ → List ℕ → Bool
+is_excessive most bytes = is_limit most && says_too_much most (varint_at bytes)

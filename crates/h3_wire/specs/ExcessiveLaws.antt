@@ -1,0 +1,307 @@
+-- What holds of frames that are longer than their reader takes, and of the unknown ones in front of them.
+use Rattle.std.proofs.Common.{◌≡◌, ℕ, ◌+◌, ◌-◌, ◌<◌, ◌≤◌, Bool, true, false, ◌&&◌, ◌||◌, ◌==◌, List, [], ◌∷◌, ◌++◌, length, take, drop, nat_lt, nat_le, if◌then◌else◌, arith, ap, sym, subst, ◌∙◌, refl, inl, inr, ◌⊎◌, Option, Some, None, Result, Ok, Err, zero, suc}
+use Rattle.std.proofs.lemmas.Bool.{and_parts, and_right, or_parts, le-ltb, le-leb, lt-ltb, eqb-true, leb-true, leb-false, ne_eqb}
+use Rattle.h3_coding.specs.Varint.{varint_at}
+use Rattle.h3_coding.specs.VarintLaws.{cases_number, reads_more}
+use Rattle.h3_proto.specs.Config.{is_limit}
+use Rattle.h3_proto.specs.Settings.{settings_of}
+use Rattle.h3_proto.specs.declared.frame.SettingsError.{SettingsError}
+use Rattle.h3_wire.specs.ExcessiveFrames.{begins_section, head_said, is_kept_whole, is_of_type, is_too_long, length_said, says_too_much, is_excessive, tells_too_much, tells_type}
+use Rattle.h3_wire.specs.FrameLaws.{at_no_kind, at_no_number, at_head}
+use Rattle.h3_wire.specs.Fronts.{IsFinished, IsKept, IsKnown}
+use Rattle.h3_wire.specs.Frames.{Front, Whole, Unknown, Refused, Unfinished, alone, one_number, settings_frame, promise_frame, is_http2, frame_of, with_head, frame_at}
+use Rattle.h3_wire.specs.Known.{known}
+use Rattle.h3_wire.specs.KnownLaws.{known-other, known-unknown}
+use Rattle.h3_wire.specs.declared.proto.frame.PayloadLen.{PayloadLen}
+use Rattle.h3_wire.specs.declared.proto.frame.Frame.{Frame}
+use Rattle.h3_wire.specs.declared.proto.frame.Frame.TheVariants as frame
+
+-- **With no limit nothing is too long.**
+pub none_excessive : (most : ℕ) (bytes : List ℕ) → is_limit most ≡ false → is_excessive most bytes ≡ false
+none_excessive most bytes none = ap (λ b. b && says_too_much most (varint_at bytes)) none
+
+-- What is kept has a type from 1 to 13,
+kept_within : (kind : ℕ) → is_kept_whole kind ≡ true → (0 < kind) × (kind < 14)
+kept_within kind kept = by_test (nat_le 1 kind && nat_le kind 9) refl kept
+  where
+    by_test : (b : Bool) → (nat_le 1 kind && nat_le kind 9) ≡ b → (b || (kind == 13)) ≡ true → (0 < kind) × (kind < 14)
+    by_test true e h =
+        let parts = and_parts (nat_le 1 kind) (nat_le kind 9) e in
+        (omega (arith, leb-true 1 kind parts.0), omega (arith, leb-true kind 9 parts.1))
+    by_test false e h = let is = eqb-true kind 13 h in (omega (arith, is), omega (arith, is))
+
+-- and what is not kept, and is no DATA, has one above 9.
+not_kept_above : (kind : ℕ) → is_kept_whole kind ≡ false → 0 < kind → (9 < kind) × ((kind == 13) ≡ false)
+not_kept_above kind none some =
+    let parts = or_parts (nat_le 1 kind && nat_le kind 9) (kind == 13) none in
+    (leb-false kind 9 (ap (λ b. b && nat_le kind 9) (sym (le-leb 1 kind some)) ∙ parts.0), parts.1)
+
+kept_known : (x : Front) → IsKept x → IsKnown x
+kept_known (Unknown kind rest) h = absurd h
+kept_known (Whole f rest) h = tt
+kept_known (Refused e) h = tt
+kept_known (Unfinished least) h = tt
+
+test : (b : Bool) (x y : Front) → (b ≡ true → IsKept x) → (b ≡ false → IsKept y) → IsKept (if b then x else y)
+test true x y h k = h refl
+test false x y h k = k refl
+
+alone_kept : (bytes : List ℕ) (f : Frame PayloadLen) (rest : List ℕ) → IsKept (Whole f rest) → IsKept (alone bytes f rest)
+alone_kept [] f rest h = h
+alone_kept (byte ∷ bytes) f rest h = tt
+
+number_kept : (o : Option (ℕ × List ℕ)) (make : ℕ → Frame PayloadLen) (rest : List ℕ) → ((n : ℕ) → IsKept (Whole (make n) rest)) → IsKept (one_number o make rest)
+number_kept None make rest h = tt
+number_kept (Some p) make rest h = alone_kept p.1 (make p.0) rest (h p.0)
+
+settings_kept : (r : Result (List (ℕ × ℕ)) SettingsError) (rest : List ℕ) → IsKept (settings_frame r rest)
+settings_kept (Ok pairs) rest = tt
+settings_kept (Err e) rest = tt
+
+promise_kept : (o : Option (ℕ × List ℕ)) (rest : List ℕ) → IsKept (promise_frame o rest)
+promise_kept None rest = tt
+promise_kept (Some p) rest = tt
+
+pub none_left : (kind : ℕ) → is_kept_whole kind ≡ true → (kind == 1) ≡ false → (kind == 3) ≡ false → (kind == 4) ≡ false → (kind == 5) ≡ false → (kind == 7) ≡ false → (kind == 13) ≡ false → is_http2 kind ≡ false → ⊥
+none_left zero kept a b c d e f g = cc
+none_left (suc zero) kept a b c d e f g = cc
+none_left (suc (suc zero)) kept a b c d e f g = cc
+none_left (suc (suc (suc zero))) kept a b c d e f g = cc
+none_left (suc (suc (suc (suc zero)))) kept a b c d e f g = cc
+none_left (suc (suc (suc (suc (suc zero))))) kept a b c d e f g = cc
+none_left (suc (suc (suc (suc (suc (suc zero)))))) kept a b c d e f g = cc
+none_left (suc (suc (suc (suc (suc (suc (suc zero))))))) kept a b c d e f g = cc
+none_left (suc (suc (suc (suc (suc (suc (suc (suc zero)))))))) kept a b c d e f g = cc
+none_left (suc (suc (suc (suc (suc (suc (suc (suc (suc zero))))))))) kept a b c d e f g = cc
+none_left (suc (suc (suc (suc (suc (suc (suc (suc (suc (suc zero)))))))))) kept a b c d e f g = cc
+none_left (suc (suc (suc (suc (suc (suc (suc (suc (suc (suc (suc zero))))))))))) kept a b c d e f g = cc
+none_left (suc (suc (suc (suc (suc (suc (suc (suc (suc (suc (suc (suc zero)))))))))))) kept a b c d e f g = cc
+none_left (suc (suc (suc (suc (suc (suc (suc (suc (suc (suc (suc (suc (suc zero))))))))))))) kept a b c d e f g = cc
+none_left (suc (suc (suc (suc (suc (suc (suc (suc (suc (suc (suc (suc (suc (suc n)))))))))))))) kept a b c d e f g = omega (arith, (kept_within (suc (suc (suc (suc (suc (suc (suc (suc (suc (suc (suc (suc (suc (suc n)))))))))))))) kept).1)
+
+frame_kept : (kind : ℕ) (payload rest : List ℕ) → is_kept_whole kind ≡ true → IsKept (frame_of kind payload rest)
+unfolding frame_of
+frame_kept kind payload rest kept =
+    test (kind == 1) _ _ (λ t. tt) (λ a.
+    test (kind == 3) _ _ (λ t. number_kept (varint_at payload) (λ id. frame.CancelPush id) rest (λ n. tt)) (λ b.
+    test (kind == 4) _ _ (λ t. settings_kept (settings_of payload) rest) (λ c.
+    test (kind == 5) _ _ (λ t. promise_kept (varint_at payload) rest) (λ d.
+    test (kind == 7) _ _ (λ t. number_kept (varint_at payload) (λ id. frame.Goaway id) rest (λ n. tt)) (λ e.
+    test (kind == 13) _ _ (λ t. number_kept (varint_at payload) (λ id. frame.MaxPushId id) rest (λ n. tt)) (λ f.
+    test (is_http2 kind) _ _ (λ t. tt) (λ g. absurd (none_left kind kept a b c d e f g))))))))
+
+no_zero : (kind : ℕ) → is_kept_whole kind ≡ true → (kind == 0) ≡ true → ⊥
+no_zero kind kept e = omega (arith, (kept_within kind kept).0, eqb-true kind 0 e)
+
+-- What is kept whole is.
+head_kept : (size kind number : ℕ) (behind : List ℕ) → is_kept_whole kind ≡ true → IsKept (with_head size kind number behind)
+head_kept size kind number behind kept =
+    test (kind == 0x41) _ _ (λ t. tt) (λ session. test (kind == 0) _ _ (λ t. absurd (no_zero kind kept t)) (λ other.
+    test (nat_lt (length behind) number) _ _ (λ t. tt) (λ there. frame_kept kind (take number behind) (drop number behind) kept)))
+
+head_known : (size kind number : ℕ) (behind : List ℕ) → is_kept_whole kind ≡ true → IsKnown (with_head size kind number behind)
+head_known size kind number behind kept = kept_known (with_head size kind number behind) (head_kept size kind number behind kept)
+
+-- DATA and streams of WebTransport are known too,
+handed_known : (size kind number : ℕ) (behind : List ℕ) → ((kind == 0) || (kind == 0x41)) ≡ true → IsKnown (with_head size kind number behind)
+handed_known size kind number behind handed = by_test (kind == 0x41) (kind == 0) handed
+  where
+    by_test : (a b : Bool) → (b || a) ≡ true
+        → IsKnown (if a then Whole (frame.WebTransportStream number) behind
+        else (if b then Whole (frame.Data (record { 0 = number })) behind
+        else (if nat_lt (length behind) number then Unfinished (size - length behind + number)
+        else frame_of kind (take number behind) (drop number behind))))
+    by_test true b h = tt
+    by_test false true h = tt
+    by_test false false h = absurd (cc)
+
+-- and all others are not.
+frame_unknown : (kind : ℕ) (payload rest : List ℕ) → is_kept_whole kind ≡ false → (kind == 0) ≡ false → frame_of kind payload rest ≡ Unknown kind rest
+unfolding frame_of
+frame_unknown kind payload rest none other =
+    let above = not_kept_above kind none (some kind other) in
+    rw (
+      ne_eqb kind 1 (λ e. omega (arith, above.0, e)),
+      ne_eqb kind 3 (λ e. omega (arith, above.0, e)),
+      ne_eqb kind 4 (λ e. omega (arith, above.0, e)),
+      ne_eqb kind 5 (λ e. omega (arith, above.0, e)),
+      ne_eqb kind 7 (λ e. omega (arith, above.0, e)),
+      above.1,
+      ne_eqb 2 kind (λ e. omega (arith, above.0, e)),
+      ne_eqb 6 kind (λ e. omega (arith, above.0, e)),
+      ne_eqb 8 kind (λ e. omega (arith, above.0, e)),
+      ne_eqb 9 kind (λ e. omega (arith, above.0, e)),
+    ) refl
+  where
+    some : (n : ℕ) → (n == 0) ≡ false → 0 < n
+    some zero e = absurd (cc)
+    some (suc n) e = omega arith
+
+-- **No frame in front of these is passed.** A head that is not whole,
+stays_none : (bytes : List ℕ) → varint_at bytes ≡ None → known bytes ≡ bytes
+stays_none bytes e = known-other bytes (subst IsKnown (sym (at_no_kind bytes e)) tt)
+
+stays_begun : (kind : ℕ) (bytes mid : List ℕ) → varint_at bytes ≡ Some (kind, mid) → varint_at mid ≡ None → known bytes ≡ bytes
+stays_begun kind bytes mid e k = known-other bytes (subst IsKnown (sym (at_no_number kind bytes mid e k)) tt)
+
+-- one of a frame whose payload is kept, or is handed out as it comes,
+stays_kept : (kind number : ℕ) (bytes mid behind : List ℕ) → is_kept_whole kind ≡ true → varint_at bytes ≡ Some (kind, mid) → varint_at mid ≡ Some (number, behind) → known bytes ≡ bytes
+stays_kept kind number bytes mid behind kept e k = known-other bytes (subst IsKnown (sym (at_head kind number bytes mid behind e k)) (head_known (length bytes) kind number behind kept))
+
+stays_handed : (kind number : ℕ) (bytes mid behind : List ℕ) → ((kind == 0) || (kind == 0x41)) ≡ true → varint_at bytes ≡ Some (kind, mid) → varint_at mid ≡ Some (number, behind) → known bytes ≡ bytes
+stays_handed kind number bytes mid behind handed e k = known-other bytes (subst IsKnown (sym (at_head kind number bytes mid behind e k)) (handed_known (length bytes) kind number behind handed))
+
+-- and one of an unknown frame that is not whole. One that is whole is left out.
+unknown_head : (size kind number : ℕ) (behind : List ℕ) → is_kept_whole kind ≡ false → ((kind == 0) || (kind == 0x41)) ≡ false
+    → with_head size kind number behind ≡ (if nat_lt (length behind) number then Unfinished (size - length behind + number) else Unknown kind (drop number behind))
+unknown_head size kind number behind none other =
+    let parts = or_parts (kind == 0) (kind == 0x41) other in
+    rw (parts.1, parts.0, frame_unknown kind (take number behind) (drop number behind) none parts.0) refl
+
+stays_unknown : (kind number : ℕ) (bytes mid behind : List ℕ) → is_kept_whole kind ≡ false → ((kind == 0) || (kind == 0x41)) ≡ false → varint_at bytes ≡ Some (kind, mid) → varint_at mid ≡ Some (number, behind)
+    → length behind < number → known bytes ≡ bytes
+stays_unknown kind number bytes mid behind none other e k short =
+    let front = at_head kind number bytes mid behind e k ∙ unknown_head (length bytes) kind number behind none other in
+    let waits : frame_at bytes ≡ Unfinished (length bytes - length behind + number) =
+    front ∙ ap (λ b. if b then Unfinished (length bytes - length behind + number) else Unknown kind (drop number behind)) (lt-ltb (length behind) number short) in
+    known-other bytes (subst IsKnown (sym waits) tt)
+
+pub unknown_passed : (kind number : ℕ) (bytes mid behind : List ℕ) → is_kept_whole kind ≡ false → ((kind == 0) || (kind == 0x41)) ≡ false → varint_at bytes ≡ Some (kind, mid) → varint_at mid ≡ Some (number, behind)
+    → number ≤ length behind → known bytes ≡ known (drop number behind)
+unknown_passed kind number bytes mid behind none other e k there =
+    let front = at_head kind number bytes mid behind e k ∙ unknown_head (length bytes) kind number behind none other in
+    let whole : frame_at bytes ≡ Unknown kind (drop number behind) =
+    front ∙ ap (λ b. if b then Unfinished (length bytes - length behind + number) else Unknown kind (drop number behind)) (le-ltb (length behind) number there) in
+    known-unknown kind bytes (drop number behind) whole
+
+-- **So the head says what the first frame that is not passed says.**
+says : (bytes : List ℕ) (o : Option (ℕ × List ℕ)) → known bytes ≡ bytes → varint_at bytes ≡ o → head_said o ≡ head_said (varint_at (known bytes))
+says bytes o stays e = sym (ap (λ b. head_said (varint_at b)) stays ∙ ap head_said e)
+
+pub none_says : (bytes : List ℕ) → varint_at bytes ≡ None → None ≡ head_said (varint_at (known bytes))
+none_says bytes e = says bytes None (stays_none bytes e) e
+
+with_length : (kind : ℕ) (mid : List ℕ) (o : Option (ℕ × List ℕ)) → varint_at mid ≡ o → Some (kind, length_said o) ≡ head_said (Some (kind, mid))
+with_length kind mid o k = ap (λ n. Some (kind, length_said n)) (sym k)
+
+pub begun_says : (kind : ℕ) (bytes mid : List ℕ) → varint_at bytes ≡ Some (kind, mid) → varint_at mid ≡ None → Some (kind, 0) ≡ head_said (varint_at (known bytes))
+begun_says kind bytes mid e k = with_length kind mid None k ∙ says bytes (Some (kind, mid)) (stays_begun kind bytes mid e k) e
+
+whole_says : (kind number : ℕ) (bytes mid behind : List ℕ) → known bytes ≡ bytes → varint_at bytes ≡ Some (kind, mid) → varint_at mid ≡ Some (number, behind) → Some (kind, number) ≡ head_said (varint_at (known bytes))
+whole_says kind number bytes mid behind stays e k = with_length kind mid (Some (number, behind)) k ∙ says bytes (Some (kind, mid)) stays e
+
+pub kept_is_known : (kind : ℕ) → is_kept_whole kind ≡ true → (is_kept_whole kind || ((kind == 0) || (kind == 0x41))) ≡ true
+kept_is_known kind kept = ap (λ b. b || ((kind == 0) || (kind == 0x41))) kept
+
+pub handed_is_known : (kind : ℕ) → ((kind == 0) || (kind == 0x41)) ≡ true → (is_kept_whole kind || ((kind == 0) || (kind == 0x41))) ≡ true
+handed_is_known kind handed = by_test (is_kept_whole kind)
+  where
+    by_test : (b : Bool) → (b || ((kind == 0) || (kind == 0x41))) ≡ true
+    by_test true = refl
+    by_test false = handed
+
+pub known_says : (kind number : ℕ) (bytes mid behind : List ℕ) → (is_kept_whole kind || ((kind == 0) || (kind == 0x41))) ≡ true → varint_at bytes ≡ Some (kind, mid) → varint_at mid ≡ Some (number, behind)
+    → Some (kind, number) ≡ head_said (varint_at (known bytes))
+known_says kind number bytes mid behind known_type e k = whole_says kind number bytes mid behind (by_test (is_kept_whole kind) refl known_type) e k
+  where
+    by_test : (b : Bool) → is_kept_whole kind ≡ b → (b || ((kind == 0) || (kind == 0x41))) ≡ true → known bytes ≡ bytes
+    by_test true kept h = stays_kept kind number bytes mid behind kept e k
+    by_test false none h = stays_handed kind number bytes mid behind h e k
+
+pub waiting_says : (kind number : ℕ) (bytes mid behind : List ℕ) → is_kept_whole kind ≡ false → ((kind == 0) || (kind == 0x41)) ≡ false → varint_at bytes ≡ Some (kind, mid) → varint_at mid ≡ Some (number, behind)
+    → length behind < number → Some (kind, number) ≡ head_said (varint_at (known bytes))
+waiting_says kind number bytes mid behind none other e k short = whole_says kind number bytes mid behind (stays_unknown kind number bytes mid behind none other e k short) e k
+
+-- **What is too long, and what is a field section, is told by it.**
+pub excess_told : (most : ℕ) (bytes : List ℕ) (o : Option (ℕ × ℕ)) → is_limit most ≡ true → o ≡ head_said (varint_at bytes) → tells_too_much most o ≡ is_excessive most bytes
+excess_told most bytes o limit e = ap (tells_too_much most) e ∙ by_kind (varint_at bytes) ∙ sym (ap (λ b. b && says_too_much most (varint_at bytes)) limit)
+  where
+    by_number : (kind : ℕ) (n : Option (ℕ × List ℕ)) → (is_kept_whole kind && nat_lt most (length_said n)) ≡ is_too_long most kind n
+    by_number kind None = and_right (is_kept_whole kind) (nat_lt most 0) (le-ltb most 0 (omega arith))
+    by_number kind (Some p) = refl
+
+    by_kind : (x : Option (ℕ × List ℕ)) → tells_too_much most (head_said x) ≡ says_too_much most x
+    by_kind None = refl
+    by_kind (Some p) = by_number p.0 (varint_at p.1)
+
+pub section_told : (bytes : List ℕ) (o : Option (ℕ × ℕ)) → o ≡ head_said (varint_at bytes) → tells_type 1 o ≡ begins_section bytes
+section_told bytes o e = ap (tells_type 1) e ∙ by_kind (varint_at bytes)
+  where
+    by_kind : (x : Option (ℕ × List ℕ)) → tells_type 1 (head_said x) ≡ is_of_type 1 x
+    by_kind None = refl
+    by_kind (Some p) = refl
+
+-- A head that is not there is of no frame that is too long,
+pub no_kind : (most : ℕ) (bytes : List ℕ) → varint_at bytes ≡ None → is_excessive most (known bytes) ≡ false
+no_kind most bytes e = ap (is_excessive most) (stays_none bytes e) ∙ and_right (is_limit most) (says_too_much most (varint_at bytes)) (ap (says_too_much most) e)
+
+-- one whose payload is kept tells,
+pub kept_says : (most kind number : ℕ) (bytes mid behind : List ℕ) → is_limit most ≡ true → is_kept_whole kind ≡ true → varint_at bytes ≡ Some (kind, mid) → varint_at mid ≡ Some (number, behind)
+    → is_excessive most (known bytes) ≡ nat_lt most number
+kept_says most kind number bytes mid behind limit kept e k =
+    ap (is_excessive most) (stays_kept kind number bytes mid behind kept e k)
+    ∙ ap (λ b. b && says_too_much most (varint_at bytes)) limit ∙ ap (says_too_much most) e ∙ ap (is_too_long most kind) k ∙ ap (λ b. b && nat_lt most number) kept
+
+-- and no other is too long.
+not_kept : (most kind number : ℕ) (bytes mid behind : List ℕ) → is_kept_whole kind ≡ false → varint_at bytes ≡ Some (kind, mid) → varint_at mid ≡ Some (number, behind) → known bytes ≡ bytes
+    → is_excessive most (known bytes) ≡ false
+not_kept most kind number bytes mid behind none e k stays =
+    ap (is_excessive most) stays
+    ∙ and_right (is_limit most) (says_too_much most (varint_at bytes)) (ap (says_too_much most) e ∙ ap (is_too_long most kind) k ∙ ap (λ b. b && nat_lt most number) none)
+
+pub handed_says : (most kind number : ℕ) (bytes mid behind : List ℕ) → is_kept_whole kind ≡ false → ((kind == 0) || (kind == 0x41)) ≡ true → varint_at bytes ≡ Some (kind, mid) → varint_at mid ≡ Some (number, behind)
+    → is_excessive most (known bytes) ≡ false
+handed_says most kind number bytes mid behind none handed e k = not_kept most kind number bytes mid behind none e k (stays_handed kind number bytes mid behind handed e k)
+
+pub unknown_says : (most kind number : ℕ) (bytes mid behind : List ℕ) → is_kept_whole kind ≡ false → ((kind == 0) || (kind == 0x41)) ≡ false → varint_at bytes ≡ Some (kind, mid) → varint_at mid ≡ Some (number, behind)
+    → length behind < number → is_excessive most (known bytes) ≡ false
+unknown_says most kind number bytes mid behind none other e k short = not_kept most kind number bytes mid behind none e k (stays_unknown kind number bytes mid behind none other e k short)
+
+pub unknown_begins : (kind number : ℕ) (bytes mid behind : List ℕ) → is_kept_whole kind ≡ false → ((kind == 0) || (kind == 0x41)) ≡ false → varint_at bytes ≡ Some (kind, mid) → varint_at mid ≡ Some (number, behind)
+    → length behind < number → begins_section (known bytes) ≡ false
+unknown_begins kind number bytes mid behind none other e k short =
+    ap begins_section (stays_unknown kind number bytes mid behind none other e k short) ∙ ap (is_of_type 1) e ∙ ne_eqb kind 1 (λ is. absurd (no_section kind none is))
+  where
+    no_section : (n : ℕ) → is_kept_whole n ≡ false → n ≡ 1 → ⊥
+    no_section n h is = let wrong : true ≡ false = ap is_kept_whole (sym is) ∙ h in cc
+
+-- Where a frame is there, no byte behind it matters.
+said_of : (most kind number : ℕ) (bytes mid behind : List ℕ) → varint_at bytes ≡ Some (kind, mid) → varint_at mid ≡ Some (number, behind)
+    → is_excessive most bytes ≡ (is_limit most && (is_kept_whole kind && nat_lt most number))
+said_of most kind number bytes mid behind e k = ap (λ b. is_limit most && b) (ap (says_too_much most) e ∙ ap (is_too_long most kind) k)
+
+pub excessive_more : (most : ℕ) (bytes more : List ℕ) → IsFinished (frame_at bytes) → is_excessive most (bytes ++ more) ≡ is_excessive most bytes
+excessive_more most bytes more there = elim (cases_number bytes) [
+  | inl none ↦ absurd (subst IsFinished (at_no_kind bytes none) there)
+  | inr (kind, mid, e) ↦ by_number kind mid e (cases_number mid)
+]
+  where
+    by_number : (kind : ℕ) (mid : List ℕ) → varint_at bytes ≡ Some (kind, mid) → (varint_at mid ≡ None) ⊎ ((v : ℕ) × (rest : List ℕ) × (varint_at mid ≡ Some (v, rest)))
+        → is_excessive most (bytes ++ more) ≡ is_excessive most bytes
+    by_number kind mid e (inl none) = absurd (subst IsFinished (at_no_number kind bytes mid e none) there)
+    by_number kind mid e (inr (number, behind, k)) =
+        said_of most kind number (bytes ++ more) (mid ++ more) (behind ++ more) (reads_more kind bytes mid more e) (reads_more number mid behind more k)
+        ∙ sym (said_of most kind number bytes mid behind e k)
+
+-- What is too long has its type, and no byte behind it matters.
+pub section_more : (most : ℕ) (bytes more : List ℕ) → is_excessive most bytes ≡ true → begins_section (bytes ++ more) ≡ begins_section bytes
+section_more most bytes more e = elim (cases_number bytes) [
+  | inl none ↦
+      let wrong : false ≡ true = sym (and_right (is_limit most) (says_too_much most (varint_at bytes)) (ap (says_too_much most) none)) ∙ e in
+      absurd (cc)
+  | inr (kind, mid, k) ↦ ap (is_of_type 1) (reads_more kind bytes mid more k) ∙ sym (ap (is_of_type 1) k)
+]
+
+-- DATA is never too long.
+pub no_data : (most : ℕ) (bytes rest : List ℕ) (len : PayloadLen) → frame_at bytes ≡ Whole (frame.Data len) rest → is_excessive most bytes ≡ true → ⊥
+no_data most bytes rest len there excessive = elim (cases_number bytes) [
+  | inl none ↦ let wrong : Unfinished (length bytes + 1) ≡ Whole (frame.Data len) rest = sym (at_no_kind bytes none) ∙ there in cc
+  | inr (kind, mid, e) ↦ by_number kind mid e (cases_number mid)
+]
+  where
+    by_number : (kind : ℕ) (mid : List ℕ) → varint_at bytes ≡ Some (kind, mid) → (varint_at mid ≡ None) ⊎ ((v : ℕ) × (left : List ℕ) × (varint_at mid ≡ Some (v, left))) → ⊥
+    by_number kind mid e (inl none) = let wrong : Unfinished (length bytes + 1) ≡ Whole (frame.Data len) rest = sym (at_no_number kind bytes mid e none) ∙ there in cc
+    by_number kind mid e (inr (number, behind, k)) =
+        let said : (is_limit most && (is_kept_whole kind && nat_lt most number)) ≡ true = sym (said_of most kind number bytes mid behind e k) ∙ excessive in
+        let kept = (and_parts (is_kept_whole kind) (nat_lt most number) (and_parts (is_limit most) (is_kept_whole kind && nat_lt most number) said).1).0 in
+        subst IsKept (sym (at_head kind number bytes mid behind e k) ∙ there) (head_kept (length bytes) kind number behind kept)

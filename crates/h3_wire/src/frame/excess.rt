@@ -1,0 +1,111 @@
+//! Frames that are longer than their reader takes (RFC 9114, section 10.5).
+ghost use Rattle.std.specs.Prelude.{◌≡◌, ◌<◌, ◌≤◌, ◌||◌, ◌==◌, true, drop, length, IfSome, IsNone, nat_lt};
+ghost use Rattle.std.specs.List.{concat};
+ghost use Rattle.h3_proto.specs.Config.{is_limit};
+ghost use Rattle.h3_coding.specs.Varint.{varint_at};
+ghost use Rattle.h3_wire.specs.ExcessiveFrames.{begins_section, head_said, is_excessive, is_kept_whole};
+ghost use Rattle.h3_wire.specs.Known.{known};
+ghost use Rattle.h3_wire.specs.Place.{left_at};
+
+use crate::buf::{BufList, Cursor};
+use crate::proto::frame::FrameHead;
+use bytes::{Buf, Bytes};
+use h3_coding::coding::BufExt;
+
+// RFC 9114 10.5: unfinished_limit of frames
+/// Whether the first frame that is no whole unknown one says a length above this limit, and is one whose payload is kept until it is whole.
+/// Nothing is taken. It stays apart, so that a reader without a limit is as short as it was.
+#[tactic(auto, using(crate::proofs::SparedExcess::nothing_is_long))]
+#[inline(never)]
+pub(super) fn is_excessive(src: &BufList<Bytes>, most: u64) -> bool
+    requires { is_limit most ≡ true }
+    ensures { result ≡ is_excessive most (known (concat src.now.pieces)) }
+{
+    if src.remaining() == 0 {
+        return false;
+    }
+    if let Some(head) = FrameHead::at_front(src.first_bytes()) {
+        if is_kept_whole(head.kind) {
+            return head.number > most;
+        }
+        if is_handed_out(head.kind) {
+            return false;
+        }
+    }
+    is_excessive_behind(src, 0, most)
+}
+
+/// The same after so many bytes, wherever types and lengths lie. It stays apart, so that a look at one piece makes no room for a cursor.
+#[inline(never)]
+pub(super) fn is_excessive_behind(src: &BufList<Bytes>, passed: usize, most: u64) -> bool
+    requires limit { is_limit most ≡ true }
+    requires there { passed ≤ length (concat src.now.pieces) }
+    ensures { result ≡ is_excessive most (known (drop passed (concat src.now.pieces))) }
+{
+    match first_head(src, passed) {
+        Some((kind, number)) => is_kept_whole(kind) && number > most,
+        None => false,
+    }
+}
+
+/// Whether the first frame after so many bytes that is no whole unknown one is HEADERS, as far as its type came. Nothing is taken.
+pub(super) fn begins_section(src: &BufList<Bytes>, passed: usize) -> bool
+    requires there { passed ≤ length (concat src.now.pieces) }
+    ensures { result ≡ begins_section (known (drop passed (concat src.now.pieces))) }
+{
+    match first_head(src, passed) {
+        Some((kind, _)) => kind == 1,
+        None => false,
+    }
+}
+
+// What that frame says, as far as it came: its type, and its length or 0.
+fn first_head(src: &BufList<Bytes>, passed: usize) -> Option<(u64, u64)>
+    requires there { passed ≤ length (concat src.now.pieces) }
+    ensures { result ≡ head_said (varint_at (known (drop passed (concat src.now.pieces)))) }
+{
+    let mut cursor = src.cursor();
+    cursor.advance(passed);
+    loop {
+        if let Some(head) = look(&mut cursor) {
+            return head;
+        }
+    }
+}
+
+// What the frame under the cursor says, as far as its type and length came. A frame that is unknown and whole says nothing, and is passed.
+fn look(cursor: &mut Cursor<'_, Bytes>) -> Option<Option<(u64, u64)>>
+    ensures some { IfSome result (λ h. h ≡ head_said (varint_at (known (left_at cursor.old)))) }
+    ensures same { IsNone result → known (left_at cursor.new) ≡ known (left_at cursor.old) }
+    ensures less { IsNone result → length (left_at cursor.new) < length (left_at cursor.old) }
+{
+    let Ok(kind) = cursor.get_var() else {
+        return Some(None);
+    };
+    let Ok(number) = cursor.get_var() else {
+        return Some(Some((kind, 0)));
+    };
+    if is_kept_whole(kind) || is_handed_out(kind) {
+        return Some(Some((kind, number)));
+    }
+    let size = number as usize;
+    if cursor.remaining() < size {
+        return Some(Some((kind, number)));
+    }
+    cursor.advance(size);
+    None
+}
+
+// The types of frames whose payload is kept until it is whole.
+fn is_kept_whole(kind: u64) -> bool
+    ensures { result ≡ is_kept_whole kind }
+{
+    (1 <= kind && kind <= 9) || kind == 13
+}
+
+// The types whose payload is delivered as it comes: DATA, and a stream of WebTransport.
+fn is_handed_out(kind: u64) -> bool
+    ensures { result ≡ ((kind == 0) || (kind == 0x41)) }
+{
+    kind == 0 || kind == 0x41
+}

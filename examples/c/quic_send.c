@@ -1,0 +1,255 @@
+#include "quic_parts.h"
+#include <errno.h>
+#include <netinet/udp.h>
+#include <stdlib.h>
+#include <string.h>
+
+enum {
+  USUAL = 3,               /* the urgency of streams of which the owner says nothing (RFC 9218, section 4.1): they take turns */
+  KEPT_LIMIT = 256 * 1024, /* bytes of a stream that may wait for their acknowledgment */
+  FIRST_PIECE = 16 * 1024  /* of a stream that has none, however many the others have */
+};
+
+/* ---- streams ---- */
+
+stream *quic_find(const quic_connection *connection, int64_t id) { return table_find(&connection->streams, (uint64_t)id); }
+
+static stream *find_or_add(quic_connection *connection, int64_t id) {
+  stream *found = quic_find(connection, id);
+  if (found || !(found = malloc(sizeof *found))) return found;
+  *found = (stream){.turn = {.of = found, .id = (uint64_t)id, .urgency = USUAL, .incremental = true}};
+  table_add(&connection->streams, &found->entry, (uint64_t)id);
+  return found;
+}
+
+/* Something of the stream is here, for a packet. */
+static bool has_bytes(const stream *stream) {
+  return stream->out.taken < stream->out.given || (stream->out.ended && !stream->out.end_taken);
+}
+
+/* QUIC took so many bytes, or nobody will. */
+static void taken(quic_connection *connection, stream *stream, uint64_t count) {
+  buffer_take(&stream->out, count);
+  connection->untaken -= count;
+}
+
+/* Nothing more of the stream goes out. What was sent is kept until the stream is closed. */
+static void abandon(quic_connection *connection, stream *stream) {
+  turns_remove(&connection->turns, &stream->turn);
+  stream->offered = false;
+  taken(connection, stream, stream->out.given - stream->out.taken);
+  stream->out.ended = stream->out.end_taken = true;
+}
+
+void quic_acknowledged(quic_connection *connection, stream *stream, uint64_t offset) {
+  uint64_t before = stream->out.kept;
+  buffer_acknowledge(&stream->out, offset);
+  connection->kept -= stream->out.kept - before;
+}
+
+void quic_forget(quic_connection *connection, stream *stream) {
+  abandon(connection, stream);
+  table_remove(&connection->streams, &stream->entry);
+  connection->kept -= stream->out.given - stream->out.kept;
+  buffer_free(&stream->out);
+  free(stream);
+}
+
+static uint64_t least(uint64_t one, uint64_t other) { return one < other ? one : other; }
+
+/* What the peer has granted: on the stream, and on all streams, of which the others have a part. */
+static uint64_t credit(const quic_connection *connection, int64_t id, uint64_t untaken) {
+  uint64_t of_stream = ngtcp2_conn_get_max_stream_data_left(connection->conn, id);
+  uint64_t of_all = ngtcp2_conn_get_max_data_left(connection->conn);
+  of_stream -= least(of_stream, untaken);
+  return least(of_stream, of_all - least(of_all, connection->untaken));
+}
+
+size_t quic_room(const quic_connection *connection, int64_t id) {
+  const stream *stream = quic_find(connection, id);
+  if (connection->gone || (stream && stream->out.ended)) return 0;
+  uint64_t kept = stream ? stream->out.given - stream->out.kept : 0, most = KEPT_LIMIT;
+  if (connection->kept >= connection->socket->limits.kept) most = FIRST_PIECE;
+  if (kept >= most) return 0;
+  return (size_t)least(most - kept, credit(connection, id, stream ? stream->out.given - stream->out.taken : 0));
+}
+
+bool quic_is_read(const quic_connection *connection, int64_t id) {
+  return !connection->gone && ngtcp2_conn_get_max_stream_data_left(connection->conn, id) > 0;
+}
+
+/* So many bytes were given to a stream, or its end. */
+static void given(quic_connection *connection, stream *stream, size_t count) {
+  connection->kept += count;
+  connection->untaken += count;
+  if (!connection->asking) quic_due(connection);
+  if (has_bytes(stream)) turns_add(&connection->turns, &stream->turn);
+}
+
+bool quic_offer(quic_connection *connection, int64_t id) {
+  stream *stream = find_or_add(connection, id);
+  if (!stream) return false;
+  if (stream->out.ended) return true;
+  stream->offered = true;
+  turns_add(&connection->turns, &stream->turn);
+  return true;
+}
+
+bool quic_prefer(quic_connection *connection, int64_t id, int urgency, bool incremental) {
+  stream *stream = find_or_add(connection, id);
+  if (stream) turns_prefer(&connection->turns, &stream->turn, urgency, incremental);
+  return stream;
+}
+
+bool quic_send(quic_connection *connection, int64_t id, const uint8_t *bytes, size_t count, bool end) {
+  stream *stream = find_or_add(connection, id);
+  if (!stream || !buffer_give(&stream->out, bytes, count)) return false;
+  if (end) stream->out.ended = true;
+  given(connection, stream, count);
+  return true;
+}
+
+uint8_t *quic_send_here(quic_connection *connection, int64_t id, size_t count) {
+  stream *stream = find_or_add(connection, id);
+  uint8_t *place = stream ? buffer_extend(&stream->out, count) : NULL;
+  if (place) given(connection, stream, count);
+  return place;
+}
+
+void quic_reset(quic_connection *connection, int64_t id, uint64_t code) {
+  stream *stream = quic_find(connection, id);
+  if (stream) abandon(connection, stream);
+  quic_due(connection);
+  if (!connection->gone) ngtcp2_conn_shutdown_stream_write(connection->conn, 0, id, code);
+}
+
+/* ---- packets ---- */
+
+void quic_put(quic_socket *socket, const uint8_t *packet, size_t count, const ngtcp2_addr *to) {
+  while (sendto(socket->file, packet, count, 0, to->addr, to->addrlen) < 0 && errno == EINTR) continue;
+  socket->counts.packets_out++;
+  socket->counts.bytes_out += count;
+}
+
+/* Sends packets, of which all but the last have the length `segment`. */
+static ssize_t send_segments(quic_socket *socket, batch *batch, uint8_t *bytes, size_t count) {
+  union {
+    struct cmsghdr head;
+    char bytes[CMSG_SPACE(sizeof(uint16_t))];
+  } control = {.bytes = {0}};
+  uint16_t segment = (uint16_t)batch->segment;
+  struct iovec piece = {bytes, count};
+  struct msghdr message = {.msg_name = &batch->to, .msg_namelen = batch->to_count, .msg_iov = &piece, .msg_iovlen = 1};
+  if (count > batch->segment) {
+    message.msg_control = control.bytes;
+    message.msg_controllen = sizeof control.bytes;
+    control.head = (struct cmsghdr){.cmsg_level = SOL_UDP, .cmsg_type = UDP_SEGMENT, .cmsg_len = CMSG_LEN(sizeof segment)};
+    memcpy(CMSG_DATA(&control.head), &segment, sizeof segment);
+  }
+  return sendmsg(socket->file, &message, 0);
+}
+
+/* Another error than a full socket loses packets, as quic_put does. */
+bool quic_flush(quic_socket *socket) {
+  batch *batch = &socket->batch;
+  while (batch->sent < batch->count) {
+    size_t left = batch->count - batch->sent, count = socket->one_by_one && left > batch->segment ? batch->segment : left;
+    ssize_t done = send_segments(socket, batch, batch->bytes + batch->sent, count);
+    if (done < 0 && (errno == EAGAIN || errno == EWOULDBLOCK)) return false;
+    if (done < 0 && errno == EINTR) continue;
+    if (done < 0 && count > batch->segment && (errno == EIO || errno == EINVAL)) socket->one_by_one = true;
+    else batch->sent += count;
+  }
+  batch->sent = batch->count = 0;
+  return true;
+}
+
+/* The packet that was written after the batch joins it, if it has its length and goes the same way; else the batch goes out before. false: the
+ * socket is full. */
+static bool join(quic_socket *socket, size_t count, const ngtcp2_addr *to) {
+  batch *batch = &socket->batch;
+  socket->counts.packets_out++;
+  socket->counts.bytes_out += count;
+  if (batch->count > 0 && (count > batch->segment || batch->to_count != to->addrlen || memcmp(&batch->to, to->addr, to->addrlen) != 0)) {
+    uint8_t *packet = batch->bytes + batch->count;
+    if (!quic_flush(socket)) return false; /* the packet is lost */
+    memmove(batch->bytes, packet, count);
+  }
+  if (batch->count == 0) {
+    batch->segment = count;
+    memcpy(&batch->to, to->addr, to->addrlen);
+    batch->to_count = to->addrlen;
+  }
+  batch->count += count;
+  return (count == batch->segment && batch->count + PACKET <= sizeof batch->bytes) || quic_flush(socket);
+}
+
+/* Puts what fits of a stream (none: NULL) into a packet. Returns what ngtcp2 returns: bytes of a packet that is whole, 0, an error. */
+static ngtcp2_ssize write_stream(quic_connection *connection, stream *stream, ngtcp2_path *path, uint8_t *packet, ngtcp2_tstamp time) {
+  ngtcp2_vec pieces[16];
+  ngtcp2_pkt_info info;
+  ngtcp2_ssize count_taken = -1;
+  size_t total = 0, count = stream ? buffer_untaken(&stream->out, pieces, 16, &total) : 0;
+  bool last = stream && stream->out.ended && stream->out.taken + total == stream->out.given;
+  uint32_t flags = stream ? NGTCP2_WRITE_STREAM_FLAG_MORE : 0;
+  ngtcp2_ssize done = ngtcp2_conn_writev_stream(connection->conn, path, &info, packet, PACKET, &count_taken,
+                                                last ? flags | NGTCP2_WRITE_STREAM_FLAG_FIN : flags,
+                                                stream ? (int64_t)stream->entry.id : -1, pieces, count, time);
+  if (count_taken < 0) return done;
+  taken(connection, stream, (uint64_t)count_taken);
+  if (last && (size_t)count_taken == total) stream->out.end_taken = true;
+  return done;
+}
+
+/* The place of a stream after what ngtcp2 returned: it has its next turn after the others if something of it was taken, else it keeps its
+ * place, or it has none. Returns whether this was an error of this stream alone. */
+static bool next_turn(quic_connection *connection, stream *stream, ngtcp2_ssize done, bool was_taken) {
+  switch (done) {
+  case NGTCP2_ERR_STREAM_DATA_BLOCKED: turns_block(&connection->turns, &stream->turn); return true;
+  case NGTCP2_ERR_STREAM_NOT_FOUND: abandon(connection, stream); return true;
+  case NGTCP2_ERR_STREAM_SHUT_WR: /* STOP_SENDING came: ngtcp2 has reset the stream, and says so here alone */
+    abandon(connection, stream);
+    if (!connection->close_asked) connection->socket->events->was_stopped(connection->owner, (int64_t)stream->entry.id);
+    return true;
+  default:
+    if (!has_bytes(stream) && !stream->offered) turns_remove(&connection->turns, &stream->turn);
+    else if (done > 0 && was_taken) turns_pass(&connection->turns, &stream->turn);
+    return false;
+  }
+}
+
+/* The stream whose turn it is. One of which nothing is here gets its next piece from the owner. */
+static stream *next_stream(quic_connection *connection) {
+  for (turn *turn; (turn = turns_next(&connection->turns));) {
+    stream *stream = turn->of;
+    if (has_bytes(stream)) return stream;
+    connection->asking = stream->offered && !connection->close_asked;
+    stream->offered = false;
+    if (connection->asking && !connection->socket->events->more(connection->owner, (int64_t)turn->id)) abandon(connection, stream);
+    connection->asking = false;
+    if (!has_bytes(stream)) turns_remove(&connection->turns, turn);
+  }
+  return NULL;
+}
+
+void quic_write_packets(quic_connection *connection) {
+  batch *batch = &connection->socket->batch;
+  ngtcp2_path_storage path;
+  ngtcp2_tstamp time = quic_now(); /* of all packets of a burst */
+  size_t total = 0, burst = ngtcp2_conn_get_send_quantum(connection->conn);
+  connection->more = !quic_flush(connection->socket);
+  turns_unblock(&connection->turns);
+  while (!connection->more) {
+    stream *stream = next_stream(connection);
+    uint64_t before = stream ? stream->out.taken : 0;
+    ngtcp2_path_storage_zero(&path);
+    ngtcp2_ssize done = write_stream(connection, stream, &path.path, batch->bytes + batch->count, time);
+    if ((stream && next_turn(connection, stream, done, stream->out.taken != before)) || done == NGTCP2_ERR_WRITE_MORE) continue;
+    if (done < 0) return quic_fail(connection, (int)done);
+    if (done == 0) break;
+    total += (size_t)done;
+    connection->more = !join(connection->socket, (size_t)done, &path.path.remote) || total >= burst;
+  }
+  quic_flush(connection->socket);
+  ngtcp2_conn_update_pkt_tx_time(connection->conn, time);
+}

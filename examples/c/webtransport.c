@@ -1,0 +1,173 @@
+/* webtransport ADDRESS PORT CERTIFICATE KEY: a server of WebTransport sessions (draft-ietf-webtrans-http3-02), over HTTP/3. A session is taken
+ * on any path. Each stream of it is answered, when it has ended, with the count and the SHA-256 of its bytes: a bidirectional one on
+ * itself, a unidirectional one on one of the server's. A session ends with its CONNECT request, or by the capsule that closes it. Datagrams
+ * are dropped.
+ *
+ * SIGTERM and SIGINT: GOAWAY on each connection, and what was begun ends. The second signal cuts it off. */
+#include "digest.h"
+#include "ending.h"
+#include "http3.h"
+#include "report.h"
+#include <stdio.h>
+#include <stdlib.h>
+#include <string.h>
+
+enum {
+  SESSIONS = 4, /* on a connection at once */
+  DRAIN = 60    /* seconds that what was begun has at the end */
+};
+
+static const uint64_t BUFFERED_STREAM_REJECTED = 0x3994bd84, SESSION_GONE = 0x170d7b68; /* section 8.5 of the draft */
+static const uint64_t CLOSE_SESSION = 0x2843;                                           /* a type of capsules, section 5 of the draft */
+
+/* The CONNECT request of a session, or a stream of one. */
+typedef struct work {
+  TAILQ_ENTRY(work) order;
+  http3_request *request;
+  uint64_t session;           /* the id of its CONNECT request */
+  digest digest;              /* of a stream: none when it was answered */
+  h3_capsule_reader capsules; /* of a CONNECT request */
+  bool is_closing;            /* the capsule that closes the session comes */
+  bool is_over;
+} work;
+
+static TAILQ_HEAD(works, work) works = TAILQ_HEAD_INITIALIZER(works); /* of all connections */
+
+static work *add(http3_request *request, uint64_t session) {
+  work *work = calloc(1, sizeof *work);
+  if (!work) return NULL;
+  work->request = request;
+  work->session = session;
+  TAILQ_INSERT_TAIL(&works, work, order);
+  return request->data = work;
+}
+
+static bool is_of(const work *work, const http3 *connection, uint64_t session) {
+  return work->request->connection == connection && work->session == session;
+}
+
+/* ---- sessions ---- */
+
+static void refuse(http3_request *request, const char *status) {
+  http3_field fields[] = {{":status", status}, {"content-length", "0"}};
+  if (http3_head_of(request, fields, 2)) http3_finish(request);
+  else http3_give_up(request, H3_CODE_INTERNAL_ERROR);
+  http3_ignore(request);
+}
+
+static void on_head(http3_request *request, const h3_item *head) {
+  http3_field fields[] = {{":status", "200"}, {"sec-webtransport-http3-draft", "draft02"}};
+  char protocol[32];
+  http3_wanted wanted = {.name = ":protocol", .value = protocol, .room = sizeof protocol};
+  if (request->data || head->kind == H3_TRAILER) return;
+  if (head->kind == H3_TOO_LARGE_HEAD) return refuse(request, "431");
+  if (!http3_values(request->connection, head, &wanted, 1)) return refuse(request, "404");
+  if (strcmp(protocol, "webtransport") != 0) return refuse(request, "501"); /* RFC 9220, section 3 */
+  if (!add(request, request->entry.id) || !http3_head_of(request, fields, 2)) http3_give_up(request, H3_CODE_INTERNAL_ERROR);
+}
+
+/* The session is over, and so are its streams. A code: its request was no valid message. */
+static void end_session(work *session, uint64_t code) {
+  const work *work;
+  if (session->is_over) return;
+  session->is_over = true;
+  TAILQ_FOREACH(work, &works, order)
+    if (work->digest.hash && is_of(work, session->request->connection, session->session)) http3_give_up(work->request, SESSION_GONE);
+  if (code) http3_give_up(session->request, code);
+  else http3_finish(session->request);
+}
+
+/* ---- streams ---- */
+
+/* Is there a session? Its streams may overtake it, and are refused then: a client that waits for the answer to its CONNECT sees none of it. */
+static bool is_open(const http3 *connection, uint64_t session) {
+  const work *work;
+  TAILQ_FOREACH(work, &works, order) if (is_of(work, connection, session) && work->request->entry.id == session) return true;
+  return false;
+}
+
+static void on_session(http3_request *request, uint64_t session) {
+  work *work = is_open(request->connection, session) ? add(request, session) : NULL;
+  if (!work) return http3_give_up(request, BUFFERED_STREAM_REJECTED);
+  if (!digest_begin(&work->digest)) http3_give_up(request, H3_CODE_INTERNAL_ERROR);
+}
+
+/* What comes on a CONNECT request are capsules (RFC 9297): of unknown types they are skipped, and one type closes the session. */
+static void read_capsules(work *session, const uint8_t *bytes, size_t count) {
+  h3_capsule capsule;
+  size_t used;
+  do {
+    if (h3_read_capsule(&session->capsules, bytes, count, &used, &capsule) != H3_OK) return;
+    if (capsule.part == H3_CAPSULE_HEAD) session->is_closing = capsule.capsule_type == CLOSE_SESSION;
+    if (capsule.part == H3_CAPSULE_END && session->is_closing) end_session(session, 0);
+    bytes += used, count -= used;
+  } while (capsule.part != H3_CAPSULE_PENDING);
+}
+
+static bool is_session(const work *work) { return work->session == work->request->entry.id; }
+
+static void on_body(http3_request *request, const uint8_t *bytes, size_t count) {
+  work *work = request->data;
+  if (!work) return;
+  if (is_session(work)) read_capsules(work, bytes, count);
+  else digest_add(&work->digest, bytes, count);
+}
+
+static void answer(const work *work, const char *text) {
+  bool is_both_ways = work->request->entry.id % 4 == 0;
+  if (is_both_ways ? http3_raw(work->request, (const uint8_t *)text, strlen(text), true)
+                   : http3_raw_stream(work->request->connection, work->session, (const uint8_t *)text, strlen(text)))
+    return;
+  http3_give_up(work->request, H3_CODE_INTERNAL_ERROR);
+}
+
+static void on_end(http3_request *request) {
+  work *work = request->data;
+  char text[DIGEST_TEXT];
+  if (!work) return;
+  if (digest_end(&work->digest, text)) return answer(work, text);
+  if (!is_session(work)) return;
+  uint32_t ends_here = 0;
+  h3_capsule_ends(&work->capsules, &ends_here);
+  end_session(work, ends_here ? 0 : H3_CODE_MESSAGE_ERROR); /* RFC 9297, section 3.3 */
+}
+
+static void on_failed(http3_request *request, const h3_item *item) {
+  work *work = request->data;
+  report("stream %llu failed: %s, %s", (unsigned long long)request->entry.id, h3_kind_text(item->kind), http3_why(item));
+  if (work && is_session(work)) end_session(work, 0);
+}
+
+/* ---- the program ---- */
+
+static void on_freed(http3_request *request) {
+  work *work = request->data;
+  if (!work) return;
+  digest_drop(&work->digest);
+  TAILQ_REMOVE(&works, work, order);
+  free(work);
+}
+
+static void on_ready(http3 *h, void *user) { (void)h, (void)user; }
+
+static void on_over(void *user, const quic_ending *ending) { (void)user, (void)ending; }
+
+int main(int count, char **arguments) {
+  static const http3_events events = {.ready = on_ready, .head = on_head, .body = on_body, .end = on_end, .failed = on_failed,
+                                      .freed = on_freed, .over = on_over, .session = on_session};
+  http3_setup setup = {.server = true, .sessions = SESSIONS, .events = &events};
+  if (count != 5) {
+    fprintf(stderr, "webtransport ADDRESS PORT CERTIFICATE KEY\n");
+    return 2;
+  }
+  ending_await();
+  quic_pair pair = {arguments[3], arguments[4]};
+  quic_identity identity = {.pairs = &pair, .count = 1};
+  quic_socket *socket = quic_listen(arguments[1], arguments[2], &identity, NULL, &http3_over_quic, &setup);
+  if (!socket) return 1;
+  printf("WebTransport at %s port %u\n", arguments[1], quic_port(socket));
+  fflush(stdout);
+  serve_until_ended(socket, DRAIN, NULL);
+  quic_free(socket);
+  return 0;
+}

@@ -1,0 +1,111 @@
+# checks.sh, for interop_*.sh of this folder to read in at the top of the repository: what a check is, servers that are ended at the end, a folder
+# that is served and a certificate. Each check prints 'ok NAME' or 'failed NAME'. Sets `work`, a folder that is removed at the end.
+work=$(mktemp -d)
+failed=0
+pids=()
+
+leave() {
+  for pid in "${pids[@]}"; do kill "$pid" 2>/dev/null && wait "$pid" 2>/dev/null; done
+  rm -rf "$work"
+}
+trap leave EXIT
+
+good() { echo "ok $1"; }
+bad() {
+  echo "failed $1"
+  failed=$((failed + 1))
+  [ ! -s "$work/log" ] || tail -n 5 "$work/log" | sed 's/^/  /' >&2
+}
+# check NAME COMMAND..
+check() {
+  local name=$1
+  shift
+  : > "$work/log"
+  if "$@"; then good "$name"; else bad "$name"; fi
+}
+within() { timeout -k 5 "$@" 2>> "$work/log"; }
+hash_of() { sha256sum "$1" | cut -d' ' -f1; }
+# gives FILE COMMAND..: the command ends well within a minute and prints the bytes of the file
+gives() {
+  local file=$1
+  shift
+  within 60 "$@" > "$work/got" && [ "$(hash_of "$work/got")" = "$(hash_of "$file")" ]
+}
+# works COMMAND..: the command ends well within a minute
+works() { within 60 "$@" > "$work/got"; }
+# refuses TEXT COMMAND..: the command ends with 1, and says this
+refuses() {
+  local text=$1
+  shift
+  within 60 "$@" > "$work/got"
+  [ $? -eq 1 ] && grep -q -- "$text" "$work/log"
+}
+# build COMMAND..: what the checks stand on
+build() {
+  : > "$work/log"
+  if "$@" >> "$work/log" 2>&1; then return; fi
+  bad "build: $*"
+  exit 1
+}
+
+# make_examples: those in C, with sanitizers, and in Go, over the library in the folder `lib`
+make_examples() {
+  if ! bash scripts/dev/packages.sh examples-c examples-go || ! bash scripts/dev/need.sh library "$lib"; then
+    bad "what the examples stand on"
+    exit 1
+  fi
+  export PKG_CONFIG_PATH=$lib GO111MODULE=off GOPATH=/usr/share/gocode GOCACHE=${GOCACHE:-$work/go}
+  build make -s -C examples/c LIB="$lib" OUT="$work/checked" CFLAGS="-O1 -g -fsanitize=address,undefined -fno-sanitize-recover=undefined"
+  build make -s -C examples/go LIB="$lib" OUT="$work"
+}
+
+# make_served: the folder that is served, a certificate with its key, and what some answers are
+make_served() {
+  folder=$work/folder
+  cert=$work/cert.pem
+  key=$work/key.pem
+  build openssl req -x509 -newkey ec -pkeyopt ec_paramgen_curve:P-256 -nodes -keyout "$key" -out "$cert" -days 13 -subj /CN=localhost \
+    -addext 'subjectAltName=DNS:localhost,IP:127.0.0.1,IP:::1'
+  build python3 scripts/interop/folder.py "$folder"
+  big=$folder/big.bin
+  echo "10000000 $(hash_of "$big")" > "$work/posted"
+  for _ in $(seq 1000); do cat "$folder/hello.txt"; done > "$work/thousand"
+}
+
+listens() { grep -qi ":$(printf %04X "$1") " /proc/net/udp /proc/net/udp6 2>/dev/null; }
+# A server for ten minutes at most, and 45 seconds after the signal that ends it: it stays while a connection does, and one whose close is lost
+# lasts until its idle timeout, 30 seconds. In the foreground, since `timeout` would else signal its
+# whole group, twice, and LeakSanitizer, which looks for leaks at a program's end from a process of its own, may then never end.
+limited() { exec timeout --foreground -k 45 600 "$@"; }
+# start PORT LOG COMMAND..: a server in the background, until it listens; `last` is its process
+start() {
+  local port=$1 log=$2
+  shift 2
+  limited "$@" > "$work/$log" 2>&1 &
+  last=$!
+  pids+=("$last")
+  for _ in $(seq 600); do # under valgrind, on a busy machine
+    if listens "$port"; then return; fi # the kernel's list may lack a port when it is read while it changes: once is enough
+    kill -0 "$last" 2> /dev/null || break
+    sleep 0.1
+  done
+  cp "$work/$log" "$work/log"
+  bad "a server that listens: $*"
+}
+# stop PROCESS: ends a server, and answers as it ended
+stop() {
+  kill -TERM "$1" && wait "$1"
+}
+# relay PORT TO: a way to a server on which packets are lost, and come in another order
+relay() { start "$1" "relay$1.log" python3 scripts/interop/relay.py "$1" "$2"; }
+url() { echo "https://localhost:$1$2"; }
+chromium_sees() { # PORT, PATH of a page, and perhaps a PORT of WebSockets: what it says in the end stands in $work/seen
+  local spki
+  spki=$(openssl x509 -in "$cert" -pubkey -noout | openssl pkey -pubin -outform der | openssl dgst -sha256 -binary | base64)
+  within 60 env HOME="$work" chromium --headless=new --no-sandbox --user-data-dir="$work/profile$1" \
+    --origin-to-force-quic-on="localhost:$1${3:+,localhost:$3}" --enable-features=EnableWebsocketsOverHttp3 \
+    --ignore-certificate-errors-spki-list="$spki" --host-resolver-rules="MAP * 127.0.0.1" --disable-background-networking \
+    --disable-gpu --virtual-time-budget=20000 --dump-dom "$(url "$1" "$2")" > "$work/page" || return 1
+  sed -n '/id="seen"/,/<\/pre>/p' "$work/page" > "$work/seen"
+  cat "$work/seen" > "$work/log"
+}
