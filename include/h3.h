@@ -175,13 +175,13 @@
  *     is left, none of it is delivered; no H3_END and no H3_TRAILER comes before all of it:
  *     H3_BAD_CONTENT_LENGTH. At a client a response to HEAD, or with status 204 or 304, has no
  *     content, whatever content-length says; it goes by the request that it sent.
- *   In a tunnel only DATA comes (section 4.4): at a server after the header section of CONNECT, at
- *     a client after a 2xx response to it.
+ *   In a tunnel only DATA comes (section 4.4): at a client after a 2xx response to CONNECT, at a
+ *     server after the one that it sent, if its pull returned the request's header section before.
  *   Content that you send is as long as your content-length says: a body that passes it, and an end
  *     or a trailer section before it is reached, is H3_MALFORMED with H3_BAD_CONTENT_LENGTH. So is
- *     a body in a response to HEAD or with status 204, 205 or 304, and in a TRACE request. A server
- *     checks this only if its pull returned the request's header section before it answers: so pull
- *     before you answer.
+ *     a body in a response to HEAD or with status 204, 205 or 304, and in a TRACE request, and a
+ *     content-length in a 2xx response to CONNECT. A server checks this only if its pull returned
+ *     the request's header section before it answers: so pull before you answer.
  *   A trailer section in a tunnel is not sent: H3_MALFORMED with H3_BAD_CONNECT. So is a trailer
  *     section after a 2xx response that a server sends before it pulled the request's header
  *     section: the request may be CONNECT, and the trailer would close the client's connection.
@@ -481,20 +481,27 @@ typedef struct {
                                        * stands if its Huffman code is not shorter (RFC 9204,
                                        * section 4.1.2). Without this each is Huffman coded, and one
                                        * of rare bytes takes up to four times its length */
-  uint64_t strict_connection;         /* whether the peer's connection is judged by rules that else
-                                       * are not asked for. It closes the connection with 0x109 if a
-                                       * setting has another value than 0 and 1: 8 (at a client;
-                                       * RFC 8441, section 3), 0x33 (RFC 9297, section 2.1.1), and
-                                       * 0x2b603742 if `webtransport` is set; or if 0x2b603742 is 1
-                                       * and 0x33 is not. With 0x10a if the first frame of the
-                                       * control stream is not SETTINGS, not one of unknown type
-                                       * either (RFC 9114, section 6.2.1). With 0x201 and 0x202 in
-                                       * place of 0x107 if an instruction is too long (RFC 9204,
-                                       * section 7.4). With 0x108 if the id of a WebTransport
-                                       * session is that of no request stream. A client sends no
-                                       * header section after the peer's GOAWAY on a stream on which
-                                       * nothing was sent: H3_GOING_AWAY (RFC 9114, section 5.2).
-                                       * `webtransport` without `datagram` is refused: H3_SETTING */
+  uint64_t strict_connection;         /* whether these rules are enforced. 0x109 closes the
+                                       * connection if setting 0x33 (RFC 9297, section 2.1.1) or, at
+                                       * a client, setting 8 (RFC 8441, section 3) is neither 0 nor
+                                       * 1. If `webtransport` is set, so does 0x2b603742 with
+                                       * another value than 0 and 1, and 0x2b603742 without 0x33.
+                                       * 0x10a closes it if the first frame of the control stream is
+                                       * not SETTINGS; a frame of unknown type is not allowed there
+                                       * either (RFC 9114, section 6.2.1). 0x201 or 0x202 closes it,
+                                       * in place of 0x107, if an instruction is too long (RFC 9204,
+                                       * section 7.4). 0x108 closes it if the id of a WebTransport
+                                       * session is that of no request stream. 0x200 closes it if a
+                                       * field section names an entry of the dynamic table from its
+                                       * required insert count on (RFC 9204, section 2.2.3), or if
+                                       * `table` is 0 and its encoded count or sign is not (4.5.1.1
+                                        * and 4.5.1.2). If `webtransport` is not set, frames of type
+                                        * 0x41 and streams of type 0x54 are of unknown type: they are
+                                        * ignored (RFC 9114, section 9), and no H3_SESSION is
+                                        * returned. After the peer's GOAWAY a client sends no header
+                                        * section on a stream on which nothing was sent:
+                                        * H3_GOING_AWAY (RFC 9114, section 5.2). `webtransport`
+                                        * without `datagram` is refused: H3_SETTING */
 } h3_config;
 
 /* A client with limits for an untrusted peer: it takes field sections of at most 65,536 bytes, and
@@ -564,9 +571,9 @@ static inline uint32_t h3_send_head(h3_endpoint *endpoint, uint64_t id, const h3
                                     size_t len, uint64_t *detail);
 
 /* Sends a trailer section, after which only the end comes. Send no empty one: it is allowed, but
- * some peers close the connection over it. Refused as h3_send_head, but never by H3_GOING_AWAY, and
- * after the refusals of the list: H3_PSEUDO_IN_TRAILER, H3_MALFORMED (or H3_FIELD_VALUE),
- * H3_TOO_LARGE, H3_MEMORY. */
+ * some peers close the connection over it. Refused as h3_send_head except H3_GOING_AWAY, but after
+ * the refusals of the list: H3_PSEUDO_IN_TRAILER, H3_MALFORMED (or H3_FIELD_VALUE), H3_TOO_LARGE,
+ * H3_MEMORY. */
 static inline uint32_t h3_send_trailer(h3_endpoint *endpoint, uint64_t id,
                                        const h3_field_size *sizes, const uint8_t *flags,
                                        size_t count, const void *bytes, size_t len,
@@ -740,7 +747,8 @@ enum h3_malformation {
                                  * request (4.2) */
   H3_BAD_CONTENT_LENGTH = 10,   /* no number, twice, or not with this status (RFC 9110, section
                                  * 8.6); at a server also: not as long as what came (4.1.2). In
-                                 * sending also: with 204, and more than 0 with 205 or TRACE */
+                                 * sending also: with 204, with a 2xx response to CONNECT, and more
+                                 * than 0 with 205 or TRACE */
   H3_BAD_PROTOCOL = 11,         /* :protocol without CONNECT, or where who receives it has not
                                  * announced it (RFC 8441, section 4; RFC 9220, section 3) */
   H3_BAD_CONNECT = 12,          /* plain CONNECT without a port in :authority (RFC 9110, section

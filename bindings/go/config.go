@@ -36,8 +36,8 @@ type Config struct {
 	GuardSecrets bool
 	// ShortestStrings: the local encoder writes a name or value as it stands if its Huffman code is not shorter.
 	ShortestStrings bool
-	// StrictConnection: the peer's settings, the first frame of its control stream and the ids of its sessions are held to the standards, and no
-	// request begins after its GOAWAY.
+	// StrictConnection: the connection is closed if the peer's settings, the first frame of its control stream, the id of a session or the entries
+	// that a field section names are invalid. A client begins no request after the peer's GOAWAY.
 	StrictConnection bool
 }
 

@@ -369,6 +369,7 @@ static int tell_control(nghttp3_conn *connection) {
 
 static nghttp3_ssize read_unidirectional(nghttp3_conn *connection, int64_t id, const uint8_t *bytes, size_t length, int fin) {
   int fault = endpoint_deliver(connection, id, bytes, length, fin);
+  if (fault == NGHTTP3_ERR_H3_SETTINGS_ERROR) return fault; /* settings that are refused are not told */
   may_have_bytes(connection, &connection->encoder), may_have_bytes(connection, &connection->decoder);
   int error = tell_control(connection);
   if (fault || error) return fault ? fault : error;

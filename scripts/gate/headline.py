@@ -29,6 +29,7 @@ PARTS = (
     ("## The same answers by two endpoints", ("RunsTo", "AnswersEach", "new_ends")),
     ("## What each call leaves", ("RunsByCalls",)),
     ("## If a side is strict", ("RunsUntilMemory", "RunsToEnd", "TakesWhatIsSent", "one_judges_more")),
+    ("## By events and answers", ("UntilFault",)),
     ("## If allocations fail", None),
 )
 # Behind these the values of the code: a heading, and from which types of the signature its rows come, and from those that which parts list.
@@ -44,7 +45,8 @@ PAGES = {
     "docs/headline/endpoints.md": (PARTS[3][0], VALUES[1][0]),
     "docs/headline/calls.md": (PARTS[4][0], PARTS[5][0]),
     "docs/headline/strict.md": (PARTS[6][0],),
-    "docs/headline/memory.md": (PARTS[7][0],),
+    "docs/headline/faithful.md": (PARTS[7][0],),
+    "docs/headline/memory.md": (PARTS[8][0],),
 }
 # how many lines the first parts may have: a sitting each
 MOST = {PARTS[0][0]: 490, PARTS[1][0]: 250, PARTS[2][0]: 1500}

@@ -18,10 +18,11 @@ DECOMPRESSION_FAILED, ENCODER_STREAM_ERROR, DECODER_STREAM_ERROR = 0x200, 0x201,
 # RFC 9114, 7.2 and 11.2.1; those of HTTP/2 that must not come; WebTransport's, which has a session id in place of a length
 DATA, HEADERS, CANCEL_PUSH, SETTINGS, PUSH_PROMISE, GOAWAY, MAX_PUSH_ID, WEBTRANSPORT = 0, 1, 3, 4, 5, 7, 13, 0x41
 OF_HTTP2 = (2, 6, 8, 9)
-KNOWN = (DATA, HEADERS, CANCEL_PUSH, SETTINGS, PUSH_PROMISE, GOAWAY, MAX_PUSH_ID, WEBTRANSPORT) + OF_HTTP2
+KNOWN = (DATA, HEADERS, CANCEL_PUSH, SETTINGS, PUSH_PROMISE, GOAWAY, MAX_PUSH_ID) + OF_HTTP2
 
 # RFC 9114, 6.2, and RFC 9204, 4.2
 CONTROL, PUSH, ENCODER, DECODER, WEBTRANSPORT_UNI = 0, 1, 2, 3, 0x54
+UNKNOWN = 0x21  # one of those that have no meaning
 
 # RFC 9114, 7.2.4.1, RFC 9204, 5, RFC 9220, RFC 9297 and WebTransport
 CAPACITY, SECTION_SIZE, BLOCKED = 1, 6, 7
@@ -122,11 +123,12 @@ def total(fields):
 # ---- frames (RFC 9114, 7)
 
 
-def frame(data):
-    """type, payload and length in all of the frame that a text begins with; of DATA its length, as soon as its head is whole"""
+def frame(data, sessions):
+    """type, payload and length in all of the frame that a text begins with; of DATA its length, as soon as its head is whole. Where `sessions`
+    are not known, 0x41 has a length as any type"""
     r = Reader(data)
     kind = r.varint()
-    if kind == WEBTRANSPORT:
+    if kind == WEBTRANSPORT and sessions:
         return kind, r.varint(), r.at
     length = r.varint()
     return kind, length if kind == DATA else r.take(length), r.at
@@ -209,7 +211,8 @@ class Incoming:
 class Endpoint:
     """The calls of one side. `section`, `capacity` and `blocked` are what it announces (RFC 9114, 7.2.4.1; RFC 9204, 5). If it `guards`, it sends
     each field that is a secret as one that is never indexed. If it is `strict`, it holds its peer to rules that else pass, of settings, of the
-    first frame and of sessions, and keeps one itself after a GOAWAY."""
+    first frame, of sessions and of what a field section may name, keeps one itself after a GOAWAY, and takes the types of WebTransport, which
+    it does not announce, as unknown."""
 
     def __init__(self, side, section, capacity, blocked, guards=False, strict=False):
         self.side, self.section, self.blocked, self.guards, self.strict = side, section, blocked, guards, strict
@@ -219,7 +222,7 @@ class Endpoint:
         payload = b"".join(varint(id) + varint(value) for id, value in pairs)
         self.own = {self.ids[0]: varint(CONTROL) + varint(SETTINGS) + varint(len(payload)) + payload, self.ids[1]: varint(ENCODER), self.ids[2]: varint(DECODER)}
         self.fault, self.settings = None, None
-        self.sender, self.receiver = Sender(), Receiver(capacity)
+        self.sender, self.receiver = Sender(), Receiver(capacity, strict)
         self.outgoing_streams, self.incoming = {}, {}
         self.critical = {}  # of control, encoder and decoder stream of the peer: the bytes not yet read
         self.opened, self.goaways, self.own_goaways, self.max_push = 0, [], [], None
@@ -486,8 +489,9 @@ class Endpoint:
             if s.kind == PUSH:  # RFC 9114, 6.2.2: no client pushes, and no push was allowed
                 raise Fault(STREAM_CREATION_ERROR if self.side == SERVER else ID_ERROR)
         if s.kind == WEBTRANSPORT_UNI:
-            self.named(s.session)
-            return
+            if not self.strict:
+                return
+            s.kind, s.session = UNKNOWN, None
         data, s.pieces = s.unread(), []
         if s.kind in self.critical:
             self.critical[s.kind] += data
@@ -515,11 +519,11 @@ class Endpoint:
             self.settings_first()
         while True:
             try:
-                kind, payload, used = frame(self.critical[CONTROL])
+                kind, payload, used = frame(self.critical[CONTROL], not self.strict)
             except Short:
                 break
             self.critical[CONTROL] = self.critical[CONTROL][used:] if kind != DATA else b""
-            if kind in KNOWN:
+            if self.knows(kind):
                 self.control_frame(kind, payload)
         if not known_before and DECODER in self.critical:
             self.read_decoder()
@@ -534,10 +538,9 @@ class Endpoint:
         if kind != SETTINGS:
             raise Fault(MISSING_SETTINGS)
 
-    def named(self, session):
-        """a session of WebTransport has the id of a request stream"""
-        if self.strict and not self.is_request(session):
-            raise Fault(ID_ERROR)
+    def knows(self, kind):
+        """RFC 9114, 9: whether frames of a type have a meaning"""
+        return kind in KNOWN or kind == WEBTRANSPORT and not self.strict
 
     def control_frame(self, kind, payload):
         """RFC 9114, 6.2.1 and 7.2"""
@@ -623,11 +626,11 @@ class Endpoint:
             return self.field_section(id, s)
         while not s.payload:
             try:
-                kind, payload, used = frame(s.unread())
+                kind, payload, used = frame(s.unread(), not self.strict)
             except Short:
                 return self.between(s)
             s.drop(used)
-            if kind in KNOWN:
+            if self.knows(kind):
                 item = self.message_frame(id, s, kind, payload)
                 if item:
                     return item
@@ -656,7 +659,6 @@ class Endpoint:
         return ("Body", taken)
 
     def begin_session(self, s, session):
-        self.named(session)
         s.place = "session"
         return ("Session", session)
 

@@ -273,10 +273,11 @@ class Table:
 
 
 class Receiver:
-    """the decoder of RFC 9204: its table starts at capacity 0 (3.2.2), whatever it announced"""
+    """the decoder of RFC 9204: its table starts at capacity 0 (3.2.2), whatever it announced. If it is `strict`, no line names an entry from the
+    required insert count on (2.2.3), and without a table an encoder writes the encoded count 0 and the sign 0 (4.5.1.1, 4.5.1.2)"""
 
-    def __init__(self, announced):
-        self.announced, self.table = announced, Table()
+    def __init__(self, announced, strict=False):
+        self.announced, self.strict, self.table = announced, strict, Table()
 
     def instruction(self, r):
         """RFC 9204, 4.3: one encoder instruction; an index names an entry of the table as it stands before it"""
@@ -312,10 +313,13 @@ class Receiver:
         return data, True
 
     def prefix(self, r):
-        """RFC 9204, 4.5.1: required insert count and base, by the announced capacity; where that is 0 both are 0, whatever was read"""
+        """RFC 9204, 4.5.1: required insert count and base, by the announced capacity; where that is 0 both are 0, whatever was read if it is not
+        strict"""
         encoded, negative = r.integer(8), r.peek() >> 7
         delta, most = r.integer(7), self.announced // 32
         if self.announced == 0:
+            if self.strict and (encoded or negative):
+                raise Bad("an encoder without a table did not write this")
             return 0, 0
         count = 0
         if encoded:
@@ -328,9 +332,15 @@ class Receiver:
             raise Bad("base")
         return count, base
 
-    def line(self, r, base):
-        """RFC 9204, 4.5.2 to 4.5.6; an entry above the required count may be named if it is there (this project's choice)"""
-        first, entry = r.peek(), self.table.entry
+    def line(self, r, base, count):
+        """RFC 9204, 4.5.2 to 4.5.6; an entry above the required count may be named if it is there and this is not strict"""
+
+        def entry(number):
+            if self.strict and number > count:
+                raise Bad("above the required insert count")
+            return self.table.entry(number)
+
+        first = r.peek()
         if first & 0x80:
             index = r.integer(6)
             return static_entry(index) if first & 0x40 else entry(base - index)
@@ -355,7 +365,7 @@ class Receiver:
                 raise Missing(count)
             fields = []
             while r.left():
-                fields.append(self.line(r, base))
+                fields.append(self.line(r, base, count))
         except Short:
             raise Bad("cut short") from None
         return count, fields

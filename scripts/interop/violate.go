@@ -47,6 +47,11 @@ const (
 	// section 4.3.3)
 	longFrame     = "\x80\x04\x00\x01"
 	longInsertion = "\x5f\xe2\xff\x0f"
+	// the control stream with another frame before SETTINGS; the encoder stream with the capacity 4,096 and the insertions a: b and c: d; a request
+	// whose required insert count is 1, and whose last line is c: d by the index behind the base (RFC 9204, section 4.5.3)
+	otherFirst    = "\x00\x21\x00\x04\x00"
+	twoInsertions = "\x02\x3f\xe1\x1f\x41\x61\x01\x62\x41\x63\x01\x64"
+	aboveCount    = "\x01\x09\x02\x00\xd1\xd7\x50\x81\x1f\xc1\x10"
 )
 
 // line is a field line with a literal name (RFC 9204, section 4.5.6); names have 7 to 134 bytes, values at most 126
@@ -72,6 +77,7 @@ var fromClient = []violation{
 	{name: "two content-length (4.1.2)", control: settings, request: head(getLine + path + line("content-length", "0") + line("content-length", "1")), end: true, code: 0x10e, stream: true},
 	{name: "a second control stream (6.2.1)", control: settings, others: []string{settings}, code: 0x103},
 	{name: "the control stream without SETTINGS (6.2.1)", control: "\x00\x07\x01\x00", code: 0x10a},
+	{name: "a frame of unknown type before SETTINGS (6.2.1)", control: otherFirst, code: 0x10a},
 	{name: "the control stream ends (6.2.1)", control: settings, cut: true, code: 0x104},
 	{name: "a push stream of a client (6.2.2)", control: settings, others: []string{"\x01\x00"}, code: 0x103},
 	{name: "a frame that the end cuts (7.1)", control: settings, request: "\x01\x05\x00", end: true, code: 0x106},
@@ -82,20 +88,25 @@ var fromClient = []violation{
 	{name: "a second SETTINGS (7.2.4)", control: settings + "\x04\x00", code: 0x105},
 	{name: "SETTINGS on a request stream (7.2.4)", control: settings, request: "\x04\x00", code: 0x105},
 	{name: "a setting of HTTP/2 (7.2.4.1)", control: "\x00\x04\x02\x02\x00", code: 0x109},
+	{name: "SETTINGS_H3_DATAGRAM of 2 (RFC 9297, section 2.1.1)", control: "\x00\x04\x02\x33\x02", code: 0x109},
+	{name: "SETTINGS_ENABLE_CONNECT_PROTOCOL of 2, which says nothing to a server (RFC 8441, section 3)", control: "\x00\x04\x02\x08\x02", request: get, end: true},
 	{name: "PUSH_PROMISE of a client (7.2.5)", control: settings, request: "\x05\x02\x00\x00", code: 0x105},
 	{name: "a smaller MAX_PUSH_ID (7.2.7)", control: settings + "\x0d\x01\x05\x0d\x01\x04", code: 0x108},
 	{name: "a frame of HTTP/2 (7.2.8)", control: settings + "\x06\x00", code: 0x105},
 	{name: "a static entry that is not there (RFC 9204, section 3.1)", control: settings, request: "\x01\x04\x00\x00\xff\x24", code: 0x200},
 	{name: "a dynamic entry that is not there (RFC 9204, section 2.2.3)", control: settings, request: "\x01\x03\x00\x00\x80", code: 0x200},
+	{name: "a dynamic entry from the required insert count on (RFC 9204, section 2.2.3)", control: settings, others: []string{twoInsertions}, request: aboveCount, code: 0x200},
 	{name: "a capacity above the announced one (RFC 9204, section 3.2.3)", control: settings, others: []string{"\x02\x3f\xe1\x3f"}, code: 0x201},
 	{name: "a second encoder stream (RFC 9204, section 4.2)", control: settings, others: []string{"\x02", "\x02"}, code: 0x103},
 	{name: "HEADERS above the limit, which are answered (10.5)", control: settings, request: "\x01" + longFrame},
 	{name: "SETTINGS above the limit (10.5)", control: "\x00\x04" + longFrame, code: 0x107},
-	{name: "an insertion above the limit (RFC 9204, section 7.4)", control: settings, others: []string{"\x02" + longInsertion}, code: 0x107},
+	{name: "an insertion above the limit (RFC 9204, section 7.4)", control: settings, others: []string{"\x02" + longInsertion}, code: 0x201},
 	{name: "an acknowledgment of nothing (RFC 9204, section 4.4.1)", control: settings, others: []string{"\x03\x80"}, code: 0x202},
 }
 
 var fromServer = []violation{
+	{name: "a frame of unknown type before SETTINGS (6.2.1)", control: otherFirst, code: 0x10a},
+	{name: "SETTINGS_ENABLE_CONNECT_PROTOCOL of 2 (RFC 8441, section 3)", control: "\x00\x04\x02\x08\x02", code: 0x109},
 	{name: "DATA before HEADERS (RFC 9114, section 4.1)", control: settings, request: "\x00\x01a", code: 0x105},
 	{name: "GOAWAY that is raised (5.2)", control: settings + "\x07\x01\x04\x07\x01\x08", code: 0x108},
 	{name: "GOAWAY of no request (5.2)", control: settings + "\x07\x01\x03", code: 0x108},
@@ -111,7 +122,7 @@ var fromServer = []violation{
 	{name: "a trailer with a pseudo-header field (4.3)", control: settings, request: status200 + status200, end: true},
 	{name: "HEADERS above the limit (10.5)", control: settings, request: "\x01" + longFrame},
 	{name: "SETTINGS above the limit (10.5)", control: "\x00\x04" + longFrame, code: 0x107},
-	{name: "an insertion above the limit (RFC 9204, section 7.4)", control: settings, others: []string{"\x02" + longInsertion}, code: 0x107},
+	{name: "an insertion above the limit (RFC 9204, section 7.4)", control: settings, others: []string{"\x02" + longInsertion}, code: 0x201},
 }
 
 func must(err error) {

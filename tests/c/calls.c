@@ -224,6 +224,8 @@ static void choose(h3_config *config, const char *word) {
   } choices[] = {
       {"strict", offsetof(h3_config, strict)},
       {"extended_connect", offsetof(h3_config, extended_connect)},
+      {"webtransport", offsetof(h3_config, webtransport)},
+      {"datagram", offsetof(h3_config, datagram)},
       {"count_acknowledgments", offsetof(h3_config, count_acknowledgments)},
       {"encoder_table", offsetof(h3_config, encoder_table)},
       {"economical_table", offsetof(h3_config, economical_table)},

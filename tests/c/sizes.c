@@ -81,6 +81,7 @@ static void make(void) {
     h3_config_default(&c);
     c.max_field_section_size = 1 << 24;
     c.server = (uint32_t)side;
+    c.strict_connection = 0;     /* so that sessions are known */
     c.table = 4096;
     c.blocked = 100;
     c.count_acknowledgments = 0; /* so that increments of 0 are taken */

@@ -74,6 +74,7 @@ int main(int count, char **arguments) {
   h3_config config;
   h3_config_default(&config);
   config.server = 1;
+  config.webtransport = config.datagram = 1; /* so that sessions are known */
   need(h3_new(&server, &config, NULL) == H3_OK, "no endpoint", 0);
   for (size_t i = 0; i < sizeof rows / sizeof *rows; i++) {
     begin_body(4 * i);

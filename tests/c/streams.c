@@ -33,6 +33,7 @@ static void make(void) {
     h3_config config;
     h3_config_default(&config);
     config.server = (uint64_t)side;
+    config.webtransport = config.datagram = 1; /* so that sessions are known */
     IS(h3_new(&ends[side], &config, NULL), H3_OK);
   }
   carry_own();

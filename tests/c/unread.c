@@ -35,6 +35,7 @@ static void make(void) {
   h3_config_default(&config);
   config.unfinished_limit = UINT64_MAX; /* so that frames of any length may begin */
   config.server = 1;
+  config.webtransport = config.datagram = 1; /* so that sessions are known */
   config.table = 220;
   config.blocked = 2;
   config.strict = 0; /* the head of these rows has no :path */

@@ -59,8 +59,8 @@ class Config:
     shortest_strings: bool
     """The local encoder writes a name or value as it stands if its Huffman code is not shorter."""
     strict_connection: bool
-    """The peer's settings, the first frame of its control stream and the ids of its sessions are held to the standards, and no request begins
-    after its GOAWAY."""
+    """The connection is closed if the peer's settings, the first frame of its control stream, the id of a session or the entries that a field
+    section names are invalid. A client begins no request after the peer's GOAWAY."""
 
     @classmethod
     def client(cls) -> Self:

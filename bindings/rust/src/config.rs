@@ -60,8 +60,8 @@ pub struct Config {
     pub guard_secrets: bool,
     /// The local encoder writes a name or value as it stands if its Huffman code is not shorter.
     pub shortest_strings: bool,
-    /// The peer's settings, the first frame of its control stream and the ids of its sessions are held to the standards, and no request
-    /// begins after its GOAWAY.
+    /// The connection is closed if the peer's settings, the first frame of its control stream, the id of a session or the entries that a
+    /// field section names are invalid. A client begins no request after the peer's GOAWAY.
     pub strict_connection: bool,
 }
 

@@ -216,6 +216,8 @@ def frames():
     request("half a prefix", frame(HEADERS, b"\0"))
     request("required insert count 5 without a table", frame(HEADERS, b"\5\0\x80"))
     request("a dynamic index without a table", frame(HEADERS, b"\0\0\x80"))
+    for text, prefix in (("an encoded count of 1", b"\1\0"), ("a base below the count 0", b"\0\x80"), ("a base of 5", b"\0\5")):
+        request(f"{text}, no index and no table", frame(HEADERS, prefix + section(*GET)[2:]))
     request("static index 99", frame(HEADERS, b"\0\0\xff\x24"))
     request("a cut literal", frame(HEADERS, b"\0\0\x23abc"))
 

@@ -161,11 +161,32 @@ def give_up_a_waiting_one(library):
     assert told == [0, 4, 12], f"heads that waited were told of {told}"
 
 
+def name_entries(library):
+    """No line names an entry from the required insert count on (RFC 9204, section 2.2.3), and a larger count is taken (2.2.1): the prefix, the
+    last line, and what comes of it at a server that has the entries a: b and c: d."""
+    refused = "QPACK_DECOMPRESSION_FAILED"
+    of = (
+        (b"\2\0", b"\x80", (b"a", b"b")), (b"\2\x80", b"\x10", (b"a", b"b")), (b"\3\x80", b"\x10", (b"c", b"d")), (b"\3\0", b"\x81", (b"a", b"b")),
+        (b"\2\0", b"\x10", refused), (b"\2\1", b"\x80", refused), (b"\2\0", b"\0\1x", refused), (b"\2\1", b"\x40\1x", refused),
+        (b"\0\0", b"\x10", refused), (b"\0\1", b"\x80", refused),
+    )
+    for prefix, line, wanted in of:
+        told = []
+        server = Connection(library, True, lambda kind, _, *what: told.append(what[1:3]) if kind == "header" else None, table=4096, blocked=16)
+        check(server.read(2, CONTROL_TYPE + frame(SETTINGS, b"")))
+        check(server.read(6, ENCODER_TYPE + b"\x3f\xe1\x1f\x41a\1b\x41c\1d"))
+        answer = server.read(0, frame(HEADERS, prefix + b"\xd1\xd7\xc1\x50\3a.b" + line))
+        came = told[-1] if answer >= 0 else error_name(answer)
+        server.free()
+        assert came == wanted, f"{prefix.hex()} and {line.hex()}: {came}"
+
+
 def main():
     found, wrong, wanted = libraries(), 0, None
     for library in found:
         try:
             give_up_a_waiting_one(library)
+            name_entries(library)
         except AssertionError as error:
             wrong += 1
             print(f"failed steps: {library.name}: {error}")

@@ -95,6 +95,8 @@ fn allowed(told: &mut Told, config: Config, name: &str, yes: bool) -> Config {
     match name {
         "strict" => config.with_strict_messages(yes),
         "extended_connect" => config.with_extended_connect(yes),
+        "webtransport" => config.with_webtransport(yes),
+        "datagram" => config.with_datagram(yes),
         "count_acknowledgments" => config.with_acknowledgments_counted(yes),
         "economical_table" => config.with_economical_table(yes),
         "reject_requests" => config.with_requests_rejected(yes),

@@ -2,7 +2,6 @@
 use Rattle.std.proofs.Common.{◌≡◌, ℕ, ◌+◌, Bool, true, false, if◌then◌else◌, List, [], ◌∷◌, ◌++◌, length, refl, ap, sym, ◌∙◌, subst, Option, Some, None}
 use Rattle.std.specs.Prelude.{◌||◌, ◌==◌, ◌≢◌, not, is_some, unwrap_or}
 use Rattle.h3_header.specs.Head.{Head, head_fields}
-use Rattle.h3_messages.specs.Content.{awaited_by}
 use Rattle.h3_messages.specs.declared.content.Content.{Content}
 use Rattle.h3_field.specs.Instruction.{DecoderInstruction}
 use Rattle.h3_connection.specs.declared.event.Refusal.{Refusal}
@@ -16,14 +15,14 @@ use Rattle.h3_connection.specs.CallLists.Result.{Opened, Done, Refused, Waits, T
 use Rattle.h3_connection.specs.Control.{Found}
 use Rattle.h3_connection.specs.Delivering.{incoming_at, taken, closed_by, delivery_refusal, bytes_at, end_at, reset_at, give_up, deliver}
 use Rattle.h3_connection.specs.Endpoint.{EndpointHistory, Kind, Own, kind_of, own_waiting, bytes_waiting, is_critical_of}
-use Rattle.h3_connection.specs.Incoming.{Incoming, nothing_came, awaiting}
+use Rattle.h3_connection.specs.Incoming.{Incoming, nothing_came, having_told}
 use Rattle.h3_connection.specs.OwnIds.{control_id, encoder_id, decoder_id}
 use Rattle.h3_connection.specs.Outgoing.{Outgoing as Out, is_end_next, part_bytes_waiting, with_finish, with_reset}
 use Rattle.h3_connection.specs.Outgoing.OwnPart.{OwnTrailer}
 use Rattle.h3_connection.specs.PullCuts.{DifferInCuts}
 use Rattle.h3_connection.specs.Sections.{written_section}
-use Rattle.h3_connection.specs.Refusals.{first_of}
-use Rattle.h3_connection.specs.Sending.{does, closed_or, open_refusal, head_refusal, body_refusal, trailer_refusal, finish_refusal, reset_refusal, goaway_refusal, own_advanced, advance_at, cancel_refusal, cancel, sent_bytes, counted, encoded, appended, head_part, fields_cost, with_outgoing, outgoing_at, asked, awaiting_at, content_of_own, known_of, remembers, saying_at}
+use Rattle.h3_connection.specs.Refusals.{first_of, refusal_of_head}
+use Rattle.h3_connection.specs.Sending.{does, closed_or, open_refusal, head_refusal, body_refusal, trailer_refusal, finish_refusal, reset_refusal, goaway_refusal, own_advanced, advance_at, cancel_refusal, cancel, sent_bytes, counted, encoded, appended, head_part, fields_cost, with_outgoing, outgoing_at, asked, content_of_own, known_of, saying_at, sender_at, unless_closed, telling_at}
 use Rattle.h3_connection.specs.Shown.{peer_limits, table_sizes}
 use Rattle.h3_connection.specs.StreamSets.{Streams, stream_at}
 use Rattle.h3_connection.specs.StreamSetLaws.{other_id}
@@ -31,6 +30,8 @@ use Rattle.h3_connection.specs.Unidirectional.{Unidirectional}
 use Rattle.h3_connection.proofs.AlikeEnds.{OfBoth, set_both, counts_alike, same_waits}
 use Rattle.h3_connection.proofs.AlikeReading.{Beside, beside_alike, given_up_alike, gives_up, request_same, requests_here, refused_at, bytes_at_alike, end_at_alike, reset_at_alike}
 use Rattle.h3_connection.proofs.ReadingCuts.{Alike}
+use Rattle.h3_connection.specs.StrictSending.{broken_head, broken_protocol}
+use Rattle.h3_field.specs.Field.{Field}
 
 -- the same answer, and where no fault was found endpoints that differ in cuts alone
 pub record AlikeAfter (x y : Option Refusal × EndpointHistory) : Type 0 where
@@ -109,14 +110,14 @@ module _ (e : EndpointHistory) (s : Streams Incoming) (t : Streams Unidirectiona
     replies = b.replies ∙ sym (ap joined_increments d);
   }
 
-  -- a head, where it is remembered what the request asks
-  awaits_alike : (id : ℕ) (expected : Content) (x y : Option Incoming) → OfBoth DifferInCuts x y → EachStream DifferInCuts (awaiting_at e.incoming id expected x) (awaiting_at s id expected y)
-  awaits_alike id expected None None h = b.incoming
-  awaits_alike id expected None (Some j) h = absurd h
-  awaits_alike id expected (Some i) None h = absurd h
-  awaits_alike id expected (Some i) (Some j) h =
-      set_both DifferInCuts e.incoming s id (awaiting i expected) (awaiting j expected) b.incoming
-      (record { bytes = h.bytes; same = ap (λ x. awaiting x expected) h.same; first = h.first; second = h.second })
+  -- a head, where messages are strict
+  tells_alike : (id : ℕ) (fields : List Field) (x y : Option Incoming) → OfBoth DifferInCuts x y → EachStream DifferInCuts (telling_at e.side e.incoming id fields x) (telling_at e.side s id fields y)
+  tells_alike id fields None None h = b.incoming
+  tells_alike id fields None (Some j) h = absurd h
+  tells_alike id fields (Some i) None h = absurd h
+  tells_alike id fields (Some i) (Some j) h =
+      set_both DifferInCuts e.incoming s id (having_told e.side i fields) (having_told e.side j fields) b.incoming
+      (record { bytes = h.bytes; same = ap (λ x. having_told e.side x fields) h.same; first = h.first; second = h.second })
 
   -- what was asked of both is known alike
   knows_alike : (x y : Option Incoming) → OfBoth DifferInCuts x y → known_of x ≡ known_of y
@@ -125,23 +126,23 @@ module _ (e : EndpointHistory) (s : Streams Incoming) (t : Streams Unidirectiona
   knows_alike (Some i) None h = absurd h
   knows_alike (Some i) (Some j) h = sym (ap (λ (x : Incoming). x.response) h.same)
 
-  asks_alike : (id : ℕ) (expected : Content) (remembered : Bool)
-      → EachStream DifferInCuts (if remembered then awaiting_at e.incoming id expected (stream_at e.incoming id) else e.incoming) (if remembered then awaiting_at s id expected (stream_at s id) else s)
-  asks_alike id expected true = awaits_alike id expected (stream_at e.incoming id) (stream_at s id) (requests_here e s t r id b)
-  asks_alike id expected false = b.incoming
+  asks_alike : (id : ℕ) (fields : List Field) (strict : Bool)
+      → EachStream DifferInCuts (if strict then telling_at e.side e.incoming id fields (stream_at e.incoming id) else e.incoming) (if strict then telling_at e.side s id fields (stream_at s id) else s)
+  asks_alike id fields true = tells_alike id fields (stream_at e.incoming id) (stream_at s id) (requests_here e s t r id b)
+  asks_alike id fields false = b.incoming
 
   sends_head : (id : ℕ) (head : Head) → AlikeCalled (λ one two. one ≡ two) (called e (SendHead id head)) (called two (SendHead id head))
   sends_head id head =
-      let content = awaited_by (head_fields head) in
-      let remembered = remembers e.side e.announced in
       let plain = counted (appended (encoded e id (head_fields head)) id (head_part head (written_section e.encoder id (head_fields head)))) (fields_cost (head_fields head)) in
       let new : EndpointHistory = asked plain id (head_fields head) in
-      let others : Streams Incoming = if remembered then awaiting_at s id content (stream_at s id) else s in
+      let others : Streams Incoming = if e.announced.choices.strict_messages then telling_at e.side s id (head_fields head) (stream_at s id) else s in
       let other : Option Content → EndpointHistory = λ known.
       with_streams (record new { outgoing = if e.announced.choices.strict_messages then saying_at plain.outgoing id (content_of_own e.side known (head_fields head)) (stream_at plain.outgoing id) else plain.outgoing }) others t r in
-      subst (λ known. AlikeCalled (λ one two. one ≡ two) (called e (SendHead id head)) (done Done (does (head_refusal e id head) two (other known)))) (knows_alike (stream_at e.incoming id) (stream_at s id) (requests_here e s t r id b))
+      let refused : Option Content → Option Refusal = λ known.
+      unless_closed e (refusal_of_head (sender_at e id) (broken_protocol e.announced head) (broken_head e.side e.announced e.peer.settings known (head_fields head)) head (head_fields head)) in
+      subst (λ known. AlikeCalled (λ one two. one ≡ two) (called e (SendHead id head)) (done Done (does (refused known) two (other known)))) (knows_alike (stream_at e.incoming id) (stream_at s id) (requests_here e s t r id b))
       (of_done Done _ _ (does_alike (head_refusal e id head) e two new (other (known_of (stream_at e.incoming id))) here
-      (beside_alike new others t r (record { incoming = asks_alike id content remembered; unidirectional = b.unidirectional; replies = b.replies }))))
+      (beside_alike new others t r (record { incoming = asks_alike id (head_fields head) e.announced.choices.strict_messages; unidirectional = b.unidirectional; replies = b.replies }))))
 
   sends_body : (id : ℕ) (bytes : List ℕ) → AlikeCalled (λ one two. one ≡ two) (called e (SendBody id bytes)) (called two (SendBody id bytes))
   sends_body id [] = sends Done (body_refusal e id 0) (counted (sent_bytes e id []) 0) (as_is _ refl refl refl)

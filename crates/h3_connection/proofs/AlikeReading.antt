@@ -14,7 +14,7 @@ use Rattle.h3_connection.specs.Endpoint.{EndpointHistory, limit_of, Kind, replie
 use Rattle.h3_connection.specs.Endpoint.Kind.{Request, ServerOpened, OwnUnidirectional, PeerUnidirectional}
 use Rattle.h3_connection.specs.Incoming.{Incoming, nothing_came}
 use Rattle.h3_connection.specs.Listeners.{heard_more, insertions_heard}
-use Rattle.h3_connection.specs.PeerReading.{PeerFound, with_unread, read_peer}
+use Rattle.h3_connection.specs.PeerReading.{PeerFound, read_peer}
 use Rattle.h3_connection.specs.PullCuts.{HaveBytes, DifferInCuts}
 use Rattle.h3_connection.specs.StreamSets.{Streams, stream_at, set_stream}
 use Rattle.h3_connection.specs.Unidirectional.{Unidirectional, Role, is_closed, is_critical, role_after, with_bytes}
@@ -23,7 +23,7 @@ use Rattle.h3_connection.proofs.AlikeEnds.{OfBoth, at_both, set_both, or_nothing
 use Rattle.h3_connection.proofs.PullCuts.{piece_bytes, have_piece}
 use Rattle.h3_connection.proofs.ReadingCuts.{Alike, read_if}
 use Rattle.h3_connection.proofs.RequestCuts.{some_refusal}
-use Rattle.h3_connection.specs.StrictConnection.{session_fault}
+use Rattle.h3_connection.specs.StrictConnection.{knows_sessions, kinds_of, session_fault}
 
 -- What an endpoint has beside another that differs from it in cuts alone.
 pub record Beside (e : EndpointHistory) (s : Streams Incoming) (t : Streams Unidirectional) (r : List DecoderInstruction) : Type 0 where
@@ -75,7 +75,7 @@ pub control_with : (e : EndpointHistory) (bytes : List ℕ) (s : Streams Incomin
     → read_control (with_streams e s t r) bytes ≡ (with_streams (read_control e bytes).0 s t r, (read_control e bytes).1)
 control_with e bytes s t r =
     let h = holding e bytes in
-    found_with (lacks_settings h) _ _ _ _ s t r refl (after_with h (read_peer (limit_of h) h.side h.peer) s t r)
+    found_with (lacks_settings h) _ _ _ _ s t r refl (after_with h (read_peer (kinds_of h.announced) (limit_of h) h.side h.peer) s t r)
 
 -- what reads without a look at streams
 found_alike : (e : EndpointHistory) (x y : Found) (s : Streams Incoming) (t : Streams Unidirectional) (r : List DecoderInstruction) → Beside e s t r
@@ -244,8 +244,8 @@ module _ (e : EndpointHistory) (s : Streams Incoming) (t : Streams Unidirectiona
   bytes_at_alike bytes PeerUnidirectional =
       let d = sessions_here in
       let role : (unidirectional_at two id).role ≡ (unidirectional_at e id).role = ap (λ (o : Unidirectional). o.role) d.same in
-      subst (λ x. Alike DifferInCutsAlone (bytes_at e id bytes PeerUnidirectional) (read_unidirectional two id (unidirectional_at two id) (role_after x bytes))) (sym role)
-      (unidirectional_alike (unidirectional_at e id) (unidirectional_at two id) (role_after (unidirectional_at e id).role bytes) d)
+      subst (λ x. Alike DifferInCutsAlone (bytes_at e id bytes PeerUnidirectional) (read_unidirectional two id (unidirectional_at two id) (role_after (knows_sessions e.announced) x bytes))) (sym role)
+      (unidirectional_alike (unidirectional_at e id) (unidirectional_at two id) (role_after (knows_sessions e.announced) (unidirectional_at e id).role bytes) d)
 
   pub end_at_alike : (k : Kind) → Alike DifferInCutsAlone (end_at e id k) (end_at two id k)
   end_at_alike Request =

@@ -13,7 +13,7 @@ use Rattle.h3_connection.specs.Bounds.{TriesTwice, WaitsOnce, OfStream, IsBounde
 use Rattle.h3_connection.specs.Arrivals.{Arrival, BytesCame, EndCame, ResetCame}
 use Rattle.h3_connection.specs.StreamSets.{Streams, stream_at, set_stream}
 use Rattle.h3_connection.specs.StreamSetLaws.{other_id, set-here, set-other}
-use Rattle.h3_connection.specs.Incoming.{Incoming, nothing_came, awaiting}
+use Rattle.h3_connection.specs.Incoming.{Incoming, nothing_came, having_told}
 use Rattle.h3_field.specs.Values.{instruction_of}
 use Rattle.h3_field.specs.Waiting.{encoder_wait}
 use Rattle.h3_qpack.specs.Hearing.{Heard, heard, hear_form, hear_next, decoder_after_form}
@@ -25,7 +25,7 @@ use Rattle.h3_connection.specs.Unidirectional.{Unidirectional, Role, with_bytes,
 use Rattle.h3_connection.specs.Unidirectional.Role.{Untold, Control, Encoder, Decoder, Session, Push, Ignored}
 use Rattle.h3_connection.specs.Outgoing.{Outgoing as Out, is_end_next, with_finish, with_reset}
 use Rattle.h3_connection.specs.Delivering.{deliver, deliver_end, deliver_reset, delivery_refusal, opened_at, opened, incoming_at, with_incoming, taken, closed_by, heard_as, unless_second, read_unidirectional, unidirectional_at, with_unidirectional, bytes_at, end_at, reset_at, kept, with_end, give_up, given_up_once, given_up_by}
-use Rattle.h3_connection.specs.Sending.{open_request, open_refusal, send_head, head_refusal, encoded, appended, head_part, fields_cost, body_refusal, send_trailer, trailer_refusal, finish, finish_refusal, reset, reset_refusal, with_outgoing, outgoing_at, goaway, goaway_refusal, cancel, cancel_refusal, pull, does, pull_at, pull_unless, pull_request, pull_peer, pulled, if_too_many, after_answer, advance_at, sent_bytes, counted, asked, awaiting_at, remembers}
+use Rattle.h3_connection.specs.Sending.{open_request, open_refusal, send_head, head_refusal, encoded, appended, head_part, fields_cost, body_refusal, send_trailer, trailer_refusal, finish, finish_refusal, reset, reset_refusal, with_outgoing, outgoing_at, goaway, goaway_refusal, cancel, cancel_refusal, pull, does, pull_at, pull_unless, pull_request, pull_peer, pulled, if_too_many, after_answer, advance_at, sent_bytes, counted, asked, telling_at}
 use Rattle.h3_connection.specs.Pulling.{Pulled, pull_stream}
 use Rattle.h3_connection.specs.Keeping.{read_arrival, read_all, unless_faulty, unkept, arrives_behind, arrives, pulls_behind, pulls, pulled_after, settles}
 use Rattle.h3_connection.specs.Shown.{block_tries}
@@ -49,8 +49,7 @@ use Rattle.h3_connection.proofs.Quiet.{Quiet, quiet_control, quiet_decoder}
 use Rattle.h3_connection.proofs.ReadingStays.{all_stays}
 use Rattle.h3_connection.proofs.Seen.{opened_here}
 use Rattle.h3_connection.proofs.WaitingCounts.{waits_at, count_set, count_inserted}
-use Rattle.h3_messages.specs.Content.{awaited_by}
-use Rattle.h3_messages.specs.declared.content.Content.{Content}
+use Rattle.h3_connection.specs.StrictConnection.{knows_sessions}
 
 -- the bounds rest on these alone, and nothing is open that was closed
 pub record Rests (e f : EndpointHistory) : Type 0 where
@@ -217,7 +216,7 @@ bytes_on : (e : EndpointHistory) (id : ℕ) (bytes : List ℕ) (k : Kind) → Is
 bytes_on e id bytes Request h = changes e id (kept (incoming_at e id) bytes) h (record { tries = refl; waits = omega arith })
 bytes_on e id bytes ServerOpened h = h
 bytes_on e id bytes OwnUnidirectional h = h
-bytes_on e id bytes PeerUnidirectional h = unidirectional e id (unidirectional_at e id) (role_after (unidirectional_at e id).role bytes) h
+bytes_on e id bytes PeerUnidirectional h = unidirectional e id (unidirectional_at e id) (role_after (knows_sessions e.announced) (unidirectional_at e id).role bytes) h
 
 end_on : (e : EndpointHistory) (id : ℕ) (k : Kind) → IsBounded e → IsBounded (end_at e id k).0
 end_on e id Request h = changes e id (with_end (incoming_at e id)) h (record { tries = refl; waits = omega arith })
@@ -392,20 +391,17 @@ end_taken_on e id (Some o) h = by_test (is_end_next o)
 end_taken_on e id None h = h
 
 asked_on : (e : EndpointHistory) (q : ℕ) (fields : List Field) → IsBounded e → IsBounded (asked e q fields)
-asked_on e q fields h = by_choice (remembers e.side e.announced)
+asked_on e q fields h = by_choice e.announced.choices.strict_messages
   where
-    content : Content
-    content = awaited_by fields
-
-    at_stream : (at : Option Incoming) → stream_at e.incoming q ≡ at → IsBounded (record e { incoming = awaiting_at e.incoming q content at })
+    at_stream : (at : Option Incoming) → stream_at e.incoming q ≡ at → IsBounded (record e { incoming = telling_at e.side e.incoming q fields at })
     at_stream None is = h
     at_stream (Some i) is =
-        let calms : Calms i (awaiting i content) = record { tries = refl; waits = omega arith } in
-        changes_at e q (awaiting i content) h (subst (λ at. Calms (unwrap_or at nothing_came) (awaiting i content)) (sym is) calms)
+        let calms : Calms i (having_told e.side i fields) = record { tries = refl; waits = omega arith } in
+        changes_at e q (having_told e.side i fields) h (subst (λ at. Calms (unwrap_or at nothing_came) (having_told e.side i fields)) (sym is) calms)
 
-    by_choice : (b : Bool) → IsBounded (record e { incoming = if b then awaiting_at e.incoming q content (stream_at e.incoming q) else e.incoming; outgoing = (asked e q fields).outgoing })
+    by_choice : (b : Bool) → IsBounded (record e { incoming = if b then telling_at e.side e.incoming q fields (stream_at e.incoming q) else e.incoming; outgoing = (asked e q fields).outgoing })
     by_choice true =
-        let f = record e { incoming = awaiting_at e.incoming q content (stream_at e.incoming q) } in
+        let f = record e { incoming = telling_at e.side e.incoming q fields (stream_at e.incoming q) } in
         rests f (record f { outgoing = (asked e q fields).outgoing }) refl refl refl refl (at_stream (stream_at e.incoming q) refl)
     by_choice false = rests e (record e { outgoing = (asked e q fields).outgoing }) refl refl refl refl h
 

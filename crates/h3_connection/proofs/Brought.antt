@@ -6,7 +6,7 @@ use Rattle.h3_coding.specs.VarintLaws.{reads_more}
 use Rattle.h3_proto.specs.declared.stream.Side.{Side}
 use Rattle.h3_connection.specs.declared.setup.Announced.{Announced}
 use Rattle.h3_connection.specs.declared.event.Refusal.{Refusal}
-use Rattle.h3_connection.specs.Unidirectional.{Role, role_after, of_kind, with_id}
+use Rattle.h3_connection.specs.Unidirectional.{Role, role_after, of_kind, session_role, with_id}
 use Rattle.h3_connection.specs.Unidirectional.Role.{Untold, Control, Encoder, Decoder, Session, Push, Ignored}
 use Rattle.h3_connection.specs.Incoming.{Incoming}
 use Rattle.h3_connection.specs.Endpoint.{EndpointHistory, limit_of, Kind, kind_of, new_endpoint}
@@ -14,14 +14,13 @@ use Rattle.h3_connection.specs.Endpoint.Kind.{Request, ServerOpened, OwnUnidirec
 use Rattle.h3_connection.specs.Delivering.{closed_refusal}
 use Rattle.h3_connection.specs.CallLists.{Call, called}
 use Rattle.h3_connection.specs.CallLists.Call.{OpenRequest, SendHead, SendBody, SendTrailer, Finish, Reset, Goaway, Advance, TakeEnd, Outgoing, Deliver, DeliverEnd, DeliverReset, PullStream, Cancel, Show}
-use Rattle.h3_connection.specs.Isolation.{Front, Sight, IsSight, AreEncoders, Before, GoesOn, FindsNoFault, StepIsSeen, sees, seen, unless_refused, with_front, hears, brought_on, is_encoder_type, encoders_in, is_peer, first_sight, seen_pull, where_open, before_first_fault, front, with_awaited}
+use Rattle.h3_connection.specs.Isolation.{Front, Sight, IsSight, AreEncoders, Before, GoesOn, FindsNoFault, StepIsSeen, sees, seen, unless_refused, with_front, hears, brought_on, is_encoder_type, encoders_in, is_peer, first_sight, seen_pull, where_open, before_first_fault, front, with_told}
 use Rattle.h3_connection.proofs.SeenEncoder.{by_eq, to_eq}
 use Rattle.h3_connection.proofs.Isolated.{each_step, before_next, true_not_false}
 use Rattle.h3_connection.proofs.SameSetups.{same_setup}
 use Rattle.h3_connection.proofs.Fronts.{OnlyPeers, any_peer, are_peers, peers_step}
-use Rattle.h3_messages.specs.Content.{awaited_by}
-use Rattle.h3_messages.specs.declared.content.Content.{Content}
 use Rattle.h3_header.specs.Head.{head_fields}
+use Rattle.h3_field.specs.Field.{Field}
 
 -- a stream read so far as its front says agrees with the test, whatever comes
 record GoodRole (t : Bool) (role : Role) (coming : List ℕ) : Type 0 where
@@ -74,38 +73,39 @@ unfolding is_untold is_role_encoder
 good_push t all coming None h = good_untold t all coming h
 good_push t all coming (Some (id, rest)) h = good_other t (Push id) coming refl refl
 
-good_session : (t : Bool) (all coming : List ℕ) (at : Option (ℕ × List ℕ)) → t ≡ is_encoder_type (varint_at (all ++ coming)) → GoodRole t (with_id Session all at).0 coming
+good_session : (sessions t : Bool) (all coming : List ℕ) (at : Option (ℕ × List ℕ)) → t ≡ is_encoder_type (varint_at (all ++ coming)) → GoodRole t (with_id (session_role sessions) all at).0 coming
 unfolding is_untold is_role_encoder
-good_session t all coming None h = good_untold t all coming h
-good_session t all coming (Some (id, rest)) h = good_other t (Session id) coming refl refl
+good_session sessions t all coming None h = good_untold t all coming h
+good_session true t all coming (Some (id, rest)) h = good_other t (Session id) coming refl refl
+good_session false t all coming (Some (id, rest)) h = good_other t Ignored coming refl refl
 
-good_kind : (t : Bool) (all coming : List ℕ) (at : Option (ℕ × List ℕ)) → varint_at all ≡ at → t ≡ is_encoder_type (varint_at (all ++ coming)) → GoodRole t (of_kind all at).0 coming
+good_kind : (sessions : Bool) (t : Bool) (all coming : List ℕ) (at : Option (ℕ × List ℕ)) → varint_at all ≡ at → t ≡ is_encoder_type (varint_at (all ++ coming)) → GoodRole t (of_kind sessions all at).0 coming
 unfolding is_untold is_role_encoder
-good_kind t all coming None is h = good_untold t all coming h
-good_kind t all coming (Some (kind, rest)) is h =
+good_kind sessions t all coming None is h = good_untold t all coming h
+good_kind sessions t all coming (Some (kind, rest)) is h =
     good_if t (kind == 0) _ _ coming (λ _. good_other t Control coming refl refl)
     (λ _. good_if t (kind == 1) _ _ coming (λ _. good_push t all coming (varint_at rest) h)
     (λ _. good_if t (kind == 2) _ _ coming (λ two. good_encoder t coming (h ∙ ap is_encoder_type (reads_more kind all rest coming is) ∙ two))
     (λ _. good_if t (kind == 3) _ _ coming (λ _. good_other t Decoder coming refl refl)
-    (λ _. good_if t (kind == 0x54) _ _ coming (λ _. good_session t all coming (varint_at rest) h)
+    (λ _. good_if t (kind == 0x54) _ _ coming (λ _. good_session sessions t all coming (varint_at rest) h)
     (λ _. good_other t Ignored coming refl refl)))))
 
 -- after further bytes
-good_bytes : (t : Bool) (role : Role) (bytes coming : List ℕ) → GoodRole t role (bytes ++ coming) → GoodRole t (role_after role bytes).0 coming
+good_bytes : (sessions : Bool) (t : Bool) (role : Role) (bytes coming : List ℕ) → GoodRole t role (bytes ++ coming) → GoodRole t (role_after sessions role bytes).0 coming
 unfolding is_untold is_role_encoder
-good_bytes t (Untold front) bytes coming h =
-    good_kind t (front ++ bytes) coming (varint_at (front ++ bytes)) refl
+good_bytes sessions t (Untold front) bytes coming h =
+    good_kind sessions t (front ++ bytes) coming (varint_at (front ++ bytes)) refl
     (h.untold front refl ∙ ap (λ w. is_encoder_type (varint_at w)) (sym (append_assoc front bytes coming)))
-good_bytes t Control bytes coming h = good_other t Control coming refl refl
-good_bytes t Encoder bytes coming h = good_encoder t coming (h.encoder refl)
-good_bytes t Decoder bytes coming h = good_other t Decoder coming refl refl
-good_bytes t (Session id) bytes coming h = good_other t (Session id) coming refl refl
-good_bytes t (Push id) bytes coming h = good_other t (Push id) coming refl refl
-good_bytes t Ignored bytes coming h = good_other t Ignored coming refl refl
+good_bytes sessions t Control bytes coming h = good_other t Control coming refl refl
+good_bytes sessions t Encoder bytes coming h = good_encoder t coming (h.encoder refl)
+good_bytes sessions t Decoder bytes coming h = good_other t Decoder coming refl refl
+good_bytes sessions t (Session id) bytes coming h = good_other t (Session id) coming refl refl
+good_bytes sessions t (Push id) bytes coming h = good_other t (Push id) coming refl refl
+good_bytes sessions t Ignored bytes coming h = good_other t Ignored coming refl refl
 
-more_good : (t : Bool) (f : Front) (bytes coming : List ℕ) → f.closed ≡ false → Good t f (bytes ++ coming) → Good t (record f { role = (role_after f.role bytes).0 }) coming
-more_good t f bytes coming fresh h =
-    let g = good_bytes t f.role bytes coming (record { encoder = h.encoder; untold = h.untold fresh }) in
+more_good : (sessions : Bool) (t : Bool) (f : Front) (bytes coming : List ℕ) → f.closed ≡ false → Good t f (bytes ++ coming) → Good t (record f { role = (role_after sessions f.role bytes).0 }) coming
+more_good sessions t f bytes coming fresh h =
+    let g = good_bytes sessions t f.role bytes coming (record { encoder = h.encoder; untold = h.untold fresh }) in
     record { encoder = g.encoder; untold = λ _. g.untold }
 
 closed_good : (t : Bool) (f : Front) (before coming : List ℕ) → f.closed ≡ true → Good t f before → Good t f coming
@@ -136,14 +136,14 @@ not_peer T side fronts p bytes cs blind h q peer =
     by_eq q p (λ b. Good (T q) (fronts q) ((if b then bytes else []) ++ brought_on q cs) → Good (T q) (fronts q) (brought_on q cs))
     (λ same _. absurd (true_not_false (sym peer ∙ ap (any_peer side) same ∙ blind))) (λ differs g. g) (h q peer)
 
-bytes_agree : (T : ℕ → Bool) (side : Side) (most : ℕ) (s : Sight) (p : ℕ) (bytes : List ℕ) (cs : List Call) (closed : Bool) → (s.fronts p).closed ≡ closed → Agrees T side s.fronts (Deliver p bytes ∷ cs)
-    → Agrees T side (unless_refused (closed_refusal closed) s (with_front (record s { decoding = hears most s.decoding (role_after (s.fronts p).role bytes) }) p (record (s.fronts p) { role = (role_after (s.fronts p).role bytes).0 }))).1.fronts cs
-bytes_agree T side most s p bytes cs true is h q peer =
+bytes_agree : (sessions : Bool) (T : ℕ → Bool) (side : Side) (most : ℕ) (s : Sight) (p : ℕ) (bytes : List ℕ) (cs : List Call) (closed : Bool) → (s.fronts p).closed ≡ closed → Agrees T side s.fronts (Deliver p bytes ∷ cs)
+    → Agrees T side (unless_refused (closed_refusal closed) s (with_front (record s { decoding = hears most s.decoding (role_after sessions (s.fronts p).role bytes) }) p (record (s.fronts p) { role = (role_after sessions (s.fronts p).role bytes).0 }))).1.fronts cs
+bytes_agree sessions T side most s p bytes cs true is h q peer =
     by_eq q p (λ b. Good (T q) (s.fronts q) ((if b then bytes else []) ++ brought_on q cs) → Good (T q) (s.fronts q) (brought_on q cs))
     (λ same g. closed_good (T q) (s.fronts q) (bytes ++ brought_on q cs) (brought_on q cs) (ap (λ x. (s.fronts x).closed) same ∙ is) g) (λ differs g. g) (h q peer)
-bytes_agree T side most s p bytes cs false is h q peer =
-    by_eq q p (λ b. Good (T q) (s.fronts q) ((if b then bytes else []) ++ brought_on q cs) → Good (T q) (if b then record (s.fronts p) { role = (role_after (s.fronts p).role bytes).0 } else s.fronts q) (brought_on q cs))
-    (λ same g. more_good (T q) (s.fronts p) bytes (brought_on q cs) is (subst (λ x. Good (T q) (s.fronts x) (bytes ++ brought_on q cs)) same g)) (λ differs g. g) (h q peer)
+bytes_agree sessions T side most s p bytes cs false is h q peer =
+    by_eq q p (λ b. Good (T q) (s.fronts q) ((if b then bytes else []) ++ brought_on q cs) → Good (T q) (if b then record (s.fronts p) { role = (role_after sessions (s.fronts p).role bytes).0 } else s.fronts q) (brought_on q cs))
+    (λ same g. more_good sessions (T q) (s.fronts p) bytes (brought_on q cs) is (subst (λ x. Good (T q) (s.fronts x) (bytes ++ brought_on q cs)) same g)) (λ differs g. g) (h q peer)
 
 closing_agrees : (T : ℕ → Bool) (side : Side) (s : Sight) (p : ℕ) (cs : List Call) → Agrees T side s.fronts cs
     → Agrees T side (with_front s p (record (s.fronts p) { closed = true })).fronts cs
@@ -154,9 +154,9 @@ closing_agrees T side s p cs h q peer =
 abbrev after_seen : Side → ℕ → EndpointHistory → Sight → Call → Sight
 after_seen side id e s c = if sees (any_peer side) id e c then (seen e.side e.announced id s c).1 else s
 
-awaited_same : (T : ℕ → Bool) (side : Side) (s : Sight) (expected : Content) (at : Option Incoming) (cs : List Call) → Agrees T side s.fronts cs → Agrees T side (with_awaited s expected at).fronts cs
-awaited_same T side s expected None cs h = h
-awaited_same T side s expected (Some i) cs h = h
+told_same : (T : ℕ → Bool) (side teller : Side) (s : Sight) (fields : List Field) (at : Option Incoming) (cs : List Call) → Agrees T side s.fronts cs → Agrees T side (with_told teller s fields at).fronts cs
+told_same T side teller s fields None cs h = h
+told_same T side teller s fields (Some i) cs h = h
 
 fst_if : (b : Bool) (T : ℕ → Bool) (side : Side) (x y : Sight) (cs : List Call) → Agrees T side x.fronts cs → Agrees T side y.fronts cs → Agrees T side (if b then x else y).fronts cs
 fst_if true T side x y cs h k = h
@@ -167,7 +167,7 @@ deliver_agrees : (T : ℕ → Bool) (side : Side) (id : ℕ) (e : EndpointHistor
 deliver_agrees T side id e s p bytes cs blind h true peer is is_peer =
     let here = not_peer T side s.fronts p bytes cs (ap (any_peer side) (to_eq p id is) ∙ blind) h in
     rw is (unless_same T side _ s _ cs here here)
-deliver_agrees T side id e s p bytes cs blind h false true is is_peer = rw (is, is_peer) (bytes_agree T side (limit_of e) s p bytes cs (s.fronts p).closed refl h)
+deliver_agrees T side id e s p bytes cs blind h false true is is_peer = rw (is, is_peer) (bytes_agree _ T side (limit_of e) s p bytes cs (s.fronts p).closed refl h)
 deliver_agrees T side id e s p bytes cs blind h false false is is_peer = rw (is, is_peer) (not_peer T side s.fronts p bytes cs is_peer h)
 
 end_agrees : (T : ℕ → Bool) (side : Side) (id : ℕ) (e : EndpointHistory) (s : Sight) (p : ℕ) (cs : List Call) → Agrees T side s.fronts cs
@@ -184,7 +184,7 @@ reset_agrees T side id e s p code cs h false false is is_peer = rw (is, is_peer)
 
 agrees_step : (T : ℕ → Bool) (side : Side) (id : ℕ) (e : EndpointHistory) (s : Sight) (c : Call) (cs : List Call) → any_peer side id ≡ false → Agrees T side s.fronts (c ∷ cs) → Agrees T side (after_seen side id e s c).fronts cs
 agrees_step T side id e s OpenRequest cs blind h = fst_if _ T side _ _ cs h h
-agrees_step T side id e s (SendHead q head) cs blind h = fst_if _ T side _ _ cs (awaited_same T side s (awaited_by (head_fields head)) s.incoming cs h) h
+agrees_step T side id e s (SendHead q head) cs blind h = fst_if _ T side _ _ cs (told_same T side e.side s (head_fields head) s.incoming cs h) h
 agrees_step T side id e s (SendBody q bytes) cs blind h = h
 agrees_step T side id e s (SendTrailer q head) cs blind h = h
 agrees_step T side id e s (Finish q) cs blind h = h

@@ -3,13 +3,14 @@ use Rattle.std.proofs.Common.{◌≡◌, ℕ, Bool, true, false, ◌&&◌, if◌
 use Rattle.std.specs.Prelude.{is_none}
 use Rattle.std.proofs.lemmas.Bool.{and_parts, and_right}
 use Rattle.h3_proto.specs.declared.stream.Side.{Side}
+use Rattle.h3_wire.specs.declared.frame.kinds.FrameKinds.{FrameKinds}
 use Rattle.h3_wire.specs.FirstFrames.{begins_other}
 use Rattle.h3_connection.specs.Codes.{missing_settings, settings_error}
 use Rattle.h3_connection.specs.Control.{Found, are_refused, holding, lacks_settings, read_control, settings_alone, taken_peer, then_decoder, if_learned}
 use Rattle.h3_connection.specs.DeliveryCuts.{IsSame}
 use Rattle.h3_connection.specs.Endpoint.{EndpointHistory, limit_of}
 use Rattle.h3_connection.specs.PeerReading.{PeerFound, read_peer, with_unread}
-use Rattle.h3_connection.specs.StrictConnection.{is_strict, settings_refused, have_bad_value}
+use Rattle.h3_connection.specs.StrictConnection.{kinds_of, is_strict, settings_refused, have_bad_value}
 use Rattle.h3_connection.specs.FirstSettings.{FirstRead, Fails, HasHead, Nothing, Settings}
 use Rattle.h3_connection.specs.FirstSettingsLaws.{head_stays, other_stays, what_first}
 use Rattle.h3_connection.specs.PeerReadingLaws.{settings_stay}
@@ -20,7 +21,7 @@ use Rattle.h3_connection.proofs.ReadingCuts.{Alike, alike_same, alike_as, frames
 
 -- what is found of further bytes, and the two tests that come before its frames
 abbrev found_of : EndpointHistory → List ℕ → PeerFound
-found_of g a = read_peer (limit_of g) g.side (with_unread g.peer (g.peer.unread ++ a))
+found_of g a = read_peer (kinds_of g.announced) (limit_of g) g.side (with_unread g.peer (g.peer.unread ++ a))
 
 abbrev misses : EndpointHistory → List ℕ → Bool
 misses g a = lacks_settings (holding g a)
@@ -67,13 +68,13 @@ missing_stays g a b is =
     ap (λ x. x && begins_other (g.peer.unread ++ (a ++ b))) parts.0 ∙ ap begins_other (sym (assoc_unread g a b)) ∙ other_stays (g.peer.unread ++ a) b parts.1
 
 -- what more bytes make of the settings that came
-kept_settings : (limit : ℕ) (side : Side) (b left : List ℕ) (x : PeerFound) (pairs : List (ℕ × ℕ)) → x.0.settings ≡ Some pairs → (then_peer limit side b left x).0.settings ≡ Some pairs
-kept_settings limit side b left (p, Some code) pairs is = is
-kept_settings limit side b left (p, None) pairs is = settings_stay limit side (with_unread p (p.unread ++ b)) pairs is
+kept_settings : (kinds : FrameKinds) (limit : ℕ) (side : Side) (b left : List ℕ) (x : PeerFound) (pairs : List (ℕ × ℕ)) → x.0.settings ≡ Some pairs → (then_peer kinds limit side b left x).0.settings ≡ Some pairs
+kept_settings kinds limit side b left (p, Some code) pairs is = is
+kept_settings kinds limit side b left (p, None) pairs is = settings_stay kinds limit side (with_unread p (p.unread ++ b)) pairs is
 
-no_settings : (limit : ℕ) (side : Side) (b left : List ℕ) (x : PeerFound) (code : ℕ) → x.1 ≡ Some code → x.0.settings ≡ None → (then_peer limit side b left x).0.settings ≡ None
-no_settings limit side b left (p, Some other) code is none = none
-no_settings limit side b left (p, None) code is none = absurd (cc)
+no_settings : (kinds : FrameKinds) (limit : ℕ) (side : Side) (b left : List ℕ) (x : PeerFound) (code : ℕ) → x.1 ≡ Some code → x.0.settings ≡ None → (then_peer kinds limit side b left x).0.settings ≡ None
+no_settings kinds limit side b left (p, Some other) code is none = none
+no_settings kinds limit side b left (p, None) code is none = absurd (cc)
 
 -- What passes the first test with some bytes, and what that means with more.
 data Passes (g : EndpointHistory) (a b : List ℕ) : Type 0 where
@@ -91,16 +92,16 @@ module _ (g : EndpointHistory) (a b : List ℕ) where
   with_settings : (pairs : List (ℕ × ℕ)) → (found_of g a).0.settings ≡ Some pairs → refuses g (a ++ b) ≡ refuses g a
   with_settings pairs is =
       ap (are_refused (holding g (a ++ b)) g.peer.settings)
-      (ap (λ (x : PeerFound). x.0.settings) (read_behind g a b) ∙ kept_settings (limit_of g) g.side b (left_behind g a b) (found_of g a) pairs is ∙ sym is)
+      (ap (λ (x : PeerFound). x.0.settings) (read_behind g a b) ∙ kept_settings (kinds_of g.announced) (limit_of g) g.side b (left_behind g a b) (found_of g a) pairs is ∙ sym is)
       ∙ same_refused g (a ++ b) a g.peer.settings (found_of g a).0.settings
 
-  first_passes : g.peer.settings ≡ None → begins_other (g.peer.unread ++ a) ≡ false → FirstRead (limit_of g) g.side (holding g a).peer → Passes g a b
+  first_passes : g.peer.settings ≡ None → begins_other (g.peer.unread ++ a) ≡ false → FirstRead (kinds_of g.announced) (limit_of g) g.side (holding g a).peer → Passes g a b
   first_passes none first (Nothing is) = Unread none is
   first_passes none first (Settings h pairs came) = Known (whole_head h first) (with_settings pairs came) pairs came
   first_passes none first (Fails h code fault unknown) =
       Failed (whole_head h first)
       (none_refused (holding g (a ++ b)) g.peer.settings _
-      (ap (λ (x : PeerFound). x.0.settings) (read_behind g a b) ∙ no_settings (limit_of g) g.side b (left_behind g a b) (found_of g a) code fault unknown))
+      (ap (λ (x : PeerFound). x.0.settings) (read_behind g a b) ∙ no_settings (kinds_of g.announced) (limit_of g) g.side b (left_behind g a b) (found_of g a) code fault unknown))
       (none_refused (holding g a) g.peer.settings _ unknown) code fault
 
   passes : misses g a ≡ false → Passes g a b
@@ -109,12 +110,12 @@ module _ (g : EndpointHistory) (a b : List ℕ) where
       by_choice : (s : Bool) → is_strict g.announced ≡ s → (o : Option (List (ℕ × ℕ))) → g.peer.settings ≡ o → Passes g a b
       by_choice false off o is = Off off
       by_choice true on (Some pairs) is =
-          let came : (found_of g a).0.settings ≡ Some pairs = settings_stay (limit_of g) g.side (with_unread g.peer (g.peer.unread ++ a)) pairs is in
+          let came : (found_of g a).0.settings ≡ Some pairs = settings_stay (kinds_of g.announced) (limit_of g) g.side (with_unread g.peer (g.peer.unread ++ a)) pairs is in
           Known (known_missed (holding g (a ++ b)) pairs is) (with_settings pairs came) pairs came
       by_choice true on None is =
           let begins : begins_other (g.peer.unread ++ a) ≡ false =
           sym (ap (λ s. (s && is_none g.peer.settings) && begins_other (g.peer.unread ++ a)) on ∙ ap (λ o. (true && is_none o) && begins_other (g.peer.unread ++ a)) is) ∙ first in
-          first_passes is begins (what_first (limit_of g) g.side (holding g a).peer is begins)
+          first_passes is begins (what_first (kinds_of g.announced) (limit_of g) g.side (holding g a).peer is begins)
 
   clean_by : (m r : Bool) → (by_tests g a m r).1 ≡ None → (m ≡ false) × (r ≡ false)
   clean_by true r none = absurd (cc)

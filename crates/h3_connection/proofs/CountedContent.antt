@@ -13,11 +13,11 @@ use Rattle.h3_header.specs.Head.{Head, has_pseudo}
 use Rattle.h3_header.specs.HeadRead.{HeadRead, IsHead, IsNone, head_by}
 use Rattle.h3_messages.specs.Content.{left_behind, is_exceeded, may_end, takes_trailer}
 use Rattle.h3_messages.specs.declared.content.Content.{Content}
-use Rattle.h3_messages.specs.declared.content.Content.TheVariants.{Unsaid, Exactly, NoContent, Tunnel, Exceeded}
+use Rattle.h3_messages.specs.declared.content.Content.TheVariants.{Unsaid, Exactly, NoContent, Tunnel, Exceeded, Unanswered}
 use Rattle.h3_proto.specs.declared.stream.Side.{Side}
 use Rattle.h3_proto.specs.declared.stream.Side.TheVariants.{Client, Server}
 use Rattle.h3_wire.specs.ExcessiveFrames.{begins_section, is_excessive}
-use Rattle.h3_wire.specs.Frames.{Front, Whole, Unknown, Refused, Unfinished, frame_at}
+use Rattle.h3_wire.specs.Frames.{Front, Whole, Unknown, Refused, Unfinished, frame_by}
 use Rattle.h3_wire.specs.Pieces.{chunk_of}
 use Rattle.h3_wire.specs.declared.proto.frame.PayloadLen.{PayloadLen}
 use Rattle.h3_wire.specs.declared.proto.frame.Frame.{Frame}
@@ -37,6 +37,7 @@ use Rattle.h3_connection.specs.declared.event.Fault.TheVariants as fault
 use Rattle.h3_connection.specs.declared.event.Item.TheVariants as item
 use Rattle.h3_connection.specs.declared.place.Place.{Place}
 use Rattle.h3_connection.specs.declared.place.Place.TheVariants.{BeforeHead, InBody, AfterTrailer, InSession}
+use Rattle.h3_connection.specs.StrictConnection.{kinds_of}
 
 abbrev is_behind_head : Place → Bool
 is_behind_head InBody = true
@@ -50,6 +51,7 @@ AreAll all n None (Exactly more) left = more + left + n ≡ all
 AreAll all n None Unsaid left = ⊥
 AreAll all n None NoContent left = ⊥
 AreAll all n None Tunnel left = ⊥
+AreAll all n None Unanswered left = ⊥
 AreAll all n None Exceeded left = ⊥
 
 abbrev Counts : ℕ → ℕ → Incoming → Type 0
@@ -83,6 +85,7 @@ module _ (all n : ℕ) where
   more_of None Unsaid left none h = absurd h
   more_of None NoContent left none h = absurd h
   more_of None Tunnel left none h = absurd h
+  more_of None Unanswered left none h = absurd h
   more_of None Exceeded left none h = absurd h
 
   going : (i : Incoming) → i.fault ≡ None → i.is_over ≡ false → Counts all n i → Going all n i
@@ -306,7 +309,7 @@ module _ (all n : ℕ) where
 
     next_fine : (i : Incoming) (bytes : List ℕ) → i.section ≡ None → i.body_left ≡ 0 → Going all n i → Fine (next_frame side own id r i bytes)
     next_fine i [] none closed g = either i.ended _ _ (end_fine i i.place g.place closed g) (record { whole = tt; after = leaf i closed g })
-    next_fine i (byte ∷ bytes) none closed g = framed_fine i (frame_at (byte ∷ bytes)) none closed g
+    next_fine i (byte ∷ bytes) none closed g = framed_fine i (frame_by (kinds_of own) (byte ∷ bytes)) none closed g
 
     not_some : (k : ℕ) → nat_lt 0 k ≡ false → k ≡ 0
     not_some k e = grind (arith, common_steps, e)
@@ -325,7 +328,7 @@ module _ (all n : ℕ) where
     message_fine i None is apart g = by_left (nat_lt 0 i.body_left) refl
       where
         bytes : List ℕ
-        bytes = skipped (is_body i.place) (concat i.unread)
+        bytes = skipped (kinds_of own) (is_body i.place) (concat i.unread)
 
         by_left : (b : Bool) → nat_lt 0 i.body_left ≡ b → Fine (if b then at_payload id i else between_frames side own id r i)
         by_left true left = content_fine id i is g
@@ -360,6 +363,7 @@ few all n None (Exactly more) left h = omega (arith, h)
 few all n None Unsaid left h = absurd h
 few all n None NoContent left h = absurd h
 few all n None Tunnel left h = absurd h
+few all n None Unanswered left h = absurd h
 few all n None Exceeded left h = absurd h
 
 counted : (side : Side) (own : Announced) (id all n : ℕ) (i : Incoming) → HandsOut side own id all n i → Counts all n i

@@ -9,8 +9,8 @@ use Rattle.h3_proto.specs.StreamIds.{is_request_stream}
 use Rattle.h3_proto.specs.declared.stream.Side.{Side}
 use Rattle.h3_proto.specs.declared.stream.Side.TheVariants.{Client, Server}
 use Rattle.h3_wire.specs.ExcessiveFrames.{is_excessive}
-use Rattle.h3_wire.specs.Frames.{Front, Whole, Unknown, Refused, Unfinished, frame_at}
-use Rattle.h3_wire.specs.Known.{known}
+use Rattle.h3_wire.specs.Frames.{Front, Whole, Unknown, Refused, Unfinished, frame_by}
+use Rattle.h3_wire.specs.Known.{known_by}
 use Rattle.h3_wire.specs.StreamHeaders.{control_encoding}
 use Rattle.h3_wire.specs.declared.proto.frame.PayloadLen.{PayloadLen}
 use Rattle.h3_wire.specs.declared.proto.frame.Frame.{Frame}
@@ -54,6 +54,8 @@ use Rattle.h3_connection.proofs.Seen.{eq_refl}
 use Rattle.h3_connection.proofs.SameSetups.{same_setup}
 use Rattle.h3_connection.proofs.SentOff.{sent_in, stop_refused, body_refused, trailer_refused, finish_refused, reset_refused}
 use Rattle.h3_connection.proofs.LeavesDone.{Over, Leaves, Rests, settled_in, itself, at_rest, rests, leaves_then, receives, does_leave, taken_leaves, open_leaves, head_leaves, set_leaves, body_does, advance_leaves, end_leaves, goaway_leaves}
+use Rattle.h3_wire.specs.declared.frame.kinds.FrameKinds.{FrameKinds}
+use Rattle.h3_connection.specs.StrictConnection.{knows_sessions, kinds_of}
 
 -- The peer's GOAWAY frames stay, whatever its control stream says.
 abbrev HasGoaway : Peer → Type 0
@@ -97,14 +99,14 @@ front_goes side p bytes (Unknown kind rest) go h later = h
 front_goes side p bytes (Refused e) go h later = h
 front_goes side p bytes (Unfinished least) go h later = h
 
-within_goes : (n limit : ℕ) (side : Side) (p : Peer) → HasGoaway p → HasGoaway (read_within n limit side p).0
-within_goes zero limit side p h = h
-within_goes (suc n) limit side p h =
-    goes_if (is_excessive limit (known p.unread)) _ _ h (front_goes side p (known p.unread) (frame_at (known p.unread)) (read_within n limit side) h (λ q is. within_goes n limit side q is))
+within_goes : (kinds : FrameKinds) (n limit : ℕ) (side : Side) (p : Peer) → HasGoaway p → HasGoaway (read_within kinds n limit side p).0
+within_goes kinds zero limit side p h = h
+within_goes kinds (suc n) limit side p h =
+    goes_if (is_excessive limit (known_by kinds p.unread)) _ _ h (front_goes side p (known_by kinds p.unread) (frame_by kinds (known_by kinds p.unread)) (read_within kinds n limit side) h (λ q is. within_goes kinds n limit side q is))
 
-peer_goes : (limit : ℕ) (side : Side) (p : Peer) → HasGoaway p → HasGoaway (read_peer limit side p).0
+peer_goes : (kinds : FrameKinds) (limit : ℕ) (side : Side) (p : Peer) → HasGoaway p → HasGoaway (read_peer kinds limit side p).0
 unfolding read_peer
-peer_goes limit side p h = within_goes (length p.unread) limit side p h
+peer_goes kinds limit side p h = within_goes kinds (length p.unread) limit side p h
 
 -- What a unidirectional stream of the peer says changes no request stream.
 rests_then : (e f g : EndpointHistory) → Rests e f → Rests f g → Rests e g
@@ -173,7 +175,7 @@ control_rests : (e : EndpointHistory) (bytes : List ℕ) → Rests e (read_contr
 control_rests e bytes =
     let h = holding e bytes in
     found_rests (lacks_settings h) e _ _ (peer_rests e h.peer (λ was. was))
-    (rests_then e h _ (peer_rests e h.peer (λ was. was)) (after_rests h (read_peer (limit_of h) h.side h.peer) (λ was. peer_goes (limit_of h) h.side h.peer was)))
+    (rests_then e h _ (peer_rests e h.peer (λ was. was)) (after_rests h (read_peer (kinds_of h.announced) (limit_of h) h.side h.peer) (λ was. peer_goes _ (limit_of h) h.side h.peer was)))
 
 second_rests : (e : EndpointHistory) (b : Bool) (found : Found) → Rests e found.0 → Rests e (unless_second b e found).0
 second_rests e true found h = at_rest e
@@ -262,7 +264,7 @@ module _ (e : EndpointHistory) (q : ℕ) (over : Over e) (asked : e.side ≡ Ser
   arrives_at bytes Request kind opens none = request_leaves (bytes_at e q bytes Request).0 (kept (incoming_at e q) bytes) refl refl refl refl refl (λ h. h) opens kind none
   arrives_at bytes ServerOpened kind opens none = itself e
   arrives_at bytes OwnUnidirectional kind opens none = itself e
-  arrives_at bytes PeerUnidirectional kind opens none = rests e _ (heard_rests e q (unidirectional_at e q) (role_after (unidirectional_at e q).role bytes))
+  arrives_at bytes PeerUnidirectional kind opens none = rests e _ (heard_rests e q (unidirectional_at e q) (role_after (knows_sessions e.announced) (unidirectional_at e q).role bytes))
 
   ends_at : (k : Kind) → kind_of e.side q ≡ k → e.closed ≡ None → refusal_at e q k ≡ None → Leaves e (end_at e q k).0
   ends_at Request kind opens none = request_leaves (end_at e q Request).0 (with_end (incoming_at e q)) refl refl refl refl refl (λ h. h) opens kind none

@@ -14,7 +14,7 @@ use Rattle.h3_connection.specs.declared.event.Refusal.TheVariants as refusal
 use Rattle.h3_connection.specs.declared.event.StreamFault.TheVariants as stream_fault
 use Rattle.h3_connection.specs.Bounds.{IsBounded}
 use Rattle.h3_connection.specs.HandedOut.{IsOver, IsOverSession, RequestIsOver, SessionIsOver, EndsSoundly}
-use Rattle.h3_connection.specs.Incoming.{Incoming, nothing_came, awaiting, awaits_head, is_before_head}
+use Rattle.h3_connection.specs.Incoming.{Incoming, nothing_came, awaits_head, is_before_head, having_told}
 use Rattle.h3_connection.specs.Unidirectional.{Unidirectional, pull_unidirectional, if_over, role_after}
 use Rattle.h3_connection.specs.Outgoing.{Outgoing as Out, is_end_next, with_finish, with_reset}
 use Rattle.h3_connection.specs.Endpoint.{EndpointHistory, Kind, kind_of, heads_waiting, replied}
@@ -24,7 +24,7 @@ use Rattle.h3_connection.specs.StreamSets.{stream_at, set_stream}
 use Rattle.h3_connection.specs.StreamSetLaws.{set-same}
 use Rattle.h3_connection.specs.Pulling.{Pulled, pull_stream, just, is_client}
 use Rattle.h3_connection.specs.Delivering.{delivery_refusal, refusal_at, request_refusal, opened_at, opened, incoming_at, unidirectional_at, with_incoming, taken, bytes_at, end_at, reset_at, give_up, given_up_once, kept, with_end}
-use Rattle.h3_connection.specs.Sending.{does, open_refusal, closed_or, pull, pull_at, pull_unless, pull_request, pull_peer, pulled, within_limit, if_too_many, after_answer, advance_at, pulled_unidirectional, sent_bytes, counted, cancel_refusal, open_request, send_head, head_refusal, encoded, appended, head_part, fields_cost, body_refusal, send_trailer, trailer_refusal, finish, finish_refusal, reset, reset_refusal, with_outgoing, outgoing_at, goaway, goaway_refusal, asked, awaiting_at, remembers}
+use Rattle.h3_connection.specs.Sending.{does, open_refusal, closed_or, pull, pull_at, pull_unless, pull_request, pull_peer, pulled, within_limit, if_too_many, after_answer, advance_at, pulled_unidirectional, sent_bytes, counted, cancel_refusal, open_request, send_head, head_refusal, encoded, appended, head_part, fields_cost, body_refusal, send_trailer, trailer_refusal, finish, finish_refusal, reset, reset_refusal, with_outgoing, outgoing_at, goaway, goaway_refusal, asked, telling_at}
 use Rattle.h3_connection.specs.Sections.{written_section}
 use Rattle.h3_connection.specs.Outgoing.OwnPart.{OwnTrailer}
 use Rattle.h3_header.specs.Head.{Head, head_fields}
@@ -40,8 +40,8 @@ use Rattle.h3_connection.proofs.PullEnds.{pull_ends}
 use Rattle.h3_connection.proofs.Bounded.{call_on}
 use Rattle.h3_connection.proofs.ReadingStays.{bytes_stay, end_stays, reset_stays}
 use Rattle.h3_connection.proofs.Isolated.{keeps_rest}
-use Rattle.h3_messages.specs.Content.{awaited_by}
-use Rattle.h3_messages.specs.declared.content.Content.{Content}
+use Rattle.h3_messages.specs.Content.{awaited_by, answered_by}
+use Rattle.h3_field.specs.Field.{Field}
 
 -- what a pull of a stream that is over does
 pub over_pulled : (side : _) (own : _) (id : ℕ) (r : _) (i : Incoming) → IsOver i → pull_stream side own id r i ≡ just (answer.Item item.End) i
@@ -117,7 +117,7 @@ bytes_elsewhere e q id bytes ServerOpened ne p = refl
 bytes_elsewhere e q id bytes OwnUnidirectional ne p = refl
 bytes_elsewhere e q id bytes PeerUnidirectional ne p =
     let o = unidirectional_at e q in
-    ap (λ s. stream_at s id) (heard_bytes e q o (role_after o.role bytes) p).incoming
+    ap (λ s. stream_at s id) (heard_bytes e q o (role_after _ o.role bytes) p).incoming
 
 end_elsewhere : (e : EndpointHistory) (q id : ℕ) (k : Kind) → (q == id) ≡ false → stream_at (end_at e q k).0.incoming id ≡ stream_at e.incoming id
 end_elsewhere e q id Request ne = arrives_elsewhere e (end_at e q Request).0 q id (with_end (incoming_at e q)) ne refl
@@ -241,35 +241,37 @@ end_left e q id (Some o) = by_test (is_end_next o)
     by_test false = record { incoming = refl; next_id = omega arith }
 end_left e q id None = record { incoming = refl; next_id = omega arith }
 
--- a stream that is over awaits no head
+-- of a stream that is over an own head says nothing
 no_head : (before : Bool) → (before && false) ≡ false
 no_head true = refl
 no_head false = refl
 
-over_awaits : (i : Incoming) (content : Content) → i.is_over ≡ true → awaiting i content ≡ i
-over_awaits i content over =
+over_untold : (side : Side) (i : Incoming) (fields : List Field) → i.is_over ≡ true → having_told side i fields ≡ i
+over_untold Client i fields over =
     let none : awaits_head i ≡ false = ap (λ b. is_before_head i.place && not (b || is_some i.fault)) over ∙ no_head (is_before_head i.place) in
-    ap (λ b. let j : Incoming = record i { content = if b then content else i.content } in j) none
+    ap (λ b. let j : Incoming = record i { content = if b then awaited_by fields else i.content } in j) none
+over_untold Server i fields over =
+    ap (λ b. let j : Incoming = record i { content = if not (b || is_some i.fault) then answered_by i.content fields else i.content } in j) over
 
-asked_left : (e : EndpointHistory) (q id : ℕ) (expected : Content) (remembered : Bool) → RequestIsOver e id
-    → stream_at (if remembered then awaiting_at e.incoming q expected (stream_at e.incoming q) else e.incoming) id ≡ stream_at e.incoming id
-asked_left e q id expected false h = refl
-asked_left e q id expected true h = by_eq q id (λ x. stream_at (awaiting_at e.incoming q expected (stream_at e.incoming q)) id ≡ stream_at e.incoming id) here (elsewhere (stream_at e.incoming q))
+asked_left : (e : EndpointHistory) (q id : ℕ) (fields : List Field) (strict : Bool) → RequestIsOver e id
+    → stream_at (if strict then telling_at e.side e.incoming q fields (stream_at e.incoming q) else e.incoming) id ≡ stream_at e.incoming id
+asked_left e q id fields false h = refl
+asked_left e q id fields true h = by_eq q id (λ x. stream_at (telling_at e.side e.incoming q fields (stream_at e.incoming q)) id ≡ stream_at e.incoming id) here (elsewhere (stream_at e.incoming q))
   where
-    here : q ≡ id → stream_at (awaiting_at e.incoming q expected (stream_at e.incoming q)) id ≡ stream_at e.incoming id
+    here : q ≡ id → stream_at (telling_at e.side e.incoming q fields (stream_at e.incoming q)) id ≡ stream_at e.incoming id
     here same =
-        ap (λ p. stream_at (awaiting_at e.incoming p expected (stream_at e.incoming p)) id) same ∙ ap (λ at. stream_at (awaiting_at e.incoming id expected at) id) h.here
-        ∙ at_same e.incoming id (awaiting h.stream expected) ∙ ap Some (over_awaits h.stream expected h.is_over.over) ∙ sym h.here
+        ap (λ p. stream_at (telling_at e.side e.incoming p fields (stream_at e.incoming p)) id) same ∙ ap (λ at. stream_at (telling_at e.side e.incoming id fields at) id) h.here
+        ∙ at_same e.incoming id (having_told e.side h.stream fields) ∙ ap Some (over_untold e.side h.stream fields h.is_over.over) ∙ sym h.here
 
-    elsewhere : (at : Option Incoming) → (q == id) ≡ false → stream_at (awaiting_at e.incoming q expected at) id ≡ stream_at e.incoming id
+    elsewhere : (at : Option Incoming) → (q == id) ≡ false → stream_at (telling_at e.side e.incoming q fields at) id ≡ stream_at e.incoming id
     elsewhere None ne = refl
-    elsewhere (Some i) ne = at_other e.incoming q id (awaiting i expected) ne
+    elsewhere (Some i) ne = at_other e.incoming q id (having_told e.side i fields) ne
 
 head_left : (e : EndpointHistory) (q id : ℕ) (head : Head) → RequestIsOver e id → Leaves e (done Done (send_head e q head)).1 id
 head_left e q id head h =
     let f = counted (appended (encoded e q (head_fields head)) q (head_part head (written_section e.encoder q (head_fields head)))) (fields_cost (head_fields head)) in
     does_leave (head_refusal e q head) e (asked f q (head_fields head)) Done id
-    (record { incoming = asked_left e q id (awaited_by (head_fields head)) (remembers e.side e.announced) h; next_id = omega arith })
+    (record { incoming = asked_left e q id (head_fields head) e.announced.choices.strict_messages h; next_id = omega arith })
 
 trailer_left : (e : EndpointHistory) (q id : ℕ) (head : Head) → Leaves e (done Done (send_trailer e q head)).1 id
 trailer_left e q id head =

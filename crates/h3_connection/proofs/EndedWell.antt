@@ -22,11 +22,12 @@ use Rattle.h3_connection.specs.Delivering.{opened_at, closed_refusal, request_re
 use Rattle.h3_connection.specs.Endpoint.{EndpointHistory, Kind, kind_of, new_endpoint}
 use Rattle.h3_connection.specs.Endpoint.Kind.{Request, ServerOpened, OwnUnidirectional, PeerUnidirectional}
 use Rattle.h3_connection.specs.Incoming.{Incoming, nothing_came}
-use Rattle.h3_connection.specs.Isolation.{Before, GoesOn, FindsNoFault, Sight, IsSight, StepIsSeen, sees, seen, with_seen, with_awaited, seen_incoming, unless_refused, seen_pull, seen_encoder_bytes, seen_encoder_closing, first_sight, encoders_in}
+use Rattle.h3_connection.specs.Isolation.{Before, GoesOn, FindsNoFault, Sight, IsSight, StepIsSeen, sees, seen, with_seen, seen_incoming, unless_refused, seen_pull, seen_encoder_bytes, seen_encoder_closing, first_sight, encoders_in, with_told}
 use Rattle.h3_connection.specs.Outgoing.{Outgoing as Out, is_end_next}
 use Rattle.h3_connection.specs.Pulling.{Pulled, pull_stream, is_client}
 use Rattle.h3_connection.specs.Sending.{does, open_refusal, pull_at, pull_unless, pull_request, pull_peer, within_limit, after_answer, advance_at, sent_bytes, counted}
 use Rattle.h3_connection.specs.StreamSets.{stream_at}
+use Rattle.h3_connection.specs.StrictConnection.{knows_sessions}
 use Rattle.h3_connection.specs.Unidirectional.{Unidirectional}
 use Rattle.h3_connection.proofs.Brought.{goes_from_new, encoders_are_peers}
 use Rattle.h3_connection.proofs.EndStays.{over_pulled}
@@ -36,7 +37,6 @@ use Rattle.h3_connection.proofs.PullEnds.{EndedWell, pull_ends}
 use Rattle.h3_connection.proofs.ReadingStays.{bytes_stay, end_stays, reset_stays}
 use Rattle.h3_connection.proofs.RequestCuts.{some_refusal}
 use Rattle.h3_connection.proofs.SameSetups.{same_setup}
-use Rattle.h3_messages.specs.Content.{awaited_by}
 use Rattle.h3_header.specs.Head.{head_fields}
 
 -- ids of requests go up
@@ -188,7 +188,7 @@ module _ (side : Side) (own : Announced) (id : ℕ) where
   seen_known T e s OpenRequest next sees_it k opens = record { ends = λ over. absurd (cc); below = λ client. opens refl }
   seen_known T e s (Deliver q bytes) next sees_it k opens = by_same (q == id)
     where
-      by_same : (b : Bool) → KnownOf side id next (if b then unless_refused (request_refusal side s.incoming) s (with_seen s (kept (seen_incoming s) bytes)) else seen_encoder_bytes own.choices.unfinished_limit s q bytes).1.incoming
+      by_same : (b : Bool) → KnownOf side id next (if b then unless_refused (request_refusal side s.incoming) s (with_seen s (kept (seen_incoming s) bytes)) else seen_encoder_bytes (knows_sessions own) own.choices.unfinished_limit s q bytes).1.incoming
       by_same true = changed side id next s (λ i. kept i bytes) k (λ i accepted well over. absurd (open_stream side i accepted well over)) (λ over. absurd (cc))
       by_same false = as_seen side id next (closed_refusal (s.fronts q).closed) s _ k refl
   seen_known T e s (DeliverEnd q) next sees_it k opens = by_same (q == id)
@@ -229,7 +229,7 @@ module _ (side : Side) (own : Announced) (id : ℕ) where
           by_over false over = given (is_some i.fault) over
   seen_known T e s (SendHead q head) next sees_it k opens = by_stream s.incoming refl
     where
-      by_stream : (at : Option Incoming) → s.incoming ≡ at → KnownOf side id next (with_awaited s (awaited_by (head_fields head)) at).incoming
+      by_stream : (at : Option Incoming) → s.incoming ≡ at → KnownOf side id next (with_told side s (head_fields head) at).incoming
       by_stream None is = k
       by_stream (Some i) is =
           let there : KnownOf side id next (Some i) = subst (KnownOf side id next) is k in

@@ -52,7 +52,7 @@ bytes_peers e q bytes ServerOpened kind h p = h
 bytes_peers e q bytes OwnUnidirectional kind h p = h
 bytes_peers e q bytes PeerUnidirectional kind h p =
     let o = unidirectional_at e q in
-    let heard = role_after o.role bytes in
+    let heard = role_after _ o.role bytes in
     subst (λ s. OnlyPeers e.side s) (sym (heard_bytes e q o heard p).unidirectional) (set_peer e.side e.unidirectional q (with_bytes o heard) kind h)
 
 end_peers : (e : EndpointHistory) (q : ℕ) (k : Kind) → kind_of e.side q ≡ k → OnlyPeers e.side e.unidirectional → OnlyPeers e.side (end_at e q k).0.unidirectional

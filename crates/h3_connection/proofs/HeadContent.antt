@@ -11,7 +11,7 @@ use Rattle.h3_header.specs.HeadRead.{HeadRead, IsHead, IsNone, head_by}
 use Rattle.h3_proto.specs.declared.stream.Side.{Side}
 use Rattle.h3_proto.specs.declared.stream.Side.TheVariants.{Client, Server}
 use Rattle.h3_wire.specs.ExcessiveFrames.{begins_section, is_excessive}
-use Rattle.h3_wire.specs.Frames.{Front, Whole, Unknown, Refused, Unfinished, frame_at}
+use Rattle.h3_wire.specs.Frames.{Front, Whole, Unknown, Refused, Unfinished, frame_by}
 use Rattle.h3_wire.specs.Pieces.{chunk_of, first_of, ending}
 use Rattle.h3_wire.specs.declared.proto.frame.PayloadLen.{PayloadLen}
 use Rattle.h3_wire.specs.declared.proto.frame.Frame.{Frame}
@@ -19,7 +19,7 @@ use Rattle.h3_wire.specs.declared.proto.frame.Frame.TheVariants as frame
 use Rattle.h3_connection.specs.Announcing.{section_of}
 use Rattle.h3_connection.specs.Incoming.{Incoming, is_body}
 use Rattle.h3_connection.specs.Skipping.{skipped}
-use Rattle.h3_connection.specs.StrictMessages.{broken_rule, content_of_head, content_behind, content_at, response_of_head, response_behind, response_at, if_whole}
+use Rattle.h3_connection.specs.StrictMessages.{broken_rule, content_read, content_behind, content_at, response_of_head, response_behind, response_at, if_whole}
 use Rattle.h3_messages.specs.Content.{is_exceeded, may_end, takes_trailer}
 use Rattle.h3_messages.specs.declared.content.Content.{Content}
 use Rattle.h3_connection.specs.CountedContent.{HasItsContent, HeadsHaveTheirContent}
@@ -33,7 +33,7 @@ use Rattle.h3_connection.specs.declared.event.Fault.TheVariants as fault
 use Rattle.h3_connection.specs.declared.event.Item.TheVariants as item
 use Rattle.h3_connection.specs.declared.place.Place.{Place}
 use Rattle.h3_connection.specs.declared.place.Place.TheVariants.{BeforeHead, InBody, AfterTrailer, InSession}
-use Rattle.h3_connection.specs.StrictConnection.{is_no_session}
+use Rattle.h3_connection.specs.StrictConnection.{kinds_of, is_no_session}
 
 module _ (side : Side) (own : Announced) (strict : own.choices.strict_messages ≡ true) (id : ℕ) (r : DecoderState) (awaited : Content) (known : Option Content) where
   abbrev Sets : Pulled → Type 0
@@ -44,7 +44,7 @@ module _ (side : Side) (own : Announced) (strict : own.choices.strict_messages �
   Before i = (i.content ≡ awaited) × (i.response ≡ known)
 
   abbrev Behind : List Field → Incoming → Type 0
-  Behind fields i = (i.content ≡ content_of_head side awaited fields) × (i.response ≡ response_of_head side known fields)
+  Behind fields i = (i.content ≡ content_read side awaited fields) × (i.response ≡ response_of_head side known fields)
 
   either : (b : Bool) (x y : Pulled) → Sets x → Sets y → Sets (if b then x else y)
   either true x y h k = h
@@ -81,7 +81,7 @@ module _ (side : Side) (own : Announced) (strict : own.choices.strict_messages �
       either (nat_lt (section_of own) (told_size fields)) _ _ tt
       (judged_sets (with_content side own i fields) replies (if_whole i.content (broken_rule side own i.place fields)) fields (head_by own.choices.extensions.any_protocol fields) refl
       (λ at. (
-        ap (λ place. content_at side own place i.content fields) at ∙ ap (λ b. if b then content_behind side BeforeHead i.content fields else i.content) strict ∙ ap (λ c. content_of_head side c fields) same.0,
+        ap (λ place. content_at side own place i.content fields) at ∙ ap (λ b. if b then content_behind side BeforeHead i.content fields else i.content) strict ∙ ap (λ c. content_read side c fields) same.0,
         ap (λ place. response_at side own place i.response fields) at ∙ ap (λ b. if b then response_behind side BeforeHead i.response fields else i.response) strict ∙ ap (λ k. response_of_head side k fields) same.1,
       )))
 
@@ -138,7 +138,7 @@ module _ (side : Side) (own : Announced) (strict : own.choices.strict_messages �
 
   next_sets : (i : Incoming) (bytes : List ℕ) → Before i → Sets (next_frame side own id r i bytes)
   next_sets i [] same = either i.ended (at_end side own id r i i.place) (just pull.Pending i) (end_sets i i.place) tt
-  next_sets i (byte ∷ bytes) same = framed_sets i (frame_at (byte ∷ bytes)) same
+  next_sets i (byte ∷ bytes) same = framed_sets i (frame_by (kinds_of own) (byte ∷ bytes)) same
 
   excess_sets : (i : Incoming) (bytes : List ℕ) → Sets (excess id i bytes)
   excess_sets i bytes = either (begins_section bytes) (malformed id malformation.TooLong i []) (connection_fault 0x107 (record i { unread = [] })) tt tt
@@ -146,7 +146,7 @@ module _ (side : Side) (own : Announced) (strict : own.choices.strict_messages �
   message_sets : (i : Incoming) (section : Option (List ℕ)) → Before i → Sets (in_message side own id r i section)
   message_sets i (Some bytes) same = at_sets i bytes same
   message_sets i None same =
-      let bytes = skipped (is_body i.place) (concat i.unread) in
+      let bytes = skipped (kinds_of own) (is_body i.place) (concat i.unread) in
       let j = record i { unread = ending (length bytes) i.unread } in
       either (nat_lt 0 i.body_left) (at_payload id i) (between_frames side own id r i) (content_sets i)
       (either (is_excessive own.choices.unfinished_limit bytes) (excess id i bytes) (next_frame side own id r j bytes) (excess_sets i bytes) (next_sets j bytes same))

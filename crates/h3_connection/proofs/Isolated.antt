@@ -2,8 +2,6 @@
 use Rattle.std.proofs.Common.{◌≡◌, ℕ, ◌+◌, Bool, true, false, ◌||◌, List, [], ◌∷◌, length, refl, sym, ◌∙◌, ap, subst}
 use Rattle.std.specs.Prelude.{Option, Some, None, if◌then◌else◌, ◌==◌, nat_lt, is_some, unwrap_or, not}
 use Rattle.h3_header.specs.Head.{Head, head_fields}
-use Rattle.h3_messages.specs.Content.{awaited_by}
-use Rattle.h3_messages.specs.declared.content.Content.{Content}
 use Rattle.h3_connection.specs.Sections.{written_section}
 use Rattle.h3_proto.specs.declared.stream.Side.{Side}
 use Rattle.h3_proto.specs.declared.stream.Side.TheVariants.{Client, Server}
@@ -14,7 +12,7 @@ use Rattle.h3_connection.specs.declared.event.Pull.TheVariants as answer
 use Rattle.h3_connection.specs.declared.event.Fault.TheVariants as fault
 use Rattle.h3_connection.specs.declared.event.StreamFault.TheVariants as stream_fault
 use Rattle.h3_connection.specs.StreamSets.{Streams, stream_at, set_stream}
-use Rattle.h3_connection.specs.Incoming.{Incoming, nothing_came, awaiting}
+use Rattle.h3_connection.specs.Incoming.{Incoming, nothing_came, having_told}
 use Rattle.h3_connection.specs.Pulling.{pull_stream}
 use Rattle.h3_connection.specs.Pulling.{Pulled as PulledStream}
 use Rattle.h3_connection.specs.Unidirectional.{Unidirectional, pull_unidirectional}
@@ -24,18 +22,20 @@ use Rattle.h3_connection.specs.Endpoint.Kind.{Request, ServerOpened, OwnUnidirec
 use Rattle.h3_connection.specs.Control.{Found}
 use Rattle.h3_connection.specs.Delivering.{opened_at, unidirectional_at, incoming_at, opened, with_incoming, taken, refusal_at, server_opened_refusal, bytes_at, end_at, reset_at, kept, with_end, give_up, given_up_once, request_refusal}
 use Rattle.h3_connection.specs.Refusals.{first_of}
-use Rattle.h3_connection.specs.Sending.{does, open_refusal, advance_at, pull_at, pull_unless, pull_request, pull_peer, pulled, within_limit, if_too_many, after_answer, cancel_refusal, closed_or, sent_bytes, counted, remembers, awaiting_at, asked, head_refusal, appended, encoded, head_part, fields_cost}
+use Rattle.h3_connection.specs.Sending.{does, open_refusal, advance_at, pull_at, pull_unless, pull_request, pull_peer, pulled, within_limit, if_too_many, after_answer, cancel_refusal, closed_or, sent_bytes, counted, asked, head_refusal, appended, encoded, head_part, fields_cost, telling_at}
 use Rattle.h3_connection.specs.CallLists.{Call, Result, called, endpoint_after, done, was_pulled}
 use Rattle.h3_connection.specs.EndsWaiting.{end_taken_at, end_taken_if}
 use Rattle.h3_connection.specs.CallLists.Call.{OpenRequest, SendHead, SendBody, SendTrailer, Finish, Reset, Goaway, Advance, TakeEnd, Outgoing, Deliver, DeliverEnd, DeliverReset, PullStream, Cancel, Show}
 use Rattle.h3_connection.specs.CallLists.Result.{Done, Opened}
 use Rattle.h3_connection.specs.CallLists.Result.{Pulled as WasPulled}
-use Rattle.h3_connection.specs.Isolation.{Before, GoesOn, view, answers_seen, fold_seen, sight_after, first_sight, Sight, IsSight, AreEncoders, StepIsSeen, Seen, sees, seen, with_seen, with_awaited, seen_incoming, unless_refused, seen_pull, seen_encoder_bytes, seen_encoder_closing}
+use Rattle.h3_connection.specs.Isolation.{Before, GoesOn, view, answers_seen, fold_seen, sight_after, first_sight, Sight, IsSight, AreEncoders, StepIsSeen, Seen, sees, seen, with_seen, seen_incoming, unless_refused, seen_pull, seen_encoder_bytes, seen_encoder_closing, with_told}
 use Rattle.h3_connection.proofs.Quiet.{Quiet, still, shut}
 use Rattle.h3_connection.proofs.Seen.{at_same, at_other, eq_refl, sight_here, sight_same, unseen, unseen_quiet, quiet_does, Arrived, arrives_here, arrives_other, OpensAt, opens_at, opened_other}
 use Rattle.h3_connection.specs.declared.setup.Announced.{Announced}
 use Rattle.h3_connection.proofs.SameSetups.{same_setup}
 use Rattle.h3_connection.proofs.SeenEncoder.{to_eq, by_eq, encoder_bytes_seen, one_way_bytes_unseen, closing_seen, closing_unseen, pull_front, pulled_front}
+use Rattle.h3_field.specs.Field.{Field}
+use Rattle.h3_connection.specs.StrictConnection.{knows_sessions}
 
 pub true_not_false : true ≡ false → ⊥
 true_not_false x = cc
@@ -128,7 +128,7 @@ true_or false = refl
 deliver_step : (T : ℕ → Bool) (id : ℕ) (e : EndpointHistory) (s : Sight) (q : ℕ) (bytes : List ℕ) → Before T id e s
     → (called e (Deliver q bytes)).1.closed ≡ None → AreEncoders T (called e (Deliver q bytes)).1
     → StepIsSeen T id e (called e (Deliver q bytes)).1 s (Deliver q bytes) (called e (Deliver q bytes)).0
-deliver_step T id e s q bytes b = arrival_step T id e s q (λ i. kept i bytes) (seen_encoder_bytes (limit_of e) s q bytes) (bytes_at e q bytes) (Deliver q bytes) b
+deliver_step T id e s q bytes b = arrival_step T id e s q (λ i. kept i bytes) (seen_encoder_bytes (knows_sessions e.announced) (limit_of e) s q bytes) (bytes_at e q bytes) (Deliver q bytes) b
     (record { sees_it = refl; as_seen = refl })
     (record {
       end = with_incoming (opened e q) q (kept (incoming_at e q) bytes);
@@ -340,21 +340,21 @@ quiet_end e id (Some o) = by_test (is_end_next o)
     by_test false = shut e _ refl refl refl refl refl refl refl
 quiet_end e id None = shut e _ refl refl refl refl refl refl refl
 
--- A head that is sent, where it is remembered what the request asks
-awaits_other : (streams : Streams Incoming) (q id : ℕ) (expected : Content) (at : Option Incoming) → (q == id) ≡ false → stream_at (awaiting_at streams q expected at) id ≡ stream_at streams id
-awaits_other streams q id expected None ne = refl
-awaits_other streams q id expected (Some i) ne = at_other streams q id (awaiting i expected) ne
+-- A head that is sent, where messages are strict
+tells_other : (side : Side) (streams : Streams Incoming) (q id : ℕ) (fields : List Field) (at : Option Incoming) → (q == id) ≡ false → stream_at (telling_at side streams q fields at) id ≡ stream_at streams id
+tells_other side streams q id fields None ne = refl
+tells_other side streams q id fields (Some i) ne = at_other streams q id (having_told side i fields) ne
 
-awaits_here : (T : ℕ → Bool) (id : ℕ) (e f : EndpointHistory) (s : Sight) (expected : Content) (at : Option Incoming) → IsSight T id e s → stream_at e.incoming id ≡ at
-    → f.incoming ≡ awaiting_at e.incoming id expected at → f.decoding ≡ e.decoding → f.unidirectional ≡ e.unidirectional → IsSight T id f (with_awaited s expected at)
-awaits_here T id e f s expected None h is a b c = sight_same T id e f s h (ap (λ x. stream_at x id) a) b c
-awaits_here T id e f s expected (Some i) h is a b c = sight_here T id e f s (Some (awaiting i expected)) h (ap (λ x. stream_at x id) a ∙ at_same e.incoming id (awaiting i expected)) b c
+tells_here : (T : ℕ → Bool) (id : ℕ) (e f : EndpointHistory) (s : Sight) (side : Side) (fields : List Field) (at : Option Incoming) → IsSight T id e s → stream_at e.incoming id ≡ at
+    → f.incoming ≡ telling_at side e.incoming id fields at → f.decoding ≡ e.decoding → f.unidirectional ≡ e.unidirectional → IsSight T id f (with_told side s fields at)
+tells_here T id e f s side fields None h is a b c = sight_same T id e f s h (ap (λ x. stream_at x id) a) b c
+tells_here T id e f s side fields (Some i) h is a b c = sight_here T id e f s (Some (having_told side i fields)) h (ap (λ x. stream_at x id) a ∙ at_same e.incoming id (having_told side i fields)) b c
 
 head_step : (T : ℕ → Bool) (id : ℕ) (e : EndpointHistory) (s : Sight) (q : ℕ) (head : Head) → Before T id e s → StepIsSeen T id e (called e (SendHead q head)).1 s (SendHead q head) (called e (SendHead q head)).0
-head_step T id e s q head b = by_choice (remembers e.side e.announced) refl
+head_step T id e s q head b = by_choice e.announced.choices.strict_messages refl
   where
-    expected : Content
-    expected = awaited_by (head_fields head)
+    fields : List Field
+    fields = head_fields head
 
     plain : EndpointHistory
     plain = counted (appended (encoded e q (head_fields head)) q (head_part head (written_section e.encoder q (head_fields head)))) (fields_cost (head_fields head))
@@ -363,23 +363,23 @@ head_step T id e s q head b = by_choice (remembers e.side e.announced) refl
     said = (asked plain q (head_fields head)).outgoing
 
     told : EndpointHistory
-    told = record plain { incoming = awaiting_at e.incoming q expected (stream_at e.incoming q); outgoing = said }
+    told = record plain { incoming = telling_at e.side e.incoming q fields (stream_at e.incoming q); outgoing = said }
 
-    here : (q == id) ≡ true → q ≡ id → IsSight T id told (with_awaited s expected s.incoming)
+    here : (q == id) ≡ true → q ≡ id → IsSight T id told (with_told e.side s fields s.incoming)
     here is same =
-        subst (λ at. IsSight T id told (with_awaited s expected at)) b.sight.incoming
-        (awaits_here T id e told s expected (stream_at e.incoming id) b.sight refl (ap (λ x. awaiting_at e.incoming x expected (stream_at e.incoming x)) same) refl refl)
+        subst (λ at. IsSight T id told (with_told e.side s fields at)) b.sight.incoming
+        (tells_here T id e told s e.side fields (stream_at e.incoming id) b.sight refl (ap (λ x. telling_at e.side e.incoming x fields (stream_at e.incoming x)) same) refl refl)
 
-    by_refusal : (r : Option Refusal) → head_refusal e q head ≡ r → remembers e.side e.announced ≡ true
+    by_refusal : (r : Option Refusal) → head_refusal e q head ≡ r → e.announced.choices.strict_messages ≡ true
         → StepIsSeen T id e (done Done (does r e told)).1 s (SendHead q head) (done Done (does r e told)).0
-    by_refusal (Some r) refused told_so = unseen T id e e s (SendHead q head) _ (rw (told_so, refused) refl) b.sight
+    by_refusal (Some r) refused told_so = unseen T id e e s (SendHead q head) _ (rw (refused, told_so) refl) b.sight
     by_refusal None accepted told_so = by_eq q id (λ x. (q == id) ≡ x → StepIsSeen T id e told s (SendHead q head) Done)
-        (λ same is. seen_here T id e told s (SendHead q head) Done (refl, here is same) (rw (told_so, accepted, is) refl))
-        (λ ne is. unseen T id e told s (SendHead q head) Done (rw (told_so, accepted, ne) refl)
-        (sight_same T id e told s b.sight (awaits_other e.incoming q id expected (stream_at e.incoming q) ne) refl refl)) refl
+        (λ same is. seen_here T id e told s (SendHead q head) Done (refl, here is same) (rw (accepted, told_so, is) refl))
+        (λ ne is. unseen T id e told s (SendHead q head) Done (rw (accepted, told_so, ne) refl)
+        (sight_same T id e told s b.sight (tells_other e.side e.incoming q id fields (stream_at e.incoming q) ne) refl refl)) refl
 
-    by_choice : (x : Bool) → remembers e.side e.announced ≡ x
-        → let f : EndpointHistory = record plain { incoming = if x then awaiting_at e.incoming q expected (stream_at e.incoming q) else e.incoming; outgoing = said } in
+    by_choice : (x : Bool) → e.announced.choices.strict_messages ≡ x
+        → let f : EndpointHistory = record plain { incoming = if x then telling_at e.side e.incoming q fields (stream_at e.incoming q) else e.incoming; outgoing = said } in
         StepIsSeen T id e (done Done (does (head_refusal e q head) e f)).1 s (SendHead q head) (done Done (does (head_refusal e q head) e f)).0
     by_choice false silent = unseen_quiet T id e _ s _ _ (rw silent refl) b.sight (quiet_does _ e (record plain { outgoing = said }) (shut e (record plain { outgoing = said }) refl refl refl refl refl refl refl))
     by_choice true told_so = by_refusal (head_refusal e q head) refl told_so

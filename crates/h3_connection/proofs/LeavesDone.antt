@@ -10,7 +10,6 @@ use Rattle.h3_wire.specs.declared.proto.frame.Frame.{Frame}
 use Rattle.h3_wire.specs.declared.proto.frame.Frame.TheVariants as frame
 use Rattle.h3_field.specs.Field.{Field}
 use Rattle.h3_header.specs.Head.{Head, head_fields}
-use Rattle.h3_messages.specs.Content.{awaited_by}
 use Rattle.h3_messages.specs.declared.content.Content.{Content}
 use Rattle.h3_connection.specs.declared.event.Pull.{Pull}
 use Rattle.h3_connection.specs.declared.event.Pull.TheVariants as answer
@@ -28,7 +27,7 @@ use Rattle.h3_connection.specs.Endpoint.{EndpointHistory}
 use Rattle.h3_connection.specs.EndsWaiting.{end_taken_at, end_taken_if}
 use Rattle.h3_connection.specs.FirstRequests.{count_below, first_pass}
 use Rattle.h3_connection.specs.FirstRequestLaws.{each_passes, one_passes}
-use Rattle.h3_connection.specs.Incoming.{Incoming, awaiting}
+use Rattle.h3_connection.specs.Incoming.{Incoming, having_told}
 use Rattle.h3_connection.specs.Lasts.{last_id}
 use Rattle.h3_connection.specs.LastLaws.{last_appended}
 use Rattle.h3_connection.specs.Outgoing.{Outgoing as Out, is_end_next}
@@ -36,7 +35,7 @@ use Rattle.h3_connection.specs.OwnIds.{control_id, encoder_id, decoder_id}
 use Rattle.h3_connection.specs.Pulling.{is_client}
 use Rattle.h3_connection.specs.Refusals.{refusal_to_open, refusal_of_goaway, raised}
 use Rattle.h3_connection.specs.Sections.{written_section}
-use Rattle.h3_connection.specs.Sending.{does, closed_or, open_refusal, advance_at, sent_bytes, counted, head_refusal, encoded, appended, head_part, fields_cost, goaway_refusal, asked, awaiting_at, saying_at, remembers, content_of_own, known_of}
+use Rattle.h3_connection.specs.Sending.{does, closed_or, open_refusal, advance_at, sent_bytes, counted, head_refusal, encoded, appended, head_part, fields_cost, goaway_refusal, asked, saying_at, content_of_own, known_of, telling_at}
 use Rattle.h3_connection.specs.Shutdown.{are_seen_below, takes_no_more}
 use Rattle.h3_connection.specs.StreamSets.{Streams, stream_at, set_stream}
 use Rattle.h3_connection.proofs.Seen.{at_same, at_other}
@@ -170,18 +169,18 @@ open_leaves e h = does_leave (open_refusal e) e _ (Opened e.next_id) (λ none. a
     known client = sym (ap (λ side. takes_no_more side e) client) ∙ h.no_more
 
 -- What a head says of the content changes nothing of that.
-awaited : (test : Option Incoming → Bool) (streams : Streams Incoming) (q id : ℕ) (expected : Content) (at : Option Incoming) → ((i : Incoming) → test (Some (awaiting i expected)) ≡ test (Some i)) → stream_at streams q ≡ at
-    → test (stream_at (awaiting_at streams q expected at) id) ≡ test (stream_at streams id)
-awaited test streams q id expected None same was = refl
-awaited test streams q id expected (Some i) same was =
-    by_eq q id (λ b. test (stream_at (set_stream streams q (awaiting i expected)) id) ≡ test (stream_at streams id))
-    (λ is. subst (λ n. test (stream_at (set_stream streams q (awaiting i expected)) n) ≡ test (stream_at streams n)) is (ap test (at_same streams q (awaiting i expected)) ∙ same i ∙ sym (ap test was)))
-    (λ ne. ap test (at_other streams q id (awaiting i expected) ne))
+told_one : (test : Option Incoming → Bool) (streams : Streams Incoming) (side : Side) (q id : ℕ) (fields : List Field) (at : Option Incoming) → ((i : Incoming) → test (Some (having_told side i fields)) ≡ test (Some i)) → stream_at streams q ≡ at
+    → test (stream_at (telling_at side streams q fields at) id) ≡ test (stream_at streams id)
+told_one test streams side q id fields None same was = refl
+told_one test streams side q id fields (Some i) same was =
+    by_eq q id (λ b. test (stream_at (set_stream streams q (having_told side i fields)) id) ≡ test (stream_at streams id))
+    (λ is. subst (λ n. test (stream_at (set_stream streams q (having_told side i fields)) n) ≡ test (stream_at streams n)) is (ap test (at_same streams q (having_told side i fields)) ∙ same i ∙ sym (ap test was)))
+    (λ ne. ap test (at_other streams q id (having_told side i fields) ne))
 
-awaited_if : (test : Option Incoming → Bool) (b : Bool) (streams : Streams Incoming) (q id : ℕ) (expected : Content) → ((i : Incoming) → test (Some (awaiting i expected)) ≡ test (Some i))
-    → test (stream_at (if b then awaiting_at streams q expected (stream_at streams q) else streams) id) ≡ test (stream_at streams id)
-awaited_if test true streams q id expected same = awaited test streams q id expected (stream_at streams q) same refl
-awaited_if test false streams q id expected same = refl
+told_if : (test : Option Incoming → Bool) (b : Bool) (streams : Streams Incoming) (side : Side) (q id : ℕ) (fields : List Field) → ((i : Incoming) → test (Some (having_told side i fields)) ≡ test (Some i))
+    → test (stream_at (if b then telling_at side streams q fields (stream_at streams q) else streams) id) ≡ test (stream_at streams id)
+told_if test true streams side q id fields same = told_one test streams side q id fields (stream_at streams q) same refl
+told_if test false streams side q id fields same = refl
 
 said_elsewhere : (streams : Streams Out) (q id : ℕ) (said : Content) (at : Option Out) → (q == id) ≡ false → stream_at (saying_at streams q said at) id ≡ stream_at streams id
 said_elsewhere streams q id said None ne = refl
@@ -193,8 +192,8 @@ said_if false streams q id said ne = refl
 
 pub head_leaves : (e : EndpointHistory) (q : ℕ) (head : Head) → Leaves e (called e (SendHead q head)).1
 head_leaves e q head = does_leave (head_refusal e q head) e (asked f q fields) Done (λ none. sends e (asked f q fields) q (record {
-  seen = λ id. awaited_if is_some (remembers e.side e.announced) e.incoming q id (awaited_by fields) (λ i. refl);
-  settled = λ id. awaited_if settled_in (remembers e.side e.announced) e.incoming q id (awaited_by fields) (λ i. refl);
+  seen = λ id. told_if is_some e.announced.choices.strict_messages e.incoming e.side q id fields (λ i. refl);
+  settled = λ id. told_if settled_in e.announced.choices.strict_messages e.incoming e.side q id fields (λ i. refl);
   goaways = refl;
   control_taken = refl;
   peer = refl;

@@ -17,20 +17,20 @@ use Rattle.h3_messages.specs.declared.content.Content.{Content}
 use Rattle.h3_messages.specs.declared.content.Content.TheVariants.{NoContent, Exceeded}
 use Rattle.h3_proto.specs.declared.stream.Side.TheVariants.{Client}
 use Rattle.h3_wire.specs.ExcessiveFrames.{begins_section, is_excessive}
-use Rattle.h3_wire.specs.Frames.{Front, Whole, Unknown, Refused, Unfinished, frame_at}
+use Rattle.h3_wire.specs.Frames.{Front, Whole, Unknown, Refused, Unfinished, frame_by}
 use Rattle.h3_wire.specs.Pieces.{chunk_of}
 use Rattle.h3_wire.specs.declared.proto.frame.PayloadLen.{PayloadLen}
 use Rattle.h3_wire.specs.declared.proto.frame.Frame.{Frame}
 use Rattle.h3_wire.specs.declared.proto.frame.Frame.TheVariants as frame
 use Rattle.h3_connection.specs.Announcing.{section_of}
 use Rattle.h3_connection.specs.Endpoint.{EndpointHistory}
-use Rattle.h3_connection.specs.Incoming.{Incoming, awaiting, is_body}
+use Rattle.h3_connection.specs.Incoming.{Incoming, is_body, having_told, awaits_head}
 use Rattle.h3_connection.specs.NoContent.{Awaited, Begins, Comes, Ends, Pulls, HasNoBytes, HandsOutNoContent, RemembersHead}
 use Rattle.h3_connection.specs.Skipping.{skipped}
 use Rattle.h3_connection.specs.StrictMessages.{broken_rule, content_at, content_behind, content_behind_large, if_whole, large_content_at}
 use Rattle.h3_connection.specs.Pulling.{Pulled, just, connection_fault, malformed, unless_broken, whole_head, whole_trailer, head_or_trailer, next_place, judged, with_content, past_large, read_section, decoded, at_section, new_section, at_end, at_frame, framed, next_frame, in_message, next_item, pull_stream, in_payload, at_payload, body_of, begun_section, begun_payload, past_section, left_with, is_for, is_client, is_interim, told_size, between_frames, excess}
 use Rattle.h3_connection.specs.Sections.{written_section}
-use Rattle.h3_connection.specs.Sending.{appended, asked, awaiting_at, counted, does, encoded, fields_cost, head_part, head_refusal, remembers}
+use Rattle.h3_connection.specs.Sending.{appended, asked, counted, does, encoded, fields_cost, head_part, head_refusal, telling_at}
 use Rattle.h3_connection.specs.StreamSets.{stream_at}
 use Rattle.h3_connection.specs.declared.setup.Announced.{Announced}
 use Rattle.h3_connection.specs.declared.event.Malformation.{Malformation}
@@ -44,6 +44,7 @@ use Rattle.h3_connection.specs.declared.event.Item.TheVariants as item
 use Rattle.h3_connection.specs.declared.place.Place.{Place}
 use Rattle.h3_connection.specs.declared.place.Place.TheVariants.{BeforeHead, InBody, AfterTrailer, InSession}
 use Rattle.h3_connection.proofs.Seen.{at_same}
+use Rattle.h3_connection.specs.StrictConnection.{kinds_of}
 
 abbrev is_message : Place → Bool
 is_message InSession = false
@@ -229,7 +230,7 @@ module _ (own : Announced) (id : ℕ) (r : DecoderState) where
 
   next_fine : (i : Incoming) (bytes : List ℕ) → IsEmpty i → Fine (next_frame Client own id r i bytes)
   next_fine i [] e = either i.ended _ _ (at_end_fine i i.place e) (leaf _ i [] tt e)
-  next_fine i (byte ∷ bytes) e = framed_fine i (frame_at (byte ∷ bytes)) e
+  next_fine i (byte ∷ bytes) e = framed_fine i (frame_by (kinds_of own) (byte ∷ bytes)) e
 
   excess_fine : (i : Incoming) (bytes : List ℕ) → IsEmpty i → Fine (excess id i bytes)
   excess_fine i bytes e =
@@ -239,7 +240,7 @@ module _ (own : Announced) (id : ℕ) (r : DecoderState) where
   message_fine : (i : Incoming) (section : Option (List ℕ)) → IsEmpty i → Fine (in_message Client own id r i section)
   message_fine i (Some bytes) e = at_fine i bytes e
   message_fine i None e =
-      let bytes = skipped (is_body i.place) (concat i.unread) in
+      let bytes = skipped (kinds_of own) (is_body i.place) (concat i.unread) in
       either (nat_lt 0 i.body_left) (at_payload id i) (between_frames Client own id r i) (content_fine id i e)
       (either (is_excessive own.choices.unfinished_limit bytes) (excess id i bytes) (next_frame Client own id r (left_with i bytes) bytes) (excess_fine i bytes e)
       (next_fine (left_with i bytes) bytes (record { content = e.content; none = e.none; place = e.place })))
@@ -282,15 +283,13 @@ remembers_head e id head i client strict method accepted there awaits = by_refus
     plain : EndpointHistory
     plain = counted (appended (encoded e id (head_fields head)) id (head_part head (written_section e.encoder id (head_fields head)))) (fields_cost (head_fields head))
 
-    remembered : remembers e.side e.announced ≡ true
-    remembered = ap (λ b. b && is_client e.side) strict ∙ ap is_client client
-
     here : stream_at (asked plain id (head_fields head)).incoming id ≡ Some (record i { content = NoContent })
     here =
-        ap (λ b. stream_at (if b then awaiting_at e.incoming id (awaited_by (head_fields head)) (stream_at e.incoming id) else e.incoming) id) remembered
-        ∙ ap (λ at. stream_at (awaiting_at e.incoming id (awaited_by (head_fields head)) at) id) there
-        ∙ at_same e.incoming id (awaiting i (awaited_by (head_fields head)))
-        ∙ ap (λ c. Some (awaiting i c)) (head_awaits head method)
+        ap (λ b. stream_at (if b then telling_at e.side e.incoming id (head_fields head) (stream_at e.incoming id) else e.incoming) id) strict
+        ∙ ap (λ d. stream_at (telling_at d e.incoming id (head_fields head) (stream_at e.incoming id)) id) client
+        ∙ ap (λ at. stream_at (telling_at Client e.incoming id (head_fields head) at) id) there
+        ∙ at_same e.incoming id (having_told Client i (head_fields head))
+        ∙ ap (λ c. let j : Incoming = record i { content = if awaits_head i then c else i.content } in Some j) (head_awaits head method)
         ∙ ap (λ b. let j : Incoming = record i { content = if b then NoContent else i.content } in Some j) awaits
 
     by_refusal : (r : Option Refusal) → (does r e (asked plain id (head_fields head))).0 ≡ None → stream_at (does r e (asked plain id (head_fields head))).1.incoming id ≡ Some (record i { content = NoContent })

@@ -9,32 +9,33 @@ use Rattle.h3_proto.specs.declared.stream.Side.{Side}
 use Rattle.h3_proto.specs.declared.stream.Side.TheVariants.{Client, Server}
 use Rattle.h3_wire.specs.ExcessiveFrames.{is_excessive, is_kept_whole, is_too_long, says_too_much}
 use Rattle.h3_wire.specs.ExcessiveLaws.{excessive_more, kept_says}
-use Rattle.h3_wire.specs.Frames.{Front, Whole, Unknown, Refused, Unfinished, frame_at}
-use Rattle.h3_wire.specs.FrameLaws.{frame_at-more}
+use Rattle.h3_wire.specs.Frames.{Front, Whole, Unknown, Refused, Unfinished, frame_by}
+use Rattle.h3_wire.specs.FrameLaws.{frame_by-more}
 use Rattle.h3_wire.specs.Fronts.{IsFinished, with_more, IsKnown}
-use Rattle.h3_wire.specs.Known.{known}
+use Rattle.h3_wire.specs.Known.{known_by}
 use Rattle.h3_wire.specs.KnownLaws.{known-other, known-more, known_is}
 use Rattle.h3_wire.specs.declared.proto.frame.PayloadLen.{PayloadLen}
 use Rattle.h3_wire.specs.declared.proto.frame.Frame.{Frame}
 use Rattle.h3_wire.specs.declared.proto.frame.Frame.TheVariants as frame
-use Rattle.h3_connection.specs.PeerReading.{Peer, PeerFound, with_unread, is_no_goaway, is_above, is_below, read_max_push, read_frame, unless_fault, at_front, unless_excessive, read_within, read_peer}
+use Rattle.h3_connection.specs.PeerReading.{Peer, PeerFound, with_unread, is_no_goaway, is_above, is_below, read_max_push, read_frame, unless_fault, at_front, unless_excessive, read_peer}
 use Rattle.h3_connection.specs.Lasts.{last_id}
 use Rattle.h3_connection.specs.SkippingLaws.{rest_shorter, skipped_step}
 use Rattle.h3_connection.specs.PeerReadingLaws.{peer_step, step_excessive, step_within}
 use Rattle.h3_connection.specs.Skipping.{skip_front, skipped}
+use Rattle.h3_wire.specs.declared.frame.kinds.FrameKinds.{FrameKinds}
 
 -- only what `known` leaves counts
-front_of : (limit : ℕ) (side : Side) (p : Peer) (other bytes : List ℕ) (x : Front) → at_front (read_peer limit side) side p bytes x ≡ at_front (read_peer limit side) side (with_unread p other) bytes x
-front_of limit side p other bytes (Whole f rest) = refl
-front_of limit side p other bytes (Unknown kind rest) = refl
-front_of limit side p other bytes (Refused e) = refl
-front_of limit side p other bytes (Unfinished least) = refl
+front_of : (kinds : FrameKinds) (limit : ℕ) (side : Side) (p : Peer) (other bytes : List ℕ) (x : Front) → at_front (read_peer kinds limit side) side p bytes x ≡ at_front (read_peer kinds limit side) side (with_unread p other) bytes x
+front_of kinds limit side p other bytes (Whole f rest) = refl
+front_of kinds limit side p other bytes (Unknown kind rest) = refl
+front_of kinds limit side p other bytes (Refused e) = refl
+front_of kinds limit side p other bytes (Unfinished least) = refl
 
-pub peer_known : (limit : ℕ) (side : Side) (p : Peer) (bytes : List ℕ) → known p.unread ≡ known bytes → read_peer limit side p ≡ read_peer limit side (with_unread p bytes)
-peer_known limit side p bytes e =
-    peer_step limit side p ∙ ap (λ l. unless_excessive limit l p (at_front (read_peer limit side) side p l (frame_at l))) e
-    ∙ ap (unless_excessive limit (known bytes) p) (front_of limit side p bytes (known bytes) (frame_at (known bytes)))
-    ∙ sym (peer_step limit side (with_unread p bytes))
+pub peer_known : (kinds : FrameKinds) (limit : ℕ) (side : Side) (p : Peer) (bytes : List ℕ) → known_by kinds p.unread ≡ known_by kinds bytes → read_peer kinds limit side p ≡ read_peer kinds limit side (with_unread p bytes)
+peer_known kinds limit side p bytes e =
+    peer_step kinds limit side p ∙ ap (λ l. unless_excessive limit l p (at_front (read_peer kinds limit side) side p l (frame_by kinds l))) e
+    ∙ ap (unless_excessive limit (known_by kinds bytes) p) (front_of kinds limit side p bytes (known_by kinds bytes) (frame_by kinds (known_by kinds bytes)))
+    ∙ sym (peer_step kinds limit side (with_unread p bytes))
 
 -- a frame does the same whatever is unread
 abbrev with_rest : List ℕ → PeerFound → PeerFound
@@ -75,104 +76,104 @@ more_known (Unknown kind rest) more h = absurd h
 more_known (Refused e) more h = tt
 more_known (Unfinished least) more h = tt
 
-known_longer : (bytes more : List ℕ) → IsFinished (frame_at (known bytes)) → known (bytes ++ more) ≡ known bytes ++ more
-known_longer bytes more h =
-    let there : frame_at (known bytes ++ more) ≡ with_more (frame_at (known bytes)) more = frame_at-more (known bytes) more h in
-    known-more bytes more ∙ known-other (known bytes ++ more) (subst IsKnown (sym there) (more_known (frame_at (known bytes)) more (known_is bytes)))
+known_longer : (kinds : FrameKinds) (bytes more : List ℕ) → IsFinished (frame_by kinds (known_by kinds bytes)) → known_by kinds (bytes ++ more) ≡ known_by kinds bytes ++ more
+known_longer kinds bytes more h =
+    let there : frame_by kinds (known_by kinds bytes ++ more) ≡ with_more (frame_by kinds (known_by kinds bytes)) more = frame_by-more kinds (known_by kinds bytes) more h in
+    known-more kinds bytes more ∙ known-other kinds (known_by kinds bytes ++ more) (subst IsKnown (sym there) (more_known (frame_by kinds (known_by kinds bytes)) more (known_is kinds bytes)))
 
 -- a frame that is too long is so whatever comes behind its head
 no_head : (limit : ℕ) (bytes : List ℕ) → says_too_much limit (varint_at bytes) ≡ false → is_excessive limit bytes ≡ true → ⊥
 no_head limit bytes none large = let wrong : false ≡ true = sym (and_right (is_limit limit) (says_too_much limit (varint_at bytes)) none) ∙ large in cc
 
-said_more : (limit : ℕ) (bytes more : List ℕ) → is_excessive limit bytes ≡ true → is_excessive limit (known (bytes ++ more)) ≡ true
-said_more limit bytes more large = elim (cases_number bytes) [
+said_more : (kinds : FrameKinds) (limit : ℕ) (bytes more : List ℕ) → is_excessive limit bytes ≡ true → is_excessive limit (known_by kinds (bytes ++ more)) ≡ true
+said_more kinds limit bytes more large = elim (cases_number bytes) [
   | inl none ↦ absurd (no_head limit bytes (ap (says_too_much limit) none) large)
   | inr (kind, mid, e) ↦ by_number kind mid e (cases_number mid)
 ]
   where
-    by_number : (kind : ℕ) (mid : List ℕ) → varint_at bytes ≡ Some (kind, mid) → (varint_at mid ≡ None) ⊎ ((v : ℕ) × (rest : List ℕ) × (varint_at mid ≡ Some (v, rest))) → is_excessive limit (known (bytes ++ more)) ≡ true
+    by_number : (kind : ℕ) (mid : List ℕ) → varint_at bytes ≡ Some (kind, mid) → (varint_at mid ≡ None) ⊎ ((v : ℕ) × (rest : List ℕ) × (varint_at mid ≡ Some (v, rest))) → is_excessive limit (known_by kinds (bytes ++ more)) ≡ true
     by_number kind mid e (inl none) = absurd (no_head limit bytes (ap (says_too_much limit) e ∙ ap (is_too_long limit kind) none) large)
     by_number kind mid e (inr (number, behind, k)) =
         let said : (is_kept_whole kind && nat_lt limit number) ≡ says_too_much limit (varint_at bytes) = sym (ap (says_too_much limit) e ∙ ap (is_too_long limit kind) k) in
         let parts = and_parts (is_limit limit) (says_too_much limit (varint_at bytes)) large in
         let both = and_parts (is_kept_whole kind) (nat_lt limit number) (said ∙ parts.1) in
-        kept_says limit kind number (bytes ++ more) (mid ++ more) (behind ++ more) parts.0 both.0 (reads_more kind bytes mid more e) (reads_more number mid behind more k) ∙ both.1
+        kept_says kinds limit kind number (bytes ++ more) (mid ++ more) (behind ++ more) parts.0 both.0 (reads_more kind bytes mid more e) (reads_more number mid behind more k) ∙ both.1
 
-excessive_behind : (limit : ℕ) (bytes more : List ℕ) → is_excessive limit (known bytes) ≡ true → is_excessive limit (known (bytes ++ more)) ≡ true
-excessive_behind limit bytes more large = ap (is_excessive limit) (known-more bytes more) ∙ said_more limit (known bytes) more large
+excessive_behind : (kinds : FrameKinds) (limit : ℕ) (bytes more : List ℕ) → is_excessive limit (known_by kinds bytes) ≡ true → is_excessive limit (known_by kinds (bytes ++ more)) ≡ true
+excessive_behind kinds limit bytes more large = ap (is_excessive limit) (known-more kinds bytes more) ∙ said_more kinds limit (known_by kinds bytes) more large
 
 -- What more bytes do behind a reading: a fault stays, and these are left then.
-abbrev pub then_peer : ℕ → Side → List ℕ → List ℕ → PeerFound → PeerFound
-then_peer limit side more left (p, Some code) = (with_unread p left, Some code)
-then_peer limit side more left (p, None) = read_peer limit side (with_unread p (p.unread ++ more))
+abbrev pub then_peer : FrameKinds → ℕ → Side → List ℕ → List ℕ → PeerFound → PeerFound
+then_peer kinds limit side more left (p, Some code) = (with_unread p left, Some code)
+then_peer kinds limit side more left (p, None) = read_peer kinds limit side (with_unread p (p.unread ++ more))
 
-abbrev pub ReadsMore : ℕ → Side → List ℕ → PeerFound → PeerFound → Type 0
-ReadsMore limit side more all front = (left : List ℕ) × (all ≡ then_peer limit side more left front)
+abbrev pub ReadsMore : FrameKinds → ℕ → Side → List ℕ → PeerFound → PeerFound → Type 0
+ReadsMore kinds limit side more all front = (left : List ℕ) × (all ≡ then_peer kinds limit side more left front)
 
-found_more : (limit : ℕ) (side : Side) (more rest : List ℕ) (x : PeerFound)
-    → ((q : Peer) → ReadsMore limit side more (read_peer limit side (with_unread q (rest ++ more))) (read_peer limit side (with_unread q rest)))
-    → ReadsMore limit side more (unless_fault (with_rest (rest ++ more) x) (read_peer limit side)) (unless_fault (with_rest rest x) (read_peer limit side))
-found_more limit side more rest (q, Some code) h = (rest ++ more, refl)
-found_more limit side more rest (q, None) h = h q
+found_more : (kinds : FrameKinds) (limit : ℕ) (side : Side) (more rest : List ℕ) (x : PeerFound)
+    → ((q : Peer) → ReadsMore kinds limit side more (read_peer kinds limit side (with_unread q (rest ++ more))) (read_peer kinds limit side (with_unread q rest)))
+    → ReadsMore kinds limit side more (unless_fault (with_rest (rest ++ more) x) (read_peer kinds limit side)) (unless_fault (with_rest rest x) (read_peer kinds limit side))
+found_more kinds limit side more rest (q, Some code) h = (rest ++ more, refl)
+found_more kinds limit side more rest (q, None) h = h q
 
-waits_more : (limit : ℕ) (side : Side) (p : Peer) (bytes more : List ℕ) → read_peer limit side (with_unread p bytes) ≡ (with_unread p (known bytes), None)
-    → ReadsMore limit side more (read_peer limit side (with_unread p (bytes ++ more))) (read_peer limit side (with_unread p bytes))
-waits_more limit side p bytes more waits =
-    ([], peer_known limit side (with_unread p (bytes ++ more)) (known bytes ++ more) (known-more bytes more) ∙ sym (ap (then_peer limit side more []) waits))
+waits_more : (kinds : FrameKinds) (limit : ℕ) (side : Side) (p : Peer) (bytes more : List ℕ) → read_peer kinds limit side (with_unread p bytes) ≡ (with_unread p (known_by kinds bytes), None)
+    → ReadsMore kinds limit side more (read_peer kinds limit side (with_unread p (bytes ++ more))) (read_peer kinds limit side (with_unread p bytes))
+waits_more kinds limit side p bytes more waits =
+    ([], peer_known kinds limit side (with_unread p (bytes ++ more)) (known_by kinds bytes ++ more) (known-more kinds bytes more) ∙ sym (ap (then_peer kinds limit side more []) waits))
 
 -- behind a frame that is not too long
-front_more : (limit : ℕ) (side : Side) (p : Peer) (bytes more : List ℕ) (x : Front) → frame_at (known bytes) ≡ x → is_excessive limit (known bytes) ≡ false
-    → ((q : Peer) (rest : List ℕ) → length rest < length bytes → ReadsMore limit side more (read_peer limit side (with_unread q (rest ++ more))) (read_peer limit side (with_unread q rest)))
-    → ReadsMore limit side more (read_peer limit side (with_unread p (bytes ++ more))) (read_peer limit side (with_unread p bytes))
-front_more limit side p bytes more x is small go = by_front x is
+front_more : (kinds : FrameKinds) (limit : ℕ) (side : Side) (p : Peer) (bytes more : List ℕ) (x : Front) → frame_by kinds (known_by kinds bytes) ≡ x → is_excessive limit (known_by kinds bytes) ≡ false
+    → ((q : Peer) (rest : List ℕ) → length rest < length bytes → ReadsMore kinds limit side more (read_peer kinds limit side (with_unread q (rest ++ more))) (read_peer kinds limit side (with_unread q rest)))
+    → ReadsMore kinds limit side more (read_peer kinds limit side (with_unread p (bytes ++ more))) (read_peer kinds limit side (with_unread p bytes))
+front_more kinds limit side p bytes more x is small go = by_front x is
   where
-    here : (y : Front) → frame_at (known bytes) ≡ y → read_peer limit side (with_unread p bytes) ≡ at_front (read_peer limit side) side (with_unread p bytes) (known bytes) y
-    here y e = step_within limit side (with_unread p bytes) small ∙ ap (at_front (read_peer limit side) side (with_unread p bytes) (known bytes)) e
+    here : (y : Front) → frame_by kinds (known_by kinds bytes) ≡ y → read_peer kinds limit side (with_unread p bytes) ≡ at_front (read_peer kinds limit side) side (with_unread p bytes) (known_by kinds bytes) y
+    here y e = step_within kinds limit side (with_unread p bytes) small ∙ ap (at_front (read_peer kinds limit side) side (with_unread p bytes) (known_by kinds bytes)) e
 
-    longer : IsFinished (frame_at (known bytes)) → known (bytes ++ more) ≡ known bytes ++ more
-    longer whole = known_longer bytes more whole
+    longer : IsFinished (frame_by kinds (known_by kinds bytes)) → known_by kinds (bytes ++ more) ≡ known_by kinds bytes ++ more
+    longer whole = known_longer kinds bytes more whole
 
-    there : (y : Front) → frame_at (known bytes) ≡ y → IsFinished y
-        → read_peer limit side (with_unread p (bytes ++ more)) ≡ at_front (read_peer limit side) side (with_unread p (bytes ++ more)) (known bytes ++ more) (with_more y more)
+    there : (y : Front) → frame_by kinds (known_by kinds bytes) ≡ y → IsFinished y
+        → read_peer kinds limit side (with_unread p (bytes ++ more)) ≡ at_front (read_peer kinds limit side) side (with_unread p (bytes ++ more)) (known_by kinds bytes ++ more) (with_more y more)
     there y e whole =
-        let finished : IsFinished (frame_at (known bytes)) = subst IsFinished (sym e) whole in
-        step_within limit side (with_unread p (bytes ++ more)) (ap (is_excessive limit) (longer finished) ∙ excessive_more limit (known bytes) more finished ∙ small)
-        ∙ ap (λ l. at_front (read_peer limit side) side (with_unread p (bytes ++ more)) l (frame_at l)) (longer finished)
-        ∙ ap (at_front (read_peer limit side) side (with_unread p (bytes ++ more)) (known bytes ++ more)) (frame_at-more (known bytes) more finished ∙ ap (λ z. with_more z more) e)
+        let finished : IsFinished (frame_by kinds (known_by kinds bytes)) = subst IsFinished (sym e) whole in
+        step_within kinds limit side (with_unread p (bytes ++ more)) (ap (is_excessive limit) (longer finished) ∙ excessive_more kinds limit (known_by kinds bytes) more finished ∙ small)
+        ∙ ap (λ l. at_front (read_peer kinds limit side) side (with_unread p (bytes ++ more)) l (frame_by kinds l)) (longer finished)
+        ∙ ap (at_front (read_peer kinds limit side) side (with_unread p (bytes ++ more)) (known_by kinds bytes ++ more)) (frame_by-more kinds (known_by kinds bytes) more finished ∙ ap (λ z. with_more z more) e)
 
-    by_front : (y : Front) → frame_at (known bytes) ≡ y → ReadsMore limit side more (read_peer limit side (with_unread p (bytes ++ more))) (read_peer limit side (with_unread p bytes))
+    by_front : (y : Front) → frame_by kinds (known_by kinds bytes) ≡ y → ReadsMore kinds limit side more (read_peer kinds limit side (with_unread p (bytes ++ more))) (read_peer kinds limit side (with_unread p bytes))
     by_front (Whole f rest) e =
-        let found = found_more limit side more rest (read_frame side p p.settings f) (λ q. go q rest (rest_shorter bytes rest f e)) in (
+        let found = found_more kinds limit side more rest (read_frame side p p.settings f) (λ q. go q rest (rest_shorter kinds bytes rest f e)) in (
           found.0,
-          there (Whole f rest) e tt ∙ ap (λ z. unless_fault z (read_peer limit side)) (frame_with side p (rest ++ more) p.settings f)
+          there (Whole f rest) e tt ∙ ap (λ z. unless_fault z (read_peer kinds limit side)) (frame_with side p (rest ++ more) p.settings f)
               ∙ found.1
-              ∙ sym (ap (then_peer limit side more found.0) (here (Whole f rest) e ∙ ap (λ z. unless_fault z (read_peer limit side)) (frame_with side p rest p.settings f))),
+              ∙ sym (ap (then_peer kinds limit side more found.0) (here (Whole f rest) e ∙ ap (λ z. unless_fault z (read_peer kinds limit side)) (frame_with side p rest p.settings f))),
         )
-    by_front (Refused why) e = (known bytes ++ more, there (Refused why) e tt ∙ sym (ap (then_peer limit side more (known bytes ++ more)) (here (Refused why) e)))
-    by_front (Unknown kind rest) e = waits_more limit side p bytes more (here (Unknown kind rest) e)
-    by_front (Unfinished least) e = waits_more limit side p bytes more (here (Unfinished least) e)
+    by_front (Refused why) e = (known_by kinds bytes ++ more, there (Refused why) e tt ∙ sym (ap (then_peer kinds limit side more (known_by kinds bytes ++ more)) (here (Refused why) e)))
+    by_front (Unknown kind rest) e = waits_more kinds limit side p bytes more (here (Unknown kind rest) e)
+    by_front (Unfinished least) e = waits_more kinds limit side p bytes more (here (Unfinished least) e)
 
 -- one that is too long is so with more bytes behind it
-length_more : (limit : ℕ) (side : Side) (p : Peer) (bytes more : List ℕ) (large : Bool) → is_excessive limit (known bytes) ≡ large
-    → ((q : Peer) (rest : List ℕ) → length rest < length bytes → ReadsMore limit side more (read_peer limit side (with_unread q (rest ++ more))) (read_peer limit side (with_unread q rest)))
-    → ReadsMore limit side more (read_peer limit side (with_unread p (bytes ++ more))) (read_peer limit side (with_unread p bytes))
-length_more limit side p bytes more true e go = (
+length_more : (kinds : FrameKinds) (limit : ℕ) (side : Side) (p : Peer) (bytes more : List ℕ) (large : Bool) → is_excessive limit (known_by kinds bytes) ≡ large
+    → ((q : Peer) (rest : List ℕ) → length rest < length bytes → ReadsMore kinds limit side more (read_peer kinds limit side (with_unread q (rest ++ more))) (read_peer kinds limit side (with_unread q rest)))
+    → ReadsMore kinds limit side more (read_peer kinds limit side (with_unread p (bytes ++ more))) (read_peer kinds limit side (with_unread p bytes))
+length_more kinds limit side p bytes more true e go = (
   [],
-  step_excessive limit side (with_unread p (bytes ++ more)) (excessive_behind limit bytes more e)
-      ∙ sym (ap (then_peer limit side more []) (step_excessive limit side (with_unread p bytes) e)),
+  step_excessive kinds limit side (with_unread p (bytes ++ more)) (excessive_behind kinds limit bytes more e)
+      ∙ sym (ap (then_peer kinds limit side more []) (step_excessive kinds limit side (with_unread p bytes) e)),
 )
-length_more limit side p bytes more false e go = front_more limit side p bytes more (frame_at (known bytes)) refl e go
+length_more kinds limit side p bytes more false e go = front_more kinds limit side p bytes more (frame_by kinds (known_by kinds bytes)) refl e go
 
-more_within : (n limit : ℕ) (side : Side) (p : Peer) (bytes more : List ℕ) → length bytes ≤ n
-    → ReadsMore limit side more (read_peer limit side (with_unread p (bytes ++ more))) (read_peer limit side (with_unread p bytes))
-more_within zero limit side p bytes more h = length_more limit side p bytes more (is_excessive limit (known bytes)) refl (λ q rest less. absurd (omega (arith, less, h)))
-more_within (suc n) limit side p bytes more h =
-    length_more limit side p bytes more (is_excessive limit (known bytes)) refl (λ q rest less. more_within n limit side q rest more (omega (arith, less, h)))
+more_within : (kinds : FrameKinds) (n limit : ℕ) (side : Side) (p : Peer) (bytes more : List ℕ) → length bytes ≤ n
+    → ReadsMore kinds limit side more (read_peer kinds limit side (with_unread p (bytes ++ more))) (read_peer kinds limit side (with_unread p bytes))
+more_within kinds zero limit side p bytes more h = length_more kinds limit side p bytes more (is_excessive limit (known_by kinds bytes)) refl (λ q rest less. absurd (omega (arith, less, h)))
+more_within kinds (suc n) limit side p bytes more h =
+    length_more kinds limit side p bytes more (is_excessive limit (known_by kinds bytes)) refl (λ q rest less. more_within kinds n limit side q rest more (omega (arith, less, h)))
 
 -- However the bytes are cut, they read alike.
-pub peer_more : (limit : ℕ) (side : Side) (p : Peer) (bytes more : List ℕ) → ReadsMore limit side more (read_peer limit side (with_unread p (bytes ++ more))) (read_peer limit side (with_unread p bytes))
-peer_more limit side p bytes more = more_within (length bytes) limit side p bytes more (omega arith)
+pub peer_more : (kinds : FrameKinds) (limit : ℕ) (side : Side) (p : Peer) (bytes more : List ℕ) → ReadsMore kinds limit side more (read_peer kinds limit side (with_unread p (bytes ++ more))) (read_peer kinds limit side (with_unread p bytes))
+peer_more kinds limit side p bytes more = more_within kinds (length bytes) limit side p bytes more (omega arith)
 
 -- only what `known` leaves counts
-pub skipped_known : (in_body : Bool) (bytes other : List ℕ) → known bytes ≡ known other → skipped in_body bytes ≡ skipped in_body other
-skipped_known in_body bytes other e = skipped_step in_body bytes ∙ ap (λ l. skip_front (skipped in_body) in_body l (frame_at l)) e ∙ sym (skipped_step in_body other)
+pub skipped_known : (kinds : FrameKinds) (in_body : Bool) (bytes other : List ℕ) → known_by kinds bytes ≡ known_by kinds other → skipped kinds in_body bytes ≡ skipped kinds in_body other
+skipped_known kinds in_body bytes other e = skipped_step kinds in_body bytes ∙ ap (λ l. skip_front (skipped kinds in_body) in_body l (frame_by kinds l)) e ∙ sym (skipped_step kinds in_body other)

@@ -12,7 +12,7 @@ use Rattle.h3_header.specs.HeadRead.{HeadRead, IsHead, IsNone, head_by}
 use Rattle.h3_proto.specs.declared.stream.Side.{Side}
 use Rattle.h3_proto.specs.declared.stream.Side.TheVariants.{Client, Server}
 use Rattle.h3_wire.specs.ExcessiveFrames.{begins_section, is_excessive}
-use Rattle.h3_wire.specs.Frames.{Front, Whole, Unknown, Refused, Unfinished, frame_at}
+use Rattle.h3_wire.specs.Frames.{Front, Whole, Unknown, Refused, Unfinished, frame_by}
 use Rattle.h3_wire.specs.Pieces.{chunk_of, first_of, ending}
 use Rattle.h3_wire.specs.declared.proto.frame.PayloadLen.{PayloadLen}
 use Rattle.h3_wire.specs.declared.proto.frame.Frame.{Frame}
@@ -35,7 +35,7 @@ use Rattle.h3_connection.specs.declared.event.Fault.TheVariants as fault
 use Rattle.h3_connection.specs.declared.event.Item.TheVariants as item
 use Rattle.h3_connection.specs.declared.place.Place.{Place}
 use Rattle.h3_connection.specs.declared.place.Place.TheVariants.{BeforeHead, InBody, AfterTrailer, InSession}
-use Rattle.h3_connection.specs.StrictConnection.{is_no_session}
+use Rattle.h3_connection.specs.StrictConnection.{kinds_of, is_no_session}
 
 -- the answer closes the connection
 abbrev pub is_connection : Pull → Bool
@@ -175,7 +175,7 @@ module _ (side : Side) (own : Announced) (id : ℕ) (r : DecoderState) where
 
   next_good : (i : Incoming) (bytes : List ℕ) → Ready i → Good (next_frame side own id r i bytes)
   next_good i [] h = either i.ended _ _ (end_good i i.place h) (good _ h)
-  next_good i (byte ∷ bytes) h = framed_good i (frame_at (byte ∷ bytes)) h
+  next_good i (byte ∷ bytes) h = framed_good i (frame_by (kinds_of own) (byte ∷ bytes)) h
 
   excess_good : (i : Incoming) (bytes : List ℕ) → Ready i → Good (excess id i bytes)
   excess_good i bytes h =
@@ -185,7 +185,7 @@ module _ (side : Side) (own : Announced) (id : ℕ) (r : DecoderState) where
   message_good : (i : Incoming) (section : Option (List ℕ)) → Ready i → Good (in_message side own id r i section)
   message_good i (Some bytes) h = at_good i bytes h
   message_good i None h =
-      let bytes = skipped (is_body i.place) (concat i.unread) in
+      let bytes = skipped (kinds_of own) (is_body i.place) (concat i.unread) in
       let j = record i { unread = ending (length bytes) i.unread } in
       either (nat_lt 0 i.body_left) _ _ (content_good id i h)
       (either (is_excessive own.choices.unfinished_limit bytes) (excess id i bytes) (next_frame side own id r j bytes) (excess_good i bytes h) (next_good j bytes (ready_as i j (refl, refl) h)))

@@ -13,7 +13,7 @@ use Rattle.h3_header.specs.HeadRead.{HeadRead, IsHead, IsNone, head_by}
 use Rattle.h3_proto.specs.declared.stream.Side.{Side}
 use Rattle.h3_proto.specs.declared.stream.Side.TheVariants.{Client, Server}
 use Rattle.h3_wire.specs.ExcessiveFrames.{begins_section, is_excessive}
-use Rattle.h3_wire.specs.Frames.{Front, Whole, Unknown, Refused, Unfinished, frame_at}
+use Rattle.h3_wire.specs.Frames.{Front, Whole, Unknown, Refused, Unfinished, frame_by}
 use Rattle.h3_wire.specs.Pieces.{chunk_of, first_of, with_piece, without, ending}
 use Rattle.std.proofs.lemmas.List.Folds.{concat-append}
 use Rattle.h3_wire.specs.PieceLaws.{concat-without}
@@ -40,7 +40,7 @@ use Rattle.h3_connection.specs.declared.event.Item.TheVariants as item
 use Rattle.h3_connection.specs.declared.place.Place.{Place}
 use Rattle.h3_connection.specs.declared.place.Place.TheVariants.{BeforeHead, InBody, AfterTrailer, InSession}
 use Rattle.h3_connection.specs.PullCuts.{piece_in, HaveBytes, DifferInCuts, IsFront, PullsAlike, Same, Bodies, Raws}
-use Rattle.h3_connection.specs.StrictConnection.{is_no_session}
+use Rattle.h3_connection.specs.StrictConnection.{kinds_of, is_no_session}
 
 -- the same bytes in other pieces
 pub record Cuts (t u : List (List ℕ)) : Type 0 where
@@ -325,10 +325,10 @@ module _ (size : ℕ) (side : Side) (own : Announced) (id : ℕ) (r : DecoderSta
   framed_alike i u (Unknown kind rest) full message none g = leaf size _ i u [] refl g.cuts
   framed_alike i u (Refused e) full message none g = leaf size _ i u [] refl g.cuts
 
-  next_alike : (i : Incoming) (u : List (List ℕ)) (bytes : List ℕ) → IsFull (is_body i.place) (frame_at bytes) → i.place ≢ InSession → i.section ≡ None → Goes size i u
+  next_alike : (i : Incoming) (u : List (List ℕ)) (bytes : List ℕ) → IsFull (is_body i.place) (frame_by (kinds_of own) bytes) → i.place ≢ InSession → i.section ≡ None → Goes size i u
       → Pulls size (next_frame side own id r i bytes) (next_frame side own id r (with_pieces i u) bytes)
   next_alike i u [] full message none g = either size i.ended _ _ _ _ (end_alike i u i.place) (leaf size _ i u [] refl g.cuts)
-  next_alike i u (byte ∷ bytes) full message none g = framed_alike i u (frame_at (byte ∷ bytes)) full message none g
+  next_alike i u (byte ∷ bytes) full message none g = framed_alike i u (frame_by (kinds_of own) (byte ∷ bytes)) full message none g
 
   excess_alike : (i : Incoming) (u : List (List ℕ)) (bytes : List ℕ) → Pulls size (excess id i bytes) (excess id (with_pieces i u) bytes)
   excess_alike i u bytes =
@@ -338,12 +338,12 @@ module _ (size : ℕ) (side : Side) (own : Announced) (id : ℕ) (r : DecoderSta
 
   between_alike : (i : Incoming) (u : List (List ℕ)) → i.place ≢ InSession → i.section ≡ None → Goes size i u → Pulls size (between_frames side own id r i) (between_frames side own id r (with_pieces i u))
   between_alike i u message none g =
-      let bytes = skipped (is_body i.place) (concat i.unread) in
+      let bytes = skipped (kinds_of own) (is_body i.place) (concat i.unread) in
       subst (λ l. Pulls size (between_frames side own id r i)
-      (if is_excessive own.choices.unfinished_limit (skipped (is_body i.place) l) then excess id (with_pieces i u) (skipped (is_body i.place) l)
-      else next_frame side own id r (left_with (with_pieces i u) (skipped (is_body i.place) l)) (skipped (is_body i.place) l))) (sym g.cuts.bytes)
+      (if is_excessive own.choices.unfinished_limit (skipped (kinds_of own) (is_body i.place) l) then excess id (with_pieces i u) (skipped (kinds_of own) (is_body i.place) l)
+      else next_frame side own id r (left_with (with_pieces i u) (skipped (kinds_of own) (is_body i.place) l)) (skipped (kinds_of own) (is_body i.place) l))) (sym g.cuts.bytes)
       (either size (is_excessive own.choices.unfinished_limit bytes) (excess id i bytes) _ (excess id (with_pieces i u) bytes) _ (excess_alike i u bytes)
-      (next_alike (left_with i bytes) (ending (length bytes) u) bytes (λ f rest e. found_not_empty (is_body i.place) (concat i.unread) rest f e) message none (goes_ending i u (length bytes) g)))
+      (next_alike (left_with i bytes) (ending (length bytes) u) bytes (λ f rest e. found_not_empty (kinds_of own) (is_body i.place) (concat i.unread) rest f e) message none (goes_ending i u (length bytes) g)))
 
   message_alike : (i : Incoming) (u : List (List ℕ)) (section : Option (List ℕ)) → i.section ≡ section → i.place ≢ InSession → Goes size i u → Pulls size (in_message side own id r i section) (in_message side own id r (with_pieces i u) section)
   message_alike i u (Some bytes) is message g = section_alike i u bytes g.cuts

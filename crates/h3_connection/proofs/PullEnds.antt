@@ -11,7 +11,7 @@ use Rattle.h3_header.specs.HeadRead.{HeadRead, IsHead, IsNone, head_by}
 use Rattle.h3_proto.specs.declared.stream.Side.{Side}
 use Rattle.h3_proto.specs.declared.stream.Side.TheVariants.{Client, Server}
 use Rattle.h3_wire.specs.ExcessiveFrames.{begins_section, is_excessive}
-use Rattle.h3_wire.specs.Frames.{Front, Whole, Unknown, Refused, Unfinished, frame_at}
+use Rattle.h3_wire.specs.Frames.{Front, Whole, Unknown, Refused, Unfinished, frame_by}
 use Rattle.h3_wire.specs.Pieces.{chunk_of, first_of, ending}
 use Rattle.h3_wire.specs.declared.proto.frame.PayloadLen.{PayloadLen}
 use Rattle.h3_wire.specs.declared.proto.frame.Frame.{Frame}
@@ -33,7 +33,7 @@ use Rattle.h3_connection.specs.declared.event.Fault.TheVariants as fault
 use Rattle.h3_connection.specs.declared.event.Item.TheVariants as item
 use Rattle.h3_connection.specs.declared.place.Place.{Place}
 use Rattle.h3_connection.specs.declared.place.Place.TheVariants.{BeforeHead, InBody, AfterTrailer, InSession}
-use Rattle.h3_connection.specs.StrictConnection.{is_no_session}
+use Rattle.h3_connection.specs.StrictConnection.{kinds_of, is_no_session}
 
 -- a stream that is over has ended, and no fault
 abbrev pub EndedWell : Incoming → Type 0
@@ -149,7 +149,7 @@ module _ (side : Side) (own : Announced) (id : ℕ) (r : DecoderState) where
 
   next_ends : (i : Incoming) (bytes : List ℕ) → i.fault ≡ None → i.is_over ≡ false → Ends (next_frame side own id r i bytes)
   next_ends i [] no_fault n = given i.ended (at_end side own id r i i.place) (just pull.Pending i) (λ ended. end_ends i i.place no_fault ended n) (goes (λ x. cc) n)
-  next_ends i (byte ∷ bytes) no_fault n = framed_ends i (frame_at (byte ∷ bytes)) n
+  next_ends i (byte ∷ bytes) no_fault n = framed_ends i (frame_by (kinds_of own) (byte ∷ bytes)) n
 
   excess_ends : (i : Incoming) (bytes : List ℕ) → i.is_over ≡ false → Ends (excess id i bytes)
   excess_ends i bytes n =
@@ -158,7 +158,7 @@ module _ (side : Side) (own : Announced) (id : ℕ) (r : DecoderState) where
   message_ends : (i : Incoming) (section : Option (List ℕ)) → i.fault ≡ None → i.is_over ≡ false → Ends (in_message side own id r i section)
   message_ends i (Some bytes) no_fault n = at_ends i bytes n
   message_ends i None no_fault n =
-      let bytes = skipped (is_body i.place) (concat i.unread) in
+      let bytes = skipped (kinds_of own) (is_body i.place) (concat i.unread) in
       let j = record i { unread = ending (length bytes) i.unread } in
       either (nat_lt 0 i.body_left) (at_payload id i) (between_frames side own id r i) (content_ends id i n)
       (either (is_excessive own.choices.unfinished_limit bytes) (excess id i bytes) (next_frame side own id r j bytes) (excess_ends i bytes n) (next_ends j bytes no_fault n))

@@ -1,9 +1,10 @@
 -- The peer's control and decoder streams change nothing that request streams rest on.
-use Rattle.std.proofs.Common.{◌≡◌, ℕ, Bool, true, false, List, [], ◌++◌, refl, ◌∙◌}
+use Rattle.std.proofs.Common.{◌≡◌, ℕ, Bool, true, false, List, [], refl, ◌∙◌}
 use Rattle.std.specs.Prelude.{Option, Some, None, if◌then◌else◌}
 use Rattle.h3_connection.specs.Endpoint.{EndpointHistory, limit_of}
 use Rattle.h3_connection.specs.PeerReading.{PeerFound, read_peer}
 use Rattle.h3_connection.specs.Control.{Found, read_decoder, read_control, after_peer, taken_peer, then_decoder, if_learned, learned, are_refused, holding, lacks_settings}
+use Rattle.h3_connection.specs.StrictConnection.{kinds_of}
 
 -- what request streams rest on is as it was
 pub record Quiet (e f : EndpointHistory) : Type 0 where
@@ -71,4 +72,4 @@ quiet_after e (p, fault) = quiet_if (are_refused e e.peer.settings p.settings) e
 pub quiet_control : (e : EndpointHistory) (bytes : List ℕ) → Quiet e (read_control e bytes).0
 quiet_control e bytes =
     let h = holding e bytes in
-    quiet_then e h _ (shut e h refl refl refl refl refl refl refl) (quiet_if (lacks_settings h) h _ _ (still h) (quiet_after h (read_peer (limit_of h) h.side h.peer)))
+    quiet_then e h _ (shut e h refl refl refl refl refl refl refl) (quiet_if (lacks_settings h) h _ _ (still h) (quiet_after h (read_peer (kinds_of h.announced) (limit_of h) h.side h.peer)))

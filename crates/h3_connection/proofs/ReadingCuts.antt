@@ -15,7 +15,7 @@ use Rattle.h3_connection.specs.ExcessiveInstructions.{exceeds, hear_up_to, liste
 use Rattle.h3_connection.specs.LimitedHearingLaws.{hear_cut, hears_no_longer}
 use Rattle.h3_connection.specs.LimitedListeningLaws.{listen_cut, listens_no_longer, listens_nothing}
 use Rattle.h3_connection.specs.Control.{Found, increment, read_encoder, listened_to, kept_unread, read_decoder, with_table, learned, if_learned, then_decoder, taken_peer}
-use Rattle.h3_connection.specs.StrictConnection.{is_strict, stream_fault}
+use Rattle.h3_connection.specs.StrictConnection.{kinds_of, is_strict, stream_fault}
 use Rattle.h3_connection.specs.DeliveryCuts.{IsSame, with_replies, DiffersInIncrements}
 use Rattle.h3_connection.proofs.Quiet.{quiet_taken}
 use Rattle.h3_connection.proofs.Bounded.{hears_more}
@@ -114,7 +114,7 @@ decoder_cut g a b none =
 
 -- the frames of the control stream, whichever they are
 abbrev pub read_frames : EndpointHistory → List ℕ → Found
-read_frames e bytes = taken_peer e (read_peer (limit_of e) e.side (with_unread e.peer (e.peer.unread ++ bytes)))
+read_frames e bytes = taken_peer e (read_peer (kinds_of e.announced) (limit_of e) e.side (with_unread e.peer (e.peer.unread ++ bytes)))
 
 -- what was found is done alike by endpoints that differ in what their peer's reader has
 abbrev after_by : Option (List (ℕ × ℕ)) → EndpointHistory → PeerFound → Found
@@ -161,61 +161,61 @@ came_fault g f q p pairs None same is =
     alike_same _ _ (ap (λ e. read_decoder e []) (learned_with h p pairs) ∙ decoder_with (learned h pairs) p [] settings ∙ ap (λ x. (record x.0 { peer = p }, x.1)) is)
 
 -- the settings came in the first bytes
-came_first : (g f : EndpointHistory) (q : Peer) (pairs : List (ℕ × ℕ)) (b : List ℕ) → g.peer.settings ≡ None → q.settings ≡ Some pairs → f.side ≡ g.side → limit_of f ≡ limit_of g → taken_peer g (q, None) ≡ (f, None)
-    → Alike IsSame (taken_peer g (read_peer (limit_of g) g.side (with_unread q (q.unread ++ b)))) (read_frames f b)
-came_first g f q pairs b none came side limit is =
+came_first : (g f : EndpointHistory) (q : Peer) (pairs : List (ℕ × ℕ)) (b : List ℕ) → g.peer.settings ≡ None → q.settings ≡ Some pairs → f.side ≡ g.side → f.announced ≡ g.announced → taken_peer g (q, None) ≡ (f, None)
+    → Alike IsSame (taken_peer g (read_peer (kinds_of g.announced) (limit_of g) g.side (with_unread q (q.unread ++ b)))) (read_frames f b)
+came_first g f q pairs b none came side own is =
     let h : EndpointHistory = record g { peer = q } in
-    let y = read_peer (limit_of g) g.side (with_unread q (q.unread ++ b)) in
+    let y = read_peer (kinds_of g.announced) (limit_of g) g.side (with_unread q (q.unread ++ b)) in
     let read : read_decoder (learned h pairs) [] ≡ (f, None) =
     sym (ap (λ o. after_by o g (q, None)) none ∙ ap (λ o. then_decoder None o (if_learned None o h) None) came) ∙ is in
     let peer : f.peer ≡ q = ap (λ x. x.0.peer) (sym read) ∙ decoder_peer (learned h pairs) [] ∙ learned_peer h pairs in
-    let still : y.0.settings ≡ Some pairs = settings_stay (limit_of g) g.side (with_unread q (q.unread ++ b)) pairs came in
+    let still : y.0.settings ≡ Some pairs = settings_stay _ (limit_of g) g.side (with_unread q (q.unread ++ b)) pairs came in
     let one : taken_peer g y ≡ then_decoder None (Some pairs) (learned (record g { peer = y.0 }) pairs) y.1 =
     ap (λ o. after_by o g y) none ∙ ap (λ o. then_decoder None o (if_learned None o (record g { peer = y.0 })) y.1) still in
     let there : read_frames f b ≡ taken_peer f y =
-    ap (λ s. taken_peer f (read_peer (limit_of f) s (with_unread f.peer (f.peer.unread ++ b)))) side
-    ∙ ap (λ n. taken_peer f (read_peer n g.side (with_unread f.peer (f.peer.unread ++ b)))) limit
-    ∙ ap (λ (p : Peer). taken_peer f (read_peer (limit_of g) g.side (with_unread p (p.unread ++ b)))) peer in
+    ap (λ s. taken_peer f (read_peer (kinds_of f.announced) (limit_of f) s (with_unread f.peer (f.peer.unread ++ b)))) side
+    ∙ ap (λ (own : Announced). taken_peer f (read_peer (kinds_of own) own.choices.unfinished_limit g.side (with_unread f.peer (f.peer.unread ++ b)))) own
+    ∙ ap (λ (p : Peer). taken_peer f (read_peer (kinds_of g.announced) (limit_of g) g.side (with_unread p (p.unread ++ b)))) peer in
     let two : read_frames f b ≡ (record f { peer = y.0 }, y.1) = there ∙ after_same f y (still ∙ sym (ap (λ (p : Peer). p.settings) peer ∙ came)) in
     alike_as IsSame _ _ _ _ one two (came_fault g f q y.0 pairs y.1 (still ∙ sym came) read)
 
 -- they came before, or did not come
 came_else : (g f : EndpointHistory) (q : Peer) (b : List ℕ) → q.settings ≡ g.peer.settings → taken_peer g (q, None) ≡ (f, None)
-    → Alike IsSame (taken_peer g (read_peer (limit_of g) g.side (with_unread q (q.unread ++ b)))) (read_frames f b)
+    → Alike IsSame (taken_peer g (read_peer (kinds_of g.announced) (limit_of g) g.side (with_unread q (q.unread ++ b)))) (read_frames f b)
 came_else g f q b same is =
-    let y = read_peer (limit_of g) g.side (with_unread q (q.unread ++ b)) in
+    let y = read_peer (kinds_of g.announced) (limit_of g) g.side (with_unread q (q.unread ++ b)) in
     let h : EndpointHistory = record g { peer = q } in
     let at : f ≡ h = ap (λ x. x.0) (sym is ∙ after_same g (q, None) same) in
     alike_same _ _ (ap (λ o. after_by o g y) (sym same) ∙ ap (λ e. read_frames e b) (sym at))
 
-control_found : (g f : EndpointHistory) (b left : List ℕ) (x : PeerFound) → f.side ≡ g.side → limit_of f ≡ limit_of g
+control_found : (g f : EndpointHistory) (b left : List ℕ) (x : PeerFound) → f.side ≡ g.side → f.announced ≡ g.announced
     → ((pairs : List (ℕ × ℕ)) → g.peer.settings ≡ Some pairs → x.0.settings ≡ Some pairs) → taken_peer g x ≡ (f, None)
-    → Alike IsSame (taken_peer g (then_peer (limit_of g) g.side b left x)) (read_frames f b)
-control_found g f b left (q, Some code) side limit keep is = let wrong : Some code ≡ None = ap (λ x. x.1) is in absurd (cc)
-control_found g f b left (q, None) side limit keep is = by_settings g.peer.settings q.settings refl refl
+    → Alike IsSame (taken_peer g (then_peer (kinds_of g.announced) (limit_of g) g.side b left x)) (read_frames f b)
+control_found g f b left (q, Some code) side own keep is = let wrong : Some code ≡ None = ap (λ x. x.1) is in absurd (cc)
+control_found g f b left (q, None) side own keep is = by_settings g.peer.settings q.settings refl refl
   where
-    by_settings : (o p : Option (List (ℕ × ℕ))) → g.peer.settings ≡ o → q.settings ≡ p → Alike IsSame (taken_peer g (read_peer (limit_of g) g.side (with_unread q (q.unread ++ b)))) (read_frames f b)
+    by_settings : (o p : Option (List (ℕ × ℕ))) → g.peer.settings ≡ o → q.settings ≡ p → Alike IsSame (taken_peer g (read_peer (kinds_of g.announced) (limit_of g) g.side (with_unread q (q.unread ++ b)))) (read_frames f b)
     by_settings (Some pairs) p before after = came_else g f q b (keep pairs before ∙ sym before) is
     by_settings None None before after = came_else g f q b (after ∙ sym before) is
-    by_settings None (Some pairs) before after = came_first g f q pairs b before after side limit is
+    by_settings None (Some pairs) before after = came_first g f q pairs b before after side own is
 
 -- what is left at a fault
 pub left_behind : (g : EndpointHistory) (a b : List ℕ) → List ℕ
-left_behind g a b = (peer_more (limit_of g) g.side g.peer (g.peer.unread ++ a) b).0
+left_behind g a b = (peer_more (kinds_of g.announced) (limit_of g) g.side g.peer (g.peer.unread ++ a) b).0
 
 pub read_behind : (g : EndpointHistory) (a b : List ℕ)
-    → read_peer (limit_of g) g.side (with_unread g.peer (g.peer.unread ++ (a ++ b)))
-    ≡ then_peer (limit_of g) g.side b (left_behind g a b) (read_peer (limit_of g) g.side (with_unread g.peer (g.peer.unread ++ a)))
+    → read_peer (kinds_of g.announced) (limit_of g) g.side (with_unread g.peer (g.peer.unread ++ (a ++ b)))
+    ≡ then_peer (kinds_of g.announced) (limit_of g) g.side b (left_behind g a b) (read_peer (kinds_of g.announced) (limit_of g) g.side (with_unread g.peer (g.peer.unread ++ a)))
 unfolding left_behind
 read_behind g a b =
-    ap (λ l. read_peer (limit_of g) g.side (with_unread g.peer l)) (sym (append_assoc g.peer.unread a b)) ∙ (peer_more (limit_of g) g.side g.peer (g.peer.unread ++ a) b).1
+    ap (λ l. read_peer (kinds_of g.announced) (limit_of g) g.side (with_unread g.peer l)) (sym (append_assoc g.peer.unread a b)) ∙ (peer_more (kinds_of g.announced) (limit_of g) g.side g.peer (g.peer.unread ++ a) b).1
 
 pub frames_cut : (g : EndpointHistory) (a b : List ℕ) → (read_frames g a).1 ≡ None → Alike IsSame (read_frames g (a ++ b)) (read_frames (read_frames g a).0 b)
 frames_cut g a b none =
-    let x = read_peer (limit_of g) g.side (with_unread g.peer (g.peer.unread ++ a)) in
+    let x = read_peer (kinds_of g.announced) (limit_of g) g.side (with_unread g.peer (g.peer.unread ++ a)) in
     let found : read_frames g a ≡ ((read_frames g a).0, None) = ap (λ c. ((read_frames g a).0, c)) none in
     subst (λ z. Alike IsSame (taken_peer g z) (read_frames (read_frames g a).0 b)) (sym (read_behind g a b))
-    (control_found g (read_frames g a).0 b (left_behind g a b) x (quiet_taken g x).side (ap (λ (own : Announced). own.choices.unfinished_limit) (quiet_taken g x).announced) (λ pairs e. settings_stay (limit_of g) g.side (with_unread g.peer (g.peer.unread ++ a)) pairs e) found)
+    (control_found g (read_frames g a).0 b (left_behind g a b) x (quiet_taken g x).side (quiet_taken g x).announced (λ pairs e. settings_stay _ (limit_of g) g.side (with_unread g.peer (g.peer.unread ++ a)) pairs e) found)
 
 -- what was read of the stream is the peer that is left
 pub taken_leaves : (e : EndpointHistory) (x : PeerFound) → (taken_peer e x).0.peer ≡ x.0
@@ -246,7 +246,7 @@ learned_on (Some pairs) after e = refl
 
 pub frames_on_stay : (e : EndpointHistory) (bytes : List ℕ) → (read_frames e bytes).0.control_on ≡ e.control_on
 frames_on_stay e bytes =
-    let x = read_peer (limit_of e) e.side (with_unread e.peer (e.peer.unread ++ bytes)) in
+    let x = read_peer (kinds_of e.announced) (limit_of e) e.side (with_unread e.peer (e.peer.unread ++ bytes)) in
     then_on e.peer.settings x.0.settings (if_learned e.peer.settings x.0.settings (record e { peer = x.0 })) x.1 ∙ learned_on e.peer.settings x.0.settings (record e { peer = x.0 })
 
 pub decoder_on_stays : (e : EndpointHistory) (bytes : List ℕ) → (read_decoder e bytes).0.decoder_on ≡ e.decoder_on
@@ -303,7 +303,7 @@ reads_none true e empty =
 reads_none false e empty = refl
 
 fault_found : (g : EndpointHistory) (b left : List ℕ) (x : PeerFound) (code : ℕ) → (g.peer.settings ≡ None → g.decoder_unread ≡ []) → ((pairs : List (ℕ × ℕ)) → g.peer.settings ≡ Some pairs → x.0.settings ≡ Some pairs)
-    → (taken_peer g x).1 ≡ Some code → (taken_peer g (then_peer (limit_of g) g.side b left x)).1 ≡ Some code
+    → (taken_peer g x).1 ≡ Some code → (taken_peer g (then_peer (kinds_of g.announced) (limit_of g) g.side b left x)).1 ≡ Some code
 fault_found g b left (q, Some found) code early keep is = is
 fault_found g b left (q, None) code early keep is = absurd (by_settings g.peer.settings q.settings refl refl)
   where
@@ -321,18 +321,18 @@ fault_found g b left (q, None) code early keep is = absurd (by_settings g.peer.s
 
 pub frames_fault : (g : EndpointHistory) (a b : List ℕ) (code : ℕ) → (g.peer.settings ≡ None → g.decoder_unread ≡ []) → (read_frames g a).1 ≡ Some code → (read_frames g (a ++ b)).1 ≡ Some code
 frames_fault g a b code early is =
-    let x = read_peer (limit_of g) g.side (with_unread g.peer (g.peer.unread ++ a)) in
+    let x = read_peer (kinds_of g.announced) (limit_of g) g.side (with_unread g.peer (g.peer.unread ++ a)) in
     ap (λ z. (taken_peer g z).1) (read_behind g a b)
-    ∙ fault_found g b (left_behind g a b) x code early (λ pairs e. settings_stay (limit_of g) g.side (with_unread g.peer (g.peer.unread ++ a)) pairs e) is
+    ∙ fault_found g b (left_behind g a b) x code early (λ pairs e. settings_stay _ (limit_of g) g.side (with_unread g.peer (g.peer.unread ++ a)) pairs e) is
 
 -- where bytes of the decoder stream wait for the settings too, it is a fault
 any_fault : (g : EndpointHistory) (b left : List ℕ) (x : PeerFound) (code : ℕ) → ((pairs : List (ℕ × ℕ)) → g.peer.settings ≡ Some pairs → x.0.settings ≡ Some pairs)
-    → (taken_peer g x).1 ≡ Some code → (other : ℕ) × ((taken_peer g (then_peer (limit_of g) g.side b left x)).1 ≡ Some other)
+    → (taken_peer g x).1 ≡ Some code → (other : ℕ) × ((taken_peer g (then_peer (kinds_of g.announced) (limit_of g) g.side b left x)).1 ≡ Some other)
 any_fault g b left (q, Some found) code keep is = (code, is)
 any_fault g b left (q, None) code keep is = by_settings g.peer.settings q.settings refl refl
   where
     y : PeerFound
-    y = read_peer (limit_of g) g.side (with_unread q (q.unread ++ b))
+    y = read_peer (kinds_of g.announced) (limit_of g) g.side (with_unread q (q.unread ++ b))
 
     none_found : q.settings ≡ g.peer.settings → (other : ℕ) × ((taken_peer g y).1 ≡ Some other)
     none_found same = let wrong : None ≡ Some code = sym (ap (λ x. x.1) (after_same g (q, None) same)) ∙ is in absurd (cc)
@@ -346,7 +346,7 @@ any_fault g b left (q, None) code keep is = by_settings g.peer.settings q.settin
         h = record g { peer = q }
 
         still : y.0.settings ≡ Some pairs
-        still = settings_stay (limit_of g) g.side (with_unread q (q.unread ++ b)) pairs after
+        still = settings_stay _ (limit_of g) g.side (with_unread q (q.unread ++ b)) pairs after
 
         found : taken_peer g y ≡ then_decoder None (Some pairs) (learned (record g { peer = y.0 }) pairs) y.1
         found = ap (λ o. after_by o g y) before ∙ ap (λ o. then_decoder None o (if_learned None o (record g { peer = y.0 })) y.1) still
@@ -367,7 +367,7 @@ any_fault g b left (q, None) code keep is = by_settings g.peer.settings q.settin
 
 pub frames_faults : (g : EndpointHistory) (a b : List ℕ) (code : ℕ) → (read_frames g a).1 ≡ Some code → (other : ℕ) × ((read_frames g (a ++ b)).1 ≡ Some other)
 frames_faults g a b code is =
-    let found = any_fault g b (left_behind g a b) (read_peer (limit_of g) g.side (with_unread g.peer (g.peer.unread ++ a))) code (λ pairs e. settings_stay (limit_of g) g.side (with_unread g.peer (g.peer.unread ++ a)) pairs e) is in
+    let found = any_fault g b (left_behind g a b) (read_peer (kinds_of g.announced) (limit_of g) g.side (with_unread g.peer (g.peer.unread ++ a))) code (λ pairs e. settings_stay _ (limit_of g) g.side (with_unread g.peer (g.peer.unread ++ a)) pairs e) is in
     (found.0, ap (λ z. (taken_peer g z).1) (read_behind g a b) ∙ found.1)
 
 -- until the settings come, bytes of the control stream change nothing of the decoder stream
@@ -375,7 +375,7 @@ pub frames_quiet : (g : EndpointHistory) (bytes : List ℕ) → (read_frames g b
 frames_quiet g bytes none = by_settings g.peer.settings x.0.settings refl refl
   where
     x : PeerFound
-    x = read_peer (limit_of g) g.side (with_unread g.peer (g.peer.unread ++ bytes))
+    x = read_peer (kinds_of g.announced) (limit_of g) g.side (with_unread g.peer (g.peer.unread ++ bytes))
 
     differ : {A : Type 0} (o : Option A) (y : A) → o ≡ None → o ≡ Some y → ⊥
     differ o y none some = let wrong : None ≡ Some y = sym none ∙ some in cc
@@ -387,7 +387,7 @@ frames_quiet g bytes none = by_settings g.peer.settings x.0.settings refl refl
     by_settings : (o p : Option (List (ℕ × ℕ))) → g.peer.settings ≡ o → x.0.settings ≡ p → (g.peer.settings ≡ None) × ((read_frames g bytes).0.decoder_unread ≡ g.decoder_unread)
     by_settings None None before after = (before, ap (λ z. z.0.decoder_unread) (after_same g x (after ∙ sym before)))
     by_settings (Some pairs) p before after =
-        let still : x.0.settings ≡ Some pairs = settings_stay (limit_of g) g.side (with_unread g.peer (g.peer.unread ++ bytes)) pairs before in
+        let still : x.0.settings ≡ Some pairs = settings_stay _ (limit_of g) g.side (with_unread g.peer (g.peer.unread ++ bytes)) pairs before in
         absurd (differ (read_frames g bytes).0.peer.settings pairs none (ap (λ z. z.0.peer.settings) (after_same g x (still ∙ sym before)) ∙ still))
     by_settings None (Some pairs) before after =
         let h : EndpointHistory = record g { peer = x.0 } in

@@ -115,13 +115,14 @@ arrives_other T id q None e f s i ne h a =
 -- what bytes for a role leave alone, and what they make of the table
 pub record HeardAs (e f : EndpointHistory) (q : ℕ) (heard : Role × List ℕ) : Type 0 where
   pub side : f.side ≡ e.side
+  pub announced : f.announced ≡ e.announced
   pub closed : f.closed ≡ e.closed
   pub incoming : f.incoming ≡ e.incoming
   pub unidirectional : f.unidirectional ≡ e.unidirectional
   pub decoding : f.decoding ≡ hears (limit_of e) e.decoding heard
 
 of_quiet : (e f : EndpointHistory) (q : ℕ) (heard : Role × List ℕ) → hears (limit_of e) e.decoding heard ≡ e.decoding → Quiet e f → HeardAs e f q heard
-of_quiet e f q heard d k = record { side = k.side; closed = k.closed; incoming = k.incoming; unidirectional = k.unidirectional; decoding = k.decoding ∙ sym d }
+of_quiet e f q heard d k = record { side = k.side; announced = k.announced; closed = k.closed; incoming = k.incoming; unidirectional = k.unidirectional; decoding = k.decoding ∙ sym d }
 
 -- a first stream of its role
 first_of_role : (P : EndpointHistory → Type 0) (first : Option ℕ) (id : ℕ) (e : EndpointHistory) (found : Found) → (only_one first id e found).1 ≡ None → P found.0 → P (only_one first id e found).0
@@ -139,7 +140,7 @@ heard_as_role e q Control bytes p =
     (of_quiet e _ q _ refl (quiet_then e f _ (shut e f refl refl refl refl refl refl refl) (quiet_control f bytes)))
 heard_as_role e q Encoder bytes p =
     first_of_role (λ g. HeardAs e g q (Encoder, bytes)) e.encoder_on q e (read_encoder (record e { encoder_on = Some q }) bytes) p
-    (record { side = refl; closed = refl; incoming = refl; unidirectional = refl; decoding = refl })
+    (record { side = refl; announced = refl; closed = refl; incoming = refl; unidirectional = refl; decoding = refl })
 heard_as_role e q Decoder bytes p =
     let f = record e { decoder_on = Some q } in
     first_of_role (λ g. HeardAs e g q (Decoder, bytes)) e.decoder_on q e (read_decoder f bytes) p

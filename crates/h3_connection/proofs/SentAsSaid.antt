@@ -16,11 +16,11 @@ use Rattle.h3_connection.specs.OwnIds.{other}
 use Rattle.h3_connection.specs.Pulling.{is_for}
 use Rattle.h3_connection.specs.Sections.{written_section}
 use Rattle.h3_connection.specs.Refusals.{first_of, is_too_large, unless_going}
-use Rattle.h3_connection.specs.Sending.{appended, asked, body_refusal, content_of_own, counted, does, encoded, fields_cost, finish_refusal, head_part, head_refusal, is_open, known_of, outgoing_at, saying_at, send_body, sent_bytes, trailer_refusal, with_outgoing, sender_at}
+use Rattle.h3_connection.specs.Sending.{appended, asked, body_refusal, content_of_own, counted, does, encoded, fields_cost, finish_refusal, head_part, head_refusal, is_open, known_of, outgoing_at, saying_at, send_body, sent_bytes, trailer_refusal, with_outgoing, sender_at, broken_head_at}
 use Rattle.h3_connection.specs.SentContent.{Begins, HeadsSayTheirContent, PeersExpectAsMuch, Sends, SendsAsMuchAsSaid, SendsContent, Stays, left_to_send}
 use Rattle.h3_connection.specs.StreamSetLaws.{set-here}
 use Rattle.h3_connection.specs.StreamSets.{set_stream, stream_at}
-use Rattle.h3_connection.specs.StrictSending.{broken_head, broken_protocol, broken_trailer, early_trailer, passes_content, unless_malformed}
+use Rattle.h3_connection.specs.StrictSending.{broken_protocol, broken_trailer, early_trailer, passes_content, unless_malformed}
 use Rattle.h3_connection.specs.StrictSendingLaws.{not_closed, not_early, not_malformed, passed, was_allowed}
 use Rattle.h3_connection.specs.declared.event.Malformation.TheVariants as malformation
 use Rattle.h3_connection.specs.declared.event.Refusal.{Refusal}
@@ -137,7 +137,7 @@ takes : (e : EndpointHistory) (id : ℕ) (head : Head) (after : EndpointHistory)
 takes e id head after done =
     let fields = head_fields head in
     let wrong = unless_going (sender_at e id).going (unless_malformed (broken_protocol e.announced head)
-    ((not (is_for (other e.side) head), refusal.WrongSide) ∷ unless_malformed (broken_head e.side e.announced e.peer.settings fields) ((is_too_large e.peer.settings fields, refusal.TooLarge (section_size fields)) ∷ []))) in
+    ((not (is_for (other e.side) head), refusal.WrongSide) ∷ unless_malformed (broken_head_at e id fields) ((is_too_large e.peer.settings fields, refusal.TooLarge (section_size fields)) ∷ []))) in
     let allowed = not_closed e.closed _ (was_allowed (head_refusal e id head) e after done) in
     let there = passed (not (is_open e id)) refusal.NotOpen ((not (takes_head (outgoing_at e id)), refusal.OutOfOrder) ∷ wrong) allowed in
     first_true (sent.is_unended (outgoing_at e id)) (is_unsent (outgoing_at e id).parts) (is_true (takes_head (outgoing_at e id)) (head_test (not (takes_head (outgoing_at e id))) refusal.OutOfOrder wrong there))

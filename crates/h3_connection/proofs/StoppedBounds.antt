@@ -38,7 +38,7 @@ holds_as e id (Ignored, bytes) h = h
 holds : (e : EndpointHistory) (id : ℕ) (bytes : List ℕ) → IsBounded e → IsBounded (held e id bytes)
 holds e id bytes h =
     let o = unidirectional_at e id in
-    let read_as = role_after o.role bytes in
+    let read_as = role_after _ o.role bytes in
     holds_as (with_unidirectional e id (with_bytes o read_as)) id read_as (sets_peer e id (with_bytes o read_as) h)
 
 frames : (e : EndpointHistory) (p : Peer) → IsBounded e → IsBounded (after_frames e p)

@@ -1,8 +1,8 @@
 -- Frames of unknown types at an endpoint: on a request stream, and on the peer's control stream.
-use Rattle.std.proofs.Common.{◌≡◌, ℕ, Bool, false, ◌&&◌, if◌then◌else◌, List, [], ◌++◌, refl, ap, sym, ◌∙◌, Option, Some, None}
+use Rattle.std.proofs.Common.{◌≡◌, ℕ, false, ◌&&◌, if◌then◌else◌, List, [], ◌++◌, refl, ap, sym, ◌∙◌, Option, Some, None}
 use Rattle.std.specs.Prelude.{nat_lt, not}
 use Rattle.std.specs.List.{concat}
-use Rattle.h3_wire.specs.Known.{known}
+use Rattle.h3_wire.specs.Known.{known_by}
 use Rattle.h3_proto.specs.declared.stream.Side.{Side}
 use Rattle.h3_connection.specs.Incoming.{Incoming}
 use Rattle.h3_connection.specs.StreamSets.{stream_at, set_stream}
@@ -24,6 +24,8 @@ use Rattle.h3_connection.specs.UnknownFrames.{BeginsUnknown, MayBeginFrame, Read
 use Rattle.h3_connection.proofs.Seen.{at_same, eq_refl}
 use Rattle.h3_connection.proofs.EndStays.{pull_is}
 use Rattle.h3_connection.proofs.UnknownFrames.{unknown_left_out, pull_unknown}
+use Rattle.h3_wire.specs.declared.frame.kinds.FrameKinds.{FrameKinds}
+use Rattle.h3_connection.specs.StrictConnection.{kinds_of, knows_sessions}
 
 -- what a pull of the stream leaves does not rest on what the stream was
 pulled_anew : (e : EndpointHistory) (id : ℕ) (j : Incoming) (p : Pulled) → pulled (with_incoming e id j) id (within_limit (with_incoming e id j) id p) ≡ pulled e id (within_limit e id p)
@@ -31,7 +33,7 @@ pulled_anew e id j p =
     ap (λ s. pulled (with_incoming e id j) id (if_too_many (nat_lt e.announced.limits.blocked (heads_waiting e.decoding.decoder s)) p)) (set-set e.incoming id j p.incoming)
     ∙ ap (λ s. let q = within_limit e id p in after_answer q.answer (replied (record e { incoming = s }) q.replies)) (set-set e.incoming id j (within_limit e id p).incoming)
 
-pub endpoint_unknown : (e : EndpointHistory) (id : ℕ) (i : Incoming) (rest : List ℕ) → e.closed ≡ None → kind_of e.side id ≡ Request → stream_at e.incoming id ≡ Some i → MayBeginFrame i → BeginsUnknown (concat i.unread) rest
+pub endpoint_unknown : (e : EndpointHistory) (id : ℕ) (i : Incoming) (rest : List ℕ) → e.closed ≡ None → kind_of e.side id ≡ Request → stream_at e.incoming id ≡ Some i → MayBeginFrame i → BeginsUnknown (kinds_of e.announced) (concat i.unread) rest
     → pull e id ≡ pull (with_incoming e id (left_with i rest)) id
 endpoint_unknown e id i rest open_still request here m b =
     let j = left_with i rest in
@@ -40,14 +42,14 @@ endpoint_unknown e id i rest open_still request here m b =
     ∙ sym (pulled_anew e id j (pull_stream e.side e.announced id e.decoding.decoder j))
     ∙ sym (pull_is (with_incoming e id j) id j open_still request (at_same e.incoming id j))
 
-pub peer_unknown : (limit : ℕ) (side : Side) (p : Peer) (rest : List ℕ) → BeginsUnknown p.unread rest → read_peer limit side p ≡ read_peer limit side (with_unread p rest)
-peer_unknown limit side p rest b = peer_known limit side p rest (unknown_left_out p.unread rest b)
+pub peer_unknown : (kinds : FrameKinds) (limit : ℕ) (side : Side) (p : Peer) (rest : List ℕ) → BeginsUnknown kinds p.unread rest → read_peer kinds limit side p ≡ read_peer kinds limit side (with_unread p rest)
+peer_unknown kinds limit side p rest b = peer_known kinds limit side p rest (unknown_left_out kinds p.unread rest b)
 
 -- where frames of unknown types are taken there, and no settings came now, frames are all that is judged
-taken_unknown : (e : EndpointHistory) (bytes : List ℕ) → awaits_settings e ≡ false → read_control e bytes ≡ after_peer (holding e bytes) (read_peer (limit_of e) e.side (with_unread e.peer (e.peer.unread ++ bytes)))
+taken_unknown : (e : EndpointHistory) (bytes : List ℕ) → awaits_settings e ≡ false → read_control e bytes ≡ after_peer (holding e bytes) (read_peer (kinds_of e.announced) (limit_of e) e.side (with_unread e.peer (e.peer.unread ++ bytes)))
 taken_unknown e bytes takes =
     let h = holding e bytes in
-    ap (λ b. if b && begins_other h.peer.unread then (h, Some missing_settings) else after_peer h (read_peer (limit_of h) h.side h.peer)) takes
+    ap (λ b. if b && begins_other h.peer.unread then (h, Some missing_settings) else after_peer h (read_peer (kinds_of h.announced) (limit_of h) h.side h.peer)) takes
 
 -- and what is found does not rest on what was unread
 after_same : (e : EndpointHistory) (a b : List ℕ) (x : PeerFound) → after_peer (holding e a) x ≡ after_peer (holding e b) x
@@ -60,15 +62,15 @@ after_same e a b (p, fault) = by_settings e.peer.settings
         → (if are_refused (holding e a) o p.settings then left a else then_decoder e.peer.settings p.settings (if_learned e.peer.settings p.settings (record e { peer = p })) fault)
         ≡ (if are_refused (holding e b) o p.settings then left b else then_decoder e.peer.settings p.settings (if_learned e.peer.settings p.settings (record e { peer = p })) fault)
     by_settings None = refl
-    by_settings (Some known) = refl
+    by_settings (Some pairs) = refl
 
-control_unknown : (e : EndpointHistory) (bytes rest : List ℕ) → awaits_settings e ≡ false → e.peer.unread ≡ [] → BeginsUnknown bytes rest → read_control e bytes ≡ read_control e rest
+control_unknown : (e : EndpointHistory) (bytes rest : List ℕ) → awaits_settings e ≡ false → e.peer.unread ≡ [] → BeginsUnknown (kinds_of e.announced) bytes rest → read_control e bytes ≡ read_control e rest
 control_unknown e bytes rest takes empty b =
-    let same : known (e.peer.unread ++ bytes) ≡ known (e.peer.unread ++ rest) =
-    ap (λ l. known (l ++ bytes)) empty ∙ unknown_left_out bytes rest b ∙ sym (ap (λ l. known (l ++ rest)) empty) in
+    let same : known_by (kinds_of e.announced) (e.peer.unread ++ bytes) ≡ known_by (kinds_of e.announced) (e.peer.unread ++ rest) =
+    ap (λ l. known_by (kinds_of e.announced) (l ++ bytes)) empty ∙ unknown_left_out (kinds_of e.announced) bytes rest b ∙ sym (ap (λ l. known_by (kinds_of e.announced) (l ++ rest)) empty) in
     taken_unknown e bytes takes
-    ∙ ap (after_peer (holding e bytes)) (peer_known (limit_of e) e.side (with_unread e.peer (e.peer.unread ++ bytes)) (e.peer.unread ++ rest) same)
-    ∙ after_same e bytes rest (read_peer (limit_of e) e.side (with_unread e.peer (e.peer.unread ++ rest)))
+    ∙ ap (after_peer (holding e bytes)) (peer_known (kinds_of e.announced) (limit_of e) e.side (with_unread e.peer (e.peer.unread ++ bytes)) (e.peer.unread ++ rest) same)
+    ∙ after_same e bytes rest (read_peer (kinds_of e.announced) (limit_of e) e.side (with_unread e.peer (e.peer.unread ++ rest)))
     ∙ sym (taken_unknown e rest takes)
 
 -- what a delivery on the control stream does
@@ -80,11 +82,11 @@ delivered_control e id bytes c =
     ap (λ closed. taken closed (delivery_refusal e id) e (bytes_at e id bytes (kind_of e.side id))) c.open_still
     ∙ ap (λ refused. taken None refused e (bytes_at e id bytes (kind_of e.side id))) c.accepted
     ∙ ap (λ k. closed_by (bytes_at e id bytes k)) c.kind
-    ∙ ap (λ role. closed_by (read_unidirectional e id o (role_after role bytes))) c.role
+    ∙ ap (λ role. closed_by (read_unidirectional e id o (role_after (knows_sessions e.announced) role bytes))) c.role
     ∙ ap (λ first. closed_by (only_one first id f (read_control (record f { control_on = Some id }) bytes))) c.first
     ∙ ap (λ same. closed_by (unless_second (not same) f (read_control (record f { control_on = Some id }) bytes))) (eq_refl id)
 
-pub deliver_unknown : (e : EndpointHistory) (id : ℕ) (bytes rest : List ℕ) → ReadsControl e id → e.peer.unread ≡ [] → BeginsUnknown bytes rest → deliver e id bytes ≡ deliver e id rest
+pub deliver_unknown : (e : EndpointHistory) (id : ℕ) (bytes rest : List ℕ) → ReadsControl e id → e.peer.unread ≡ [] → BeginsUnknown (kinds_of e.announced) bytes rest → deliver e id bytes ≡ deliver e id rest
 deliver_unknown e id bytes rest c empty b =
     let f = record (with_unidirectional e id (record (unidirectional_at e id) { role = Control })) { control_on = Some id } in
     delivered_control e id bytes c ∙ ap closed_by (control_unknown f bytes rest c.takes_unknown empty b) ∙ sym (delivered_control e id rest c)
@@ -101,8 +103,8 @@ judged_before (Some pairs) e x y = refl
 nothing_read : (e : EndpointHistory) → awaits_settings e ≡ false → e.peer.unread ≡ [] → read_control e [] ≡ (e, None)
 nothing_read e takes empty =
     taken_unknown e [] takes
-    ∙ ap (λ l. after_peer (holding e []) (read_peer (limit_of e) e.side (with_unread e.peer (l ++ [])))) empty
-    ∙ ap (after_peer (holding e [])) (nothing_read_on (limit_of e) e.side e.peer)
+    ∙ ap (λ l. after_peer (holding e []) (read_peer (kinds_of e.announced) (limit_of e) e.side (with_unread e.peer (l ++ [])))) empty
+    ∙ ap (after_peer (holding e [])) (nothing_read_on _ (limit_of e) e.side e.peer)
     ∙ judged_before e.peer.settings (holding e []) _ _
     ∙ nothing_learned e.peer.settings (record e { peer = with_unread e.peer [] })
     ∙ ap (λ l. (record e { peer = with_unread e.peer l }, None)) (sym empty)

@@ -12,7 +12,7 @@ use Rattle.h3_messages.specs.declared.violation.Violation.{Violation}
 use Rattle.h3_proto.specs.declared.stream.Side.{Side}
 use Rattle.h3_proto.specs.declared.stream.Side.TheVariants.{Client, Server}
 use Rattle.h3_wire.specs.ExcessiveFrames.{begins_section, is_excessive}
-use Rattle.h3_wire.specs.Frames.{Front, Whole, Unknown, Refused, Unfinished, frame_at}
+use Rattle.h3_wire.specs.Frames.{Front, Whole, Unknown, Refused, Unfinished, frame_by}
 use Rattle.h3_wire.specs.Pieces.{chunk_of, first_of, ending}
 use Rattle.h3_wire.specs.declared.proto.frame.PayloadLen.{PayloadLen}
 use Rattle.h3_wire.specs.declared.proto.frame.Frame.{Frame}
@@ -35,7 +35,7 @@ use Rattle.h3_connection.specs.declared.event.Fault.TheVariants as fault
 use Rattle.h3_connection.specs.declared.event.Item.TheVariants as item
 use Rattle.h3_connection.specs.declared.place.Place.{Place}
 use Rattle.h3_connection.specs.declared.place.Place.TheVariants.{BeforeHead, InBody, AfterTrailer, InSession}
-use Rattle.h3_connection.specs.StrictConnection.{is_no_session}
+use Rattle.h3_connection.specs.StrictConnection.{kinds_of, is_no_session}
 
 -- a list breaks no rule where the malformation of its violation is none
 no_violation : (v : Option Violation) → option_map malformation_by v ≡ None → v ≡ None
@@ -152,7 +152,7 @@ module _ (side : Side) (own : Announced) (strict : own.choices.strict_messages �
 
   next_well : (i : Incoming) (bytes : List ℕ) → Well (next_frame side own id r i bytes)
   next_well i [] = either i.ended (at_end side own id r i i.place) (just pull.Pending i) (end_well i i.place) tt
-  next_well i (byte ∷ bytes) = framed_well i (frame_at (byte ∷ bytes))
+  next_well i (byte ∷ bytes) = framed_well i (frame_by (kinds_of own) (byte ∷ bytes))
 
   excess_well : (i : Incoming) (bytes : List ℕ) → Well (excess id i bytes)
   excess_well i bytes = either (begins_section bytes) (malformed id malformation.TooLong i []) (connection_fault 0x107 (record i { unread = [] })) tt tt
@@ -160,7 +160,7 @@ module _ (side : Side) (own : Announced) (strict : own.choices.strict_messages �
   message_well : (i : Incoming) (section : Option (List ℕ)) → Well (in_message side own id r i section)
   message_well i (Some bytes) = at_well i bytes
   message_well i None =
-      let bytes = skipped (is_body i.place) (concat i.unread) in
+      let bytes = skipped (kinds_of own) (is_body i.place) (concat i.unread) in
       let j = record i { unread = ending (length bytes) i.unread } in
       either (nat_lt 0 i.body_left) (at_payload id i) (between_frames side own id r i) (content_well i)
       (either (is_excessive own.choices.unfinished_limit bytes) (excess id i bytes) (next_frame side own id r j bytes) (excess_well i bytes) (next_well j bytes))

@@ -8,17 +8,18 @@ use Rattle.h3_connection.specs.OwnIds.{other}
 use Rattle.h3_connection.specs.Pulling.{is_for}
 use Rattle.h3_connection.specs.Sections.{written_section}
 use Rattle.h3_connection.specs.Refusals.{is_too_large, unless_going}
-use Rattle.h3_connection.specs.Sending.{appended, asked, counted, encoded, fields_cost, head_part, head_refusal, is_open, outgoing_at, trailer_refusal, sender_at}
-use Rattle.h3_connection.specs.StrictSending.{broken_head, broken_protocol, broken_trailer, early_trailer, unless_malformed}
+use Rattle.h3_connection.specs.Sending.{appended, asked, counted, encoded, fields_cost, head_part, head_refusal, is_open, outgoing_at, trailer_refusal, sender_at, broken_head_at, known_of}
+use Rattle.h3_connection.specs.StrictSending.{broken_protocol, broken_trailer, early_trailer, unless_malformed}
 use Rattle.h3_connection.specs.StrictSends.{SendsWellFormedHeads, SendsWellFormedTrailers}
 use Rattle.h3_connection.specs.StrictSendingLaws.{head_taken, trailer_taken, not_closed, passed, not_early, not_malformed, was_allowed, not_going}
 use Rattle.h3_connection.specs.declared.event.Refusal.TheVariants as refusal
+use Rattle.h3_connection.specs.StreamSets.{stream_at}
 
 pub sends_well_formed_heads : SendsWellFormedHeads
 sends_well_formed_heads e peer id head strict sent =
     let fields = head_fields head in
     let protocol = broken_protocol e.announced head in
-    let broken = broken_head e.side e.announced e.peer.settings fields in
+    let broken = broken_head_at e id fields in
     let size = (is_too_large e.peer.settings fields, refusal.TooLarge (section_size fields)) ∷ [] in
     let wrong = (not (is_for (other e.side) head), refusal.WrongSide) ∷ unless_malformed broken size in
     let after = asked (counted (appended (encoded e id fields) id (head_part head (written_section e.encoder id fields))) (fields_cost fields)) id fields in
@@ -26,7 +27,7 @@ sends_well_formed_heads e peer id head strict sent =
     let going = (sender_at e id).going in
     let there = passed (not (is_open e id)) refusal.NotOpen ((not (takes_head (outgoing_at e id)), refusal.OutOfOrder) ∷ unless_going going (unless_malformed protocol wrong)) allowed in
     let placed = not_early protocol wrong (not_going going (unless_malformed protocol wrong) (passed (not (takes_head (outgoing_at e id))) refusal.OutOfOrder (unless_going going (unless_malformed protocol wrong)) there)) in
-    head_taken e.side e.announced peer e.peer.settings fields strict.strict strict.knows
+    head_taken e.side e.announced peer e.peer.settings (known_of (stream_at e.incoming id)) fields strict.strict strict.knows
     (not_malformed broken size (passed (not (is_for (other e.side) head)) refusal.WrongSide (unless_malformed broken size) placed))
 
 pub sends_well_formed_trailers : SendsWellFormedTrailers

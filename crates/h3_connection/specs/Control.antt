@@ -12,7 +12,7 @@ use Rattle.h3_connection.specs.Codes.{decoder_stream_error, encoder_stream_error
 use Rattle.h3_connection.specs.ExcessiveInstructions.{listen_up_to}
 use Rattle.h3_connection.specs.Listeners.{heard_more, hearing_fault, listening_fault, after_hearing, insertions_heard}
 use Rattle.h3_connection.specs.PeerReading.{Peer, PeerFound, with_unread, read_peer}
-use Rattle.h3_connection.specs.StrictConnection.{is_strict, settings_refused, stream_fault}
+use Rattle.h3_connection.specs.StrictConnection.{kinds_of, is_strict, settings_refused, stream_fault}
 use Rattle.h3_connection.specs.Endpoint.{EndpointHistory, limit_of, replied}
 
 abbrev pub Found : Type 0
@@ -102,7 +102,7 @@ unless_missing e found = if lacks_settings e then (e, Some missing_settings) els
 
 -- what came of the peer's control stream is read
 abbrev pub read_held : EndpointHistory → Found
-read_held e = unless_missing e (after_peer e (read_peer (limit_of e) e.side e.peer))
+read_held e = unless_missing e (after_peer e (read_peer (kinds_of e.announced) (limit_of e) e.side e.peer))
 
 abbrev pub holding : EndpointHistory → List ℕ → EndpointHistory
 holding e bytes = record e { peer = with_unread e.peer (e.peer.unread ++ bytes) }

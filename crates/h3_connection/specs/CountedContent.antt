@@ -9,7 +9,7 @@ use Rattle.h3_qpack.specs.DecoderState.{DecoderState}
 use Rattle.h3_connection.specs.Delivering.{kept, with_end}
 use Rattle.h3_connection.specs.Incoming.{Incoming}
 use Rattle.h3_connection.specs.Pulling.{pull_stream}
-use Rattle.h3_connection.specs.StrictMessages.{content_of_head, response_of_head}
+use Rattle.h3_connection.specs.StrictMessages.{response_of_head, content_read}
 use Rattle.h3_connection.specs.declared.event.Item.TheVariants as item
 use Rattle.h3_connection.specs.declared.event.Pull.{Pull}
 use Rattle.h3_connection.specs.declared.event.Pull.TheVariants as pull
@@ -51,7 +51,7 @@ CountsContent =
 -- response may have.
 abbrev pub HasItsContent : Side → Announced → Content → Option Content → Pull → Incoming → Type 0
 HasItsContent side own awaited known (pull.Item (item.Head h)) i =
-    (fields : List Field) × (head_by own.choices.extensions.any_protocol fields ≡ IsHead h) × (i.content ≡ content_of_head side awaited fields) × (i.place ≡ InBody) × (i.response ≡ response_of_head side known fields)
+    (fields : List Field) × (head_by own.choices.extensions.any_protocol fields ≡ IsHead h) × (i.content ≡ content_read side awaited fields) × (i.place ≡ InBody) × (i.response ≡ response_of_head side known fields)
 HasItsContent side own awaited known _ i = Unit {0}
 
 abbrev pub HeadsHaveTheirContent : Type 0

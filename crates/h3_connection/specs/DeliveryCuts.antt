@@ -5,6 +5,7 @@ use Rattle.h3_connection.specs.declared.event.Refusal.{Refusal}
 use Rattle.h3_connection.specs.Control.{increment}
 use Rattle.h3_connection.specs.Delivering.{deliver, unidirectional_at}
 use Rattle.h3_connection.specs.Endpoint.{EndpointHistory}
+use Rattle.h3_connection.specs.StrictConnection.{knows_sessions}
 use Rattle.h3_connection.specs.Unidirectional.{Role, role_after}
 use Rattle.h3_connection.specs.Unidirectional.Role.{Encoder, Session}
 
@@ -35,7 +36,7 @@ LeftAs _ before one two = one ≡ two
 
 -- what these bytes make of the stream's role
 abbrev pub role_with : EndpointHistory → ℕ → List ℕ → Role
-role_with e id bytes = (role_after (unidirectional_at e id).role bytes).0
+role_with e id bytes = (role_after (knows_sessions e.announced) (unidirectional_at e id).role bytes).0
 
 -- no session: what comes of one waits in pieces to be pulled
 abbrev pub IsNoSession : Role → Type 0

@@ -9,7 +9,7 @@ use Rattle.h3_proto.specs.declared.config.Choices.{Choices}
 use Rattle.h3_table.specs.Cancellations.{none_canceled}
 use Rattle.h3_qpack.specs.EncoderHistory.{EncoderHistory, no_table}
 use Rattle.h3_qpack.specs.declared.encoder_choices.EncoderChoices.{EncoderChoices}
-use Rattle.h3_qpack.specs.DecoderState.{DecoderState, announcing}
+use Rattle.h3_qpack.specs.DecoderState.{DecoderState, announcing, checking}
 use Rattle.h3_connection.specs.declared.setup.Announced.{Announced}
 use Rattle.h3_connection.specs.OwnIds.{other, control_id, encoder_id, decoder_id, is_own}
 use Rattle.h3_proto.specs.declared.stream.Side.{Side}
@@ -18,6 +18,7 @@ use Rattle.h3_connection.specs.Arrivals.{Arrival}
 use Rattle.h3_connection.specs.Incoming.{Incoming}
 use Rattle.h3_connection.specs.PeerReading.{Peer, nothing_read}
 use Rattle.h3_connection.specs.Listeners.{Decoding}
+use Rattle.h3_connection.specs.StrictConnection.{is_strict}
 use Rattle.h3_connection.specs.Outgoing.{Outgoing, part_bytes_waiting}
 use Rattle.h3_connection.specs.Unidirectional.{Unidirectional}
 
@@ -83,6 +84,10 @@ chosen_encoder choices =
 abbrev pub first_encoder : Announced → EncoderHistory
 first_encoder announced = chosen_encoder announced.choices
 
+-- its decoder: a strict endpoint's holds the peer's sections to their required insert counts (RFC 9204, section 2.2.3)
+abbrev pub first_decoder : Announced → DecoderState
+first_decoder announced = checking (is_strict announced) (announcing announced.limits.table)
+
 abbrev pub new_endpoint : Side → Announced → EndpointHistory
 new_endpoint side announced =
     record {
@@ -97,7 +102,7 @@ new_endpoint side announced =
       encoder_on = None;
       decoder_on = None;
       peer = nothing_read;
-      decoding = record { decoder = announcing announced.limits.table; unread = [] };
+      decoding = record { decoder = first_decoder announced; unread = [] };
       encoder = first_encoder announced;
       decoder_unread = [];
       own = record { goaways = []; control_taken = 0; instructions = []; encoder_taken = 0; replies = []; decoder_taken = 0 };

@@ -2,18 +2,19 @@
 use Rattle.std.specs.Prelude.{◌≡◌, ℕ, false, List, Some, None}
 use Rattle.h3_coding.specs.Varint.{varint_at}
 use Rattle.h3_proto.specs.declared.stream.Side.{Side}
+use Rattle.h3_wire.specs.declared.frame.kinds.FrameKinds.{FrameKinds}
 use Rattle.h3_wire.specs.ExcessiveFrames.{is_excessive}
 use Rattle.h3_wire.specs.FirstFrames.{begins_other}
-use Rattle.h3_wire.specs.Frames.{Front, Whole, Refused, Unfinished, frame_at}
+use Rattle.h3_wire.specs.Frames.{Front, Whole, Refused, Unfinished, frame_by}
 use Rattle.h3_wire.specs.declared.proto.frame.Frame.TheVariants as frame
 use Rattle.h3_wire.specs.declared.proto.frame.FrameError.{FrameError}
 use Rattle.h3_connection.specs.PeerReading.{Peer, read_peer}
 
 -- No frame's head is whole: nothing is known of it.
-pub record NoHead (bytes : List ℕ) : Type 0 where
+pub record NoHead (kinds : FrameKinds) (bytes : List ℕ) : Type 0 where
   pub other : begins_other bytes ≡ false
   pub least : ℕ
-  pub waits : frame_at bytes ≡ Unfinished least
+  pub waits : frame_by kinds bytes ≡ Unfinished least
   pub small : (limit : ℕ) → is_excessive limit bytes ≡ false
 
 -- it is: its type and its length are there
@@ -32,7 +33,7 @@ pub data SettingsFront (x : Front) : Type 0 where
   Bad : (e : FrameError) → x ≡ Refused e → SettingsFront x
 
 -- What is read where the settings are due, and the bytes do not begin with another frame: nothing; or the settings first; or there is a fault without them.
-pub data FirstRead (limit : ℕ) (side : Side) (p : Peer) : Type 0 where
-  Nothing : read_peer limit side p ≡ (p, None) → FirstRead limit side p
-  Settings : HasHead p.unread → (pairs : List (ℕ × ℕ)) → (read_peer limit side p).0.settings ≡ Some pairs → FirstRead limit side p
-  Fails : HasHead p.unread → (code : ℕ) → (read_peer limit side p).1 ≡ Some code → (read_peer limit side p).0.settings ≡ None → FirstRead limit side p
+pub data FirstRead (kinds : FrameKinds) (limit : ℕ) (side : Side) (p : Peer) : Type 0 where
+  Nothing : read_peer kinds limit side p ≡ (p, None) → FirstRead kinds limit side p
+  Settings : HasHead p.unread → (pairs : List (ℕ × ℕ)) → (read_peer kinds limit side p).0.settings ≡ Some pairs → FirstRead kinds limit side p
+  Fails : HasHead p.unread → (code : ℕ) → (read_peer kinds limit side p).1 ≡ Some code → (read_peer kinds limit side p).0.settings ≡ None → FirstRead kinds limit side p

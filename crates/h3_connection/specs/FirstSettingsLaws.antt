@@ -11,35 +11,36 @@ use Rattle.h3_proto.specs.declared.stream.Side.{Side}
 use Rattle.h3_wire.specs.ExcessiveFrames.{is_excessive, is_too_long, says_too_much}
 use Rattle.h3_wire.specs.FirstFrames.{begins_other, is_other}
 use Rattle.h3_wire.specs.FrameLaws.{at_head, at_no_kind, at_no_number}
-use Rattle.h3_wire.specs.Frames.{Whole, Refused, Unfinished, frame_at, frame_of, settings_frame, with_head}
+use Rattle.h3_wire.specs.Frames.{Whole, Refused, Unfinished, frame_by, frame_of, settings_frame, with_head, plain_frames}
 use Rattle.h3_wire.specs.Fronts.{IsKnown}
-use Rattle.h3_wire.specs.Known.{known}
+use Rattle.h3_wire.specs.Known.{known_by}
 use Rattle.h3_wire.specs.KnownLaws.{known-other}
 use Rattle.h3_wire.specs.declared.proto.frame.FrameError.{FrameError}
 use Rattle.h3_wire.specs.declared.proto.frame.Frame.TheVariants as frame
 use Rattle.h3_connection.specs.FirstSettings.{FirstRead, Fails, HasHead, NoHead, Nothing, Settings, SettingsFront, Bad, Came, Waits}
 use Rattle.h3_connection.specs.PeerReading.{Peer, PeerFound, with_unread, read_frame, refused_code, unless_fault, at_front, read_peer}
 use Rattle.h3_connection.specs.PeerReadingLaws.{settings_stay, step_excessive, step_within}
+use Rattle.h3_wire.specs.declared.frame.kinds.FrameKinds.{FrameKinds}
 
-no_number : (bytes : List ℕ) (kind : ℕ) (mid : List ℕ) → varint_at bytes ≡ Some (kind, mid) → varint_at mid ≡ None → NoHead bytes
-no_number bytes kind mid is none =
+no_number : (kinds : FrameKinds) (bytes : List ℕ) (kind : ℕ) (mid : List ℕ) → varint_at bytes ≡ Some (kind, mid) → varint_at mid ≡ None → NoHead kinds bytes
+no_number kinds bytes kind mid is none =
     record {
       other = ap is_other is ∙ ap (λ o. not (kind == 4) && is_some o) none ∙ and_right (not (kind == 4)) false refl;
       least = length bytes + 1;
-      waits = at_no_number kind bytes mid is none;
+      waits = at_no_number kinds kind bytes mid is none;
       small = λ limit. and_right (is_limit limit) (says_too_much limit (varint_at bytes)) (ap (says_too_much limit) is ∙ ap (is_too_long limit kind) none);
     }
 
-pub cases_head : (bytes : List ℕ) → NoHead bytes ⊎ HasHead bytes
-cases_head bytes = elim (cases_number bytes) [
+pub cases_head : (kinds : FrameKinds) (bytes : List ℕ) → NoHead kinds bytes ⊎ HasHead bytes
+cases_head kinds bytes = elim (cases_number bytes) [
   | inl none ↦ inl (record {
     other = ap is_other none;
     least = length bytes + 1;
-    waits = at_no_kind bytes none;
+    waits = at_no_kind kinds bytes none;
     small = λ limit. and_right (is_limit limit) (says_too_much limit (varint_at bytes)) (ap (says_too_much limit) none);
   })
   | inr k ↦ elim (cases_number k.1) [
-    | inl none ↦ inl (no_number bytes k.0 k.1 k.2 none)
+    | inl none ↦ inl (no_number kinds bytes k.0 k.1 k.2 none)
     | inr n ↦ inr (record { kind = k.0; number = n.0; mid = k.1; behind = n.1; kind_at = k.2; number_at = n.2 })
   ]
 ]
@@ -65,7 +66,7 @@ head_stays bytes more h =
     ∙ sym (head_tells bytes h)
 
 pub other_stays : (bytes more : List ℕ) → begins_other bytes ≡ true → begins_other (bytes ++ more) ≡ true
-other_stays bytes more is = elim (cases_head bytes) [
+other_stays bytes more is = elim (cases_head plain_frames bytes) [
   | inl none ↦ let wrong : true ≡ false = sym is ∙ none.other in absurd (cc)
   | inr h ↦ head_stays bytes more h ∙ is
 ]
@@ -86,55 +87,55 @@ not_false : (b : Bool) → not b ≡ false → b ≡ true
 not_false true e = refl
 not_false false e = absurd (cc)
 
-settings_front : (bytes : List ℕ) → HasHead bytes → begins_other bytes ≡ false → SettingsFront (frame_at bytes)
-settings_front bytes h is =
+settings_front : (kinds : FrameKinds) (bytes : List ℕ) → HasHead bytes → begins_other bytes ≡ false → SettingsFront (frame_by kinds bytes)
+settings_front kinds bytes h is =
     let four : h.kind ≡ 4 = eqb-true h.kind 4 (not_false (h.kind == 4) (sym (head_tells bytes h) ∙ is)) in
-    subst SettingsFront (sym (at_head h.kind h.number bytes h.mid h.behind h.kind_at h.number_at ∙ ap (λ k. with_head (length bytes) k h.number h.behind) four))
+    subst SettingsFront (sym (at_head kinds h.kind h.number bytes h.mid h.behind h.kind_at h.number_at ∙ ap (λ k. with_head kinds (length bytes) k h.number h.behind) four))
     (by_length (nat_lt (length h.behind) h.number) _ (take h.number h.behind) (drop h.number h.behind))
 
-known_front : (bytes : List ℕ) → SettingsFront (frame_at bytes) → known bytes ≡ bytes
-known_front bytes (Waits least is) = known-other bytes (subst IsKnown (sym is) tt)
-known_front bytes (Came pairs rest is) = known-other bytes (subst IsKnown (sym is) tt)
-known_front bytes (Bad e is) = known-other bytes (subst IsKnown (sym is) tt)
+known_front : (kinds : FrameKinds) (bytes : List ℕ) → SettingsFront (frame_by kinds bytes) → known_by kinds bytes ≡ bytes
+known_front kinds bytes (Waits least is) = known-other kinds bytes (subst IsKnown (sym is) tt)
+known_front kinds bytes (Came pairs rest is) = known-other kinds bytes (subst IsKnown (sym is) tt)
+known_front kinds bytes (Bad e is) = known-other kinds bytes (subst IsKnown (sym is) tt)
 
-waiting : (limit : ℕ) (side : Side) (p : Peer) (least : ℕ) → known p.unread ≡ p.unread → frame_at p.unread ≡ Unfinished least → is_excessive limit p.unread ≡ false → read_peer limit side p ≡ (p, None)
-waiting limit side p least same waits small =
-    step_within limit side p (ap (is_excessive limit) same ∙ small) ∙ ap (λ l. at_front (read_peer limit side) side p l (frame_at l)) same ∙ ap (at_front (read_peer limit side) side p p.unread) waits
+waiting : (kinds : FrameKinds) (limit : ℕ) (side : Side) (p : Peer) (least : ℕ) → known_by kinds p.unread ≡ p.unread → frame_by kinds p.unread ≡ Unfinished least → is_excessive limit p.unread ≡ false → read_peer kinds limit side p ≡ (p, None)
+waiting kinds limit side p least same waits small =
+    step_within kinds limit side p (ap (is_excessive limit) same ∙ small) ∙ ap (λ l. at_front (read_peer kinds limit side) side p l (frame_by kinds l)) same ∙ ap (at_front (read_peer kinds limit side) side p p.unread) waits
 
-reads_settings : (limit : ℕ) (side : Side) (p : Peer) (pairs : List (ℕ × ℕ)) (rest : List ℕ) → p.settings ≡ None → known p.unread ≡ p.unread → frame_at p.unread ≡ Whole (frame.Settings pairs) rest
-    → is_excessive limit p.unread ≡ false → (read_peer limit side p).0.settings ≡ Some pairs
-reads_settings limit side p pairs rest none same whole small =
-    let there : read_peer limit side p ≡ read_peer limit side (record p { unread = rest; settings = Some pairs }) =
-    step_within limit side p (ap (is_excessive limit) same ∙ small) ∙ ap (λ l. at_front (read_peer limit side) side p l (frame_at l)) same ∙ ap (at_front (read_peer limit side) side p p.unread) whole
-    ∙ ap (λ o. unless_fault (read_frame side (with_unread p rest) o (frame.Settings pairs)) (read_peer limit side)) none in
-    ap (λ (x : PeerFound). x.0.settings) there ∙ settings_stay limit side (record p { unread = rest; settings = Some pairs }) pairs refl
+reads_settings : (kinds : FrameKinds) (limit : ℕ) (side : Side) (p : Peer) (pairs : List (ℕ × ℕ)) (rest : List ℕ) → p.settings ≡ None → known_by kinds p.unread ≡ p.unread → frame_by kinds p.unread ≡ Whole (frame.Settings pairs) rest
+    → is_excessive limit p.unread ≡ false → (read_peer kinds limit side p).0.settings ≡ Some pairs
+reads_settings kinds limit side p pairs rest none same whole small =
+    let there : read_peer kinds limit side p ≡ read_peer kinds limit side (record p { unread = rest; settings = Some pairs }) =
+    step_within kinds limit side p (ap (is_excessive limit) same ∙ small) ∙ ap (λ l. at_front (read_peer kinds limit side) side p l (frame_by kinds l)) same ∙ ap (at_front (read_peer kinds limit side) side p p.unread) whole
+    ∙ ap (λ o. unless_fault (read_frame side (with_unread p rest) o (frame.Settings pairs)) (read_peer kinds limit side)) none in
+    ap (λ (x : PeerFound). x.0.settings) there ∙ settings_stay kinds limit side (record p { unread = rest; settings = Some pairs }) pairs refl
 
-refused : (limit : ℕ) (side : Side) (p : Peer) (e : FrameError) → known p.unread ≡ p.unread → frame_at p.unread ≡ Refused e → is_excessive limit p.unread ≡ false
-    → read_peer limit side p ≡ (p, Some (refused_code p.settings e))
-refused limit side p e same is small =
-    step_within limit side p (ap (is_excessive limit) same ∙ small) ∙ ap (λ l. at_front (read_peer limit side) side p l (frame_at l)) same ∙ ap (at_front (read_peer limit side) side p p.unread) is
+refused : (kinds : FrameKinds) (limit : ℕ) (side : Side) (p : Peer) (e : FrameError) → known_by kinds p.unread ≡ p.unread → frame_by kinds p.unread ≡ Refused e → is_excessive limit p.unread ≡ false
+    → read_peer kinds limit side p ≡ (p, Some (refused_code p.settings e))
+refused kinds limit side p e same is small =
+    step_within kinds limit side p (ap (is_excessive limit) same ∙ small) ∙ ap (λ l. at_front (read_peer kinds limit side) side p l (frame_by kinds l)) same ∙ ap (at_front (read_peer kinds limit side) side p p.unread) is
 
-pub what_first : (limit : ℕ) (side : Side) (p : Peer) → p.settings ≡ None → begins_other p.unread ≡ false → FirstRead limit side p
-what_first limit side p none first = elim (cases_head p.unread) [
-  | inl h ↦ Nothing (waiting limit side p h.least (known-other p.unread (subst IsKnown (sym h.waits) tt)) h.waits (h.small limit))
-  | inr h ↦ by_length_said h (settings_front p.unread h first) (is_excessive limit p.unread) refl
+pub what_first : (kinds : FrameKinds) (limit : ℕ) (side : Side) (p : Peer) → p.settings ≡ None → begins_other p.unread ≡ false → FirstRead kinds limit side p
+what_first kinds limit side p none first = elim (cases_head kinds p.unread) [
+  | inl h ↦ Nothing (waiting kinds limit side p h.least (known-other kinds p.unread (subst IsKnown (sym h.waits) tt)) h.waits (h.small limit))
+  | inr h ↦ by_length_said h (settings_front kinds p.unread h first) (is_excessive limit p.unread) refl
 ]
   where
-    by_length_said : HasHead p.unread → SettingsFront (frame_at p.unread) → (large : Bool) → is_excessive limit p.unread ≡ large → FirstRead limit side p
+    by_length_said : HasHead p.unread → SettingsFront (frame_by kinds p.unread) → (large : Bool) → is_excessive limit p.unread ≡ large → FirstRead kinds limit side p
     by_length_said h x true large =
-        let is = step_excessive limit side p (ap (is_excessive limit) (known_front p.unread x) ∙ large) in
+        let is = step_excessive kinds limit side p (ap (is_excessive limit) (known_front kinds p.unread x) ∙ large) in
         Fails h _ (ap (λ (y : PeerFound). y.1) is) (ap (λ (y : PeerFound). y.0.settings) is ∙ none)
-    by_length_said h (Waits least is) false small = Nothing (waiting limit side p least (known_front p.unread (Waits least is)) is small)
-    by_length_said h (Came pairs rest is) false small = Settings h pairs (reads_settings limit side p pairs rest none (known_front p.unread (Came pairs rest is)) is small)
+    by_length_said h (Waits least is) false small = Nothing (waiting kinds limit side p least (known_front kinds p.unread (Waits least is)) is small)
+    by_length_said h (Came pairs rest is) false small = Settings h pairs (reads_settings kinds limit side p pairs rest none (known_front kinds p.unread (Came pairs rest is)) is small)
     by_length_said h (Bad e is) false small =
-        let found = refused limit side p e (known_front p.unread (Bad e is)) is small in
+        let found = refused kinds limit side p e (known_front kinds p.unread (Bad e is)) is small in
         Fails h _ (ap (λ (y : PeerFound). y.1) found) (ap (λ (y : PeerFound). y.0.settings) found ∙ none)
 
 -- Where no settings came from what did not begin with another frame, the same stands there still.
-pub first_still : (limit : ℕ) (side : Side) (p q : Peer) → p.settings ≡ None → begins_other p.unread ≡ false → read_peer limit side p ≡ (q, None) → q.settings ≡ None → q ≡ p
-first_still limit side p q none first read unknown = by_first (what_first limit side p none first)
+pub first_still : (kinds : FrameKinds) (limit : ℕ) (side : Side) (p q : Peer) → p.settings ≡ None → begins_other p.unread ≡ false → read_peer kinds limit side p ≡ (q, None) → q.settings ≡ None → q ≡ p
+first_still kinds limit side p q none first read unknown = by_first (what_first kinds limit side p none first)
   where
-    by_first : FirstRead limit side p → q ≡ p
+    by_first : FirstRead kinds limit side p → q ≡ p
     by_first (Nothing is) = ap (λ (x : PeerFound). x.0) (sym read ∙ is)
     by_first (Settings h pairs came) = let wrong : Some pairs ≡ None = sym came ∙ ap (λ (x : PeerFound). x.0.settings) read ∙ unknown in absurd (cc)
     by_first (Fails h code fault lacks) = let wrong : Some code ≡ None = sym fault ∙ ap (λ (x : PeerFound). x.1) read in absurd (cc)

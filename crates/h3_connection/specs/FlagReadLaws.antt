@@ -15,12 +15,13 @@ use Rattle.h3_connection.specs.Announcing.{connects, section_of}
 use Rattle.h3_connection.specs.FlagLaws.{sizes_alike}
 use Rattle.h3_connection.specs.Incoming.{Incoming}
 use Rattle.h3_connection.specs.Pulling.{is_interim_text, next_place, judged, read_section}
-use Rattle.h3_connection.specs.StrictMessages.{malformation_by, violation_of_head, violation_at, content_of_head, content_behind, response_of_head, response_behind, content_behind_large, if_whole}
+use Rattle.h3_connection.specs.StrictMessages.{malformation_by, violation_of_head, violation_at, content_behind, response_of_head, response_behind, content_behind_large, if_whole, content_read}
 use Rattle.h3_connection.specs.declared.event.Item.TheVariants as item
 use Rattle.h3_connection.specs.declared.event.Pull.TheVariants as pull
 use Rattle.h3_connection.specs.declared.place.Place.{Place}
 use Rattle.h3_connection.specs.declared.place.Place.TheVariants.{BeforeHead, InBody, AfterTrailer, InSession}
 use Rattle.h3_connection.specs.declared.setup.Announced.{Announced}
+use Rattle.h3_messages.specs.Content.{until_answered}
 
 module _ (flag : Field → Bool) where
   told_alike : (fields : List Field) → told_size (with_flags flag fields) ≡ told_size fields
@@ -53,12 +54,12 @@ module _ (flag : Field → Bool) where
   broken_alike side own AfterTrailer fields = trailers_alike flag fields
   broken_alike side own InSession fields = trailers_alike flag fields
 
-  contents_of_head_alike : (side : Side) (before : Content) (fields : List Field) → content_of_head side before (with_flags flag fields) ≡ content_of_head side before fields
-  contents_of_head_alike Client before fields = response_content_alike flag before fields
-  contents_of_head_alike Server before fields = request_content_alike flag fields
+  contents_read_alike : (side : Side) (before : Content) (fields : List Field) → content_read side before (with_flags flag fields) ≡ content_read side before fields
+  contents_read_alike Client before fields = response_content_alike flag before fields
+  contents_read_alike Server before fields = ap until_answered (request_content_alike flag fields)
 
   contents_alike : (side : Side) (place : Place) (before : Content) (fields : List Field) → content_behind side place before (with_flags flag fields) ≡ content_behind side place before fields
-  contents_alike side BeforeHead before fields = contents_of_head_alike side before fields
+  contents_alike side BeforeHead before fields = contents_read_alike side before fields
   contents_alike side InBody before fields = refl
   contents_alike side AfterTrailer before fields = refl
   contents_alike side InSession before fields = refl

@@ -6,6 +6,10 @@ use Rattle.h3_connection.specs.declared.event.StreamFault.{StreamFault}
 use Rattle.h3_connection.specs.declared.place.Place.{Place}
 use Rattle.h3_connection.specs.declared.place.Place.TheVariants.{BeforeHead, InBody}
 use Rattle.h3_wire.specs.Pieces.{IsRest}
+use Rattle.h3_field.specs.Field.{Field}
+use Rattle.h3_messages.specs.Content.{answered_by, awaited_by}
+use Rattle.h3_proto.specs.declared.stream.Side.{Side}
+use Rattle.h3_proto.specs.declared.stream.Side.TheVariants.{Client, Server}
 
 pub record Incoming : Type 0 where
   -- the pieces that were delivered and not read
@@ -67,9 +71,22 @@ abbrev pub is_before_head : Place → Bool
 is_before_head BeforeHead = true
 is_before_head _ = false
 
+-- its end was not handed out, and it was not given up
+abbrev pub goes_on : Incoming → Bool
+goes_on i = not (i.is_over || is_some i.fault)
+
 abbrev pub awaits_head : Incoming → Bool
-awaits_head i = is_before_head i.place && not (i.is_over || is_some i.fault)
+awaits_head i = is_before_head i.place && goes_on i
 
 -- this content is awaited of it, until its head comes
 abbrev pub awaiting : Incoming → Content → Incoming
 awaiting i content = record i { content = if awaits_head i then content else i.content }
+
+-- What an own head of these fields says of what comes. A client awaits by its request what the response may have, until its head comes (RFC 9110,
+-- sections 9.3.2 and 9.3.6). A server answers by its final response a CONNECT that it read (RFC 9114, section 4.4)
+abbrev pub content_told : Side → (before on : Bool) → Content → List Field → Content
+content_told Client before on content fields = if before && on then awaited_by fields else content
+content_told Server before on content fields = if on then answered_by content fields else content
+
+abbrev pub having_told : Side → Incoming → List Field → Incoming
+having_told side i fields = record i { content = content_told side (is_before_head i.place) (goes_on i) i.content fields }

@@ -2,8 +2,6 @@
 use Rattle.std.specs.Prelude.{◌≡◌, ℕ, ◌++◌, Bool, true, false, ◌&&◌, ◌||◌, not, List, [], ◌∷◌, if◌then◌else◌, ◌==◌, Option, Some, None, is_none, is_some, unwrap_or}
 use Rattle.h3_coding.specs.Varint.{varint_at}
 use Rattle.h3_header.specs.Head.{head_fields}
-use Rattle.h3_messages.specs.Content.{awaited_by}
-use Rattle.h3_messages.specs.declared.content.Content.{Content}
 use Rattle.h3_connection.specs.declared.setup.Announced.{Announced}
 use Rattle.h3_proto.specs.declared.stream.Side.{Side}
 use Rattle.h3_connection.specs.declared.event.Refusal.{Refusal}
@@ -11,19 +9,21 @@ use Rattle.h3_connection.specs.declared.event.Refusal.TheVariants as refusal
 use Rattle.h3_connection.specs.declared.event.Pull.TheVariants as answer
 use Rattle.h3_connection.specs.declared.event.StreamFault.TheVariants as stream_fault
 use Rattle.h3_connection.specs.StreamSets.{stream_at}
-use Rattle.h3_connection.specs.Incoming.{Incoming, nothing_came, awaiting}
+use Rattle.h3_connection.specs.Incoming.{Incoming, nothing_came, having_told}
 use Rattle.h3_connection.specs.Pulling.{pull_stream, is_client}
+use Rattle.h3_connection.specs.StrictConnection.{knows_sessions}
 use Rattle.h3_connection.specs.Unidirectional.{Unidirectional, Role, untold, is_closed, role_after}
 use Rattle.h3_connection.specs.Unidirectional.Role.{Encoder}
 use Rattle.h3_connection.specs.Endpoint.{EndpointHistory, Kind, kind_of, new_endpoint}
 use Rattle.h3_connection.specs.Endpoint.Kind.{Request, PeerUnidirectional}
 use Rattle.h3_connection.specs.Listeners.{Decoding, heard_more, after_hearing}
 use Rattle.h3_connection.specs.Delivering.{unidirectional_at, kept, with_end, given_up_once, request_refusal, closed_refusal}
-use Rattle.h3_connection.specs.Sending.{open_refusal, head_refusal, remembers}
+use Rattle.h3_connection.specs.Sending.{open_refusal, head_refusal}
 use Rattle.h3_connection.specs.CallLists.{Call, Result, called}
 use Rattle.h3_connection.specs.CallLists.Call.{OpenRequest, SendHead, Deliver, DeliverEnd, DeliverReset, PullStream, Cancel}
 use Rattle.h3_connection.specs.CallLists.Result.{Opened, Done, Refused}
 use Rattle.h3_connection.specs.CallLists.Result.{Pulled as WasPulled}
+use Rattle.h3_field.specs.Field.{Field}
 
 -- of a unidirectional stream: what it is read as, and whether its end or reset came
 pub record Front : Type 0 where
@@ -49,11 +49,11 @@ pub record IsSight (encoders : ℕ → Bool) (id : ℕ) (e : EndpointHistory) (s
 abbrev pub AreEncoders : (ℕ → Bool) → EndpointHistory → Type 0
 AreEncoders encoders e = (q : ℕ) → (unidirectional_at e q).role ≡ Encoder → encoders q ≡ true
 
--- whether the call is one of the stream's own, or a delivery to the peer's encoder stream. A head that is sent is where it is remembered what the
--- request asks
+-- whether the call is one of the stream's own, or a delivery to the peer's encoder stream. A head that is sent is where messages are strict: it says what
+-- is awaited, or answers what was read
 abbrev pub sees : (ℕ → Bool) → ℕ → EndpointHistory → Call → Bool
 sees encoders id e OpenRequest = is_none (open_refusal e) && (e.next_id == id)
-sees encoders id e (SendHead q head) = remembers e.side e.announced && (is_none (head_refusal e q head) && (q == id))
+sees encoders id e (SendHead q head) = e.announced.choices.strict_messages && (is_none (head_refusal e q head) && (q == id))
 sees encoders id e (Deliver q bytes) = (q == id) || encoders q
 sees encoders id e (DeliverEnd q) = (q == id) || encoders q
 sees encoders id e (DeliverReset q code) = (q == id) || encoders q
@@ -75,9 +75,9 @@ abbrev pub unless_refused : Option Refusal → Sight → Sight → Seen
 unless_refused (Some r) old new = (Refused r, old)
 unless_refused None old new = (Done, new)
 
-abbrev pub with_awaited : Sight → Content → Option Incoming → Sight
-with_awaited s expected None = s
-with_awaited s expected (Some i) = with_seen s (awaiting i expected)
+abbrev pub with_told : Side → Sight → List Field → Option Incoming → Sight
+with_told side s fields None = s
+with_told side s fields (Some i) = with_seen s (having_told side i fields)
 
 abbrev pub seen_pull : Side → Announced → ℕ → Sight → Option Incoming → Seen
 seen_pull side own id s None = (WasPulled (if is_client side then answer.NoMessages else answer.Pending), s)
@@ -101,9 +101,9 @@ is_encoder _ = false
 abbrev pub hears : ℕ → Decoding → Role × List ℕ → Decoding
 hears most d (role, bytes) = if is_encoder role then after_hearing (heard_more most d bytes) else d
 
-abbrev pub seen_encoder_bytes : ℕ → Sight → ℕ → List ℕ → Seen
-seen_encoder_bytes most s q bytes =
-    let heard = role_after (s.fronts q).role bytes in
+abbrev pub seen_encoder_bytes : Bool → ℕ → Sight → ℕ → List ℕ → Seen
+seen_encoder_bytes sessions most s q bytes =
+    let heard = role_after sessions (s.fronts q).role bytes in
     unless_refused (closed_refusal (s.fronts q).closed) s
     (with_front (record s { decoding = hears most s.decoding heard }) q (record (s.fronts q) { role = heard.0 }))
 
@@ -114,10 +114,10 @@ seen_encoder_closing s q =
 -- What the stream sees of a call.
 abbrev pub seen : Side → Announced → ℕ → Sight → Call → Seen
 seen side own id s OpenRequest = (Opened id, with_seen s nothing_came)
-seen side own id s (SendHead q head) = (Done, with_awaited s (awaited_by (head_fields head)) s.incoming)
+seen side own id s (SendHead q head) = (Done, with_told side s (head_fields head) s.incoming)
 seen side own id s (Deliver q bytes) =
     if q == id then unless_refused (request_refusal side s.incoming) s (with_seen s (kept (seen_incoming s) bytes))
-    else seen_encoder_bytes own.choices.unfinished_limit s q bytes
+    else seen_encoder_bytes (knows_sessions own) own.choices.unfinished_limit s q bytes
 seen side own id s (DeliverEnd q) =
     if q == id then unless_refused (request_refusal side s.incoming) s (with_seen s (with_end (seen_incoming s)))
     else seen_encoder_closing s q

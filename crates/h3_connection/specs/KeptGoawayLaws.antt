@@ -3,8 +3,8 @@ use Rattle.std.proofs.Common.{◌≡◌, ℕ, zero, suc, Bool, true, false, if�
 use Rattle.h3_proto.specs.declared.stream.Side.{Side}
 use Rattle.h3_proto.specs.declared.stream.Side.TheVariants.{Client, Server}
 use Rattle.h3_wire.specs.ExcessiveFrames.{is_excessive}
-use Rattle.h3_wire.specs.Frames.{Front, Whole, Unknown, Refused, Unfinished, frame_at}
-use Rattle.h3_wire.specs.Known.{known}
+use Rattle.h3_wire.specs.Frames.{Front, Whole, Unknown, Refused, Unfinished, frame_by}
+use Rattle.h3_wire.specs.Known.{known_by}
 use Rattle.h3_wire.specs.declared.proto.frame.PayloadLen.{PayloadLen}
 use Rattle.h3_wire.specs.declared.proto.frame.Frame.{Frame}
 use Rattle.h3_wire.specs.declared.proto.frame.Frame.TheVariants as frame
@@ -13,6 +13,7 @@ use Rattle.h3_connection.specs.KeptGoaways.{alone, kept_goaways, kept_peer, kept
 use Rattle.h3_connection.specs.Lasts.{last_id}
 use Rattle.h3_connection.specs.LastLaws.{last_appended}
 use Rattle.h3_connection.specs.PeerReading.{Peer, PeerFound, with_unread, is_above, is_below, is_no_goaway, read_goaway, read_max_push, read_frame, unless_fault, at_front, read_within, read_peer}
+use Rattle.h3_wire.specs.declared.frame.kinds.FrameKinds.{FrameKinds}
 
 last_alone : (o : Option ℕ) → last_id (alone o) ≡ o
 last_alone None = refl
@@ -92,13 +93,13 @@ front_same last go side p bytes (Refused e) alike = same_found last (with_unread
 front_same last go side p bytes (Unknown kind rest) alike = same_found last (with_unread p bytes) None
 front_same last go side p bytes (Unfinished least) alike = same_found last (with_unread p bytes) None
 
-within_same : (most : ℕ) (last : Bool) (limit : ℕ) (side : Side) (p : Peer) → kept_found last (read_within most limit side (kept_peer last p)) ≡ kept_found last (read_within most limit side p)
-within_same zero last limit side p = same_found last p None
-within_same (suc most) last limit side p =
-    same_if last (is_excessive limit (known p.unread)) _ _ _ _ (same_found last (with_unread p []) (Some excessive_load))
-    (front_same last (read_within most limit side) side p (known p.unread) (frame_at (known p.unread)) (within_same most last limit side))
+within_same : (kinds : FrameKinds) (most : ℕ) (last : Bool) (limit : ℕ) (side : Side) (p : Peer) → kept_found last (read_within kinds most limit side (kept_peer last p)) ≡ kept_found last (read_within kinds most limit side p)
+within_same kinds zero last limit side p = same_found last p None
+within_same kinds (suc most) last limit side p =
+    same_if last (is_excessive limit (known_by kinds p.unread)) _ _ _ _ (same_found last (with_unread p []) (Some excessive_load))
+    (front_same last (read_within kinds most limit side) side p (known_by kinds p.unread) (frame_by kinds (known_by kinds p.unread)) (within_same kinds most last limit side))
 
 -- all that came
-pub reads_alike : (last : Bool) (limit : ℕ) (side : Side) (p : Peer) → kept_found last (read_peer limit side (kept_peer last p)) ≡ kept_found last (read_peer limit side p)
+pub reads_alike : (kinds : FrameKinds) (last : Bool) (limit : ℕ) (side : Side) (p : Peer) → kept_found last (read_peer kinds limit side (kept_peer last p)) ≡ kept_found last (read_peer kinds limit side p)
 unfolding read_peer
-reads_alike last limit side p = within_same (length p.unread) last limit side p
+reads_alike kinds last limit side p = within_same kinds (length p.unread) last limit side p

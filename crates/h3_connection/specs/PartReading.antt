@@ -1,5 +1,7 @@
 -- What a call leaves that was refused memory in reading: what came was read up to some point, and the rest is kept.
 use Rattle.std.specs.Prelude.{◌≡◌, ◌⊎◌, ℕ, ◌-◌, Bool, true, false, not, List, [], ◌∷◌, ◌++◌, Option, Some, None}
+use Rattle.h3_messages.specs.declared.content.Content.TheVariants.{Unsaid}
+use Rattle.h3_proto.specs.Config.{is_limit}
 use Rattle.h3_proto.specs.declared.stream.Side.{Side}
 use Rattle.h3_qpack.specs.EncoderHistory.{EncoderHistory}
 use Rattle.h3_connection.specs.declared.setup.Announced.{Announced}
@@ -17,17 +19,19 @@ use Rattle.h3_connection.specs.PeerReading.{Peer, with_unread, read_peer}
 use Rattle.h3_connection.specs.Pulling.{pull_stream}
 use Rattle.h3_connection.specs.State.{EndpointState, StandsFor}
 use Rattle.h3_connection.specs.StreamSets.{stream_at}
+use Rattle.h3_wire.specs.declared.frame.kinds.FrameKinds.{FrameKinds}
+use Rattle.h3_connection.specs.StrictConnection.{kinds_of, knows_sessions}
 use Rattle.h3_connection.specs.Unidirectional.{Role, role_after, with_bytes}
 use Rattle.h3_connection.specs.Unidirectional.Role.{Control, Encoder, Decoder}
 use Rattle.h3_qpack.specs.DecoderState.{DecoderState}
 
 -- A front of the bytes of the control stream was read, without a fault, where frames are taken up to this limit.
-pub record PeerReadsPart (limit : ℕ) (side : Side) (old new : Peer) : Type 0 where
+pub record PeerReadsPart (kinds : FrameKinds) (limit : ℕ) (side : Side) (old new : Peer) : Type 0 where
   pub front : List ℕ
   pub rest : List ℕ
   pub cut : old.unread ≡ front ++ rest
   pub read : Peer
-  pub reads : read_peer limit side (with_unread old front) ≡ (read, None)
+  pub reads : read_peer kinds limit side (with_unread old front) ≡ (read, None)
   pub left : new ≡ with_unread read (read.unread ++ rest)
 
 -- A front of the bytes of the peer's encoder stream was read, without a fault, where instructions are taken up to this limit.
@@ -64,7 +68,7 @@ held_as e id (_, bytes) = e
 abbrev pub held : EndpointHistory → ℕ → List ℕ → EndpointHistory
 held e id bytes =
     let o = unidirectional_at e id in
-    let read_as = role_after o.role bytes in
+    let read_as = role_after (knows_sessions e.announced) o.role bytes in
     held_as (with_unidirectional e id (with_bytes o read_as)) id read_as
 
 -- the endpoint after some frames of the control stream. The table is used as soon as the settings came
@@ -97,10 +101,10 @@ pub data ReadsOn : EndpointHistory → List Arrival → EndpointHistory → List
       → ReadsOn e (BytesCame id (front ++ rest) ∷ more) new (BytesCame id rest ∷ more)
   -- its bytes go to those that the stream's reader holds, and an empty arrival stands for them
   Holds : {e : EndpointHistory} {id : ℕ} {bytes : List ℕ} {more : List Arrival} → kind_of e.side id ≡ PeerUnidirectional
-      → is_reader e id (role_after (unidirectional_at e id).role bytes).0 ≡ true
+      → is_reader e id (role_after (knows_sessions e.announced) (unidirectional_at e id).role bytes).0 ≡ true
       → ReadsOn e (BytesCame id bytes ∷ more) (held e id bytes) (BytesCame id [] ∷ more)
   -- a front of the bytes that are held of the control stream
-  ReadsFrames : {e : EndpointHistory} {id : ℕ} {p : Peer} {more : List Arrival} → e.control_on ≡ Some id → MayRead e p → PeerReadsPart (limit_of e) e.side e.peer p
+  ReadsFrames : {e : EndpointHistory} {id : ℕ} {p : Peer} {more : List Arrival} → e.control_on ≡ Some id → MayRead e p → PeerReadsPart (kinds_of e.announced) (limit_of e) e.side e.peer p
       → ReadsOn e (BytesCame id [] ∷ more) (after_frames e p) (BytesCame id [] ∷ early e p ++ more)
   -- of the encoder stream
   Hears : {e : EndpointHistory} {id : ℕ} {d : Decoding} {more : List Arrival} → e.encoder_on ≡ Some id → HearsPart (limit_of e) e.decoding d
@@ -133,7 +137,17 @@ pub record Resumes (side : Side) (own : Announced) (id : ℕ) (old new : Incomin
   pub same : new ≡ record old { unread = new.unread; section = new.section; body_left = new.body_left; content = new.content }
   pub pulls : (r : DecoderState) (pieces : List (List ℕ)) (ended : Bool) → pull_stream side own id r (with_more old pieces ended) ≡ pull_stream side own id r (with_more new pieces ended)
   pub lists : (r : DecoderState) (pieces : List (List ℕ)) (ended : Bool)
-      → HasNoHeader (pull_stream side own id r (with_more old pieces ended)).answer ⊎ (fields_next r (with_more new pieces ended) ≡ fields_next r (with_more old pieces ended))
+      → HasNoHeader (pull_stream side own id r (with_more old pieces ended)).answer ⊎ (fields_next own r (with_more new pieces ended) ≡ fields_next own r (with_more old pieces ended))
+
+-- the stream where nothing is known of its content
+abbrev pub unsaid : Incoming → Incoming
+unsaid i = record i { content = Unsaid; response = None }
+
+-- So it goes on where nothing is known of the content, at each end that limits nothing and knows the same kinds of frames as this one, whatever it
+-- judges.
+abbrev pub ResumesPlainly : Side → Announced → ℕ → Incoming → Incoming → Type 0
+ResumesPlainly side own id old new =
+    (other : Announced) → kinds_of other ≡ kinds_of own → is_limit other.choices.unfinished_limit ≡ false → Resumes side other id (unsaid old) (unsaid new)
 
 -- What is stored is this endpoint, but for one request stream, which goes on as if it had not been asked.
 pub record StandsAsked (s : EndpointState) (e : EndpointHistory) (id : ℕ) : Type 0 where
@@ -141,4 +155,5 @@ pub record StandsAsked (s : EndpointState) (e : EndpointHistory) (id : ℕ) : Ty
   pub new : Incoming
   pub here : stream_at e.incoming id ≡ Some old
   pub resumes : Resumes e.side e.announced id old new
+  pub plainly : ResumesPlainly e.side e.announced id old new
   pub stands : StandsFor s (with_incoming e id new)

@@ -3,8 +3,9 @@ use Rattle.std.specs.Prelude.{ℕ, zero, suc, ◌%◌, Bool, false, not, ◌||�
 use Rattle.h3_proto.specs.declared.stream.Side.{Side}
 use Rattle.h3_proto.specs.declared.stream.Side.TheVariants.{Client, Server}
 use Rattle.h3_wire.specs.ExcessiveFrames.{is_excessive}
-use Rattle.h3_wire.specs.Frames.{Front, Whole, Unknown, Refused, Unfinished, frame_at}
-use Rattle.h3_wire.specs.Known.{known}
+use Rattle.h3_wire.specs.Frames.{Front, Whole, Unknown, Refused, Unfinished, frame_by}
+use Rattle.h3_wire.specs.Known.{known_by}
+use Rattle.h3_wire.specs.declared.frame.kinds.FrameKinds.{FrameKinds}
 use Rattle.h3_wire.specs.declared.proto.frame.PayloadLen.{PayloadLen}
 use Rattle.h3_wire.specs.declared.proto.frame.Frame.{Frame}
 use Rattle.h3_wire.specs.declared.proto.frame.Frame.TheVariants as frame
@@ -89,11 +90,12 @@ unless_excessive limit bytes p found = if is_excessive limit bytes then (with_un
 
 -- Frames of unknown types are passed over before the settings too: that SETTINGS comes first (RFC 9114, section 6.2.1) is enforced against
 -- those by an endpoint that asks for a strict connection, in front of this reading.
-abbrev pub read_within : ℕ → ℕ → Side → Peer → PeerFound
-read_within zero limit side p = (p, None)
-read_within (suc most) limit side p =
-    unless_excessive limit (known p.unread) p (at_front (read_within most limit side) side p (known p.unread) (frame_at (known p.unread)))
+abbrev pub read_within : FrameKinds → ℕ → ℕ → Side → Peer → PeerFound
+read_within kinds zero limit side p = (p, None)
+read_within kinds (suc most) limit side p =
+    let bytes = known_by kinds p.unread in
+    unless_excessive limit bytes p (at_front (read_within kinds most limit side) side p bytes (frame_by kinds bytes))
 
--- all whole frames that were not read, up to the first fault, where the endpoint takes no longer ones than this limit
-unfoldable pub read_peer : ℕ → Side → Peer → PeerFound
-read_peer limit side p = read_within (length p.unread) limit side p
+-- all whole frames that were not read, up to the first fault, where the endpoint knows these kinds and takes no longer ones than this limit
+unfoldable pub read_peer : FrameKinds → ℕ → Side → Peer → PeerFound
+read_peer kinds limit side p = read_within kinds (length p.unread) limit side p

@@ -7,9 +7,9 @@ use Rattle.h3_proto.specs.declared.stream.Side.{Side}
 use Rattle.h3_proto.specs.declared.stream.Side.TheVariants.{Client, Server}
 use Rattle.h3_wire.specs.ExcessiveFrames.{is_excessive}
 use Rattle.h3_wire.specs.ExcessiveLaws.{no_kind}
-use Rattle.h3_wire.specs.Frames.{Front, Whole, Unknown, Refused, Unfinished, frame_at}
-use Rattle.h3_wire.specs.FrameLaws.{frame_at-nil}
-use Rattle.h3_wire.specs.Known.{known}
+use Rattle.h3_wire.specs.Frames.{Front, Whole, Unknown, Refused, Unfinished, frame_by, plain_frames}
+use Rattle.h3_wire.specs.FrameLaws.{frame_by-nil}
+use Rattle.h3_wire.specs.Known.{known_by}
 use Rattle.h3_wire.specs.declared.proto.frame.PayloadLen.{PayloadLen}
 use Rattle.h3_wire.specs.declared.proto.frame.Frame.{Frame}
 use Rattle.h3_wire.specs.declared.proto.frame.Frame.TheVariants as frame
@@ -17,6 +17,7 @@ use Rattle.h3_connection.specs.Codes.{excessive_load}
 use Rattle.h3_connection.specs.Lasts.{last_id}
 use Rattle.h3_connection.specs.PeerReading.{Peer, PeerFound, with_unread, is_no_goaway, is_above, is_below, read_max_push, read_frame, unless_fault, at_front, unless_excessive, read_within, read_peer}
 use Rattle.h3_connection.specs.SkippingLaws.{rest_shorter, known-nil}
+use Rattle.h3_wire.specs.declared.frame.kinds.FrameKinds.{FrameKinds}
 
 kept_if : (b : Bool) (x y : PeerFound) (bytes : List ℕ) → x.0.unread ≡ bytes → y.0.unread ≡ bytes → (if b then x else y).0.unread ≡ bytes
 kept_if true x y bytes e f = e
@@ -62,58 +63,58 @@ front_same go other side p bytes (Unfinished least) h = refl
 
 -- no bytes say a length
 none_said : (limit : ℕ) → is_excessive limit [] ≡ false
-none_said limit = ap (is_excessive limit) (sym known-nil) ∙ no_kind limit [] none_at_end
+none_said limit = ap (is_excessive limit) (sym (known-nil plain_frames)) ∙ no_kind plain_frames limit [] none_at_end
 
-nothing_left : (most limit : ℕ) (side : Side) (p : Peer) → p.unread ≡ [] → read_within most limit side p ≡ (p, None)
-nothing_left zero limit side p e = refl
-nothing_left (suc most) limit side p e =
-    let empty : known p.unread ≡ [] = ap known e ∙ known-nil in
-    ap (λ bytes. unless_excessive limit bytes p (at_front (read_within most limit side) side p bytes (frame_at bytes))) empty
-    ∙ ap (λ b. if b then (with_unread p [], Some excessive_load) else at_front (read_within most limit side) side p [] (frame_at [])) (none_said limit)
-    ∙ ap (λ x. at_front (read_within most limit side) side p [] x) frame_at-nil
+nothing_left : (kinds : FrameKinds) (most limit : ℕ) (side : Side) (p : Peer) → p.unread ≡ [] → read_within kinds most limit side p ≡ (p, None)
+nothing_left kinds zero limit side p e = refl
+nothing_left kinds (suc most) limit side p e =
+    let empty : known_by kinds p.unread ≡ [] = ap (known_by kinds) e ∙ known-nil kinds in
+    ap (λ bytes. unless_excessive limit bytes p (at_front (read_within kinds most limit side) side p bytes (frame_by kinds bytes))) empty
+    ∙ ap (λ b. if b then (with_unread p [], Some excessive_load) else at_front (read_within kinds most limit side) side p [] (frame_by kinds [])) (none_said limit)
+    ∙ ap (λ x. at_front (read_within kinds most limit side) side p [] x) (frame_by-nil kinds)
     ∙ ap (λ bytes. (with_unread p bytes, None)) (sym e)
 
 -- no count of steps but the least matters
-within_same : (n m limit : ℕ) (side : Side) (p : Peer) → length p.unread ≤ n → length p.unread ≤ m → read_within n limit side p ≡ read_within m limit side p
-within_same zero m limit side p h k = sym (nothing_left m limit side p (nil_from_length p.unread (omega (arith, h))))
-within_same (suc n) zero limit side p h k = nothing_left (suc n) limit side p (nil_from_length p.unread (omega (arith, k)))
-within_same (suc n) (suc m) limit side p h k =
-    ap (unless_excessive limit (known p.unread) p)
-    (front_same (read_within n limit side) (read_within m limit side) side p (known p.unread) (frame_at (known p.unread))
+within_same : (kinds : FrameKinds) (n m limit : ℕ) (side : Side) (p : Peer) → length p.unread ≤ n → length p.unread ≤ m → read_within kinds n limit side p ≡ read_within kinds m limit side p
+within_same kinds zero m limit side p h k = sym (nothing_left kinds m limit side p (nil_from_length p.unread (omega (arith, h))))
+within_same kinds (suc n) zero limit side p h k = nothing_left kinds (suc n) limit side p (nil_from_length p.unread (omega (arith, k)))
+within_same kinds (suc n) (suc m) limit side p h k =
+    ap (unless_excessive limit (known_by kinds p.unread) p)
+    (front_same (read_within kinds n limit side) (read_within kinds m limit side) side p (known_by kinds p.unread) (frame_by kinds (known_by kinds p.unread))
     (λ f rest e q is.
-    let less = rest_shorter p.unread rest f e in
+    let less = rest_shorter kinds p.unread rest f e in
     let size : length q.unread ≡ length rest = ap length is in
-    within_same n m limit side q (omega (arith, less, size, h)) (omega (arith, less, size, k))))
+    within_same kinds n m limit side q (omega (arith, less, size, h)) (omega (arith, less, size, k))))
 
 -- one frame, and then the rest
-pub peer_step : (limit : ℕ) (side : Side) (p : Peer)
-    → read_peer limit side p ≡ unless_excessive limit (known p.unread) p (at_front (read_peer limit side) side p (known p.unread) (frame_at (known p.unread)))
+pub peer_step : (kinds : FrameKinds) (limit : ℕ) (side : Side) (p : Peer)
+    → read_peer kinds limit side p ≡ unless_excessive limit (known_by kinds p.unread) p (at_front (read_peer kinds limit side) side p (known_by kinds p.unread) (frame_by kinds (known_by kinds p.unread)))
 unfolding read_peer
-peer_step limit side p =
-    within_same (length p.unread) (suc (length p.unread)) limit side p (omega arith) (omega arith)
-    ∙ ap (unless_excessive limit (known p.unread) p)
-    (front_same (read_within (length p.unread) limit side) (λ q. read_within (length q.unread) limit side q) side p (known p.unread) (frame_at (known p.unread))
+peer_step kinds limit side p =
+    within_same kinds (length p.unread) (suc (length p.unread)) limit side p (omega arith) (omega arith)
+    ∙ ap (unless_excessive limit (known_by kinds p.unread) p)
+    (front_same (read_within kinds (length p.unread) limit side) (λ q. read_within kinds (length q.unread) limit side q) side p (known_by kinds p.unread) (frame_by kinds (known_by kinds p.unread))
     (λ f rest e q is.
-    let less = rest_shorter p.unread rest f e in
+    let less = rest_shorter kinds p.unread rest f e in
     let size : length q.unread ≡ length rest = ap length is in
-    within_same (length p.unread) (length q.unread) limit side q (omega (arith, less, size)) (omega arith)))
+    within_same kinds (length p.unread) (length q.unread) limit side q (omega (arith, less, size)) (omega arith)))
 
 -- the same where its length is known to be within the limit, or not
-pub step_within : (limit : ℕ) (side : Side) (p : Peer) → is_excessive limit (known p.unread) ≡ false
-    → read_peer limit side p ≡ at_front (read_peer limit side) side p (known p.unread) (frame_at (known p.unread))
-step_within limit side p small =
-    peer_step limit side p
-    ∙ ap (λ b. if b then (with_unread p [], Some excessive_load) else at_front (read_peer limit side) side p (known p.unread) (frame_at (known p.unread))) small
+pub step_within : (kinds : FrameKinds) (limit : ℕ) (side : Side) (p : Peer) → is_excessive limit (known_by kinds p.unread) ≡ false
+    → read_peer kinds limit side p ≡ at_front (read_peer kinds limit side) side p (known_by kinds p.unread) (frame_by kinds (known_by kinds p.unread))
+step_within kinds limit side p small =
+    peer_step kinds limit side p
+    ∙ ap (λ b. if b then (with_unread p [], Some excessive_load) else at_front (read_peer kinds limit side) side p (known_by kinds p.unread) (frame_by kinds (known_by kinds p.unread))) small
 
-pub step_excessive : (limit : ℕ) (side : Side) (p : Peer) → is_excessive limit (known p.unread) ≡ true → read_peer limit side p ≡ (with_unread p [], Some excessive_load)
-step_excessive limit side p large =
-    peer_step limit side p
-    ∙ ap (λ b. if b then (with_unread p [], Some excessive_load) else at_front (read_peer limit side) side p (known p.unread) (frame_at (known p.unread))) large
+pub step_excessive : (kinds : FrameKinds) (limit : ℕ) (side : Side) (p : Peer) → is_excessive limit (known_by kinds p.unread) ≡ true → read_peer kinds limit side p ≡ (with_unread p [], Some excessive_load)
+step_excessive kinds limit side p large =
+    peer_step kinds limit side p
+    ∙ ap (λ b. if b then (with_unread p [], Some excessive_load) else at_front (read_peer kinds limit side) side p (known_by kinds p.unread) (frame_by kinds (known_by kinds p.unread))) large
 
 -- no bytes are read
-pub nothing_read_on : (limit : ℕ) (side : Side) (p : Peer) → read_peer limit side (with_unread p []) ≡ (with_unread p [], None)
+pub nothing_read_on : (kinds : FrameKinds) (limit : ℕ) (side : Side) (p : Peer) → read_peer kinds limit side (with_unread p []) ≡ (with_unread p [], None)
 unfolding read_peer
-nothing_read_on limit side p = nothing_left 0 limit side (with_unread p []) refl
+nothing_read_on kinds limit side p = nothing_left kinds 0 limit side (with_unread p []) refl
 
 -- settings that came stay
 settings_if : (b : Bool) (x y : PeerFound) (o : Option (List (ℕ × ℕ))) → x.0.settings ≡ o → y.0.settings ≡ o → (if b then x else y).0.settings ≡ o
@@ -148,12 +149,12 @@ stay_front side p pairs bytes (Unknown kind rest) go h later = h
 stay_front side p pairs bytes (Refused e) go h later = h
 stay_front side p pairs bytes (Unfinished least) go h later = h
 
-pub stay_within : (n limit : ℕ) (side : Side) (p : Peer) (pairs : List (ℕ × ℕ)) → p.settings ≡ Some pairs → (read_within n limit side p).0.settings ≡ Some pairs
-stay_within zero limit side p pairs h = h
-stay_within (suc n) limit side p pairs h =
-    settings_if (is_excessive limit (known p.unread)) _ _ (Some pairs) h
-    (stay_front side p pairs (known p.unread) (frame_at (known p.unread)) (read_within n limit side) h (λ q is. stay_within n limit side q pairs is))
+pub stay_within : (kinds : FrameKinds) (n limit : ℕ) (side : Side) (p : Peer) (pairs : List (ℕ × ℕ)) → p.settings ≡ Some pairs → (read_within kinds n limit side p).0.settings ≡ Some pairs
+stay_within kinds zero limit side p pairs h = h
+stay_within kinds (suc n) limit side p pairs h =
+    settings_if (is_excessive limit (known_by kinds p.unread)) _ _ (Some pairs) h
+    (stay_front side p pairs (known_by kinds p.unread) (frame_by kinds (known_by kinds p.unread)) (read_within kinds n limit side) h (λ q is. stay_within kinds n limit side q pairs is))
 
-pub settings_stay : (limit : ℕ) (side : Side) (p : Peer) (pairs : List (ℕ × ℕ)) → p.settings ≡ Some pairs → (read_peer limit side p).0.settings ≡ Some pairs
+pub settings_stay : (kinds : FrameKinds) (limit : ℕ) (side : Side) (p : Peer) (pairs : List (ℕ × ℕ)) → p.settings ≡ Some pairs → (read_peer kinds limit side p).0.settings ≡ Some pairs
 unfolding read_peer
-settings_stay limit side p pairs h = stay_within (length p.unread) limit side p pairs h
+settings_stay kinds limit side p pairs h = stay_within kinds (length p.unread) limit side p pairs h

@@ -11,7 +11,7 @@ use Rattle.h3_header.specs.Head.{Head, is_request, is_response, has_pseudo}
 use Rattle.h3_proto.specs.declared.stream.Side.{Side}
 use Rattle.h3_proto.specs.declared.stream.Side.TheVariants.{Client, Server}
 use Rattle.h3_wire.specs.ExcessiveFrames.{begins_section, is_excessive}
-use Rattle.h3_wire.specs.Frames.{Front, Whole, Unknown, Refused, Unfinished, frame_at}
+use Rattle.h3_wire.specs.Frames.{Front, Whole, Unknown, Refused, Unfinished, frame_by}
 use Rattle.h3_wire.specs.Pieces.{first_of, chunk_of, ending}
 use Rattle.h3_wire.specs.declared.proto.frame.PayloadLen.{PayloadLen}
 use Rattle.h3_wire.specs.declared.proto.frame.Frame.{Frame}
@@ -24,7 +24,7 @@ use Rattle.h3_connection.specs.Incoming.{Incoming, given_up, is_body}
 use Rattle.h3_connection.specs.declared.place.Place.{Place}
 use Rattle.h3_connection.specs.declared.place.Place.TheVariants.{BeforeHead, InBody, AfterTrailer, InSession}
 use Rattle.h3_connection.specs.Skipping.{skipped}
-use Rattle.h3_connection.specs.StrictConnection.{is_no_session}
+use Rattle.h3_connection.specs.StrictConnection.{is_no_session, kinds_of}
 use Rattle.h3_connection.specs.StrictMessages.{broken_rule, content_at, large_content_at, response_at, if_whole}
 pub use Rattle.h3_messages.specs.Content.{is_digit}
 use Rattle.h3_messages.specs.Content.{is_interim_status, left_behind, is_exceeded, may_end, takes_trailer}
@@ -244,11 +244,11 @@ module _ (side : Side) (own : Announced) (id : ℕ) (r : DecoderState) where
 
   abbrev pub next_frame : Incoming → List ℕ → Pulled
   next_frame i [] = if i.ended then at_end i i.place else just pull.Pending i
-  next_frame i (byte ∷ bytes) = framed i (frame_at (byte ∷ bytes))
+  next_frame i (byte ∷ bytes) = framed i (frame_by (kinds_of own) (byte ∷ bytes))
 
   abbrev pub between_frames : Incoming → Pulled
   between_frames i =
-      let bytes = skipped (is_body i.place) (concat i.unread) in
+      let bytes = skipped (kinds_of own) (is_body i.place) (concat i.unread) in
       if is_excessive own.choices.unfinished_limit bytes then excess id i bytes else next_frame (left_with i bytes) bytes
 
   abbrev pub in_message : Incoming → Option (List ℕ) → Pulled

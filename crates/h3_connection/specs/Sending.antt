@@ -1,5 +1,5 @@
 -- Calls of a sender, and the pulls and cancellations of a receiver, with their refusals in order.
-use Rattle.std.specs.Prelude.{ℕ, ◌+◌, Bool, true, false, not, ◌&&◌, ◌||◌, List, [], ◌∷◌, ◌++◌, codes, length, slice_index, if◌then◌else◌, ◌==◌, nat_lt, Option, Some, None, is_some, unwrap_or}
+use Rattle.std.specs.Prelude.{ℕ, ◌+◌, Bool, true, false, not, ◌||◌, List, [], ◌∷◌, ◌++◌, codes, length, slice_index, if◌then◌else◌, ◌==◌, nat_lt, Option, Some, None, is_some, unwrap_or}
 use Rattle.h3_field.specs.Field.{Field}
 use Rattle.h3_qpack.specs.SectionEncoding.{sent_section}
 use Rattle.h3_connection.specs.Refusals.{Sender, SenderStream, seen, refusal_of_head, refusal_of_body, refusal_of_trailer, refusal_of_end, refusal_to_stop, refusal_to_open, refusal_of_goaway}
@@ -21,13 +21,12 @@ use Rattle.h3_connection.specs.Codes.{decompression_failed}
 use Rattle.h3_connection.specs.StreamSets.{Streams, stream_at, set_stream}
 use Rattle.h3_connection.specs.StrictConnection.{begins_none_after}
 use Rattle.h3_connection.specs.StrictSending.{broken_head, broken_protocol, broken_trailer, early_trailer, passes_content}
-use Rattle.h3_connection.specs.Incoming.{Incoming, awaiting}
-use Rattle.h3_messages.specs.Content.{awaited_by, may_end}
+use Rattle.h3_connection.specs.Incoming.{Incoming, having_told}
+use Rattle.h3_messages.specs.Content.{may_end}
 use Rattle.h3_messages.specs.Messages.{value_of}
 use Rattle.h3_messages.specs.OwnMessages.{content_of_own_request, content_of_own_response}
 use Rattle.h3_messages.specs.declared.content.Content.{Content}
 use Rattle.h3_messages.specs.declared.content.Content.TheVariants.{Tunnel, Unsaid}
-use Rattle.h3_connection.specs.declared.setup.Announced.{Announced}
 use Rattle.h3_connection.specs.Pulling.{Pulled, pull_stream}
 use Rattle.h3_connection.specs.Unidirectional.{Unidirectional, pull_unidirectional}
 use Rattle.h3_connection.specs.Outgoing.{Outgoing, OwnPart, nothing_sent, is_sent_off, with_body, with_finish, with_reset, with_said}
@@ -35,6 +34,7 @@ use Rattle.h3_connection.specs.Outgoing.OwnPart.{OwnInterim, OwnHead, OwnTrailer
 use Rattle.h3_connection.specs.Endpoint.{EndpointHistory, Kind, Own, replied, kind_of, is_critical_id, heads_waiting}
 use Rattle.h3_connection.specs.Endpoint.Kind.{Request, PeerUnidirectional}
 use Rattle.h3_connection.specs.Delivering.{with_incoming, with_unidirectional, give_up, incoming_at, opened_at}
+use Rattle.h3_connection.specs.declared.event.Malformation.{Malformation}
 
 -- a refusal with nothing changed, or the endpoint after success
 abbrev pub does : Option Refusal → EndpointHistory → EndpointHistory → Option Refusal × EndpointHistory
@@ -69,10 +69,19 @@ abbrev pub sender_at : EndpointHistory → ℕ → Sender
 sender_at e id =
     record { side = e.side; stream = seen_at e id; settings = e.peer.settings; going = begins_none_after e.announced e.side (last_id e.peer.goaways) }
 
+-- A server knows what was asked once it read the request's head
+abbrev pub known_of : Option Incoming → Option Content
+known_of None = None
+known_of (Some i) = i.response
+
+-- the rule that a list breaks as a head that is sent on a stream
+abbrev pub broken_head_at : EndpointHistory → ℕ → List Field → Option Malformation
+broken_head_at e id fields = broken_head e.side e.announced e.peer.settings (known_of (stream_at e.incoming id)) fields
+
 abbrev pub head_refusal : EndpointHistory → ℕ → Head → Option Refusal
 head_refusal e id head =
     unless_closed e
-    (refusal_of_head (sender_at e id) (broken_protocol e.announced head) (broken_head e.side e.announced e.peer.settings (head_fields head)) head (head_fields head))
+    (refusal_of_head (sender_at e id) (broken_protocol e.announced head) (broken_head_at e id (head_fields head)) head (head_fields head))
 
 -- a body of so many bytes
 abbrev pub body_refusal : EndpointHistory → ℕ → ℕ → Option Refusal
@@ -114,13 +123,10 @@ encoded e id fields =
 abbrev pub head_part : Head → List ℕ → OwnPart
 head_part head section = if is_interim head.status then OwnInterim section else OwnHead section
 
--- A client that asks for strict messages remembers of a request what its response may have as content (RFC 9110, sections 9.3.2 and 9.3.6)
-abbrev pub remembers : Side → Announced → Bool
-remembers side own = own.choices.strict_messages && is_client side
-
-abbrev pub awaiting_at : Streams Incoming → ℕ → Content → Option Incoming → Streams Incoming
-awaiting_at streams id expected None = streams
-awaiting_at streams id expected (Some i) = set_stream streams id (awaiting i expected)
+-- An endpoint that asks for strict messages goes by its own head in what it reads on the stream
+abbrev pub telling_at : Side → Streams Incoming → ℕ → List Field → Option Incoming → Streams Incoming
+telling_at side streams id fields None = streams
+telling_at side streams id fields (Some i) = set_stream streams id (having_told side i fields)
 
 -- Where it is not known what was asked, a 2xx response may be one to CONNECT, behind which no trailer comes (RFC 9114, section 4.4)
 abbrev pub content_of_unasked : List Field → Content
@@ -136,11 +142,6 @@ abbrev pub content_of_own : Side → Option Content → List Field → Content
 content_of_own Client known fields = content_of_own_request fields
 content_of_own Server known fields = content_of_response_to known fields
 
--- A server knows what was asked once it read the request's head
-abbrev pub known_of : Option Incoming → Option Content
-known_of None = None
-known_of (Some i) = i.response
-
 abbrev pub saying_at : Streams Outgoing → ℕ → Content → Option Outgoing → Streams Outgoing
 saying_at streams id said None = streams
 saying_at streams id said (Some o) = set_stream streams id (with_said o said)
@@ -148,7 +149,7 @@ saying_at streams id said (Some o) = set_stream streams id (with_said o said)
 abbrev pub asked : EndpointHistory → ℕ → List Field → EndpointHistory
 asked e id fields =
     record e {
-      incoming = if remembers e.side e.announced then awaiting_at e.incoming id (awaited_by fields) (stream_at e.incoming id) else e.incoming;
+      incoming = if e.announced.choices.strict_messages then telling_at e.side e.incoming id fields (stream_at e.incoming id) else e.incoming;
       outgoing = if e.announced.choices.strict_messages then saying_at e.outgoing id (content_of_own e.side (known_of (stream_at e.incoming id)) fields) (stream_at e.outgoing id) else e.outgoing;
     }
 

@@ -1,7 +1,8 @@
 -- Frames that give nothing are skipped: those of unknown types, and in a body those of DATA without a payload.
 use Rattle.std.specs.Prelude.{ℕ, zero, suc, Bool, false, ◌&&◌, List, length, if◌then◌else◌, ◌==◌, ◌≡◌}
-use Rattle.h3_wire.specs.Frames.{Front, Whole, Unknown, Refused, Unfinished, frame_at}
-use Rattle.h3_wire.specs.Known.{known}
+use Rattle.h3_wire.specs.Frames.{Front, Whole, Unknown, Refused, Unfinished, frame_by}
+use Rattle.h3_wire.specs.Known.{known_by}
+use Rattle.h3_wire.specs.declared.frame.kinds.FrameKinds.{FrameKinds}
 use Rattle.h3_wire.specs.declared.proto.frame.PayloadLen.{PayloadLen}
 use Rattle.h3_wire.specs.declared.proto.frame.Frame.{Frame}
 use Rattle.h3_wire.specs.declared.proto.frame.Frame.TheVariants as frame
@@ -16,13 +17,14 @@ skip_front go in_body bytes (Unknown kind rest) = bytes
 skip_front go in_body bytes (Unfinished least) = bytes
 skip_front go in_body bytes (Refused e) = bytes
 
-abbrev pub skipped_within : Bool → ℕ → List ℕ → List ℕ
-skipped_within in_body zero bytes = bytes
-skipped_within in_body (suc most) bytes = skip_front (skipped_within in_body most) in_body (known bytes) (frame_at (known bytes))
+abbrev pub skipped_within : FrameKinds → Bool → ℕ → List ℕ → List ℕ
+skipped_within kinds in_body zero bytes = bytes
+skipped_within kinds in_body (suc most) bytes =
+    skip_front (skipped_within kinds in_body most) in_body (known_by kinds bytes) (frame_by kinds (known_by kinds bytes))
 
 -- the bytes without the whole frames at their front that give nothing
-unfoldable pub skipped : Bool → List ℕ → List ℕ
-skipped in_body bytes = skipped_within in_body (length bytes) bytes
+unfoldable pub skipped : FrameKinds → Bool → List ℕ → List ℕ
+skipped kinds in_body bytes = skipped_within kinds in_body (length bytes) bytes
 
 -- What stands behind the frames that give nothing gives something.
 abbrev pub IsNotEmpty : Bool → Frame PayloadLen → Type 0

@@ -5,6 +5,7 @@ use Rattle.h3_proto.specs.Settings.{value_of}
 use Rattle.h3_proto.specs.StreamIds.{is_request_stream}
 use Rattle.h3_proto.specs.declared.stream.Side.{Side}
 use Rattle.h3_proto.specs.declared.stream.Side.TheVariants.{Client, Server}
+use Rattle.h3_wire.specs.declared.frame.kinds.FrameKinds.{FrameKinds}
 use Rattle.h3_connection.specs.Codes.{id_error}
 use Rattle.h3_connection.specs.declared.setup.Announced.{Announced}
 
@@ -54,6 +55,14 @@ is_no_session own id = is_strict own && not (is_request_stream id)
 
 abbrev pub session_fault : Announced → ℕ → Option ℕ
 session_fault own id = if is_no_session own id then Some id_error else None
+
+-- Sessions are known to an endpoint that announces WebTransport, and to one that does not ask for a strict connection. To any other one 0x41 is the
+-- type of an unknown frame, and 0x54 that of an unknown stream (RFC 9114, section 9)
+abbrev pub knows_sessions : Announced → Bool
+knows_sessions own = not (is_strict own) || is_enabled 0x2b603742 own.settings
+
+abbrev pub kinds_of : Announced → FrameKinds
+kinds_of own = record { sessions = knows_sessions own }
 
 -- A client begins no request once its peer's GOAWAY came (RFC 9114, section 5.2), on a stream that was opened before either
 abbrev pub begins_none_after : Announced → Side → Option ℕ → Option ℕ

@@ -1,22 +1,26 @@
 -- An endpoint that does not ask for a strict connection judges what it judged before that could be asked for.
-use Rattle.std.proofs.Common.{◌≡◌, ℕ, Bool, true, false, ◌&&◌, if◌then◌else◌, List, [], ◌++◌, append-nil, Option, Some, None, Err, refl, ap, sym, ◌∙◌}
+use Rattle.std.proofs.Common.{◌≡◌, ℕ, Bool, true, false, ◌&&◌, ◌||◌, if◌then◌else◌, List, [], ◌++◌, append-nil, Option, Some, None, Err, refl, ap, sym, ◌∙◌}
 use Rattle.std.proofs.lemmas.Bool.{and_right}
 use Rattle.h3_coding.specs.VarintLaws.{none_at_end}
 use Rattle.std.specs.Prelude.{is_none, not}
 use Rattle.h3_proto.specs.StreamIds.{is_request_stream}
 use Rattle.h3_proto.specs.declared.stream.Side.{Side}
 use Rattle.h3_proto.specs.declared.stream.Side.TheVariants.{Client, Server}
+use Rattle.h3_proto.specs.Config.{is_enabled}
+use Rattle.h3_wire.specs.declared.frame.kinds.FrameKinds.{FrameKinds}
+use Rattle.h3_wire.specs.Frames.{plain_frames}
 use Rattle.h3_wire.specs.FirstFrames.{begins_other, is_other}
 use Rattle.h3_connection.specs.Announcing.{unless_alone, unless_below}
 use Rattle.h3_connection.specs.Codes.{id_error, missing_settings, settings_error}
 use Rattle.h3_connection.specs.Control.{are_refused, after_peer, holding, if_learned, lacks_settings, read_control, read_held, settings_alone, taken_peer, then_decoder}
-use Rattle.h3_connection.specs.Endpoint.{EndpointHistory, limit_of}
+use Rattle.h3_qpack.specs.DecoderState.{announcing, checking}
+use Rattle.h3_connection.specs.Endpoint.{EndpointHistory, first_decoder, limit_of}
 use Rattle.h3_connection.specs.Incoming.{Incoming}
 use Rattle.h3_connection.specs.FirstSettingsLaws.{first_still, other_stays}
 use Rattle.h3_connection.specs.PeerReading.{Peer, PeerFound, read_peer, with_unread}
 use Rattle.h3_connection.specs.PeerReadingLaws.{nothing_read_on}
 use Rattle.h3_connection.specs.Pulling.{at_session, just, connection_fault}
-use Rattle.h3_connection.specs.StrictConnection.{begins_none_after, have_bad_value, is_strict, lacks_datagrams, session_fault, settings_refused, stream_fault}
+use Rattle.h3_connection.specs.StrictConnection.{knows_sessions, kinds_of, begins_none_after, have_bad_value, is_strict, lacks_datagrams, session_fault, settings_refused, stream_fault}
 use Rattle.h3_connection.specs.declared.event.Item.TheVariants as item
 use Rattle.h3_connection.specs.declared.event.Pull.TheVariants as pull
 use Rattle.h3_connection.specs.declared.place.Place.TheVariants.{InSession}
@@ -38,12 +42,22 @@ pub any_place : (own : Announced) (i : Incoming) (session : ℕ) → is_strict o
 any_place own i session off =
     ap (λ b. if b && not (is_request_stream session) then connection_fault id_error i else just (pull.Item (item.Session session)) (record i { place = InSession })) off
 
+pub checks_none : (own : Announced) → is_strict own ≡ false → first_decoder own ≡ announcing own.limits.table
+checks_none own off = ap (λ b. checking b (announcing own.limits.table)) off
+
 pub begins_any : (own : Announced) (side : Side) (last : Option ℕ) → is_strict own ≡ false → begins_none_after own side last ≡ None
 begins_any own Client last off = ap (λ b. if b then last else None) off
 begins_any own Server last off = refl
 
 pub announces_any : (own : Announced) → is_strict own ≡ false → unless_alone own ≡ unless_below own
 announces_any own off = ap (λ b. if b && lacks_datagrams own.settings then Err (Settings (InvalidSettingValue 0x2b603742 1)) else unless_below own) off
+
+-- it knows frames of all kinds, and sessions on unidirectional streams
+pub knows_all : (own : Announced) → is_strict own ≡ false → knows_sessions own ≡ true
+knows_all own off = ap (λ b. not b || is_enabled 0x2b603742 own.settings) off
+
+pub kinds_off : (own : Announced) → is_strict own ≡ false → kinds_of own ≡ plain_frames
+kinds_off own off = ap (λ (b : Bool). let kinds : FrameKinds = record { sessions = b } in kinds) (knows_all own off)
 
 -- what the control stream says
 refused_none : (e : EndpointHistory) (before after : Option (List (ℕ × ℕ))) → is_strict e.announced ≡ false → are_refused e before after ≡ false
@@ -53,11 +67,11 @@ refused_none e (Some known) after off = refl
 pub peer_taken : (e : EndpointHistory) (x : PeerFound) → is_strict e.announced ≡ false → after_peer e x ≡ taken_peer e x
 peer_taken e (p, fault) off = ap (λ b. if b then (record e { peer = settings_alone e.peer p.settings }, Some settings_error) else taken_peer e (p, fault)) (refused_none e e.peer.settings p.settings off)
 
-pub control_taken : (e : EndpointHistory) (bytes : List ℕ) → is_strict e.announced ≡ false → read_control e bytes ≡ taken_peer e (read_peer (limit_of e) e.side (with_unread e.peer (e.peer.unread ++ bytes)))
+pub control_taken : (e : EndpointHistory) (bytes : List ℕ) → is_strict e.announced ≡ false → read_control e bytes ≡ taken_peer e (read_peer (kinds_of e.announced) (limit_of e) e.side (with_unread e.peer (e.peer.unread ++ bytes)))
 control_taken e bytes off =
     let h = holding e bytes in
-    ap (λ b. if (b && is_none e.peer.settings) && begins_other h.peer.unread then (h, Some missing_settings) else after_peer h (read_peer (limit_of h) h.side h.peer)) off
-    ∙ peer_taken h (read_peer (limit_of h) h.side h.peer) off
+    ap (λ b. if (b && is_none e.peer.settings) && begins_other h.peer.unread then (h, Some missing_settings) else after_peer h (read_peer (kinds_of h.announced) (limit_of h) h.side h.peer)) off
+    ∙ peer_taken h (read_peer (kinds_of h.announced) (limit_of h) h.side h.peer) off
 
 -- no fault is told of none
 pub nothing_told : (strict : Bool) (code : ℕ) → stream_fault strict code None ≡ None
@@ -66,19 +80,19 @@ nothing_told false code = refl
 
 -- What is read of what is held, by the tests that come before the frames.
 pub held_missing : (e : EndpointHistory) → lacks_settings e ≡ true → read_held e ≡ (e, Some missing_settings)
-held_missing e lacks = ap (λ b. if b then (e, Some missing_settings) else after_peer e (read_peer (limit_of e) e.side e.peer)) lacks
+held_missing e lacks = ap (λ b. if b then (e, Some missing_settings) else after_peer e (read_peer (kinds_of e.announced) (limit_of e) e.side e.peer)) lacks
 
-pub held_refused : (e : EndpointHistory) → lacks_settings e ≡ false → are_refused e e.peer.settings (read_peer (limit_of e) e.side e.peer).0.settings ≡ true
-    → read_held e ≡ (record e { peer = settings_alone e.peer (read_peer (limit_of e) e.side e.peer).0.settings }, Some settings_error)
+pub held_refused : (e : EndpointHistory) → lacks_settings e ≡ false → are_refused e e.peer.settings (read_peer (kinds_of e.announced) (limit_of e) e.side e.peer).0.settings ≡ true
+    → read_held e ≡ (record e { peer = settings_alone e.peer (read_peer (kinds_of e.announced) (limit_of e) e.side e.peer).0.settings }, Some settings_error)
 held_refused e first bad =
-    let x = read_peer (limit_of e) e.side e.peer in
+    let x = read_peer (kinds_of e.announced) (limit_of e) e.side e.peer in
     ap (λ b. if b then (e, Some missing_settings) else after_peer e x) first
     ∙ ap (λ b. if b then (record e { peer = settings_alone e.peer x.0.settings }, Some settings_error) else taken_peer e x) bad
 
-pub held_taken : (e : EndpointHistory) → lacks_settings e ≡ false → are_refused e e.peer.settings (read_peer (limit_of e) e.side e.peer).0.settings ≡ false
-    → read_held e ≡ taken_peer e (read_peer (limit_of e) e.side e.peer)
+pub held_taken : (e : EndpointHistory) → lacks_settings e ≡ false → are_refused e e.peer.settings (read_peer (kinds_of e.announced) (limit_of e) e.side e.peer).0.settings ≡ false
+    → read_held e ≡ taken_peer e (read_peer (kinds_of e.announced) (limit_of e) e.side e.peer)
 held_taken e first good =
-    let x = read_peer (limit_of e) e.side e.peer in
+    let x = read_peer (kinds_of e.announced) (limit_of e) e.side e.peer in
     ap (λ b. if b then (e, Some missing_settings) else after_peer e x) first
     ∙ ap (λ b. if b then (record e { peer = settings_alone e.peer x.0.settings }, Some settings_error) else taken_peer e x) good
 
@@ -118,23 +132,23 @@ nothing_learned None e = refl
 nothing_learned (Some pairs) e = refl
 
 -- what was read is not read again
-pub held_again : (e : EndpointHistory) → lacks_settings e ≡ false → read_peer (limit_of e) e.side e.peer ≡ (e.peer, None) → read_control e [] ≡ (e, None)
+pub held_again : (e : EndpointHistory) → lacks_settings e ≡ false → read_peer (kinds_of e.announced) (limit_of e) e.side e.peer ≡ (e.peer, None) → read_control e [] ≡ (e, None)
 held_again e first done =
     ap (λ l. read_held (record e { peer = with_unread e.peer l })) (append-nil e.peer.unread)
     ∙ held_taken e first (ap (λ (x : PeerFound). are_refused e e.peer.settings x.0.settings) done ∙ same_taken e e.peer.settings)
     ∙ ap (taken_peer e) done ∙ nothing_learned e.peer.settings e
 
 -- and where nothing came nothing is judged
-pub nothing_held : (e : EndpointHistory) → e.peer.unread ≡ [] → read_control e [] ≡ taken_peer e (read_peer (limit_of e) e.side (with_unread e.peer (e.peer.unread ++ [])))
+pub nothing_held : (e : EndpointHistory) → e.peer.unread ≡ [] → read_control e [] ≡ taken_peer e (read_peer (kinds_of e.announced) (limit_of e) e.side (with_unread e.peer (e.peer.unread ++ [])))
 nothing_held e empty =
     let h = holding e [] in
     let none : e.peer.unread ++ [] ≡ [] = append-nil e.peer.unread ∙ empty in
-    let found : read_peer (limit_of e) e.side h.peer ≡ (with_unread e.peer [], None) = ap (λ l. read_peer (limit_of e) e.side (with_unread e.peer l)) none ∙ nothing_read_on (limit_of e) e.side e.peer in
+    let found : read_peer (kinds_of e.announced) (limit_of e) e.side h.peer ≡ (with_unread e.peer [], None) = ap (λ l. read_peer (kinds_of e.announced) (limit_of e) e.side (with_unread e.peer l)) none ∙ nothing_read_on _ (limit_of e) e.side e.peer in
     held_taken h (and_right (is_strict e.announced && is_none e.peer.settings) (begins_other h.peer.unread) (ap begins_other none ∙ ap is_other none_at_end))
     (ap (λ (x : PeerFound). are_refused h e.peer.settings x.0.settings) found ∙ same_taken h e.peer.settings)
 
 -- so what was read where they are due is not read again either
-pub still_first : (e : EndpointHistory) (q : Peer) → lacks_settings e ≡ false → e.peer.settings ≡ None → read_peer (limit_of e) e.side e.peer ≡ (q, None) → lacks_settings (record e { peer = q }) ≡ false
+pub still_first : (e : EndpointHistory) (q : Peer) → lacks_settings e ≡ false → e.peer.settings ≡ None → read_peer (kinds_of e.announced) (limit_of e) e.side e.peer ≡ (q, None) → lacks_settings (record e { peer = q }) ≡ false
 still_first e q first none read = by_choice (is_strict e.announced) refl q.settings refl
   where
     g : EndpointHistory
@@ -146,4 +160,4 @@ still_first e q first none read = by_choice (is_strict e.announced) refl q.setti
     by_choice true on None is =
         let begins : begins_other e.peer.unread ≡ false =
         sym (ap (λ b. (b && is_none e.peer.settings) && begins_other e.peer.unread) on ∙ ap (λ o. (true && is_none o) && begins_other e.peer.unread) none) ∙ first in
-        ap (λ (p : Peer). lacks_settings (record e { peer = p })) (first_still (limit_of e) e.side e.peer q none begins read is) ∙ first
+        ap (λ (p : Peer). lacks_settings (record e { peer = p })) (first_still _ (limit_of e) e.side e.peer q none begins read is) ∙ first

@@ -2,7 +2,7 @@
 -- content follows it. One that does not asks for none, and for any content.
 use Rattle.std.specs.Prelude.{ℕ, List, [], if◌then◌else◌, option_map, unwrap_or, Option, Some, None}
 use Rattle.h3_field.specs.Field.{Field}
-use Rattle.h3_messages.specs.Content.{awaited_by, content_of_request, content_behind_response, content_behind_status, may_end}
+use Rattle.h3_messages.specs.Content.{awaited_by, content_of_request, content_behind_response, content_behind_status, may_end, until_answered}
 use Rattle.h3_messages.specs.declared.content.Content.{Content}
 use Rattle.h3_messages.specs.Messages.{violation_of_request, violation_of_response, violation_of_trailer}
 use Rattle.h3_messages.specs.declared.violation.Violation.{Violation}
@@ -51,9 +51,14 @@ abbrev pub content_of_head : Side → Content → List Field → Content
 content_of_head Client awaited fields = content_behind_response awaited fields
 content_of_head Server awaited fields = content_of_request fields
 
+-- as its reader counts: a server that reads CONNECT has not answered it
+abbrev pub content_read : Side → Content → List Field → Content
+content_read Client awaited fields = content_behind_response awaited fields
+content_read Server awaited fields = until_answered (content_of_request fields)
+
 -- a trailer says nothing of it
 abbrev pub content_behind : Side → Place → Content → List Field → Content
-content_behind side BeforeHead content fields = content_of_head side content fields
+content_behind side BeforeHead content fields = content_read side content fields
 content_behind side _ content fields = content
 
 abbrev pub content_at : Side → Announced → Place → Content → List Field → Content

@@ -6,7 +6,7 @@ use Rattle.h3_header.specs.Head.{Head}
 use Rattle.h3_header.specs.HeadTests.{takes_protocol}
 use Rattle.h3_messages.specs.Content.{is_exceeded, left_behind, may_end, takes_trailer}
 use Rattle.h3_messages.specs.declared.content.Content.{Content}
-use Rattle.h3_messages.specs.OwnMessages.{violation_of_own_request, violation_of_own_response, violation_of_own_trailer}
+use Rattle.h3_messages.specs.OwnMessages.{violation_of_own_answer, violation_of_own_request, violation_of_own_trailer}
 use Rattle.h3_messages.specs.declared.violation.Violation.{Violation}
 use Rattle.h3_proto.specs.Config.{is_enabled}
 use Rattle.h3_proto.specs.declared.stream.Side.{Side}
@@ -24,18 +24,18 @@ abbrev pub peer_connects : Option (List (ℕ × ℕ)) → Bool
 peer_connects None = false
 peer_connects (Some pairs) = is_enabled 8 pairs
 
--- a client sends heads of requests, and a server those of responses
-abbrev pub violation_of_own_head : Side → Option (List (ℕ × ℕ)) → List Field → Option Violation
-violation_of_own_head Client settings fields = violation_of_own_request (peer_connects settings) fields
-violation_of_own_head Server settings fields = violation_of_own_response fields
+-- A client sends heads of requests, and a server those of responses. A server knows what was asked once it read the request's head.
+abbrev pub violation_of_own_head : Side → Option (List (ℕ × ℕ)) → Option Content → List Field → Option Violation
+violation_of_own_head Client settings known fields = violation_of_own_request (peer_connects settings) fields
+violation_of_own_head Server settings known fields = violation_of_own_answer known fields
 
 -- The value of `:protocol` is one that the endpoint takes itself (RFC 8441, section 4): any token where it takes any, or one of the two names.
 abbrev pub broken_protocol : Announced → Head → Option Malformation
 broken_protocol own head = if takes_protocol own.choices.extensions.any_protocol head.protocol then None else Some malformation.Value
 
-abbrev pub broken_head : Side → Announced → Option (List (ℕ × ℕ)) → List Field → Option Malformation
-broken_head side own settings fields =
-    if own.choices.strict_messages then option_map malformation_by (violation_of_own_head side settings fields) else None
+abbrev pub broken_head : Side → Announced → Option (List (ℕ × ℕ)) → Option Content → List Field → Option Malformation
+broken_head side own settings known fields =
+    if own.choices.strict_messages then option_map malformation_by (violation_of_own_head side settings known fields) else None
 
 abbrev pub broken_trailer : Announced → List Field → Option Malformation
 broken_trailer own fields = if own.choices.strict_messages then option_map malformation_by (violation_of_own_trailer fields) else None

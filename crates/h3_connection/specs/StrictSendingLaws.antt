@@ -7,8 +7,8 @@ use Rattle.h3_header.specs.Head.{Head}
 use Rattle.h3_header.specs.HeadTests.{takes_protocol}
 use Rattle.h3_header.specs.TakenLaws.{takes_named}
 use Rattle.h3_messages.specs.Messages.{first_broken, violation_of_request, violation_of_response, violation_of_trailer, holds, pseudo_first, only_pseudo_of, request_names, repeats_pseudo, has_connection_field, is_te_wrong, is_length_wrong, is_protocol_wrong, is_connect, is_connect_wrong, misses_pseudo, is_scheme_wrong, is_authority_wrong, is_path_wrong, has_space_around}
-use Rattle.h3_messages.specs.OwnMessageLaws.{own_request_unbroken, own_response_unbroken, own_trailer_unbroken}
-use Rattle.h3_messages.specs.OwnMessages.{violation_of_own_request, violation_of_own_response, violation_of_own_trailer}
+use Rattle.h3_messages.specs.OwnMessageLaws.{own_request_unbroken, own_response_unbroken, own_trailer_unbroken, own_answer_unbroken}
+use Rattle.h3_messages.specs.OwnMessages.{violation_of_own_request, violation_of_own_trailer, violation_of_own_answer}
 use Rattle.h3_messages.specs.declared.violation.Violation.{Violation}
 use Rattle.h3_messages.specs.declared.violation.Violation.TheVariants.{PseudoOrder, RepeatedPseudo, WrongPseudo, MissingPseudo, ConnectionField, Protocol, Connect, Scheme, Authority, Path, ContentLength, Value}
 use Rattle.h3_proto.specs.declared.stream.Side.{Side}
@@ -25,6 +25,7 @@ use Rattle.h3_connection.specs.declared.event.Malformation.TheVariants as malfor
 use Rattle.h3_connection.specs.declared.event.Refusal.{Refusal}
 use Rattle.h3_connection.specs.declared.place.Place.TheVariants.{BeforeHead, InBody}
 use Rattle.h3_connection.specs.declared.setup.Announced.{Announced}
+use Rattle.h3_messages.specs.declared.content.Content.{Content}
 
 -- Where no rule of a list is broken, none is where one of them is broken less often.
 fewer : (b c : Bool) (v : Violation) (rules : List (Bool × Violation)) → (c ≡ true → b ≡ true) → first_broken ((b, v) ∷ rules) ≡ None → first_broken ((c, v) ∷ rules) ≡ None
@@ -80,14 +81,15 @@ told true v is e = no_violation v e
 told false v is e = absurd (cc)
 
 -- the head of a message that breaks no rule for its sender breaks none for a peer that announced what the sender knows of it
-pub head_taken : (side : Side) (own peer : Announced) (settings : Option (List (ℕ × ℕ))) (fields : List Field) → own.choices.strict_messages ≡ true → (peer_connects settings ≡ true → connects peer ≡ true)
-    → broken_head side own settings fields ≡ None → broken_rule (other side) peer BeforeHead fields ≡ None
-head_taken Client own peer settings fields strict knows e =
+pub head_taken : (side : Side) (own peer : Announced) (settings : Option (List (ℕ × ℕ))) (known : Option Content) (fields : List Field) → own.choices.strict_messages ≡ true
+    → (peer_connects settings ≡ true → connects peer ≡ true) → broken_head side own settings known fields ≡ None → broken_rule (other side) peer BeforeHead fields ≡ None
+head_taken Client own peer settings known fields strict knows e =
     no_rule peer.choices.strict_messages (violation_of_request (connects peer) fields)
     (request_taken (peer_connects settings) (connects peer) fields knows
     (own_request_unbroken (peer_connects settings) fields (told own.choices.strict_messages (violation_of_own_request (peer_connects settings) fields) strict e)))
-head_taken Server own peer settings fields strict knows e =
-    no_rule peer.choices.strict_messages (violation_of_response fields) (own_response_unbroken fields (told own.choices.strict_messages (violation_of_own_response fields) strict e))
+head_taken Server own peer settings known fields strict knows e =
+    no_rule peer.choices.strict_messages (violation_of_response fields)
+    (own_response_unbroken fields (own_answer_unbroken known fields (told own.choices.strict_messages (violation_of_own_answer known fields) strict e)))
 
 pub trailer_taken : (reader : Side) (own peer : Announced) (fields : List Field) → own.choices.strict_messages ≡ true → broken_trailer own fields ≡ None → broken_rule reader peer InBody fields ≡ None
 trailer_taken reader own peer fields strict e =

@@ -46,20 +46,25 @@ abbrev pub with_id : (ℕ → Role) → List ℕ → Option (ℕ × List ℕ) �
 with_id build front None = (Untold front, [])
 with_id build front (Some (id, rest)) = (build id, rest)
 
+-- a stream of type 0x54 belongs to the session of this id, where sessions are known. Else its type has no meaning
+abbrev pub session_role : Bool → ℕ → Role
+session_role true id = Session id
+session_role false id = Ignored
+
 -- RFC 9114 6.2: type of a unidirectional stream
-abbrev pub of_kind : List ℕ → Option (ℕ × List ℕ) → Role × List ℕ
-of_kind front None = (Untold front, [])
-of_kind front (Some (kind, rest)) =
+abbrev pub of_kind : Bool → List ℕ → Option (ℕ × List ℕ) → Role × List ℕ
+of_kind sessions front None = (Untold front, [])
+of_kind sessions front (Some (kind, rest)) =
     if kind == 0 then (Control, rest) else (
     if kind == 1 then with_id Push front (varint_at rest) else (
     if kind == 2 then (Encoder, rest) else (
     if kind == 3 then (Decoder, rest) else (
-    if kind == 0x54 then with_id Session front (varint_at rest) else (Ignored, rest)))))
+    if kind == 0x54 then with_id (session_role sessions) front (varint_at rest) else (Ignored, rest)))))
 
 -- the role after further bytes, and those of them that are for that role
-abbrev pub role_after : Role → List ℕ → Role × List ℕ
-role_after (Untold front) bytes = of_kind (front ++ bytes) (varint_at (front ++ bytes))
-role_after role bytes = (role, bytes)
+abbrev pub role_after : Bool → Role → List ℕ → Role × List ℕ
+role_after sessions (Untold front) bytes = of_kind sessions (front ++ bytes) (varint_at (front ++ bytes))
+role_after sessions role bytes = (role, bytes)
 
 -- bytes of a session wait to be pulled
 abbrev pub with_bytes : Unidirectional → Role × List ℕ → Unidirectional

@@ -2,7 +2,8 @@
 use Rattle.std.specs.Prelude.{◌≡◌, ◌≢◌, ℕ, Bool, false, ◌==◌, ◌||◌, List, [], ◌∷◌, ◌++◌, length, Some, None}
 use Rattle.std.specs.List.{concat, AllByRecursion, list_any}
 use Rattle.h3_coding.specs.Encodings.{IsEncoding}
-use Rattle.h3_wire.specs.Frames.{is_http2}
+use Rattle.h3_wire.specs.declared.frame.kinds.FrameKinds.{FrameKinds}
+use Rattle.h3_wire.specs.Frames.{is_http2, is_session}
 use Rattle.h3_connection.specs.Control.{awaits_settings}
 use Rattle.h3_connection.specs.Delivering.{delivery_refusal, unidirectional_at}
 use Rattle.h3_connection.specs.Endpoint.{EndpointHistory, kind_of}
@@ -12,15 +13,15 @@ use Rattle.h3_connection.specs.StreamSets.{stream_at}
 use Rattle.h3_connection.specs.Unidirectional.Role.{Control}
 use Rattle.h3_connection.specs.declared.place.Place.TheVariants.{InSession}
 
--- the types that have a meaning (RFC 9114, section 7.2; 0x41 begins a WebTransport session), and those of HTTP/2, which are refused
-abbrev pub has_meaning : ℕ → Bool
-has_meaning kind = (kind == 0x41) || list_any (λ k. kind == k) (0 ∷ 1 ∷ 3 ∷ 4 ∷ 5 ∷ 7 ∷ 13 ∷ [])
+-- the types that have a meaning (RFC 9114, section 7.2; 0x41 where sessions of WebTransport are known)
+abbrev pub has_meaning : FrameKinds → ℕ → Bool
+has_meaning kinds kind = is_session kinds kind || list_any (λ k. kind == k) (0 ∷ 1 ∷ 3 ∷ 4 ∷ 5 ∷ 7 ∷ 13 ∷ [])
 
 -- The bytes are one whole frame of another type (RFC 9114, section 7.1): its type and length in any encoding, and its payload. Reserved
 -- types (RFC 9114, section 7.2.8) are among them.
-pub record IsUnknownFrame (bytes : List ℕ) : Type 0 where
+pub record IsUnknownFrame (kinds : FrameKinds) (bytes : List ℕ) : Type 0 where
   pub kind : ℕ
-  pub unknown : has_meaning kind ≡ false
+  pub unknown : has_meaning kinds kind ≡ false
   pub allowed : is_http2 kind ≡ false
   pub kind_bytes : List ℕ
   pub length_bytes : List ℕ
@@ -30,9 +31,9 @@ pub record IsUnknownFrame (bytes : List ℕ) : Type 0 where
   pub length_is : IsEncoding (length payload) length_bytes
 
 -- Such frames, one behind the other, and then the rest.
-pub record BeginsUnknown (bytes rest : List ℕ) : Type 0 where
+pub record BeginsUnknown (kinds : FrameKinds) (bytes rest : List ℕ) : Type 0 where
   pub frames : List (List ℕ)
-  pub unknown : AllByRecursion IsUnknownFrame frames
+  pub unknown : AllByRecursion (IsUnknownFrame kinds) frames
   pub bytes_are : bytes ≡ concat frames ++ rest
 
 -- A frame may begin where the receiver is: in a message that goes on, and neither in a payload nor before a section that is not decoded.

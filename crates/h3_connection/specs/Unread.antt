@@ -12,6 +12,8 @@ use Rattle.h3_connection.specs.ReadingContracts.{Shows}
 use Rattle.h3_connection.specs.declared.place.Place.{Place}
 use Rattle.h3_connection.specs.declared.place.Place.TheVariants.{InSession}
 use Rattle.h3_connection.specs.State.{EndpointState}
+use Rattle.h3_connection.specs.StrictConnection.{kinds_of}
+use Rattle.h3_connection.specs.declared.setup.Announced.{Announced}
 use Rattle.h3_connection.specs.Unidirectional.{Unidirectional, Role}
 use Rattle.h3_connection.specs.Unidirectional.Role.{Untold, Session}
 
@@ -24,9 +26,9 @@ abbrev pub begins_frame : Incoming → Bool
 begins_frame i = ((i.body_left == 0) && not (is_some i.section)) && is_message i.place
 
 -- of a request stream: what was not read, and the field section that waits to be decoded
-abbrev pub held_of_request : Incoming → ℕ
-held_of_request i =
-    (if begins_frame i then held_length (concat i.unread) else length (concat i.unread)) + length (unwrap_or i.section [])
+abbrev pub held_of_request : Announced → Incoming → ℕ
+held_of_request own i =
+    (if begins_frame i then held_length (kinds_of own) (concat i.unread) else length (concat i.unread)) + length (unwrap_or i.section [])
 
 -- of a unidirectional stream of the peer: its type, while that is not whole, and what was not handed out of a session
 abbrev pub held_of_role : Unidirectional → Role → ℕ
@@ -41,7 +43,7 @@ held_by reader id held = if is_read_as reader id then held else 0
 abbrev pub held_of_peer : EndpointHistory → ℕ → ℕ
 held_of_peer e id =
     held_of_role (unidirectional_at e id) (unidirectional_at e id).role
-    + held_by e.control_on id (held_length e.peer.unread)
+    + held_by e.control_on id (held_length (kinds_of e.announced) e.peer.unread)
     + held_by e.encoder_on id (length e.decoding.unread)
     + held_by e.decoder_on id (length e.decoder_unread)
 
@@ -52,7 +54,7 @@ held_in id (EndCame other) = 0
 held_in id (ResetCame other code) = 0
 
 abbrev pub held_at : EndpointHistory → ℕ → Kind → ℕ
-held_at e id Request = held_of_request (incoming_at e id)
+held_at e id Request = held_of_request e.announced (incoming_at e id)
 held_at e id PeerUnidirectional = held_of_peer e id
 held_at e id ServerOpened = 0
 held_at e id OwnUnidirectional = 0

@@ -2,7 +2,7 @@
 ghost use Rattle.std.specs.Prelude.{◌≡◌, ℕ, List, [], Some, Bool};
 ghost use Rattle.h3_proto.specs.declared.stream.Side.{Side};
 ghost use Rattle.h3_connection.specs.declared.setup.Announced.{Announced};
-ghost use Rattle.h3_connection.specs.Endpoint.{EndpointHistory, kind_of, new_endpoint};
+ghost use Rattle.h3_connection.specs.Endpoint.{EndpointHistory, first_decoder, kind_of, new_endpoint};
 ghost use Rattle.h3_connection.specs.Endpoint.Kind.{Request};
 ghost use Rattle.h3_connection.specs.CallLists.{Call, called, endpoint_after};
 ghost use Rattle.h3_connection.specs.Isolation.{IsIsolated, IsIsolatedUpToFault, IsIsolatedInFront, Before, GoesOn, FindsNoFault, Sight, IsSight, view, sight_after, answers_seen, fold_seen, first_sight, view_of, answers_to_view, before_first_fault, view_before_fault, answers_before_fault, encoders_in};
@@ -139,6 +139,7 @@ pub fn drained_stays()
 
 ghost use Rattle.h3_connection.specs.Delivering.{delivery_refusal, unidirectional_at, with_unidirectional};
 ghost use Rattle.h3_connection.specs.Endpoint.Kind.{PeerUnidirectional};
+ghost use Rattle.h3_connection.specs.StrictConnection.{kinds_of, knows_sessions};
 ghost use Rattle.h3_connection.specs.Unidirectional.{role_after};
 ghost use Rattle.h3_connection.specs.Unidirectional.Role.{Untold, Ignored};
 ghost use Rattle.h3_connection.specs.CallLists.{answers};
@@ -150,17 +151,18 @@ ghost use Rattle.h3_connection.specs.UnknownStreams.{IsUnread, without_stream, a
 /// has a fault.
 pub fn unknown_streams_change_nothing_else()
     ensures bytes { (e : EndpointHistory) (id : ℕ) (bytes rest : List ℕ) → e.closed ≡ None → kind_of e.side id ≡ PeerUnidirectional → delivery_refusal e id ≡ None →
-        role_after (unidirectional_at e id).role bytes ≡ (Ignored, rest) →
+        role_after (knows_sessions e.announced) (unidirectional_at e id).role bytes ≡ (Ignored, rest) →
         deliver e id bytes ≡ (None, with_unidirectional e id (record (unidirectional_at e id) { role = Ignored })) }
-    ensures calls { (side : Side) (own : Announced) (id : ℕ) (calls : List Call) → kind_of side id ≡ PeerUnidirectional → IsUnread (role_after (Untold []) (brought_on id calls)).0 →
+    ensures calls { (side : Side) (own : Announced) (id : ℕ) (calls : List Call) → kind_of side id ≡ PeerUnidirectional → IsUnread (role_after (knows_sessions own) (Untold []) (brought_on id calls)).0 →
         answers_without id (new_endpoint side own) calls ≡ answers (new_endpoint side own) (without_stream id calls) }
 {}
 
 ghost use Rattle.std.specs.List.{concat};
-ghost use Rattle.h3_qpack.specs.DecoderState.{DecoderState};
+ghost use Rattle.h3_qpack.specs.DecoderState.{DecoderState, announcing};
 ghost use Rattle.h3_connection.specs.Delivering.{with_incoming};
 ghost use Rattle.h3_connection.specs.Incoming.{Incoming};
 ghost use Rattle.h3_connection.specs.PeerReading.{Peer, with_unread, read_peer};
+ghost use Rattle.h3_wire.specs.declared.frame.kinds.FrameKinds.{FrameKinds};
 ghost use Rattle.h3_connection.specs.Pulling.{left_with, pull_stream};
 ghost use Rattle.h3_connection.specs.StreamSets.{stream_at};
 ghost use Rattle.h3_connection.specs.UnknownFrames.{BeginsUnknown, MayBeginFrame, ReadsControl};
@@ -168,13 +170,13 @@ ghost use Rattle.h3_connection.specs.UnknownFrames.{BeginsUnknown, MayBeginFrame
 /// Whole frames of unknown types (RFC 9114, section 9) give nothing, wherever a frame may begin. A pull of a request stream answers what it
 /// answers without them and leaves the same. So does a delivery on the peer's control stream, also one of nothing else.
 pub fn unknown_frames_give_nothing()
-    ensures stream { (side : Side) (own : Announced) (id : ℕ) (r : DecoderState) (i : Incoming) (rest : List ℕ) → MayBeginFrame i → BeginsUnknown (concat i.unread) rest →
+    ensures stream { (side : Side) (own : Announced) (id : ℕ) (r : DecoderState) (i : Incoming) (rest : List ℕ) → MayBeginFrame i → BeginsUnknown (kinds_of own) (concat i.unread) rest →
         pull_stream side own id r i ≡ pull_stream side own id r (left_with i rest) }
     ensures pulled { (e : EndpointHistory) (id : ℕ) (i : Incoming) (rest : List ℕ) → e.closed ≡ None → kind_of e.side id ≡ Request → stream_at e.incoming id ≡ Some i →
-        MayBeginFrame i → BeginsUnknown (concat i.unread) rest → pull e id ≡ pull (with_incoming e id (left_with i rest)) id }
-    ensures peer { (limit : ℕ) (side : Side) (p : Peer) (rest : List ℕ) → BeginsUnknown p.unread rest → read_peer limit side p ≡ read_peer limit side (with_unread p rest) }
-    ensures delivered { (e : EndpointHistory) (id : ℕ) (bytes rest : List ℕ) → ReadsControl e id → e.peer.unread ≡ [] → BeginsUnknown bytes rest → deliver e id bytes ≡ deliver e id rest }
-    ensures alone { (e : EndpointHistory) (id : ℕ) (bytes : List ℕ) → ReadsControl e id → e.peer.unread ≡ [] → BeginsUnknown bytes [] → deliver e id bytes ≡ (None, e) }
+        MayBeginFrame i → BeginsUnknown (kinds_of e.announced) (concat i.unread) rest → pull e id ≡ pull (with_incoming e id (left_with i rest)) id }
+    ensures peer { (kinds : FrameKinds) (limit : ℕ) (side : Side) (p : Peer) (rest : List ℕ) → BeginsUnknown kinds p.unread rest → read_peer kinds limit side p ≡ read_peer kinds limit side (with_unread p rest) }
+    ensures delivered { (e : EndpointHistory) (id : ℕ) (bytes rest : List ℕ) → ReadsControl e id → e.peer.unread ≡ [] → BeginsUnknown (kinds_of e.announced) bytes rest → deliver e id bytes ≡ deliver e id rest }
+    ensures alone { (e : EndpointHistory) (id : ℕ) (bytes : List ℕ) → ReadsControl e id → e.peer.unread ≡ [] → BeginsUnknown (kinds_of e.announced) bytes [] → deliver e id bytes ≡ (None, e) }
 {}
 
 ghost use Rattle.std.specs.Prelude.{◌++◌, None};
@@ -297,6 +299,7 @@ ghost use Rattle.h3_field.specs.Instruction.{DecoderInstruction};
 ghost use Rattle.h3_connection.specs.Pulling.{read_section};
 ghost use Rattle.h3_connection.specs.Sending.{fields_cost};
 ghost use Rattle.h3_connection.specs.StrictSending.{broken_head, broken_trailer};
+ghost use Rattle.h3_messages.specs.declared.content.Content.{Content};
 
 /// Whichever flag each field of a list gets (RFC 9204, section 4.5.4), the list has the same size, costs the same to send, and breaks the
 /// same rule as what a strict endpoint sends. What a pull answers of a section is the same too, with any flags, and with those that an
@@ -304,8 +307,8 @@ ghost use Rattle.h3_connection.specs.StrictSending.{broken_head, broken_trailer}
 pub fn lists_are_judged_without_flags()
     ensures size { (flag : Field → Bool) (fields : List Field) → section_size (with_flags flag fields) ≡ section_size fields }
     ensures cost { (flag : Field → Bool) (fields : List Field) → fields_cost (with_flags flag fields) ≡ fields_cost fields }
-    ensures head { (flag : Field → Bool) (side : Side) (own : Announced) (settings : Option (List (ℕ × ℕ))) (fields : List Field) →
-        broken_head side own settings (with_flags flag fields) ≡ broken_head side own settings fields }
+    ensures head { (flag : Field → Bool) (side : Side) (own : Announced) (settings : Option (List (ℕ × ℕ))) (known : Option Content) (fields : List Field) →
+        broken_head side own settings known (with_flags flag fields) ≡ broken_head side own settings known fields }
     ensures trailer { (flag : Field → Bool) (own : Announced) (fields : List Field) → broken_trailer own (with_flags flag fields) ≡ broken_trailer own fields }
     ensures read { (flag : Field → Bool) (side : Side) (own : Announced) (id : ℕ) (r : DecoderState) (i : Incoming) (replies : List DecoderInstruction) (fields : List Field) →
         read_section side own id r i replies (with_flags flag fields) ≡ read_section side own id r i replies fields }
@@ -318,20 +321,25 @@ ghost use Rattle.h3_connection.specs.Endpoint.{limit_of};
 ghost use Rattle.h3_connection.specs.Announcing.{unless_alone, unless_below};
 ghost use Rattle.h3_connection.specs.Pulling.{at_session, just};
 ghost use Rattle.h3_connection.specs.StrictConnection.{begins_none_after, is_strict, session_fault, settings_refused, stream_fault};
+ghost use Rattle.h3_wire.specs.Frames.{plain_frames};
 ghost use Rattle.h3_connection.specs.declared.place.Place.TheVariants.{InSession};
 ghost use Rattle.std.specs.Prelude.{Option, false};
 
 /// If an endpoint does not ask for a strict connection, it judges by no rule of `Config::with_strict_connection`: neither settings, nor the
-/// first frame of the control stream (`control`), nor the ids of sessions (`stream`, `place`), nor what it sends after a GOAWAY (`begins`) or
-/// announces (`announces`). A fault of the encoder or decoder stream keeps its code (`fault`).
+/// first frame of the control stream (`control`), nor the ids of sessions (`stream`, `place`), nor what a section names (`decoder`), nor what
+/// it sends after a GOAWAY (`begins`) or announces (`announces`). A fault of the encoder or decoder stream keeps its code (`fault`). Frames of
+/// all kinds are known to it, and sessions on unidirectional streams (`kinds`, `sessions`).
 pub fn without_a_strict_connection_nothing_more_is_judged()
     ensures settings { (side : Side) (own : Announced) (settings : Option (List (ℕ × ℕ))) → is_strict own ≡ false → settings_refused side own settings ≡ false }
     ensures control { (e : EndpointHistory) (bytes : List ℕ) → is_strict e.announced ≡ false →
-        read_control e bytes ≡ taken_peer e (read_peer (limit_of e) e.side (with_unread e.peer (e.peer.unread ++ bytes))) }
+        read_control e bytes ≡ taken_peer e (read_peer (kinds_of e.announced) (limit_of e) e.side (with_unread e.peer (e.peer.unread ++ bytes))) }
     ensures fault { (own : Announced) (code : ℕ) (fault : Option ℕ) → is_strict own ≡ false → stream_fault (is_strict own) code fault ≡ fault }
     ensures stream { (own : Announced) (id : ℕ) → is_strict own ≡ false → session_fault own id ≡ None }
     ensures place { (own : Announced) (i : Incoming) (session : ℕ) → is_strict own ≡ false →
         at_session own i session ≡ just (answer.Item (item.Session session)) (record i { place = InSession }) }
+    ensures decoder { (own : Announced) → is_strict own ≡ false → first_decoder own ≡ announcing own.limits.table }
     ensures begins { (own : Announced) (side : Side) (last : Option ℕ) → is_strict own ≡ false → begins_none_after own side last ≡ None }
     ensures announces { (own : Announced) → is_strict own ≡ false → unless_alone own ≡ unless_below own }
+    ensures kinds { (own : Announced) → is_strict own ≡ false → kinds_of own ≡ plain_frames }
+    ensures sessions { (own : Announced) → is_strict own ≡ false → knows_sessions own ≡ true }
 {}

@@ -2,12 +2,13 @@
 ghost use Rattle.std.specs.Prelude.{◌≡◌, ◌<◌, ◌^◌};
 ghost use Rattle.h3_proto.specs.Config.{announced, is_enabled};
 ghost use Rattle.h3_connection.specs.Announcing.{announced_by, connects, is_below_announced, least_limit, section_of};
-ghost use Rattle.h3_connection.specs.StrictConnection.{announces_alone, have_bad_value, is_no_flag, is_no_session, judges_connect, lacks_datagrams, refuses_settings};
+ghost use Rattle.h3_connection.specs.StrictConnection.{announces_alone, have_bad_value, is_no_flag, is_no_session, judges_connect, kinds_of, knows_sessions, lacks_datagrams, refuses_settings};
 
 use h3_coding::varint::VarInt;
 use h3_proto::config::{Choices, Config, MAX_BLOCKED_STREAMS, MAX_TABLE_CAPACITY};
 use h3_proto::frame::{SettingId, Settings, SettingsError};
 use h3_proto::stream::Side;
+use h3_wire::frame::FrameKinds;
 
 // Every SETTINGS frame of this library fits into so many bytes, and each instruction that rests on no announced size.
 const LEAST_LIMIT: u64 = 256;
@@ -120,6 +121,24 @@ impl Announced {
         ensures { result ≡ is_no_session self.now id }
     {
         self.choices.extensions.strict_connection && id % 4 != 0
+    }
+
+    /// Whether sessions of WebTransport are known to it: it announces them, or does not ask for a strict connection. Otherwise 0x41 is the type
+    /// of an unknown frame, and 0x54 that of an unknown stream (RFC 9114, section 9).
+    pub fn knows_sessions(&self) -> bool
+        ensures { result ≡ knows_sessions self.now }
+    {
+        !self.choices.extensions.strict_connection
+            || is_enabled(&self.settings, SettingId::ENABLE_WEBTRANSPORT)
+    }
+
+    /// Which kinds of frames it knows.
+    pub fn kinds(&self) -> FrameKinds
+        ensures { result ≡ kinds_of self.now }
+    {
+        FrameKinds {
+            sessions: self.knows_sessions(),
+        }
     }
 
     /// Whether it limits what is unfinished to less than what a peer may send that keeps to what is announced.

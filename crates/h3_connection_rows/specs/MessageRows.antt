@@ -637,7 +637,8 @@ interim_head_in_a_trailers_place_answers =
     Pulled (pulls.Fault (fault.Stream (stream_fault.Malformed malformation.PseudoInTrailer))) ∷
     []
 
--- A strict server counts content (RFC 9114, 4.1.2): as much as was said, more, and less; and behind CONNECT only DATA comes (4.4).
+-- A strict server counts content (RFC 9114, 4.1.2): as much as was said, more, and less. Until CONNECT is answered a trailer may come, and behind a 2xx
+-- response only DATA (4.4).
 abbrev pub content_counted_endpoint : EndpointHistory
 content_counted_endpoint = new_endpoint Server (strict 1000)
 
@@ -660,6 +661,17 @@ content_counted =
     PullStream 12 ∷
     PullStream 12 ∷
     PullStream 12 ∷
+    Deliver 16 (hex (codes "01080000cf5003613a31000268690106000021780131")) ∷
+    PullStream 16 ∷
+    SendHead 16 (head (field (codes ":status") (codes "103") ∷ [])) ∷
+    SendHead 16 (head (field (codes ":status") (codes "403") ∷ [])) ∷
+    PullStream 16 ∷
+    PullStream 16 ∷
+    Deliver 20 (hex (codes "01080000cf5003613a31000268690106000021780131")) ∷
+    PullStream 20 ∷
+    SendHead 20 (head (field (codes ":status") (codes "200") ∷ [])) ∷
+    PullStream 20 ∷
+    PullStream 20 ∷
     []
 
 abbrev pub content_counted_answers : List Result
@@ -679,6 +691,17 @@ content_counted_answers =
     Pulled (pulls.Fault (fault.Stream (stream_fault.Malformed malformation.ContentLength))) ∷
     Done ∷
     Pulled (pulls.Item (item.Head (head (field (codes ":method") (codes "CONNECT") ∷ field (codes ":authority") (codes "a:1") ∷ [])))) ∷
+    Pulled (pulls.Item (item.Body (hex (codes "6869")))) ∷
+    Pulled (pulls.Item (item.Trailer (head (field (codes "x") (codes "1") ∷ [])))) ∷
+    Done ∷
+    Pulled (pulls.Item (item.Head (head (field (codes ":method") (codes "CONNECT") ∷ field (codes ":authority") (codes "a:1") ∷ [])))) ∷
+    Done ∷
+    Done ∷
+    Pulled (pulls.Item (item.Body (hex (codes "6869")))) ∷
+    Pulled (pulls.Item (item.Trailer (head (field (codes "x") (codes "1") ∷ [])))) ∷
+    Done ∷
+    Pulled (pulls.Item (item.Head (head (field (codes ":method") (codes "CONNECT") ∷ field (codes ":authority") (codes "a:1") ∷ [])))) ∷
+    Done ∷
     Pulled (pulls.Item (item.Body (hex (codes "6869")))) ∷
     Pulled (pulls.Fault (fault.Connection 0x105)) ∷
     []

@@ -120,7 +120,7 @@ asked_by method =
     field (codes ":method") method ∷ field (codes ":scheme") (codes "https") ∷ field (codes ":authority") (codes "a") ∷ field (codes ":path") (codes "/") ∷ []))))
 
 -- Responses to GET, also behind an interim one; to HEAD, which have no content (RFC 9110, 9.3.2); with status 304, which have none (6.4.1); to
--- CONNECT, a tunnel's (9.3.6); and one that goes out before it is known what was asked.
+-- CONNECT, a tunnel's (9.3.6) with no length (8.6); and one that goes out before it is known what was asked.
 abbrev pub response_counted : List Call
 response_counted =
     Deliver 0 (hex (codes "01080000d1d7500161c1")) ∷
@@ -144,6 +144,7 @@ response_counted =
     Deliver 12 (hex (codes "01080000cf5003613a31")) ∷
     PullStream 12 ∷
     status_of 12 (codes "200") (codes "2") ∷
+    SendHead 12 (head (field (codes ":status") (codes "200") ∷ [])) ∷
     SendBody 12 (codes "abc") ∷
     Finish 12 ∷
     Deliver 16 (hex (codes "01080000d1d7500161c1")) ∷
@@ -174,6 +175,7 @@ response_counted_answers =
     Done ∷
     Done ∷
     Pulled (pulls.Item (item.Head (head (field (codes ":method") (codes "CONNECT") ∷ field (codes ":authority") (codes "a:1") ∷ [])))) ∷
+    not_as_said ∷
     Done ∷
     Done ∷
     Done ∷

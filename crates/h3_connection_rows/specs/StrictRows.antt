@@ -1,8 +1,11 @@
 -- Worked rows of endpoints that ask for a strict connection: what closes it, and what does not.
 use Rattle.std.specs.Prelude.{ℕ, true, List, [], ◌∷◌, codes}
+use Rattle.h3_field.specs.Field.{Field}
+use Rattle.h3_header.specs.Head.{Head}
 use Rattle.h3_proto.specs.Config.{no_choices, no_extensions}
 use Rattle.h3_proto.specs.declared.stream.Side.TheVariants.{Client, Server}
 use Rattle.h3_connection.specs.declared.event.Fault.TheVariants as fault
+use Rattle.h3_connection.specs.declared.event.Item.TheVariants as item
 use Rattle.h3_connection.specs.declared.event.Pull.TheVariants as pulls
 use Rattle.h3_connection.specs.declared.event.Refusal.TheVariants as refusal
 use Rattle.h3_connection.specs.declared.setup.Announced.{Announced}
@@ -23,6 +26,14 @@ closing sessions =
 -- instructions of at most eight bytes
 abbrev pub closing_shortly : Announced
 closing_shortly = record limited_shortly { choices = record limited_shortly.choices { extensions = record no_extensions { strict_connection = true } } }
+
+-- with a table, for which two streams may wait
+abbrev pub closing_with_table : Announced
+closing_with_table = record (plain 1000 4096 2) { choices = record no_choices { extensions = record no_extensions { strict_connection = true } } }
+
+-- GET https a /, and one more field
+abbrev pub request_with : List Field → Head
+request_with more = head (field (codes ":method") (codes "GET") ∷ field (codes ":scheme") (codes "https") ∷ field (codes ":authority") (codes "a") ∷ field (codes ":path") (codes "/") ∷ more)
 
 -- A frame of an unknown type comes first: its head is enough
 abbrev pub unknown_frame_first_endpoint : EndpointHistory
@@ -308,4 +319,189 @@ long_reply_answers =
     Done ∷
     Refused (refusal.Connection 514) ∷
     Refused (refusal.Connection 514) ∷
+    []
+
+-- Of two entries a section of the count 1 may name the first, and not the second
+abbrev pub entry_at_the_count_endpoint : EndpointHistory
+entry_at_the_count_endpoint = new_endpoint Server closing_with_table
+
+abbrev pub entry_at_the_count : List Call
+entry_at_the_count =
+    Deliver 6 (hex (codes "023fe11f4161016241630164")) ∷
+    Deliver 0 (hex (codes "01090200d1d750811fc180")) ∷
+    PullStream 0 ∷
+    Deliver 4 (hex (codes "01090200d1d750811fc110")) ∷
+    PullStream 4 ∷
+    []
+
+abbrev pub entry_at_the_count_answers : List Result
+entry_at_the_count_answers =
+    Done ∷
+    Done ∷
+    Pulled (pulls.Item (item.Head (request_with (field (codes "a") (codes "b") ∷ [])))) ∷
+    Done ∷
+    Pulled (pulls.Fault (fault.Connection 512)) ∷
+    []
+
+-- and a larger count is taken
+abbrev pub larger_count_endpoint : EndpointHistory
+larger_count_endpoint = new_endpoint Server closing_with_table
+
+abbrev pub larger_count : List Call
+larger_count =
+    Deliver 6 (hex (codes "023fe11f4161016241630164")) ∷
+    Deliver 0 (hex (codes "01090300d1d750811fc181")) ∷
+    PullStream 0 ∷
+    []
+
+abbrev pub larger_count_answers : List Result
+larger_count_answers =
+    Done ∷
+    Done ∷
+    Pulled (pulls.Item (item.Head (request_with (field (codes "a") (codes "b") ∷ [])))) ∷
+    []
+
+-- An endpoint that does not ask for that hands out the second
+abbrev pub entry_at_the_count_loosely_endpoint : EndpointHistory
+entry_at_the_count_loosely_endpoint = new_endpoint Server (plain 1000 4096 2)
+
+abbrev pub entry_at_the_count_loosely : List Call
+entry_at_the_count_loosely =
+    Deliver 6 (hex (codes "023fe11f4161016241630164")) ∷
+    Deliver 0 (hex (codes "01090200d1d750811fc110")) ∷
+    PullStream 0 ∷
+    []
+
+abbrev pub entry_at_the_count_loosely_answers : List Result
+entry_at_the_count_loosely_answers =
+    Done ∷
+    Done ∷
+    Pulled (pulls.Item (item.Head (request_with (field (codes "c") (codes "d") ∷ [])))) ∷
+    []
+
+-- Without a table the encoded count and the sign are 0, and the base may be any
+abbrev pub count_without_a_table_endpoint : EndpointHistory
+count_without_a_table_endpoint = new_endpoint Server (closing 0)
+
+abbrev pub count_without_a_table : List Call
+count_without_a_table =
+    Deliver 0 (hex (codes "01080005d1d750811fc1")) ∷
+    PullStream 0 ∷
+    Deliver 4 (hex (codes "01080100d1d750811fc1")) ∷
+    PullStream 4 ∷
+    []
+
+abbrev pub count_without_a_table_answers : List Result
+count_without_a_table_answers =
+    Done ∷
+    Pulled (pulls.Item (item.Head (request_with []))) ∷
+    Done ∷
+    Pulled (pulls.Fault (fault.Connection 512)) ∷
+    []
+
+abbrev pub sign_without_a_table_endpoint : EndpointHistory
+sign_without_a_table_endpoint = new_endpoint Server (closing 0)
+
+abbrev pub sign_without_a_table : List Call
+sign_without_a_table =
+    Deliver 0 (hex (codes "01080080d1d750811fc1")) ∷
+    PullStream 0 ∷
+    []
+
+abbrev pub sign_without_a_table_answers : List Result
+sign_without_a_table_answers =
+    Done ∷
+    Pulled (pulls.Fault (fault.Connection 512)) ∷
+    []
+
+-- WebTransport is not announced: 0x41 is a frame of unknown type, with a length, in front of a request
+abbrev pub session_frame_not_announced_endpoint : EndpointHistory
+session_frame_not_announced_endpoint = new_endpoint Server (closing 0)
+
+abbrev pub session_frame_not_announced : List Call
+session_frame_not_announced =
+    Deliver 0 (hex (codes "40410461626364")) ∷
+    Deliver 0 (hex (codes "01080000d1d7c1500161")) ∷
+    PullStream 0 ∷
+    []
+
+abbrev pub session_frame_not_announced_answers : List Result
+session_frame_not_announced_answers =
+    Done ∷
+    Done ∷
+    Pulled (pulls.Item (item.Head (head (field (codes ":method") (codes "GET") ∷ field (codes ":scheme") (codes "https") ∷ field (codes ":path") (codes "/") ∷ field (codes ":authority") (codes "a") ∷ [])))) ∷
+    []
+
+-- and of a response
+abbrev pub session_frame_in_a_response_endpoint : EndpointHistory
+session_frame_in_a_response_endpoint = new_endpoint Client (closing 0)
+
+abbrev pub session_frame_in_a_response : List Call
+session_frame_in_a_response =
+    OpenRequest ∷
+    Deliver 0 (hex (codes "40410461626364")) ∷
+    Deliver 0 (hex (codes "01030000d9")) ∷
+    PullStream 0 ∷
+    []
+
+abbrev pub session_frame_in_a_response_answers : List Result
+session_frame_in_a_response_answers =
+    Opened 0 ∷
+    Done ∷
+    Done ∷
+    Pulled (pulls.Item (item.Head (head (field (codes ":status") (codes "200") ∷ [])))) ∷
+    []
+
+-- and behind the settings
+abbrev pub session_frame_on_the_control_stream_endpoint : EndpointHistory
+session_frame_on_the_control_stream_endpoint = new_endpoint Server (closing 0)
+
+abbrev pub session_frame_on_the_control_stream : List Call
+session_frame_on_the_control_stream =
+    Deliver 2 (hex (codes "00040040410461626364")) ∷
+    Deliver 2 (hex (codes "0701004041046162")) ∷
+    Deliver 2 (hex (codes "63640701")) ∷
+    Deliver 2 (hex (codes "04")) ∷
+    []
+
+abbrev pub session_frame_on_the_control_stream_answers : List Result
+session_frame_on_the_control_stream_answers =
+    Done ∷
+    Done ∷
+    Done ∷
+    Refused (refusal.Connection 264) ∷
+    []
+
+-- and 0x54 is a stream of unknown type
+abbrev pub session_stream_not_announced_endpoint : EndpointHistory
+session_stream_not_announced_endpoint = new_endpoint Server (closing 0)
+
+abbrev pub session_stream_not_announced : List Call
+session_stream_not_announced =
+    Deliver 14 (hex (codes "40540161626364")) ∷
+    PullStream 14 ∷
+    []
+
+abbrev pub session_stream_not_announced_answers : List Result
+session_stream_not_announced_answers =
+    Done ∷
+    Pulled pulls.NoMessages ∷
+    []
+
+-- but at an endpoint that does not ask for that a session begins
+abbrev pub session_frame_loosely_endpoint : EndpointHistory
+session_frame_loosely_endpoint = new_endpoint Server (plain 1000 0 0)
+
+abbrev pub session_frame_loosely : List Call
+session_frame_loosely =
+    Deliver 0 (hex (codes "40410461626364")) ∷
+    PullStream 0 ∷
+    PullStream 0 ∷
+    []
+
+abbrev pub session_frame_loosely_answers : List Result
+session_frame_loosely_answers =
+    Done ∷
+    Pulled (pulls.Item (item.Session 4)) ∷
+    Pulled (pulls.Item (item.Raw (hex (codes "61626364")))) ∷
     []

@@ -6,6 +6,7 @@ use Rattle.h3_proto.specs.declared.config.Config.{Config}
 use Rattle.h3_proto.specs.declared.frame.SettingsError.TheVariants.{InvalidSettingValue}
 use Rattle.h3_connection.specs.declared.setup.Announced.{Announced}
 use Rattle.h3_world.specs.Setup.{IsMade, IsMadeSetup, announced_at}
+use Rattle.h3_world.specs.TakesLaws.{refusal_is}
 use Rattle.std.proofs.lemmas.Bool.{eqb-true, ne_eqb}
 use Rattle.std.specs.Prelude.{◌&&◌, ◌||◌, find, Option, Some, option_map}
 use Rattle.h3_proto.specs.Config.{is_enabled}
@@ -25,7 +26,6 @@ use Rattle.h3_world.specs.Following.{opening}
 use Rattle.std.specs.Prelude.{unwrap_or}
 use Rattle.h3_proto.specs.ReceivedLaws.{announced_received_with_table}
 use Rattle.h3_proto.specs.declared.stream.Side.{Side}
-use Rattle.h3_proto.specs.declared.stream.Side.TheVariants.{Client, Server}
 use Rattle.h3_world.specs.declared.setup.Setup.{Setup}
 use Rattle.h3_headline.specs.PeerStreams.{Announces, Parts}
 use Rattle.h3_headline.specs.Standing.{with_meaning}
@@ -172,20 +172,11 @@ judged_alike side own pairs =
         is_strict own && ((judges_connect side && nat_lt 1 (unwrap_or c 0)) || nat_lt 1 (unwrap_or d 0)
         || (is_enabled 0x2b603742 own.settings && (nat_lt 1 (unwrap_or w 0) || (not (unwrap_or w 0 == 0) && not (not (unwrap_or d 0 == 0))))))
 
-neither : (a b : Bool) → not (a || b) ≡ true → (a ≡ false) × (b ≡ false)
-neither true b e = absurd (cc)
-neither false true e = absurd (cc)
-neither false false e = (refl, refl)
-
 -- **Each side takes the settings of the other one.**
 pub takes_at : (setup : Setup) (side : Side) → IsMadeSetup setup → settings_refused side (announced_at setup side) (Some (with_meaning (announced_at setup (other side)).settings)) ≡ false
-takes_at setup Client made =
-    judged_alike Client setup.client setup.server.settings
-    ∙ (neither (refuses_settings Client setup.client setup.server.settings) (refuses_settings Server setup.server setup.client.settings) made.takes).0
-takes_at setup Server made =
-    judged_alike Server setup.server setup.client.settings
-    ∙ (neither (refuses_settings Client setup.client setup.server.settings) (refuses_settings Server setup.server setup.client.settings) made.takes).1
+takes_at setup side made =
+    judged_alike side (announced_at setup side) (announced_at setup (other side)).settings
+    ∙ refusal_is side (announced_at setup side) (announced_at setup (other side)) (made.sides side) (made.sides (other side)) ∙ made.take side
 
 pub announces_at : (setup : Setup) (side : Side) → IsMadeSetup setup → Announces (announced_at setup side)
-announces_at setup Client made = announces setup.client made.client
-announces_at setup Server made = announces setup.server made.server
+announces_at setup side made = announces (announced_at setup side) (made.sides side)

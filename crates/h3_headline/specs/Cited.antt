@@ -10,7 +10,7 @@ use Rattle.h3_world.specs.Step.{Step, IsExact}
 use Rattle.h3_world.specs.World.{World, empty_world}
 use Rattle.std.specs.Prelude.{◌≡◌, ℕ, ◌-◌, List, Some, Bool, ◌^◌, ◌<◌, ◌≤◌, false, ◌++◌, length, take, flat_map}
 use Rattle.h3_field.specs.Instruction.{EncoderInstruction, encoder_bytes, DecoderInstruction, decoder_bytes}
-use Rattle.h3_qpack.specs.DecoderState.{DecoderState, announcing, decoder_after_all}
+use Rattle.h3_qpack.specs.DecoderState.{DecoderState, announcing, checking, decoder_after_all}
 use Rattle.std.specs.List.{AllByRecursion}
 use Rattle.h3_field.specs.Field.{Field, section_size}
 use Rattle.h3_field.specs.InstructionAnswer.{IsReply}
@@ -37,10 +37,10 @@ pub record WorldLaws : Type 0 where
   pub machine : (setup : Setup) (w : World) (e : Event) → IsSoundWorld setup w → Step setup w e (served setup w e).0 (served setup w e).1 × IsExact w e (served setup w e).0
   pub both : (setup : Setup) (w new : World) (e : Event) (a : Answer) → IsSendable setup e → Step setup w e a new → IsExact w e a → IsSoundWorld setup w → Happens setup w e a new × IsSoundWorld setup new
 
--- a decoder that announced this capacity reads as many of the encoder's instructions
-pub record IsRead (capacity : ℕ) (instructions : List EncoderInstruction) : Type 0 where
+-- a decoder that began so reads as many of the encoder's instructions
+pub record IsRead (first : DecoderState) (instructions : List EncoderInstruction) : Type 0 where
   pub decoder : DecoderState
-  pub reads : decoder_after_all (Some (announcing capacity)) instructions ≡ Some decoder
+  pub reads : decoder_after_all (Some first) instructions ≡ Some decoder
 
 pub record StreamLaws : Type 0 where
   pub sound : (counts : Bool) (most announced limit : ℕ) (events : List SessionEvent) (s : Session) → SessionRun (beginning counts most announced limit) events s → IsSound s
@@ -48,8 +48,8 @@ pub record StreamLaws : Type 0 where
       hear r (take n (flat_map encoder_bytes all)) ≡ heard new (rest_in encoder_bytes n all) false
   pub listened_fronts : (s : EncoderHistory) (all : List DecoderInstruction) (n : ℕ) → AllByRecursion IsReply all → AreAccepted s (decoder_instructions_in n all) →
       listen s (take n (flat_map decoder_bytes all)) ≡ listened (encoder_after_all s (decoder_instructions_in n all)) (rest_in decoder_bytes n all) false
-  pub tables_read : (announced capacity : ℕ) (instructions : List EncoderInstruction) (inserted : List Field) (k : ℕ) → capacity ≤ announced → IsReadAs announced capacity instructions inserted → k ≤ length (opening capacity ++ instructions) →
-      (r : DecoderState) × (decoder_after_all (Some (announcing announced)) (take k (opening capacity ++ instructions)) ≡ Some r) × HasInsertions announced capacity (take (k - length (opening capacity)) inserted) r
+  pub tables_read : (checks : Bool) (announced capacity : ℕ) (instructions : List EncoderInstruction) (inserted : List Field) (k : ℕ) → capacity ≤ announced → IsReadAs announced capacity instructions inserted → k ≤ length (opening capacity ++ instructions) →
+      (r : DecoderState) × (decoder_after_all (Some (checking checks (announcing announced))) (take k (opening capacity ++ instructions)) ≡ Some r) × HasInsertions announced capacity (take (k - length (opening capacity)) inserted) r
   pub written : (counts : Bool) (most announced limit : ℕ) (events : List SessionEvent) (s : Session) (b : UndecodedSection) → SessionRun (beginning counts most announced limit) events s → oldest b.stream s.sections ≡ Some b →
       AllByRecursion IsFieldOfBytes b.fields → section_size b.fields < 2 ^ 62 → length (encoded_section b.encoder b.fields) < 2 ^ 63 → IsWritten s b
   pub values : (counts : Bool) (most announced limit other : ℕ) (events : List SessionEvent) (s : Session) (b : UndecodedSection) (r : DecoderState) → SessionRun (beginning counts most announced limit) events s → IsDecoderAt other s r →

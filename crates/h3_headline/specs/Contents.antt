@@ -1,6 +1,6 @@
 -- What a flow carries, what was handed out of it, and what one step or a whole run changes of both.
 use Rattle.std.proofs.Common.{List, [], ◌∷◌, Bool, Some, ℕ, Option, ◌++◌, ◌≡◌, true, false, ◌+◌, length}
-use Rattle.std.specs.Prelude.{map, flat_map, take, slice_get, ◌||◌, ◌&&◌, if◌then◌else◌}
+use Rattle.std.specs.Prelude.{map, flat_map, take, slice_get, ◌||◌, ◌&&◌, if◌then◌else◌, is_some}
 use Rattle.h3_world.specs.Flow.{Part, Flow}
 use Rattle.h3_world.specs.Flow.Part.{Interim, Head, Body, Trailer, End}
 use Rattle.std.specs.List.{list_any}
@@ -71,6 +71,10 @@ KeepsParts w new = (writer : Side) (id : ℕ) → HasSameParts (flow w writer id
 -- A delivery, by its answer and the world after it.
 abbrev pub KeepsAfter : World → Answer × World → Type 0
 KeepsAfter w next = KeepsParts w next.1
+
+-- a stream that was given up stays so
+abbrev pub GoneStays : World → World → Type 0
+GoneStays w new = (writer : Side) (id : ℕ) → is_some (flow w writer id).fault ≡ true → is_some (flow new writer id).fault ≡ true
 
 -- who reads what the side writes
 abbrev pub reader_of : Setup → Side → Reader

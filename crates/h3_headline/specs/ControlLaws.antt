@@ -20,6 +20,7 @@ use Rattle.h3_headline.specs.PeerStreams.{Announces, Reads, behind_type, new_byt
 use Rattle.h3_headline.specs.Standing.{AreGoaways, with_meaning}
 use Rattle.h3_headline.specs.UnitLaws.{drop_past, front_is, goes_on, none_whole, take_both, take_past}
 use Rattle.h3_headline.specs.WritesMoreLaws.{goaways_some, type_of_control}
+use Rattle.h3_wire.specs.declared.frame.kinds.FrameKinds.{FrameKinds}
 
 type_of_settings : encoding 4 ≡ 4 ∷ []
 unfolding encoding
@@ -38,16 +39,16 @@ few_goaways : (ids : List ℕ) → length ids ≤ length (flat_map goaway_encodi
 few_goaways [] = omega arith
 few_goaways (id ∷ ids) = omega (arith, few_goaways ids, goaways_some.some id, length-append (goaway_encoding id) (flat_map goaway_encoding ids))
 
-peer_within : (side : Side) (p : Peer) (bytes : List ℕ) → read_peer no_limit side (with_unread p bytes) ≡ read_within (length bytes) no_limit side (with_unread p bytes)
+peer_within : (kinds : FrameKinds) (side : Side) (p : Peer) (bytes : List ℕ) → read_peer kinds no_limit side (with_unread p bytes) ≡ read_within kinds (length bytes) no_limit side (with_unread p bytes)
 unfolding read_peer
-peer_within side p bytes = refl
+peer_within kinds side p bytes = refl
 
 fits_of : (a n : ℕ) → nat_le a n ≡ true → a ≤ n
 fits_of a n e = grind (arith, common_steps, e)
 
 -- the settings were there before
 known_before : (writer : Side) (a : Announced) (came count : ℕ) (gs : List ℕ) → AreGoaways writer None gs → length (settings_bytes a) ≤ came → Reads writer a came count gs true true
-known_before writer a came count gs all fits =
+known_before writer a came count gs all fits kinds =
     let L = length (settings_bytes a) in
     let S = settings_frame_of a in
     let G = flat_map goaway_encoding gs in
@@ -70,10 +71,10 @@ known_before writer a came count gs all fits =
     let later = goaways_behind writer None (whole_in goaway_encoding few gs) gs all in
     let last : AreGoaways writer (last_id p.goaways) behind = subst (λ o. AreGoaways writer o behind) (last_of_none p.goaways) later in
     let enough : length ids ≤ length (flat_map goaway_encoding ids ++ rest) = omega (arith, few_goaways ids, length-append (flat_map goaway_encoding ids) rest) in
-    peer_within (other writer) p (rest_in goaway_encoding few gs ++ bytes)
-    ∙ ap (λ l. read_within (length l) no_limit (other writer) (with_unread p l)) cut
-    ∙ goaways_read ids (length (flat_map goaway_encoding ids ++ rest)) writer p (with_meaning a.settings) rest refl enough
-    (goaways_front writer (last_id p.goaways) (whole_in goaway_encoding g.count behind) behind last) (rest_unfinished behind g.count writer (last_id p.goaways) last)
+    peer_within kinds (other writer) p (rest_in goaway_encoding few gs ++ bytes)
+    ∙ ap (λ l. read_within kinds (length l) no_limit (other writer) (with_unread p l)) cut
+    ∙ goaways_read kinds ids (length (flat_map goaway_encoding ids ++ rest)) writer p (with_meaning a.settings) rest refl enough
+    (goaways_front writer (last_id p.goaways) (whole_in goaway_encoding g.count behind) behind last) (rest_unfinished kinds behind g.count writer (last_id p.goaways) last)
     ∙ ap (λ l. no_fault (record p { goaways = l; unread = rest })) (sym g.whole)
     ∙ ap (λ l. no_fault (record p { goaways = take (whole_in goaway_encoding many gs) gs; unread = l })) (sym g.rest)
 
@@ -112,7 +113,7 @@ no_goaways a n gs short =
     ap (λ m. take (whole_in goaway_encoding m gs) gs) none ∙ ap (λ k. take k gs) (none_whole goaway_encoding goaways_some gs)
 
 still_unknown : (writer : Side) (a : Announced) (came count : ℕ) (gs : List ℕ) → Announces a → came + count < length (settings_bytes a) → Reads writer a came count gs false false
-still_unknown writer a came count gs h short =
+still_unknown writer a came count gs h short kinds =
     let S = settings_frame_of a in
     let G = flat_map goaway_encoding gs in
     let size = length_settings a in
@@ -123,14 +124,14 @@ still_unknown writer a came count gs h short =
     let all : p.unread ++ new_bytes writer a came count gs ≡ take many S =
     joined a came count G (omega (arith, short)) ∙ take-append-le many S G (omega (arith, less)) in
     let same : came - length (settings_bytes a) ≡ came + count - length (settings_bytes a) = omega (arith, short) in
-    peer_within (other writer) p (p.unread ++ new_bytes writer a came count gs)
-    ∙ ap (λ l. read_within (length l) no_limit (other writer) (with_unread p l)) all
-    ∙ waits (length (take many S)) (other writer) p (take many S) (settings_wait a many h less)
+    peer_within kinds (other writer) p (p.unread ++ new_bytes writer a came count gs)
+    ∙ ap (λ l. read_within kinds (length l) no_limit (other writer) (with_unread p l)) all
+    ∙ waits kinds (length (take many S)) (other writer) p (take many S) (settings_wait kinds a many h less)
     ∙ ap (λ l. no_fault (with_unread p l)) (sym (settings_front a (came + count)))
     ∙ ap (λ n. no_fault (record p { unread = drop 1 (take (came + count) (settings_bytes a)); goaways = take (whole_in goaway_encoding n gs) gs })) same
 
 now_known : (writer : Side) (a : Announced) (came count : ℕ) (gs : List ℕ) → Announces a → AreGoaways writer None gs → came < length (settings_bytes a) → length (settings_bytes a) ≤ came + count → Reads writer a came count gs false true
-now_known writer a came count gs h all short fits =
+now_known writer a came count gs h all short fits kinds =
     let L = length (settings_bytes a) in
     let S = settings_frame_of a in
     let G = flat_map goaway_encoding gs in
@@ -151,11 +152,11 @@ now_known writer a came count gs h all short fits =
     let q = record p { settings = Some (with_meaning a.settings) } in
     let none = no_goaways a came gs short in
     let first : AreGoaways writer (last_id q.goaways) ids = subst (λ l. AreGoaways writer (last_id l) ids) (sym none) (goaways_front writer None (whole_in goaway_encoding n gs) gs all) in
-    peer_within (other writer) p (p.unread ++ new_bytes writer a came count gs)
-    ∙ ap (λ l. read_within (length l) no_limit (other writer) (with_unread p l)) cut
-    ∙ ap (λ m. read_within m no_limit (other writer) (with_unread p (S ++ more))) fuel
-    ∙ settings_read most (other writer) p a more h refl
-    ∙ goaways_read ids most writer q (with_meaning a.settings) rest refl enough first (rest_unfinished gs n writer None all)
+    peer_within kinds (other writer) p (p.unread ++ new_bytes writer a came count gs)
+    ∙ ap (λ l. read_within kinds (length l) no_limit (other writer) (with_unread p l)) cut
+    ∙ ap (λ m. read_within kinds m no_limit (other writer) (with_unread p (S ++ more))) fuel
+    ∙ settings_read kinds most (other writer) p a more h refl
+    ∙ goaways_read kinds ids most writer q (with_meaning a.settings) rest refl enough first (rest_unfinished kinds gs n writer None all)
     ∙ ap (λ l. no_fault (record q { goaways = l ++ ids; unread = rest })) none
 
 -- **Further bytes of the control stream.**

@@ -1,7 +1,7 @@
 -- The decoder of an endpoint, by the session of its sender's direction.
 use Rattle.std.proofs.Common.{ℕ, ◌≡◌, ◌+◌, ◌^◌, ◌<◌, if◌then◌else◌, Bool, false, List, Some, take, length}
 use Rattle.h3_qpack.specs.EncoderHistory.{EncoderHistory, using_table}
-use Rattle.h3_qpack.specs.DecoderState.{DecoderState, announcing, decoder_after_all}
+use Rattle.h3_qpack.specs.DecoderState.{DecoderState, decoder_after_all}
 use Rattle.h3_field.specs.Instruction.{EncoderInstruction}
 use Rattle.h3_qpack.specs.WholeInstructions.{is_insertion}
 use Rattle.h3_qpack.specs.DecodedSection.{decode_section}
@@ -12,6 +12,7 @@ use Rattle.h3_qpack.specs.Session.{Session, UndecodedSection, oldest, is_cancele
 use Rattle.h3_world.specs.Following.{EncodedSection, undecoded, sections_left}
 use Rattle.h3_field.specs.Field.{Field, section_size}
 use Rattle.h3_proto.specs.declared.stream.Side.{Side}
+use Rattle.h3_connection.specs.Endpoint.{first_decoder}
 use Rattle.h3_connection.specs.OwnIds.{other}
 use Rattle.h3_world.specs.declared.setup.Setup.{Setup}
 use Rattle.h3_world.specs.Came.{instructions_came}
@@ -53,7 +54,7 @@ pub record HasRead (announced capacity : ℕ) (inserted : List Field) (r : Decod
 
 -- what the decoder of the other side is after the instructions that came
 abbrev pub IsAfter : Setup → World → Side → DecoderState → Type 0
-IsAfter setup w writer r = decoder_after_all (Some (announcing (announced_at setup (other writer)).limits.table)) (instructions_came (party w writer)) ≡ Some r
+IsAfter setup w writer r = decoder_after_all (Some (first_decoder (announced_at setup (other writer)))) (instructions_came (party w writer)) ≡ Some r
 
 abbrev pub held : ℕ → List Field → List Field
 held capacity inserted = (table_state (table_of capacity inserted)).entries

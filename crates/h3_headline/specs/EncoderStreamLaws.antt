@@ -1,6 +1,6 @@
 -- What came of an encoder's stream is read as its instructions, and none is refused.
 use Rattle.std.proofs.Common.{ℕ, zero, suc, [], take, refl, ◌≡◌, ◌≤◌, Some, arith, min, inl, inr, ◌-◌, length, sym, ap, ◌∙◌, subst, true, if◌then◌else◌, ◌++◌, Bool, false, List, ◌∷◌, drop, flat_map}
-use Rattle.h3_qpack.specs.DecoderState.{announcing, DecoderState, decoder_after_all}
+use Rattle.h3_qpack.specs.DecoderState.{DecoderState, decoder_after_all}
 use Rattle.h3_qpack.specs.TableHistory.{IsReadAs, table_after_all, table_of}
 use Rattle.std.proofs.lemmas.Grind.{common_steps}
 use Rattle.std.proofs.lemmas.List.{nil_from_length}
@@ -8,7 +8,10 @@ use Rattle.h3_qpack.specs.Session.{Session}
 use Rattle.h3_world.specs.Following.{HasCapacity, HasSession, opening, limits_for}
 use Rattle.h3_qpack.specs.Exchange as exchange
 use Rattle.h3_proto.specs.declared.stream.Side.{Side}
+use Rattle.h3_connection.specs.Endpoint.{first_decoder}
 use Rattle.h3_connection.specs.OwnIds.{other}
+use Rattle.h3_connection.specs.StrictConnection.{is_strict}
+use Rattle.h3_connection.specs.declared.setup.Announced.{Announced}
 use Rattle.h3_world.specs.declared.setup.Setup.{Setup}
 use Rattle.h3_world.specs.Came.{settings_came}
 use Rattle.h3_world.specs.Setup.{IsMadeSetup, announced_at}
@@ -24,9 +27,9 @@ use Rattle.h3_headline.specs.AnnouncedLaws.{announces_at}
 use Rattle.h3_headline.specs.Cited.{IsRead, StreamLaws}
 use Rattle.h3_headline.specs.UnitLaws.{goes_on}
 
-nothing_read : (capacity k : ℕ) → IsRead capacity (take k [])
-nothing_read capacity zero = record { decoder = announcing capacity; reads = refl }
-nothing_read capacity (suc k) = record { decoder = announcing capacity; reads = refl }
+nothing_read : (first : DecoderState) (k : ℕ) → IsRead first (take k [])
+nothing_read first zero = record { decoder = first; reads = refl }
+nothing_read first (suc k) = record { decoder = first; reads = refl }
 
 none_read_as : (announced capacity : ℕ) → IsReadAs announced capacity [] []
 none_read_as announced capacity = record { one_each = refl; tables = tables }
@@ -59,21 +62,24 @@ opened_instructions setup w writer made h e =
 
 -- The other side's decoder reads any front of the side's instructions.
 pub instructions_read : (laws : StreamLaws) (setup : Setup) (w : World) (writer : Side) (k : ℕ) → IsMadeSetup setup → IsSoundParty setup w writer → k ≤ length (party w writer).own.instructions
-    → IsRead (announced_at setup (other writer)).limits.table (take k (party w writer).own.instructions)
+    → IsRead (first_decoder (announced_at setup (other writer))) (take k (party w writer).own.instructions)
 instructions_read laws setup w writer k made sound within = by_known (settings_came setup w (other writer)) refl
   where
-    capacity : ℕ
-    capacity = (announced_at setup (other writer)).limits.table
+    own : Announced
+    own = announced_at setup (other writer)
 
-    by_known : (b : Bool) → settings_came setup w (other writer) ≡ b → IsRead capacity (take k (party w writer).own.instructions)
+    capacity : ℕ
+    capacity = own.limits.table
+
+    by_known : (b : Bool) → settings_came setup w (other writer) ≡ b → IsRead (first_decoder own) (take k (party w writer).own.instructions)
     by_known true e =
         let h = sound.session in
         let s = h.session in
         let reads = read_as capacity s (subst (HasCapacity capacity) (sym h.follows.encoder) sound.writer.capacity) (laws.sound h.counts h.most 0 0 h.events s h.run).read in
         let all = opened_instructions setup w writer made h e in
-        let front = laws.tables_read capacity (min s.encoder.most_capacity capacity) s.instructions s.encoder.inserted k (least_right s.encoder.most_capacity capacity) reads (subst (λ is. k ≤ length is) all within) in
-        subst (λ is. IsRead capacity (take k is)) (sym all) (record { decoder = front.0; reads = front.1 })
-    by_known false e = subst (λ is. IsRead capacity (take k is)) (sym (sound.writer.unknown e).2) (nothing_read capacity k)
+        let front = laws.tables_read (is_strict own) capacity (min s.encoder.most_capacity capacity) s.instructions s.encoder.inserted k (least_right s.encoder.most_capacity capacity) reads (subst (λ is. k ≤ length is) all within) in
+        subst (λ is. IsRead (first_decoder own) (take k is)) (sym all) (record { decoder = front.0; reads = front.1 })
+    by_known false e = subst (λ is. IsRead (first_decoder own) (take k is)) (sym (sound.writer.unknown e).2) (nothing_read (first_decoder own) k)
 
 pub all_dropped : {X : Type 0} (P : X → Type 0) (k : ℕ) (xs : List X) → AllByRecursion P xs → AllByRecursion P (drop k xs)
 all_dropped P zero xs h = h
@@ -81,16 +87,16 @@ all_dropped P (suc k) [] h = tt
 all_dropped P (suc k) (x ∷ xs) h = all_dropped P k xs h.1
 
 -- What was left and what comes is read as the instructions that are now whole.
-pub heard_on : (laws : StreamLaws) (capacity : ℕ) (is : List EncoderInstruction) (few many : ℕ) (before : DecoderState) → few ≤ many → AllByRecursion IsWrittenInstruction is
-    → decoder_after_all (Some (announcing capacity)) (take (whole_in encoder_bytes few is) is) ≡ Some before → (after : IsRead capacity (take (whole_in encoder_bytes many is) is))
+pub heard_on : (laws : StreamLaws) (first : DecoderState) (is : List EncoderInstruction) (few many : ℕ) (before : DecoderState) → few ≤ many → AllByRecursion IsWrittenInstruction is
+    → decoder_after_all (Some first) (take (whole_in encoder_bytes few is) is) ≡ Some before → (after : IsRead first (take (whole_in encoder_bytes many is) is))
     → hear before (rest_in encoder_bytes few is ++ take (many - few) (drop few (flat_map encoder_bytes is))) ≡ heard after.decoder (rest_in encoder_bytes many is) false
-heard_on laws capacity is few many before h written was after =
+heard_on laws first is few many before h written was after =
     let g = goes_on encoder_bytes few many is h in
     let rest = drop (whole_in encoder_bytes few is) is in
     let reads : decoder_after_all (Some before) (take (whole_in encoder_bytes g.count rest) rest) ≡ Some after.decoder =
     ap (λ o. decoder_after_all o (take (whole_in encoder_bytes g.count rest) rest)) (sym was)
-    ∙ sym (decoder_after_append (Some (announcing capacity)) (take (whole_in encoder_bytes few is) is) (take (whole_in encoder_bytes g.count rest) rest))
-    ∙ ap (decoder_after_all (Some (announcing capacity))) (sym g.whole) ∙ after.reads in
+    ∙ sym (decoder_after_append (Some first) (take (whole_in encoder_bytes few is) is) (take (whole_in encoder_bytes g.count rest) rest))
+    ∙ ap (decoder_after_all (Some first)) (sym g.whole) ∙ after.reads in
     ap (hear before) g.bytes
     ∙ laws.heard_fronts before after.decoder rest g.count (all_dropped IsWrittenInstruction (whole_in encoder_bytes few is) is written) reads
     ∙ ap (λ l. heard after.decoder l false) (sym g.rest)

@@ -1,8 +1,8 @@
 -- What a receiver finds at the front of what it has not read.
 use Rattle.std.proofs.Common.{◌≡◌, ℕ, ◌+◌, ◌-◌, ◌≤◌, List, ◌++◌, length, take, refl, sym, ap, ◌∙◌, drop, take-append-drop, arith, length-append, Bool, subst, true, false, [], ◌∷◌, if◌then◌else◌, zero, suc, ◌<◌, nat_lt, ◌^◌, lit<}
 use Rattle.std.proofs.lemmas.List.{take_at, take-append-le, drop_at, drop-append-le, length-drop}
-use Rattle.h3_wire.specs.Frames.{Front, frame_at, Whole, Unfinished}
-use Rattle.h3_wire.specs.Known.{known}
+use Rattle.h3_wire.specs.Frames.{Front, frame_by, Whole, Unfinished}
+use Rattle.h3_wire.specs.Known.{known_by}
 use Rattle.h3_wire.specs.KnownLaws.{known-other}
 use Rattle.h3_wire.specs.Fronts.{IsKnown, IsUnfinishedFront}
 use Rattle.h3_wire.specs.declared.proto.frame.Frame.TheVariants as frame
@@ -21,6 +21,7 @@ use Rattle.h3_wire.specs.UnfinishedLaws.{front_of_frame, front_of_head}
 use Rattle.h3_wire.specs.EncodedLaws.{written_head}
 use Rattle.h3_headline.specs.Pulling.{IsLonger, with_unread}
 use Rattle.h3_headline.specs.Standing.{HasBytes}
+use Rattle.h3_wire.specs.declared.frame.kinds.FrameKinds.{FrameKinds}
 
 -- Of two lists that are equal with what follows them the shorter is the front of the longer.
 pub short_front : (some more front rest : List ℕ) → some ++ more ≡ front ++ rest → length some ≤ length front → some ≡ take (length some) front
@@ -44,30 +45,30 @@ came_so_far unread left whole before behind delivered parts within rest e =
     omega (arith, all, back, sum, within)
 
 -- nothing is skipped of a front that is no empty DATA frame
-skip_known : (go : List ℕ → List ℕ) (in_body : Bool) (bytes : List ℕ) (x : Front) → IsKnown x → frame_at bytes ≡ x → skip_front go in_body bytes x ≡ bytes
-    → skip_front go in_body (known bytes) (frame_at (known bytes)) ≡ bytes
-skip_known go in_body bytes x k at same =
-    ap (λ l. skip_front go in_body l (frame_at l)) (known-other bytes (subst IsKnown (sym at) k)) ∙ ap (skip_front go in_body bytes) at ∙ same
+skip_known : (kinds : FrameKinds) (go : List ℕ → List ℕ) (in_body : Bool) (bytes : List ℕ) (x : Front) → IsKnown x → frame_by kinds bytes ≡ x → skip_front go in_body bytes x ≡ bytes
+    → skip_front go in_body (known_by kinds bytes) (frame_by kinds (known_by kinds bytes)) ≡ bytes
+skip_known kinds go in_body bytes x k at same =
+    ap (λ l. skip_front go in_body l (frame_by kinds l)) (known-other kinds bytes (subst IsKnown (sym at) k)) ∙ ap (skip_front go in_body bytes) at ∙ same
 
 not_both : (a b : Bool) → b ≡ false → (a && b) ≡ false
 not_both true b e = e
 not_both false b e = refl
 
-pub skipped_whole : (in_body : Bool) (bytes : List ℕ) (f : Frame PayloadLen) (rest : List ℕ) → frame_at bytes ≡ Whole f rest → is_empty_data f ≡ false → skipped in_body bytes ≡ bytes
+pub skipped_whole : (kinds : FrameKinds) (in_body : Bool) (bytes : List ℕ) (f : Frame PayloadLen) (rest : List ℕ) → frame_by kinds bytes ≡ Whole f rest → is_empty_data f ≡ false → skipped kinds in_body bytes ≡ bytes
 unfolding skipped
-skipped_whole in_body [] f rest at full = refl
-skipped_whole in_body (byte ∷ bytes) f rest at full =
-    skip_known (skipped_within in_body (length bytes)) in_body (byte ∷ bytes) (Whole f rest) tt at
-    (ap (λ b. if b then skipped_within in_body (length bytes) rest else byte ∷ bytes) (not_both in_body (is_empty_data f) full))
+skipped_whole kinds in_body [] f rest at full = refl
+skipped_whole kinds in_body (byte ∷ bytes) f rest at full =
+    skip_known kinds (skipped_within kinds in_body (length bytes)) in_body (byte ∷ bytes) (Whole f rest) tt at
+    (ap (λ b. if b then skipped_within kinds in_body (length bytes) rest else byte ∷ bytes) (not_both in_body (is_empty_data f) full))
 
-pub skipped_unfinished : (in_body : Bool) (bytes : List ℕ) (least : ℕ) → frame_at bytes ≡ Unfinished least → skipped in_body bytes ≡ bytes
+pub skipped_unfinished : (kinds : FrameKinds) (in_body : Bool) (bytes : List ℕ) (least : ℕ) → frame_by kinds bytes ≡ Unfinished least → skipped kinds in_body bytes ≡ bytes
 unfolding skipped
-skipped_unfinished in_body [] least at = refl
-skipped_unfinished in_body (byte ∷ bytes) least at = skip_known (skipped_within in_body (length bytes)) in_body (byte ∷ bytes) (Unfinished least) tt at refl
+skipped_unfinished kinds in_body [] least at = refl
+skipped_unfinished kinds in_body (byte ∷ bytes) least at = skip_known kinds (skipped_within kinds in_body (length bytes)) in_body (byte ∷ bytes) (Unfinished least) tt at refl
 
-pub skipped_none : (in_body : Bool) → skipped in_body [] ≡ []
+pub skipped_none : (kinds : FrameKinds) (in_body : Bool) → skipped kinds in_body [] ≡ []
 unfolding skipped
-skipped_none in_body = refl
+skipped_none kinds in_body = refl
 
 -- all bytes are left
 pub left_all : (i : Incoming) → left_with i (concat i.unread) ≡ i
@@ -98,16 +99,16 @@ without_pieces (suc n) (p ∷ pieces) h = by_test (without_pieces (suc n - lengt
     by_test later false e = later
 
 -- What bytes are the front of a frame that is not whole: none, or an unfinished one.
-pub unfinished_section : (section unread : List ℕ) → length section < 2 ^ 62 → length unread < length (frame_encoding 1 section) → unread ≡ take (length unread) (frame_encoding 1 section)
-    → IsUnfinishedFront unread
-unfinished_section section unread small few is =
-    let u = front_of_frame 1 section (length unread) (lit< tt) small refl refl few in
-    (u.0, ap frame_at is ∙ u.1)
+pub unfinished_section : (kinds : FrameKinds) (section unread : List ℕ) → length section < 2 ^ 62 → length unread < length (frame_encoding 1 section) → unread ≡ take (length unread) (frame_encoding 1 section)
+    → IsUnfinishedFront kinds unread
+unfinished_section kinds section unread small few is =
+    let u = front_of_frame kinds 1 section (length unread) (lit< tt) small refl refl few in
+    (u.0, ap (frame_by kinds) is ∙ u.1)
 
-pub unfinished_data : (size : ℕ) (unread : List ℕ) → size < 2 ^ 62 → length unread < length (head_encoding 0 size) → unread ≡ take (length unread) (head_encoding 0 size) → IsUnfinishedFront unread
-unfinished_data size unread small few is =
-    (length unread + 1, ap frame_at is ∙ front_of_head 0 size (length unread) (lit< tt) small few)
+pub unfinished_data : (kinds : FrameKinds) (size : ℕ) (unread : List ℕ) → size < 2 ^ 62 → length unread < length (head_encoding 0 size) → unread ≡ take (length unread) (head_encoding 0 size) → IsUnfinishedFront kinds unread
+unfinished_data kinds size unread small few is =
+    (length unread + 1, ap (frame_by kinds) is ∙ front_of_head kinds 0 size (length unread) (lit< tt) small few)
 
 -- the head of a DATA frame is read
-pub data_front : (size : ℕ) (behind : List ℕ) → size < 2 ^ 62 → frame_at (head_encoding 0 size ++ behind) ≡ Whole (frame.Data (record { 0 = size })) behind
-data_front size behind small = written_head 0 size behind (lit< tt) small
+pub data_front : (kinds : FrameKinds) (size : ℕ) (behind : List ℕ) → size < 2 ^ 62 → frame_by kinds (head_encoding 0 size ++ behind) ≡ Whole (frame.Data (record { 0 = size })) behind
+data_front kinds size behind small = written_head kinds 0 size behind (lit< tt) small

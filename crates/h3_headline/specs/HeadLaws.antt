@@ -11,7 +11,7 @@ use Rattle.h3_connection.specs.Sections.{written_section, own_instructions}
 use Rattle.h3_connection.specs.Lasts.{last_id}
 use Rattle.h3_connection.specs.StrictConnection.{begins_none_after}
 use Rattle.h3_connection.specs.Refusals.{is_too_large, first_of, refusal_of_head, refusal_of_trailer, unless_going}
-use Rattle.h3_connection.specs.Sending.{appended as part_appended, counted, encoded, fields_cost, asked, awaiting_at, head_part, does, content_of_own, known_of, saying_at}
+use Rattle.h3_connection.specs.Sending.{appended as part_appended, broken_head_at, counted, encoded, fields_cost, asked, head_part, does, content_of_own, known_of, saying_at, telling_at}
 use Rattle.h3_connection.specs.StreamSets.{stream_at}
 use Rattle.h3_world.specs.declared.setup.Setup.{Setup}
 use Rattle.h3_world.specs.declared.event.Answer.TheVariants as answer
@@ -25,7 +25,7 @@ use Rattle.h3_world.specs.Came.{settings_known}
 use Rattle.h3_world.specs.Setup.{announced_at, IsPlain, takes_any}
 use Rattle.std.specs.Prelude.{option_map, not, ◌&&◌, is_some, ◌||◌}
 use Rattle.h3_connection.specs.StrictMessages.{malformation_by}
-use Rattle.h3_connection.specs.StrictSending.{broken_head, broken_protocol, violation_of_own_head, broken_trailer, unless_malformed, early_trailer}
+use Rattle.h3_connection.specs.StrictSending.{broken_protocol, violation_of_own_head, broken_trailer, unless_malformed, early_trailer}
 use Rattle.h3_connection.specs.Sending as sender
 use Rattle.h3_connection.specs.declared.event.Malformation.{Malformation}
 use Rattle.h3_connection.specs.declared.event.Malformation.TheVariants as malformation
@@ -36,7 +36,6 @@ use Rattle.h3_proto.specs.declared.stream.Side.TheVariants.{Client, Server}
 use Rattle.h3_connection.specs.Pulling.{is_client, is_for, is_interim}
 use Rattle.h3_header.specs.HeadTests.{takes_protocol}
 use Rattle.h3_header.specs.ReadsBack.{as_read}
-use Rattle.h3_messages.specs.Content.{awaited_by}
 use Rattle.h3_header.specs.Reads.{head_of_fields}
 use Rattle.h3_connection.specs.Outgoing.OwnPart.{OwnInterim, OwnHead, OwnTrailer}
 use Rattle.h3_connection.specs.declared.event.Refusal.{Refusal}
@@ -121,9 +120,9 @@ too_large_agrees setup w side e fields h = ap (λ o. is_too_large o fields) h.co
     by_there false = refl
 
 -- an endpoint that asks for no strict messages refuses no list by their rules
-no_broken_head : (setup : Setup) (w : World) (side : Side) (e : EndpointHistory) (fields : List Field) → IsPlain (announced_at setup side) → StandsAt setup w side e → broken_head e.side e.announced e.peer.settings fields ≡ None
-no_broken_head setup w side e fields plain h =
-    ap (λ b. let rule : Option Malformation = if b then option_map malformation_by (violation_of_own_head e.side e.peer.settings fields) else None in rule) (ap (λ (a : Announced). a.choices.strict_messages) h.announced ∙ plain.0)
+no_broken_head : (setup : Setup) (w : World) (side : Side) (e : EndpointHistory) (id : ℕ) (fields : List Field) → IsPlain (announced_at setup side) → StandsAt setup w side e → broken_head_at e id fields ≡ None
+no_broken_head setup w side e id fields plain h =
+    ap (λ b. let rule : Option Malformation = if b then option_map malformation_by (violation_of_own_head e.side e.peer.settings (known_of (stream_at e.incoming id)) fields) else None in rule) (ap (λ (a : Announced). a.choices.strict_messages) h.announced ∙ plain.0)
 
 no_broken_trailer : (setup : Setup) (w : World) (side : Side) (e : EndpointHistory) (fields : List Field) → IsPlain (announced_at setup side) → StandsAt setup w side e → broken_trailer e.announced fields ≡ None
 no_broken_trailer setup w side e fields plain h =
@@ -160,7 +159,7 @@ unasked : (setup : Setup) (w : World) (side : Side) (e f : EndpointHistory) (id 
 unasked setup w side e f id fields plain h same =
     let is : f.announced.choices.strict_messages ≡ false = ap (λ (a : Announced). a.choices.strict_messages) (same ∙ h.announced) ∙ plain.0 in
     ap (λ b. let g : EndpointHistory = record f {
-      incoming = if b && is_client f.side then awaiting_at f.incoming id (awaited_by fields) (stream_at f.incoming id) else f.incoming;
+      incoming = if b then telling_at f.side f.incoming id fields (stream_at f.incoming id) else f.incoming;
       outgoing = if b then saying_at f.outgoing id (content_of_own f.side (known_of (stream_at f.incoming id)) fields) (stream_at f.outgoing id) else f.outgoing;
     } in g) is
 
@@ -188,7 +187,7 @@ heads_served : (setup : Setup) (w : World) (ends : Ends) (side : Side) (id : ℕ
     → (broken ≡ None → IsWritableAs setup w side id head fields)
     → Serves setup
     (ends_of.done ends side answer.Done
-    (does (sender.unless_closed (end_at ends side) (refusal_of_head (sender.sender_at (end_at ends side) id) told (broken_head (end_at ends side).side (end_at ends side).announced (end_at ends side).peer.settings fields) head fields)) (end_at ends side)
+    (does (sender.unless_closed (end_at ends side) (refusal_of_head (sender.sender_at (end_at ends side) id) told (broken_head_at (end_at ends side) id fields) head fields)) (end_at ends side)
     (asked (counted (part_appended (encoded (end_at ends side) id fields) id (head_part head (written_section (end_at ends side).encoder id fields))) (fields_cost fields)) id fields)))
     (machine.done (refusal_of_head (sender_at setup w side id) broken None head fields) w answer.Done (with_section (if is_interim head.status then Interim else Head) w side id fields))
 heads_served setup w ends side id head fields told broken plain h same writable =
@@ -200,16 +199,16 @@ heads_served setup w ends side id head fields told broken plain h same writable 
     let going = begins_none_after e.announced e.side (last_id e.peer.goaways) in
     let none = none_after setup w side in
     let after = with_section (if is_interim head.status then Interim else Head) w side id fields in
-    let here = refusal_of_head (sender.sender_at e id) told (broken_head e.side e.announced e.peer.settings fields) head fields in
+    let here = refusal_of_head (sender.sender_at e id) told (broken_head_at e id fields) head fields in
     let there = refusal_of_head (sender_at setup w side id) broken None head fields in
     subst (λ n. Serves setup (ends_of.done ends side answer.Done (does (sender.unless_closed e here) e n)) (machine.done there w answer.Done after)) (sym (unasked setup w side e new id fields plain b.here refl))
     (call_agrees setup w after ends side answer.Done answer.Done (sender.unless_closed e here) there new h
-    (refusal_agrees setup w side id e (λ o. (not (takes_head o), refusal.OutOfOrder) ∷ unless_going going (unless_malformed told ((not (is_for (other e.side) head), refusal.WrongSide) ∷ unless_malformed (broken_head e.side e.announced e.peer.settings fields) ((is_too_large e.peer.settings fields, size) ∷ [])))) b.here
-    ∙ ap (λ g. first_of ((not (is_open w side id), refusal.NotOpen) ∷ (not (takes_head to), refusal.OutOfOrder) ∷ unless_going g (unless_malformed told ((not (is_for (other e.side) head), refusal.WrongSide) ∷ unless_malformed (broken_head e.side e.announced e.peer.settings fields) ((is_too_large e.peer.settings fields, size) ∷ [])))))
+    (refusal_agrees setup w side id e (λ o. (not (takes_head o), refusal.OutOfOrder) ∷ unless_going going (unless_malformed told ((not (is_for (other e.side) head), refusal.WrongSide) ∷ unless_malformed (broken_head_at e id fields) ((is_too_large e.peer.settings fields, size) ∷ [])))) b.here
+    ∙ ap (λ g. first_of ((not (is_open w side id), refusal.NotOpen) ∷ (not (takes_head to), refusal.OutOfOrder) ∷ unless_going g (unless_malformed told ((not (is_for (other e.side) head), refusal.WrongSide) ∷ unless_malformed (broken_head_at e id fields) ((is_too_large e.peer.settings fields, size) ∷ [])))))
     (going_agrees setup w side e b.here)
-    ∙ ap (λ p. first_of ((not (is_open w side id), refusal.NotOpen) ∷ (not (takes_head to), refusal.OutOfOrder) ∷ unless_going none (unless_malformed p ((not (is_for (other e.side) head), refusal.WrongSide) ∷ unless_malformed (broken_head e.side e.announced e.peer.settings fields) ((is_too_large e.peer.settings fields, size) ∷ []))))) same
+    ∙ ap (λ p. first_of ((not (is_open w side id), refusal.NotOpen) ∷ (not (takes_head to), refusal.OutOfOrder) ∷ unless_going none (unless_malformed p ((not (is_for (other e.side) head), refusal.WrongSide) ∷ unless_malformed (broken_head_at e id fields) ((is_too_large e.peer.settings fields, size) ∷ []))))) same
     ∙ ap (λ m. first_of ((not (is_open w side id), refusal.NotOpen) ∷ (not (takes_head to), refusal.OutOfOrder) ∷ unless_going none (unless_malformed broken ((not (is_for (other e.side) head), refusal.WrongSide) ∷ unless_malformed m ((is_too_large e.peer.settings fields, size) ∷ [])))))
-    (no_broken_head setup w side e fields plain b.here)
+    (no_broken_head setup w side e id fields plain b.here)
     ∙ ap (λ s. first_of ((not (is_open w side id), refusal.NotOpen) ∷ (not (takes_head to), refusal.OutOfOrder) ∷ unless_going none (unless_malformed broken ((not (is_for (other s) head), refusal.WrongSide) ∷ (is_too_large e.peer.settings fields, size) ∷ [])))) b.here.side_is
     ∙ ap (λ t. first_of ((not (is_open w side id), refusal.NotOpen) ∷ (not (takes_head to), refusal.OutOfOrder) ∷ unless_going none (unless_malformed broken ((not (is_for (other side) head), refusal.WrongSide) ∷ (t, size) ∷ [])))) (too_large_agrees setup w side e fields b.here))
     (λ goes.

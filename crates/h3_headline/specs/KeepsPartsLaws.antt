@@ -36,7 +36,7 @@ same_flow w Server Server i id e = ap (λ j. flow w Server j) (sym (same_number 
 same_flow w Client Server i id e = cc
 same_flow w Server Client i id e = cc
 
-there_with_flow : (w : World) (s : Side) (i : ℕ) (f : Flow) → IsThere w i → IsThere (with_flow w s i f) i
+pub there_with_flow : (w : World) (s : Side) (i : ℕ) (f : Flow) → IsThere w i → IsThere (with_flow w s i f) i
 there_with_flow w Client i f h = record { request = h.request; place = omega (arith, h.place, set_length w.exchanges (index_of i) (record (exchange w i) { request = f })) }
 there_with_flow w Server i f h = record { request = h.request; place = omega (arith, h.place, set_length w.exchanges (index_of i) (record (exchange w i) { response = f })) }
 
@@ -78,15 +78,15 @@ true_then : (b c : Bool) → (b || c) ≡ true → b ≡ false → c ≡ true
 true_then true c e f = absurd (differ f)
 true_then false c e f = e
 
-neither : (b c : Bool) → (b || c) ≡ false → b ≡ false
+pub neither : (b c : Bool) → (b || c) ≡ false → b ≡ false
 neither true c e = absurd (differ e)
 neither false c e = refl
 
-not_is : (b : Bool) → not b ≡ true → b ≡ false
+pub not_is : (b : Bool) → not b ≡ true → b ≡ false
 not_is true e = absurd (differ (sym e))
 not_is false e = refl
 
-request_there : (w : World) (s : Side) (i : ℕ) → has_outgoing w s i ≡ true → is_own s i ≡ false → IsThere w i
+pub request_there : (w : World) (s : Side) (i : ℕ) → has_outgoing w s i ≡ true → is_own s i ≡ false → IsThere w i
 request_there w s i there request = open_there w s i (true_then (is_own s i) (is_open w s i) there request)
 
 keeps_own : (setup : Setup) (w : World) (s : Side) (i count : ℕ) → KeepsParts w (delivered_own setup w s i count)

@@ -23,7 +23,7 @@ use Rattle.h3_proto.specs.declared.stream.Side.{Side}
 use Rattle.h3_connection.specs.OwnIds.{other, control_id}
 use Rattle.std.proofs.lemmas.Bool.{and_right}
 use Rattle.h3_wire.specs.FirstFrames.{begins_other}
-use Rattle.h3_connection.specs.StrictConnection.{is_strict, settings_refused}
+use Rattle.h3_connection.specs.StrictConnection.{is_strict, settings_refused, kinds_of}
 use Rattle.h3_connection.specs.StrictConnectionLaws.{held_taken, known_missed}
 use Rattle.h3_connection.specs.PeerReading.{Peer, PeerFound, with_unread, read_peer}
 use Rattle.h3_connection.specs.Unidirectional.{Unidirectional}
@@ -158,21 +158,21 @@ control_came laws setup side e came count gs replies_came replies stream h m = b
         let on = record first { control_on = Some id } in
         let before = peer_by a knew came gs in
         let is = peer_is setup side came gs stream e.control_on e.peer h in
-        let reads : read_peer no_limit side (with_unread before (before.unread ++ bytes)) ≡ (peer, None) =
-        subst (λ s. read_peer no_limit s (with_unread before (before.unread ++ bytes)) ≡ (peer, None)) (other-other side) (peer_came (other side) a came count gs m.announces m.goaways knew knows refl refl) in
+        let reads : read_peer (kinds_of e.announced) no_limit side (with_unread before (before.unread ++ bytes)) ≡ (peer, None) =
+        subst (λ s. read_peer (kinds_of e.announced) no_limit s (with_unread before (before.unread ++ bytes)) ≡ (peer, None)) (other-other side) (peer_came (other side) a came count gs m.announces m.goaways knew knows refl refl (kinds_of e.announced)) in
         let h_on = holding on bytes in
-        let found : read_peer (limit_of e) e.side h_on.peer ≡ (peer, None) =
-        without_limit (limit_of e) e.side (with_unread e.peer (e.peer.unread ++ bytes)) m.any
-        ∙ ap (λ s. read_peer no_limit s (with_unread e.peer (e.peer.unread ++ bytes))) m.side_is
-        ∙ ap (λ p. read_peer no_limit side (with_unread p (p.unread ++ bytes))) is ∙ reads in
-        let judged : read_control on bytes ≡ taken_peer on (read_peer (limit_of e) e.side h_on.peer) =
+        let found : read_peer (kinds_of e.announced) (limit_of e) e.side h_on.peer ≡ (peer, None) =
+        without_limit (kinds_of e.announced) (limit_of e) e.side (with_unread e.peer (e.peer.unread ++ bytes)) m.any
+        ∙ ap (λ s. read_peer (kinds_of e.announced) no_limit s (with_unread e.peer (e.peer.unread ++ bytes))) m.side_is
+        ∙ ap (λ p. read_peer (kinds_of e.announced) no_limit side (with_unread p (p.unread ++ bytes))) is ∙ reads in
+        let judged : read_control on bytes ≡ taken_peer on (read_peer (kinds_of e.announced) (limit_of e) e.side h_on.peer) =
         held_taken h_on (none_missing knew refl)
         (ap (λ (x : PeerFound). are_refused h_on e.peer.settings x.0.settings) found ∙ none_refused h_on m.side_is refl knows e.peer.settings) in
         ap (λ b. unless_second b first (read_control on bytes)) (ap (λ x. is_second x id) h.is_on ∙ is_first came id)
         ∙ judged
-        ∙ ap (taken_peer on) (without_limit (limit_of e) e.side (with_unread e.peer (e.peer.unread ++ bytes)) m.any)
-        ∙ ap (λ s. taken_peer on (read_peer no_limit s (with_unread e.peer (e.peer.unread ++ bytes)))) m.side_is
-        ∙ ap (λ p. taken_peer on (read_peer no_limit side (with_unread p (p.unread ++ bytes)))) is
+        ∙ ap (taken_peer on) (without_limit (kinds_of e.announced) (limit_of e) e.side (with_unread e.peer (e.peer.unread ++ bytes)) m.any)
+        ∙ ap (λ s. taken_peer on (read_peer (kinds_of e.announced) no_limit s (with_unread e.peer (e.peer.unread ++ bytes)))) m.side_is
+        ∙ ap (λ p. taken_peer on (read_peer (kinds_of e.announced) no_limit side (with_unread p (p.unread ++ bytes)))) is
         ∙ ap (taken_peer on) reads
         ∙ settles laws a (controlling e id (with_role Control) (Some id) peer) e.peer.settings knew knows replies_came replies m.any m.announces h.settings refl m.left m.written m.accepted (λ t. still L came (came + count) t (omega arith))
 

@@ -4,6 +4,7 @@ pub mod AnnouncedLaws
 pub mod Arriving
 pub mod BeginningLaws
 pub mod Calls
+pub mod GivenUp
 pub mod CancelLaws
 pub mod Cited
 pub mod ComesLaws
@@ -35,6 +36,9 @@ pub mod MovedLaws
 pub mod Values
 pub mod ValuesLaws
 pub mod PlainlyLaws
+pub mod ChangeLaws
+pub mod Changes
+pub mod GoneLaws
 pub mod MovesLaws
 pub mod OpeningLaws
 pub mod OwnDeliveredLaws

@@ -12,13 +12,13 @@ use Rattle.h3_connection.specs.Control.{increment, read_encoder, read_decoder}
 use Rattle.h3_connection.specs.LimitedReading.{heard_whole, listened_whole}
 use Rattle.h3_connection.specs.UnlimitedLaws.{encoder_unlimited, decoder_unlimited, decoder_kept}
 use Rattle.h3_connection.specs.Delivering.{heard_as, unless_second, with_unidirectional}
-use Rattle.h3_connection.specs.Endpoint.{EndpointHistory, is_second}
+use Rattle.h3_connection.specs.Endpoint.{EndpointHistory, is_second, first_decoder}
 use Rattle.h3_connection.specs.OwnIds.{other, encoder_id, decoder_id}
 use Rattle.h3_connection.specs.Unidirectional.{Unidirectional}
 use Rattle.h3_connection.specs.Unidirectional.Role.{Encoder, Untold, Decoder}
 use Rattle.h3_world.specs.declared.setup.Setup.{Setup}
 use Rattle.h3_world.specs.Setup.{TakesAnyLength, announced_at}
-use Rattle.h3_qpack.specs.DecoderState.{DecoderState, announcing, decoder_after_all}
+use Rattle.h3_qpack.specs.DecoderState.{DecoderState, decoder_after_all}
 use Rattle.h3_field.specs.InstructionAnswer.{IsReply}
 use Rattle.h3_qpack.specs.EncoderHistory.{encoder_after_all, EncoderHistory}
 use Rattle.h3_qpack.specs.Instructions.{AreAccepted}
@@ -42,7 +42,7 @@ some_same x y e = cc
 
 encoder_read : (laws : StreamLaws) (setup : Setup) (side : Side) (e : EndpointHistory) (o : Unidirectional) (came count : ℕ) (is : List EncoderInstruction) (stream : Option Unidirectional)
     → TakesAnyLength e.announced → HasEncoderStream setup side came is stream e.encoder_on e.decoding → AllByRecursion IsWrittenInstruction is
-    → (after : IsRead (announced_at setup side).limits.table (take (whole_in encoder_bytes (came + count - 1) is) is))
+    → (after : IsRead (first_decoder (announced_at setup side)) (take (whole_in encoder_bytes (came + count - 1) is) is))
     → heard_as (with_unidirectional e (encoder_id (other side)) o) (encoder_id (other side)) Encoder (behind_type came count (flat_map encoder_bytes is))
     ≡ without_fault (hearing e (encoder_id (other side)) o (Some (encoder_id (other side))) (decoding_of after.decoder (rest_in encoder_bytes (came + count - 1) is)) (increment (added_since e.decoding.decoder after.decoder)))
 encoder_read laws setup side e o came count is stream any h written after =
@@ -53,14 +53,14 @@ encoder_read laws setup side e o came count is stream any h written after =
     let further : came - 1 ≤ came + count - 1 = omega arith in
     let reads : hear e.decoding.decoder (e.decoding.unread ++ bytes) ≡ heard after.decoder (rest_in encoder_bytes (came + count - 1) is) false =
     ap (λ l. hear e.decoding.decoder (l ++ bytes)) h.unread
-    ∙ heard_on laws (announced_at setup side).limits.table is (came - 1) (came + count - 1) e.decoding.decoder further written h.decoder after in
+    ∙ heard_on laws (first_decoder (announced_at setup side)) is (came - 1) (came + count - 1) e.decoding.decoder further written h.decoder after in
     ap (λ b. unless_second b first (read_encoder on bytes)) (ap (λ x. is_second x id) h.is_on ∙ is_first came id)
     ∙ encoder_unlimited on bytes any ∙ ap (heard_whole on) reads
 
 -- **Further bytes of the encoder stream.**
 pub encoder_came : (laws : StreamLaws) (setup : Setup) (side : Side) (e : EndpointHistory) (came count : ℕ) (is : List EncoderInstruction) (stream : Option Unidirectional)
     → TakesAnyLength e.announced → HasEncoderStream setup side came is stream e.encoder_on e.decoding → AllByRecursion IsWrittenInstruction is
-    → (after : IsRead (announced_at setup side).limits.table (take (whole_in encoder_bytes (came + count - 1) is) is))
+    → (after : IsRead (first_decoder (announced_at setup side)) (take (whole_in encoder_bytes (came + count - 1) is) is))
     → heard_as (with_unidirectional e (encoder_id (other side)) (with_role (role_by (came + count) Encoder))) (encoder_id (other side)) (role_by (came + count) Encoder) (behind_type came count (flat_map encoder_bytes is))
     ≡ without_fault (hearing e (encoder_id (other side)) (with_role (role_by (came + count) Encoder)) (came_on (came + count) (encoder_id (other side)))
     (decoding_of after.decoder (rest_in encoder_bytes (came + count - 1) is)) (increment (added_since e.decoding.decoder after.decoder)))
@@ -85,7 +85,7 @@ encoder_came laws setup side e came count is stream any h written after = by_tes
         let same : came - 1 ≡ came + count - 1 = omega (arith, nothing) in
         let on : e.encoder_on ≡ None = h.is_on ∙ ap (λ n. came_on n id) none in
         let decoder : e.decoding.decoder ≡ after.decoder =
-        some_same e.decoding.decoder after.decoder (sym h.decoder ∙ ap (λ n. decoder_after_all (Some (announcing (announced_at setup side).limits.table)) (take (whole_in encoder_bytes n is) is)) same ∙ after.reads) in
+        some_same e.decoding.decoder after.decoder (sym h.decoder ∙ ap (λ n. decoder_after_all (Some (first_decoder (announced_at setup side))) (take (whole_in encoder_bytes n is) is)) same ∙ after.reads) in
         let left : e.decoding.unread ≡ rest = h.unread ∙ ap (λ n. rest_in encoder_bytes n is) same in
         let no_more : added_since e.decoding.decoder after.decoder ≡ 0 = omega (arith, ap (λ (x : DecoderState). x.table.inserted) decoder) in
         let o = with_role (Untold []) in

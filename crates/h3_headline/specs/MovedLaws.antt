@@ -78,11 +78,11 @@ does_cases : (P : Answer → World → Type 0) (o : Option Refusal) (w after new
 does_cases P (Some r) w after new success given refused done h = subst (λ x. P x new) (sym h.0) (subst (P (answer.Refused r)) (sym h.1) (refused r))
 does_cases P None w after new success given refused done h = subst (λ x. P x new) (sym h.0) (subst (P success) (sym h.1) (done refl))
 
-not_refused : (there : Bool) (rules : List (Bool × Refusal)) → first_of ((not there, refusal.NotOpen) ∷ rules) ≡ None → there ≡ true
+pub not_refused : (there : Bool) (rules : List (Bool × Refusal)) → first_of ((not there, refusal.NotOpen) ∷ rules) ≡ None → there ≡ true
 not_refused true rules e = refl
 not_refused false rules e = cc
 
-not_critical : (critical there : Bool) (rules : List (Bool × Refusal)) → first_of ((critical, refusal.Critical) ∷ (not there, refusal.NotOpen) ∷ rules) ≡ None → there ≡ true
+pub not_critical : (critical there : Bool) (rules : List (Bool × Refusal)) → first_of ((critical, refusal.Critical) ∷ (not there, refusal.NotOpen) ∷ rules) ≡ None → there ≡ true
 not_critical true there rules e = cc
 not_critical false there rules e = not_refused there rules e
 
@@ -214,7 +214,7 @@ cancel_keeps w new side i none =
     (open_there w side i (not_critical (is_critical i) (is_open w side i) ((is_over (flow w (other side) i) || is_some (flow w (other side) i).fault, refusal.Ended) ∷ []) none))
 
 -- The side that pulls is the reader of what the other side writes.
-swapped : (writer side : Side) (id i : ℕ) → is_on (other writer) id side i ≡ is_on writer id (other side) i
+pub swapped : (writer side : Side) (id i : ℕ) → is_on (other writer) id side i ≡ is_on writer id (other side) i
 swapped Client Client id i = refl
 swapped Client Server id i = refl
 swapped Server Client id i = refl
@@ -386,7 +386,7 @@ listed_moves setup w new side i (answer.Shown limits sizes n) writer id h step =
 listed_moves setup w new side i (answer.Refused r) writer id h step = absurd step
 
 -- the world after a delivery
-world_is : (a : Answer) (new : World) (next : Answer × World) → (a, new) ≡ next → new ≡ next.1
+pub world_is : (a : Answer) (new : World) (next : Answer × World) → (a, new) ≡ next → new ≡ next.1
 world_is a new next e = ap (λ (x : Answer × World). x.1) e
 
 -- **What each event changes of each flow.**

@@ -97,7 +97,7 @@ within_more i n request off = by_test (nat_lt (i / 4) (n + 1)) refl (nat_lt (i /
     by_test true p false q = absurd (differ (omega (arith, below p, above q, div-add-mod i 4, whole)))
     by_test false p true q = absurd (omega (arith, over p, less q))
 
-open_opened : (w : World) (i : ℕ) → is_open (opened w) Client i ≡ (if next_id w == i then true else is_open w Client i)
+pub open_opened : (w : World) (i : ℕ) → is_open (opened w) Client i ≡ (if next_id w == i then true else is_open w Client i)
 open_opened w i = ap (λ n. is_request_stream i && nat_lt (index_of i) n) (one_more w) ∙ by_id (next_id w == i) refl
   where
     here : is_request_stream (next_id w) ≡ true → nat_lt (index_of (next_id w)) (length w.exchanges + 1) ≡ true
@@ -117,7 +117,7 @@ open_opened w i = ap (λ n. is_request_stream i && nat_lt (index_of i) n) (one_m
     by_id false off = elsewhere off (is_request_stream i) refl
 
 -- a server has not seen it
-unopened : (w : World) (i : ℕ) → is_open (opened w) Server i ≡ is_open w Server i
+pub unopened : (w : World) (i : ℕ) → is_open (opened w) Server i ≡ is_open w Server i
 unopened w i =
     ap (λ (e : Exchange). is_open (opened w) Client i && e.request.seen) (exchange_opened w i) ∙ ap (λ b. b && (exchange w i).request.seen) (open_opened w i) ∙ by_id (next_id w == i) refl
   where

@@ -2,7 +2,7 @@
 use Rattle.std.proofs.Common.{◌≡◌, ℕ, List, [], ap, ◌+◌, ◌-◌, ◌++◌, take, drop, flat_map, ◌∙◌, Bool, true, nat_le, length, append_assoc}
 use Rattle.h3_connection.specs.declared.arrival.Arrival.TheVariants.{BytesCame}
 use Rattle.h3_connection.specs.Delivering.{deliver, bytes_at}
-use Rattle.h3_connection.specs.Endpoint.{EndpointHistory, kind_of, goaway_encoding}
+use Rattle.h3_connection.specs.Endpoint.{EndpointHistory, kind_of, goaway_encoding, first_decoder}
 use Rattle.h3_connection.specs.Keeping.{arrives, arrives_behind}
 use Rattle.std.specs.List.{AllByRecursion}
 use Rattle.h3_coding.specs.Encodings.{encoding}
@@ -36,7 +36,7 @@ arrives_plain e id bytes none = ap (λ k. arrives_behind k e (BytesCame id bytes
 -- bytes of the encoder stream
 pub encoder_delivered : (laws : StreamLaws) (setup : Setup) (side : Side) (e : EndpointHistory) (came count : ℕ) (is : List EncoderInstruction) → Takes side e
     → HasEncoderStream setup side came is (stream_at e.unidirectional (encoder_id (other side))) e.encoder_on e.decoding → AllByRecursion IsWrittenInstruction is
-    → (after : IsRead (announced_at setup side).limits.table (take (whole_in encoder_bytes (came + count - 1) is) is))
+    → (after : IsRead (first_decoder (announced_at setup side)) (take (whole_in encoder_bytes (came + count - 1) is) is))
     → arrives e (BytesCame (encoder_id (other side)) (take count (drop came (encoding 2 ++ flat_map encoder_bytes is))))
     ≡ accepted (hearing e (encoder_id (other side)) (with_role (role_by (came + count) Encoder)) (came_on (came + count) (encoder_id (other side)))
     (decoding_of after.decoder (rest_in encoder_bytes (came + count - 1) is)) (increment (added_since e.decoding.decoder after.decoder)))

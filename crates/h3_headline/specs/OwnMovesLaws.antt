@@ -1,7 +1,7 @@
 -- Both endpoints stand in a world in which an own stream of one side got further.
 use Rattle.std.proofs.Common.{◌≡◌, ℕ, if◌then◌else◌, Some, None, sym, ap, ◌∙◌, subst, ◌-◌, Bool, List, refl, true, false, ◌+◌, take}
 use Rattle.h3_proto.specs.declared.stream.Side.{Side}
-use Rattle.h3_connection.specs.Endpoint.{EndpointHistory, Own}
+use Rattle.h3_connection.specs.Endpoint.{EndpointHistory, Own, first_decoder}
 use Rattle.h3_connection.specs.StreamSets.{stream_at, HaveDistinctIds, set_stream}
 use Rattle.h3_world.specs.declared.setup.Setup.{Setup}
 use Rattle.h3_world.specs.Order.{outgoing_of}
@@ -132,7 +132,7 @@ decoder_not_encoder Server = refl
 
 -- **The reader after more of the encoder stream.**
 pub hearing_stands : (setup : Setup) (w v : World) (side : Side) (e : EndpointHistory) (count : ℕ) (more : List DecoderInstruction) → StandsAt setup w side e → SameStreams w v
-    → (after : IsRead (announced_at setup side).limits.table (take (whole_in encoder_bytes ((party w (other side)).own.encoder_taken + count - 1) (party w (other side)).own.instructions) (party w (other side)).own.instructions))
+    → (after : IsRead (first_decoder (announced_at setup side)) (take (whole_in encoder_bytes ((party w (other side)).own.encoder_taken + count - 1) (party w (other side)).own.instructions) (party w (other side)).own.instructions))
     → (party v (other side)).own ≡ record (party w (other side)).own { encoder_taken = (party w (other side)).own.encoder_taken + count }
     → party v side ≡ record (party w side) { own = saying (party w side).own more }
     → StandsAt setup v side (hearing e (encoder_id (other side)) (with_role (role_by ((party w (other side)).own.encoder_taken + count) Encoder)) (came_on ((party w (other side)).own.encoder_taken + count) (encoder_id (other side)))

@@ -5,7 +5,7 @@ use Rattle.h3_world.specs.declared.setup.Setup.{Setup}
 use Rattle.h3_world.specs.Sound.{IsSoundWorld, IsSoundParty}
 use Rattle.h3_world.specs.World.{World, party, Party}
 use Rattle.std.proofs.Common.{◌≡◌, ℕ, Option, Some, None, ap, ◌∙◌, ◌+◌, ◌++◌, drop, flat_map, refl, ◌-◌, length, sym, subst, take, arith, Bool, true, false, if◌then◌else◌, List, ◌≤◌, []}
-use Rattle.h3_connection.specs.Endpoint.{EndpointHistory, bytes_waiting, own_waiting, Own, goaway_encoding}
+use Rattle.h3_connection.specs.Endpoint.{EndpointHistory, bytes_waiting, own_waiting, Own, goaway_encoding, first_decoder}
 use Rattle.h3_connection.specs.Outgoing.{Outgoing, part_bytes_waiting}
 use Rattle.h3_connection.specs.StreamSets.{stream_at}
 use Rattle.h3_world.specs.Setup.{TakesAnyLength, announced_at, IsMadeSetup}
@@ -19,7 +19,6 @@ use Rattle.h3_connection.specs.Sending.{advance, advance_at, own_advanced}
 use Rattle.h3_connection.specs.Control.{increment}
 use Rattle.h3_world.specs.Delivering.{delivered_own}
 use Rattle.h3_qpack.specs.WholeInstructions.{whole_in, insertions_in, decoder_instructions_in}
-use Rattle.h3_qpack.specs.DecoderState.{announcing}
 use Rattle.std.specs.Prelude.{is_some}
 use Rattle.h3_qpack.specs.Instructions.{AreAccepted}
 use Rattle.h3_world.specs.Following.{replies_left}
@@ -95,10 +94,10 @@ takes setup w side e h = record { side_is = h.side_is; any = subst TakesAnyLengt
 
 -- the instructions that came, once more came, are read
 pub reads_all : (laws : StreamLaws) (setup : Setup) (w : World) (side : Side) (n : ℕ) → IsMadeSetup setup → IsSoundWorld setup w
-    → IsRead (announced_at setup side).limits.table (take (whole_in encoder_bytes n (party w (other side)).own.instructions) (party w (other side)).own.instructions)
+    → IsRead (first_decoder (announced_at setup side)) (take (whole_in encoder_bytes n (party w (other side)).own.instructions) (party w (other side)).own.instructions)
 reads_all laws setup w side n made sound =
     let is = (party w (other side)).own.instructions in
-    subst (λ s. IsRead (announced_at setup s).limits.table (take (whole_in encoder_bytes n is) is)) (other-other side)
+    subst (λ s. IsRead (first_decoder (announced_at setup s)) (take (whole_in encoder_bytes n is) is)) (other-other side)
     (instructions_read laws setup w (other side) (whole_in encoder_bytes n is) made (party_sound setup w (other side) sound) (whole_within encoder_bytes n is))
 
 -- **The encoder stream.**
@@ -116,7 +115,7 @@ encoder_over laws setup w side count e made sound writable h =
     let many = own.encoder_taken + count - 1 in
     let after = reads_all laws setup w side many made sound in
     let more = increment (added_since e.decoding.decoder after.decoder) in
-    let first = announcing (announced_at setup side).limits.table in
+    let first = first_decoder (announced_at setup side) in
     let old = (counts_all first e.decoding.decoder (take (whole_in encoder_bytes few is) is) h.encoder_stream.decoder).sum in
     let new = (counts_all first after.decoder (take (whole_in encoder_bytes many is) is) after.reads).sum in
     let sizes : insertions_in many is - insertions_in few is ≡ added_since e.decoding.decoder after.decoder = omega (arith, old, new) in

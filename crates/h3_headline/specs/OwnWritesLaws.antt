@@ -6,7 +6,7 @@ use Rattle.h3_field.specs.Integer.{groups, ones, prefixed}
 use Rattle.h3_field.specs.Instruction.EncoderInstruction.{SetCapacity}
 use Rattle.h3_qpack.specs.Encodings.{IsWrittenInstruction}
 use Rattle.h3_proto.specs.declared.stream.Side.{Side}
-use Rattle.h3_connection.specs.Endpoint.{Own}
+use Rattle.h3_connection.specs.Endpoint.{Own, first_decoder}
 use Rattle.h3_connection.specs.OwnIds.{control_id, encoder_id, decoder_id, other}
 use Rattle.h3_connection.specs.Sending.{own_advanced}
 use Rattle.h3_qpack.specs.WholeInstructions.{insertions_in, whole_in}
@@ -19,7 +19,6 @@ use Rattle.h3_connection.specs.declared.setup.Limits.{Limits}
 use Rattle.h3_world.specs.Delivering.{having_learned, delivered_own}
 use Rattle.h3_world.specs.Setup.{has_table, IsMadeSetup, announced_at}
 use Rattle.h3_world.specs.World.{Party, World, party}
-use Rattle.h3_qpack.specs.DecoderState.{announcing}
 use Rattle.h3_world.specs.declared.setup.Setup.{Setup}
 use Rattle.h3_world.specs.Sound.{IsSoundWorld}
 use Rattle.h3_headline.specs.AcceptedLaws.{counts_all}
@@ -108,7 +107,7 @@ reader_writable laws setup w side id count made sound h =
     let further = further_own w side id count in
     let n = further.encoder_taken - 1 in
     let after = reads_all laws setup w side n made sound in
-    let c = counts_all (announcing (announced_at setup side).limits.table) after.decoder (take (whole_in encoder_bytes n own.instructions) own.instructions) after.reads in
+    let c = counts_all (first_decoder (announced_at setup side)) after.decoder (take (whole_in encoder_bytes n own.instructions) own.instructions) after.reads in
     let sum = c.sum in
     let bound = c.bound (omega arith) in
     let all : insertions_of further ≡ insertions_in n own.instructions = further_insertions (other side) own id count in

@@ -33,6 +33,7 @@ use Rattle.h3_field.specs.InstructionAnswer.{IsReply}
 use Rattle.h3_qpack.specs.Instructions.{AreAccepted}
 use Rattle.h3_world.specs.declared.setup.Setup.{Setup}
 use Rattle.h3_headline.specs.Standing.{AreGoaways, replies_unread, with_meaning}
+use Rattle.h3_wire.specs.declared.frame.kinds.FrameKinds.{FrameKinds}
 
 -- the parts of what is announced
 pub record Parts (a : Announced) : Type 0 where
@@ -67,8 +68,8 @@ behind_type came count units = take (came + count - 1 - (came - 1)) (drop (came 
 
 -- The byte tells the role, which then stays.
 pub record IsTyped (kind : ℕ) (role : Role) : Type 0 where
-  pub first : (rest : List ℕ) → role_after (Untold []) (kind ∷ rest) ≡ (role, rest)
-  pub stays : (bytes : List ℕ) → role_after role bytes ≡ (role, bytes)
+  pub first : (sessions : Bool) (rest : List ℕ) → role_after sessions (Untold []) (kind ∷ rest) ≡ (role, rest)
+  pub stays : (sessions : Bool) (bytes : List ℕ) → role_after sessions role bytes ≡ (role, bytes)
   pub keeps : (o : Unidirectional) (bytes : List ℕ) → with_bytes o (role, bytes) ≡ record o { role = role }
 
 abbrev pub roled : Role → List ℕ → Role × List ℕ
@@ -105,7 +106,7 @@ module _ (writer : Side) (a : Announced) (came count : ℕ) (gs : List ℕ) wher
   new_bytes = behind_type came count (settings_frame_of a ++ flat_map goaway_encoding gs)
 
   abbrev pub Reads : Bool → Bool → Type 0
-  Reads b c = read_peer no_limit (other writer) (with_unread (peer_by a b came gs) ((peer_by a b came gs).unread ++ new_bytes)) ≡ no_fault (peer_by a c (came + count) gs)
+  Reads b c = (kinds : FrameKinds) → read_peer kinds no_limit (other writer) (with_unread (peer_by a b came gs) ((peer_by a b came gs).unread ++ new_bytes)) ≡ no_fault (peer_by a c (came + count) gs)
 
 abbrev pub having_read : Peer → List ℕ → List ℕ → Peer
 having_read p ids rest = record p { goaways = p.goaways ++ ids; unread = rest }

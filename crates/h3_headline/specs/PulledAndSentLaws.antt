@@ -40,12 +40,12 @@ as_sent r c (Byte b) h = h
 as_sent r c (TooLarge size) h = h
 as_sent r c Foreign h = h
 
-front_as_sent : (r : Reader) (given sending : List MessageContent) → IsFrontOf (IsExactly r) given (map as_listed sending) → IsFrontOf (IsExactly r) given sending
+pub front_as_sent : (r : Reader) (given sending : List MessageContent) → IsFrontOf (IsExactly r) given (map as_listed sending) → IsFrontOf (IsExactly r) given sending
 front_as_sent r [] sending h = tt
 front_as_sent r (c ∷ given) (d ∷ sending) h = (as_sent r c d h.0, front_as_sent r given sending h.1)
 front_as_sent r (c ∷ given) [] h = absurd h
 
-all_as_sent : (r : Reader) (given sending : List MessageContent) → IsAllOf (IsExactly r) given (map as_listed sending) → IsAllOf (IsExactly r) given sending
+pub all_as_sent : (r : Reader) (given sending : List MessageContent) → IsAllOf (IsExactly r) given (map as_listed sending) → IsAllOf (IsExactly r) given sending
 all_as_sent r [] [] h = tt
 all_as_sent r (c ∷ given) (d ∷ sending) h = (as_sent r c d h.0, all_as_sent r given sending h.1)
 all_as_sent r [] (d ∷ sending) h = absurd h
@@ -90,7 +90,7 @@ last_end p before start (q ∷ qs) (suc n) h e =
     record { count = omega (arith, r.count); ends = or_true (is_end (Some q)) (has_end qs) r.ends }
 
 -- a flow whose end is out is there
-no_flow : (w : World) (id : ℕ) → nat_lt (index_of id) (length w.exchanges) ≡ false → exchange w id ≡ no_exchange
+pub no_flow : (w : World) (id : ℕ) → nat_lt (index_of id) (length w.exchanges) ≡ false → exchange w id ≡ no_exchange
 no_flow w id e =
     ap (λ o. if is_request_stream id then unwrap_or o no_exchange else no_exchange) (slice_get_past w.exchanges (index_of id) (beyond (index_of id) (length w.exchanges) e)) ∙ same_both (is_request_stream id) no_exchange no_exchange (λ e. refl)
   where

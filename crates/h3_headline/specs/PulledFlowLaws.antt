@@ -12,7 +12,7 @@ use Rattle.h3_connection.specs.declared.event.Pull.TheVariants as pull
 use Rattle.h3_world.specs.Pauses.{pause_before}
 use Rattle.h3_qpack.specs.DecoderState.{DecoderState}
 use Rattle.h3_wire.specs.ExcessiveLaws.{none_excessive}
-use Rattle.h3_wire.specs.Frames.{Whole, Unfinished, frame_at}
+use Rattle.h3_wire.specs.Frames.{Whole, Unfinished, frame_by}
 use Rattle.h3_wire.specs.Fronts.{IsUnfinishedFront}
 use Rattle.h3_wire.specs.declared.proto.frame.PayloadLen.{PayloadLen}
 use Rattle.h3_wire.specs.declared.proto.frame.Frame.{Frame}
@@ -29,6 +29,7 @@ use Rattle.h3_headline.specs.PartLaws.{flow_parts}
 use Rattle.h3_headline.specs.Parts.{IsPartAt}
 use Rattle.h3_headline.specs.Pulling.{ComesTo, IsAtSection, IsBefore, IsSectionPart, Pauses, before_bytes}
 use Rattle.h3_headline.specs.Standing.{ReceivesFlow}
+use Rattle.h3_connection.specs.StrictConnection.{kinds_of}
 
 -- how much came
 pub came_is : (p : Party) (f : Flow) (i : Incoming) → IsBefore p f i → before_bytes f + length (concat i.unread) ≡ f.delivered
@@ -54,31 +55,31 @@ waits_on most id p f came part i h pause = Pauses pull.Pending pause refl refl (
 
 module _ (side : Side) (announced : Announced) (any : TakesAnyLength announced) (id : ℕ) (r : DecoderState) where
   -- the bytes are all looked at, and no frame is too long
-  pub looks : (i : Incoming) → skipped (is_body i.place) (concat i.unread) ≡ concat i.unread → between_frames side announced id r i ≡ next_frame side announced id r i (concat i.unread)
+  pub looks : (i : Incoming) → skipped (kinds_of announced) (is_body i.place) (concat i.unread) ≡ concat i.unread → between_frames side announced id r i ≡ next_frame side announced id r i (concat i.unread)
   looks i all =
-      let bytes = skipped (is_body i.place) (concat i.unread) in
+      let bytes = skipped (kinds_of announced) (is_body i.place) (concat i.unread) in
       ap (λ b. if b then excess id i bytes else next_frame side announced id r (left_with i bytes) bytes) (none_excessive announced.choices.unfinished_limit bytes any)
       ∙ ap (λ l. next_frame side announced id r (left_with i l) l) all ∙ ap (λ x. next_frame side announced id r x (concat i.unread)) (left_all i)
 
   -- less than a frame is there
-  pub unfinished_waits : (i : Incoming) → i.ended ≡ false → IsUnfinishedFront (concat i.unread) → between_frames side announced id r i ≡ just pull.Pending i
-  unfinished_waits i ended front = looks i (skipped_unfinished (is_body i.place) (concat i.unread) front.0 front.1) ∙ by_bytes (concat i.unread) front.1
+  pub unfinished_waits : (i : Incoming) → i.ended ≡ false → IsUnfinishedFront (kinds_of announced) (concat i.unread) → between_frames side announced id r i ≡ just pull.Pending i
+  unfinished_waits i ended front = looks i (skipped_unfinished (kinds_of announced) (is_body i.place) (concat i.unread) front.0 front.1) ∙ by_bytes (concat i.unread) front.1
     where
-      by_bytes : (bytes : List ℕ) → frame_at bytes ≡ Unfinished front.0 → next_frame side announced id r i bytes ≡ just pull.Pending i
+      by_bytes : (bytes : List ℕ) → frame_by (kinds_of announced) bytes ≡ Unfinished front.0 → next_frame side announced id r i bytes ≡ just pull.Pending i
       by_bytes [] at = ap (λ b. if b then at_end side announced id r i i.place else just pull.Pending i) ended
       by_bytes (byte ∷ bytes) at = ap (framed side announced id r i) at ∙ ap (λ b. if b then connection_fault frame_error i else just pull.Pending i) ended
 
   -- nothing is there
   pub nothing_there : (i : Incoming) → concat i.unread ≡ [] → between_frames side announced id r i ≡ (if i.ended then at_end side announced id r i i.place else just pull.Pending i)
   nothing_there i none =
-      looks i (ap (skipped (is_body i.place)) none ∙ skipped_none (is_body i.place) ∙ sym none) ∙ ap (next_frame side announced id r i) none
+      looks i (ap (skipped (kinds_of announced) (is_body i.place)) none ∙ skipped_none (kinds_of announced) (is_body i.place) ∙ sym none) ∙ ap (next_frame side announced id r i) none
 
   -- a whole frame is there
-  pub whole_frame : (i : Incoming) (f : Frame PayloadLen) (rest : List ℕ) → frame_at (concat i.unread) ≡ Whole f rest → is_empty_data f ≡ false → 0 < length (concat i.unread)
+  pub whole_frame : (i : Incoming) (f : Frame PayloadLen) (rest : List ℕ) → frame_by (kinds_of announced) (concat i.unread) ≡ Whole f rest → is_empty_data f ≡ false → 0 < length (concat i.unread)
       → between_frames side announced id r i ≡ at_frame side announced id r side (left_with i rest) i.place f
-  whole_frame i f rest at full some = looks i (skipped_whole (is_body i.place) (concat i.unread) f rest at full) ∙ by_bytes (concat i.unread) at some
+  whole_frame i f rest at full some = looks i (skipped_whole (kinds_of announced) (is_body i.place) (concat i.unread) f rest at full) ∙ by_bytes (concat i.unread) at some
     where
-      by_bytes : (bytes : List ℕ) → frame_at bytes ≡ Whole f rest → 0 < length bytes → next_frame side announced id r i bytes ≡ at_frame side announced id r side (left_with i rest) i.place f
+      by_bytes : (bytes : List ℕ) → frame_by (kinds_of announced) bytes ≡ Whole f rest → 0 < length bytes → next_frame side announced id r i bytes ≡ at_frame side announced id r side (left_with i rest) i.place f
       by_bytes [] at some = absurd (omega (arith, some))
       by_bytes (byte ∷ bytes) at some = ap (framed side announced id r i) at
 

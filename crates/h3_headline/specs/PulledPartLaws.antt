@@ -15,7 +15,7 @@ use Rattle.h3_header.specs.Head as header
 use Rattle.h3_coding.specs.Encodings.{encoding}
 use Rattle.h3_wire.specs.Encoded.{head_encoding, frame_encoding}
 use Rattle.h3_wire.specs.EncodedLaws.{written_headers}
-use Rattle.h3_wire.specs.Frames.{frame_at}
+use Rattle.h3_wire.specs.Frames.{frame_by}
 use Rattle.h3_wire.specs.declared.proto.frame.Frame.TheVariants as frame
 use Rattle.h3_proto.specs.declared.stream.Side.{Side}
 use Rattle.h3_proto.specs.declared.stream.Side.TheVariants.{Client, Server}
@@ -47,6 +47,7 @@ use Rattle.h3_headline.specs.PulledSectionLaws.{first_try, head_part, interim_pa
 use Rattle.h3_headline.specs.Pulling.{ComesTo, DecodesNext, HandsOut, IsBefore, IsReadAs, IsReadableNext, IsSectionPart, IsTriedAs, before_bytes}
 use Rattle.h3_headline.specs.ReceivingLaws.{encoding_some}
 use Rattle.h3_headline.specs.Standing.{WaitsIn, section_frame}
+use Rattle.h3_connection.specs.StrictConnection.{kinds_of}
 
 -- how long all is that was sent
 whole_length : (p : Party) (f : Flow) (part : Part) → IsPartAt p f.sent f.parts_out part
@@ -76,14 +77,14 @@ module _ (lists : ListsAreTheirValue) (side : Side) (announced : Announced) (pla
         let missing : f.delivered < length (flow_bytes f) = omega (arith, came_is p f i h, whole_length p f part at, short, ap length bytes) in
         let few : f.delivered < s.own_length = omega (arith, came_is p f i h, own, short, ap length bytes) in
         subst (ComesTo (section_of announced) id f came (Some part))
-        (sym (unfinished_waits side announced plain.1 id r i (h.on.ended ∙ not_ended p f h.sound missing) (unfinished_section s.encoded (concat i.unread) sent.has_length short front)))
+        (sym (unfinished_waits side announced plain.1 id r i (h.on.ended ∙ not_ended p f h.sound missing) (unfinished_section (kinds_of announced) s.encoded (concat i.unread) sent.has_length short front)))
         (waits_on (section_of announced) id p f came (Some part) i h (is.pause f came ∙ section_pending f came s few))
     | inr there ↦
         let rest = flat_map part_bytes (drop (f.parts_out + 1) f.sent) in
         let left = drop (length (frame_encoding 1 s.encoded)) (concat i.unread) in
         let all = h.unread ∙ at.bytes_behind ∙ ap (λ l. l ++ rest) bytes in
         let longer = long_front (concat i.unread) (drop f.delivered (flow_bytes f)) (frame_encoding 1 s.encoded) rest all there in
-        let found = ap frame_at longer.front_is ∙ written_headers s.encoded left sent.has_length in
+        let found = ap (frame_by (kinds_of announced)) longer.front_is ∙ written_headers (kinds_of announced) s.encoded left sent.has_length in
         let x = begun_section (left_with i left) s.encoded in
         let some : 0 < length (frame_encoding 1 s.encoded) = section_bytes s.encoded in
         subst (ComesTo (section_of announced) id f came (Some part))
@@ -119,7 +120,7 @@ module _ (lists : ListsAreTheirValue) (side : Side) (announced : Announced) (pla
         let missing : f.delivered < length (flow_bytes f) = omega (arith, came_is p f i h, whole_length p f (Body bytes own) at, short, length-append head bytes) in
         let none : body_there f bytes own ≡ 0 = omega (arith, came_is p f i h, at.sent.2, short, length-append head bytes, h.out) in
         subst (ComesTo (section_of announced) id f came (Some (Body bytes own)))
-        (sym (unfinished_waits side announced plain.1 id r i (h.on.ended ∙ not_ended p f h.sound missing) (unfinished_data (length bytes) (concat i.unread) at.sent.1 short front)))
+        (sym (unfinished_waits side announced plain.1 id r i (h.on.ended ∙ not_ended p f h.sound missing) (unfinished_data (kinds_of announced) (length bytes) (concat i.unread) at.sent.1 short front)))
         (waits_on (section_of announced) id p f came (Some (Body bytes own)) i h (ap (λ n. if n == 0 then Some pull.Pending else None) none))
     | inr there ↦
         let rest = flat_map part_bytes (drop (f.parts_out + 1) f.sent) in
@@ -127,7 +128,7 @@ module _ (lists : ListsAreTheirValue) (side : Side) (announced : Announced) (pla
         let left = drop (length head) (concat i.unread) in
         let all = h.unread ∙ at.bytes_behind ∙ append_assoc head bytes rest in
         let longer = long_front (concat i.unread) (drop f.delivered (flow_bytes f)) head (bytes ++ rest) all there in
-        let found = ap frame_at longer.front_is ∙ data_front (length bytes) left at.sent.1 in
+        let found = ap (frame_by (kinds_of announced)) longer.front_is ∙ data_front (kinds_of announced) (length bytes) left at.sent.1 in
         let x = begun_payload (left_with i left) (length bytes) in
         let some : 0 < length head = omega (arith, encoding_some 0 (lit< tt), length-append (encoding 0) (encoding (length bytes))) in
         let full : (length bytes == 0) ≡ false = positive (length bytes) at.sent.0 in

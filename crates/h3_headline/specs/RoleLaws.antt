@@ -16,28 +16,29 @@ use Rattle.h3_connection.specs.OwnIds.{other, control_id, encoder_id, decoder_id
 use Rattle.h3_headline.specs.PeerStreams.{IsTyped, behind_type, role_by, roled, with_role}
 use Rattle.h3_headline.specs.Standing.{IsPeerStream, came_on}
 use Rattle.h3_headline.specs.WritesMoreLaws.{type_of_control, type_of_decoder, type_of_encoder}
+use Rattle.h3_connection.specs.StrictConnection.{knows_sessions}
 
 pub typed_control : IsTyped 0 Control
 typed_control =
     record {
-      first = λ rest. ap (λ o. of_kind (0 ∷ rest) o) (ap (λ l. varint_at (l ++ rest)) (sym type_of_control) ∙ reads_shortest 0 rest (lit< tt));
-      stays = λ bytes. refl;
+      first = λ sessions rest. ap (λ o. of_kind sessions (0 ∷ rest) o) (ap (λ l. varint_at (l ++ rest)) (sym type_of_control) ∙ reads_shortest 0 rest (lit< tt));
+      stays = λ sessions bytes. refl;
       keeps = λ o bytes. refl;
     }
 
 pub typed_encoder : IsTyped 2 Encoder
 typed_encoder =
     record {
-      first = λ rest. ap (λ o. of_kind (2 ∷ rest) o) (ap (λ l. varint_at (l ++ rest)) (sym type_of_encoder) ∙ reads_shortest 2 rest (lit< tt));
-      stays = λ bytes. refl;
+      first = λ sessions rest. ap (λ o. of_kind sessions (2 ∷ rest) o) (ap (λ l. varint_at (l ++ rest)) (sym type_of_encoder) ∙ reads_shortest 2 rest (lit< tt));
+      stays = λ sessions bytes. refl;
       keeps = λ o bytes. refl;
     }
 
 pub typed_decoder : IsTyped 3 Decoder
 typed_decoder =
     record {
-      first = λ rest. ap (λ o. of_kind (3 ∷ rest) o) (ap (λ l. varint_at (l ++ rest)) (sym type_of_decoder) ∙ reads_shortest 3 rest (lit< tt));
-      stays = λ bytes. refl;
+      first = λ sessions rest. ap (λ o. of_kind sessions (3 ∷ rest) o) (ap (λ l. varint_at (l ++ rest)) (sym type_of_decoder) ∙ reads_shortest 3 rest (lit< tt));
+      stays = λ sessions bytes. refl;
       keeps = λ o bytes. refl;
     }
 
@@ -50,18 +51,18 @@ not_none n h = grind (arith, common_steps, h)
 told : (role : Role) (n : ℕ) → 0 < n → role_by n role ≡ role
 told role n h = ap (λ b. if b then Untold [] else role) (not_none n h)
 
-pub role_then : (kind : ℕ) (role : Role) (came count : ℕ) (units : List ℕ) → IsTyped kind role
-    → role_after (role_by came role) (take count (drop came (kind ∷ units))) ≡ (role_by (came + count) role, behind_type came count units)
-role_then kind role zero zero units t = ap (λ o. of_kind [] o) none_at_end
-role_then kind role zero (suc m) units t =
+pub role_then : (sessions : Bool) (kind : ℕ) (role : Role) (came count : ℕ) (units : List ℕ) → IsTyped kind role
+    → role_after sessions (role_by came role) (take count (drop came (kind ∷ units))) ≡ (role_by (came + count) role, behind_type came count units)
+role_then sessions kind role zero zero units t = ap (λ o. of_kind sessions [] o) none_at_end
+role_then sessions kind role zero (suc m) units t =
     let e : m ≡ 0 + suc m - 1 - (0 - 1) = omega arith in
-    t.first (take m units)
+    t.first sessions (take m units)
     ∙ both_same role (role_by (0 + suc m) role) (take m units) (behind_type 0 (suc m) units) (sym (told role (0 + suc m) (omega arith))) (ap (λ n. take n units) e)
-role_then kind role (suc c) count units t =
+role_then sessions kind role (suc c) count units t =
     let e : count ≡ suc c + count - 1 - (suc c - 1) = omega arith in
     let f : c ≡ suc c - 1 = omega arith in
-    ap (λ r. role_after r (take count (drop c units))) (told role (suc c) (omega arith))
-    ∙ t.stays (take count (drop c units))
+    ap (λ r. role_after sessions r (take count (drop c units))) (told role (suc c) (omega arith))
+    ∙ t.stays sessions (take count (drop c units))
     ∙ both_same role (role_by (suc c + count) role) (take count (drop c units)) (behind_type (suc c) count units) (sym (told role (suc c + count) (omega arith)))
     (ap (λ n. take n (drop c units)) e ∙ ap (λ n. take (suc c + count - 1 - (suc c - 1)) (drop n units)) f)
 
@@ -69,7 +70,7 @@ pub peer_stream : (came : ℕ) (role : Role) (stream : Option Unidirectional) �
 peer_stream came role None h = sym (ap (λ n. with_role (role_by n role)) h)
 peer_stream came role (Some o) h = h
 
-with_role_then : (kind : ℕ) (role before : Role) (bytes : List ℕ) (b : Bool) → IsTyped kind role → with_bytes (with_role before) (if b then Untold [] else role, bytes) ≡ with_role (if b then Untold [] else role)
+pub with_role_then : (kind : ℕ) (role before : Role) (bytes : List ℕ) (b : Bool) → IsTyped kind role → with_bytes (with_role before) (if b then Untold [] else role, bytes) ≡ with_role (if b then Untold [] else role)
 with_role_then kind role before bytes true t = refl
 with_role_then kind role before bytes false t = t.keeps (with_role before) bytes
 
@@ -81,8 +82,8 @@ heard_typed e id kind role came count units t h =
     let bytes = take count (drop came (kind ∷ units)) in
     let next = role_by (came + count) role in
     let rest = behind_type came count units in
-    ap (λ o. read_unidirectional e id o (role_after o.role bytes)) (peer_stream came role (stream_at e.unidirectional id) h)
-    ∙ ap (λ x. read_unidirectional e id (with_role (role_by came role)) x) (role_then kind role came count units t)
+    ap (λ o. read_unidirectional e id o (role_after (knows_sessions e.announced) o.role bytes)) (peer_stream came role (stream_at e.unidirectional id) h)
+    ∙ ap (λ x. read_unidirectional e id (with_role (role_by came role)) x) (role_then (knows_sessions e.announced) kind role came count units t)
     ∙ ap (λ o. heard_as (with_unidirectional e id o) id next rest) (with_role_then kind role (role_by came role) rest (came + count == 0) t)
 
 -- A delivery on it that finds no fault.

@@ -1,7 +1,7 @@
 -- The decoder of an endpoint that stands in a world is that of the session, and each section that a stream decodes next is what a writer
 -- took.
 use Rattle.std.proofs.Common.{◌≡◌, Some, ℕ, zero, suc, List, [], take, refl, ◌-◌, ◌≤◌, Bool, true, false, length, min, sym, ap, ◌∙◌, subst, ◌∷◌, arith, ◌⊎◌, inl, inr, ◌+◌, ◌++◌, drop, Option, None, if◌then◌else◌}
-use Rattle.h3_qpack.specs.DecoderState.{DecoderState, announcing, decoder_after_all}
+use Rattle.h3_qpack.specs.DecoderState.{DecoderState, decoder_after_all}
 use Rattle.h3_field.specs.Field.{Field}
 use Rattle.h3_field.specs.Instruction.{encoder_bytes}
 use Rattle.h3_proto.specs.declared.stream.Side.{Side}
@@ -25,7 +25,9 @@ use Rattle.h3_world.specs.Streams as streams
 use Rattle.h3_proto.specs.declared.stream.Side.TheVariants.{Client, Server}
 use Rattle.h3_world.specs.Streams.{flow, is_open}
 use Rattle.h3_qpack.specs.Session.{UndecodedSection, oldest, is_canceled}
-use Rattle.h3_connection.specs.Endpoint.{EndpointHistory}
+use Rattle.h3_connection.specs.Endpoint.{EndpointHistory, first_decoder}
+use Rattle.h3_connection.specs.StrictConnection.{is_strict}
+use Rattle.h3_connection.specs.declared.setup.Announced.{Announced}
 use Rattle.h3_world.specs.Order.{next_part}
 use Rattle.h3_headline.specs.AcceptedLaws.{counts_all}
 use Rattle.h3_headline.specs.Cited.{ListsAreTheirValue, StreamLaws}
@@ -46,16 +48,19 @@ none_taken : (n : ℕ) → ◌≡◌ {A = List Field} (take n []) []
 none_taken zero = refl
 none_taken (suc n) = refl
 
-nothing_read : (capacity k : ℕ) (r : DecoderState) → decoder_after_all (Some (announcing capacity)) (take k []) ≡ Some r → announcing capacity ≡ r
-nothing_read capacity zero r e = same_decoder (announcing capacity) r e
-nothing_read capacity (suc k) r e = same_decoder (announcing capacity) r e
+nothing_read : (first : DecoderState) (k : ℕ) (r : DecoderState) → decoder_after_all (Some first) (take k []) ≡ Some r → first ≡ r
+nothing_read first zero r e = same_decoder first r e
+nothing_read first (suc k) r e = same_decoder first r e
 
 has_read : (laws : StreamLaws) (setup : Setup) (w : World) (writer : Side) (r : DecoderState) → IsMadeSetup setup → (sound : IsSoundParty setup w writer) → IsAfter setup w writer r
     → HasRead (announced_at setup (other writer)).limits.table (min sound.session.session.encoder.most_capacity (announced_at setup (other writer)).limits.table) sound.session.session.encoder.inserted r
 has_read laws setup w writer r made sound reads = by_known (settings_came setup w (other writer)) refl
   where
+    own : Announced
+    own = announced_at setup (other writer)
+
     announced : ℕ
-    announced = (announced_at setup (other writer)).limits.table
+    announced = own.limits.table
 
     capacity : ℕ
     capacity = min sound.session.session.encoder.most_capacity announced
@@ -70,12 +75,12 @@ has_read laws setup w writer r made sound reads = by_known (settings_came setup 
         let all = opened_instructions setup w writer made h e in
         let is_read = read_as announced s (subst (HasCapacity announced) (sym h.follows.encoder) sound.writer.capacity) (laws.sound h.counts h.most 0 0 h.events s h.run).read in
         let within = whole_within encoder_bytes ((party w writer).own.encoder_taken - 1) (party w writer).own.instructions in
-        let front = laws.tables_read announced capacity s.instructions s.encoder.inserted k (least_right s.encoder.most_capacity announced) is_read (subst (λ is. k ≤ length is) all within) in
-        let same = same_decoder front.0 r (sym front.1 ∙ ap (λ is. decoder_after_all (Some (announcing announced)) (take k is)) (sym all) ∙ reads) in
+        let front = laws.tables_read (is_strict own) announced capacity s.instructions s.encoder.inserted k (least_right s.encoder.most_capacity announced) is_read (subst (λ is. k ≤ length is) all within) in
+        let same = same_decoder front.0 r (sym front.1 ∙ ap (λ is. decoder_after_all (Some (first_decoder own)) (take k is)) (sym all) ∙ reads) in
         record { count = k - length (exchange.opening capacity); has = subst (HasInsertions announced capacity (take (k - length (exchange.opening capacity)) s.encoder.inserted)) same front.2 }
     by_known false e =
         let none = (sound.writer.unknown e).2 in
-        let same = nothing_read announced k r (ap (λ is. decoder_after_all (Some (announcing announced)) (take k is)) (sym none) ∙ reads) in
+        let same = nothing_read (first_decoder own) k r (ap (λ is. decoder_after_all (Some (first_decoder own)) (take k is)) (sym none) ∙ reads) in
         record { count = 0; has = subst (HasInsertions announced capacity []) same (record { announced_is = refl; entries = refl; count = refl }) }
 
 -- a front is told by its length
@@ -108,7 +113,7 @@ decoder_is_at laws setup w writer r made sound reads =
     let h = sound.session in
     let s = h.session in
     let q = has_read laws setup w writer r made sound reads in
-    let counts = counts_all (announcing announced) r (instructions_came (party w writer)) reads in
+    let counts = counts_all (first_decoder (announced_at setup (other writer))) r (instructions_came (party w writer)) reads in
     let received : r.table.inserted ≡ s.received = omega (arith, counts.sum, h.follows.received) in
     let has : HasCapacity announced s.encoder = subst (HasCapacity announced) (sym h.follows.encoder) sound.writer.capacity in
     let used = min s.encoder.most_capacity announced in
@@ -179,7 +184,7 @@ sections_written laws setup w writer sound h b is kept =
 -- **An endpoint that stands in a world has read the insertions that came.**
 pub insertions_read : (setup : Setup) (w : World) (side : Side) (e : EndpointHistory) → StandsAt setup w side e → e.decoding.decoder.table.inserted ≡ insertions_came (party w (other side))
 insertions_read setup w side e h =
-    let counts = counts_all (announcing (announced_at setup side).limits.table) e.decoding.decoder (instructions_came (party w (other side))) h.encoder_stream.decoder in
+    let counts = counts_all (first_decoder (announced_at setup side)) e.decoding.decoder (instructions_came (party w (other side))) h.encoder_stream.decoder in
     omega (arith, counts.sum)
 
 -- **What its decoder makes of the next section of a stream that was not given up.**
@@ -189,7 +194,7 @@ pub endpoint_decodes_as : (laws : StreamLaws) (lists : ListsAreTheirValue) (setu
 endpoint_decodes_as laws lists setup w side id e made h sound there alive =
     let writer = party_sound setup w (other side) sound in
     let reads : IsAfter setup w (other side) e.decoding.decoder =
-    subst (λ s. decoder_after_all (Some (announcing (announced_at setup s).limits.table)) (instructions_came (party w (other side))) ≡ Some e.decoding.decoder) (sym (other-other side)) h.encoder_stream.decoder in
+    subst (λ s. decoder_after_all (Some (first_decoder (announced_at setup s))) (instructions_came (party w (other side))) ≡ Some e.decoding.decoder) (sym (other-other side)) h.encoder_stream.decoder in
     next_decodes lists laws.values setup w (other side) side (announced_at setup side) id (announced_at setup (other (other side))).limits.table e.decoding.decoder (party w (other side)) writer.session
     (sound_flow setup w (other side) id sound (open_there w side id there)) alive
     (decoder_is_at laws setup w (other side) e.decoding.decoder made writer reads)

@@ -1,7 +1,7 @@
 -- What a pull answers where no part is looked at.
 use Rattle.std.proofs.Common.{◌≡◌, true, false, arith, Bool, ap, subst, Some, refl, Option, None, if◌then◌else◌, ℕ}
 use Rattle.std.proofs.lemmas.Grind.{common_steps}
-use Rattle.std.specs.Prelude.{unwrap_or, ◌%◌, ◌==◌}
+use Rattle.std.specs.Prelude.{is_some, unwrap_or, ◌%◌, ◌==◌}
 use Rattle.h3_connection.specs.declared.event.Pull.{Pull}
 use Rattle.h3_connection.specs.declared.event.Fault.TheVariants.{Stream}
 use Rattle.h3_connection.specs.declared.event.Item.TheVariants as item
@@ -45,6 +45,31 @@ settled_says w side i q e =
     let over = is_over (flow w (other side) i) in
     rules_say (i % 4 == control_id (other side)) (is_request_stream i) (is_open w side i) (flow w (other side) i).fault over (pull_unidirectional w (other side) i) (pull_unopened side) q
     (pause_or_none (own_delivered w (other side) i == 0) over) (none_or_pause (is_client side) over) e
+
+-- of a stream that was given up no end is handed out either
+rules_gone : (unidirectional request there : Bool) (fault : Option StreamFault) (over : Bool) (one unopened q : Pull) → SaysNothing false one → SaysNothing false unopened → is_some fault ≡ true
+    → by_rules unidirectional request there fault over one unopened ≡ Some q → SaysNothing false q
+rules_gone true request there fault over one unopened q h k gone e = is_value false one q h e
+rules_gone false false there fault over one unopened q h k gone e = is_value false pull.NoMessages q (record { contents = refl; ends = λ x. absurd (differ x) }) e
+rules_gone false true false fault over one unopened q h k gone e = is_value false unopened q k e
+rules_gone false true true (Some fault) over one unopened q h k gone e = is_value false (pull.Fault (Stream fault)) q (record { contents = refl; ends = λ x. absurd (differ x) }) e
+rules_gone false true true None over one unopened q h k gone e = absurd (differ gone)
+
+pub settled_gone : (w : World) (side : Side) (i : ℕ) (q : Pull) → is_some (flow w (other side) i).fault ≡ true → settled w side i ≡ Some q → SaysNothing false q
+settled_gone w side i q gone e =
+    rules_gone (i % 4 == control_id (other side)) (is_request_stream i) (is_open w side i) (flow w (other side) i).fault (is_over (flow w (other side) i)) (pull_unidirectional w (other side) i) (pull_unopened side) q
+    (pause_or_none (own_delivered w (other side) i == 0) false) (none_or_pause (is_client side) false) gone e
+
+rules_alive : (unidirectional request there : Bool) (fault : Option StreamFault) (over : Bool) (one unopened : Pull) → by_rules unidirectional request there fault over one unopened ≡ None → is_some fault ≡ false
+rules_alive true request there fault over one unopened e = cc
+rules_alive false false there fault over one unopened e = cc
+rules_alive false true false fault over one unopened e = cc
+rules_alive false true true (Some fault) over one unopened e = cc
+rules_alive false true true None over one unopened e = refl
+
+pub settled_alive : (w : World) (side : Side) (i : ℕ) → settled w side i ≡ None → is_some (flow w (other side) i).fault ≡ false
+settled_alive w side i e =
+    rules_alive (i % 4 == control_id (other side)) (is_request_stream i) (is_open w side i) (flow w (other side) i).fault (is_over (flow w (other side) i)) (pull_unidirectional w (other side) i) (pull_unopened side) e
 
 rules_look : (unidirectional request there : Bool) (fault : Option StreamFault) (over : Bool) (one unopened : Pull) → by_rules unidirectional request there fault over one unopened ≡ None → LooksOn there over
 rules_look true request there fault over one unopened e = cc

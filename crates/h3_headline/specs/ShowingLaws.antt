@@ -7,9 +7,8 @@ use Rattle.std.proofs.lemmas.List.Sums.{sum_by-cons}
 use Rattle.h3_proto.specs.declared.stream.Side.{Side}
 use Rattle.h3_world.specs.World.{Exchange, World, party, no_exchange}
 use Rattle.h3_field.specs.Instruction.{EncoderInstruction, encoder_bytes}
-use Rattle.h3_qpack.specs.DecoderState.{announcing}
 use Rattle.h3_qpack.specs.WholeInstructions.{whole_in}
-use Rattle.h3_connection.specs.Endpoint.{EndpointHistory}
+use Rattle.h3_connection.specs.Endpoint.{EndpointHistory, first_decoder}
 use Rattle.h3_connection.specs.OwnIds.{other}
 use Rattle.h3_world.specs.declared.setup.Setup.{Setup}
 use Rattle.h3_world.specs.Setup.{IsMadeSetup, announced_at}
@@ -113,7 +112,7 @@ both_ways a b h k = omega (arith, h, k)
 pub inserted_is : (setup : Setup) (w : World) (side : Side) (e : EndpointHistory) → StandsAt setup w side e → e.decoding.decoder.table.inserted ≡ insertions_came (party w (other side))
 inserted_is setup w side e h =
     let own = (party w (other side)).own in
-    (counts_all (announcing (announced_at setup side).limits.table) e.decoding.decoder (take_front own.encoder_taken own.instructions) h.encoder_stream.decoder).sum
+    (counts_all (first_decoder (announced_at setup side)) e.decoding.decoder (take_front own.encoder_taken own.instructions) h.encoder_stream.decoder).sum
     ∙ from_none (insertions_came (party w (other side)))
   where
     from_none : (n : ℕ) → 0 + n ≡ n

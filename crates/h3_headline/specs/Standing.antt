@@ -18,11 +18,11 @@ use Rattle.h3_world.specs.declared.setup.Setup.{Setup}
 use Rattle.h3_world.specs.Setup.{TakesAnyLength, announced_at, takes_any}
 use Rattle.h3_world.specs.OwnStreams.{settings_bytes}
 use Rattle.h3_qpack.specs.WholeInstructions.{rest_in, whole_in}
-use Rattle.h3_connection.specs.Endpoint.{goaway_encoding, EndpointHistory, Own}
+use Rattle.h3_connection.specs.Endpoint.{goaway_encoding, EndpointHistory, Own, first_decoder}
 use Rattle.h3_field.specs.Instruction.{DecoderInstruction, decoder_bytes, EncoderInstruction, encoder_bytes}
 use Rattle.h3_proto.specs.Settings.{is_known}
 use Rattle.h3_connection.specs.PeerReading.{Peer, is_above, is_no_goaway}
-use Rattle.h3_qpack.specs.DecoderState.{announcing, decoder_after_all}
+use Rattle.h3_qpack.specs.DecoderState.{decoder_after_all}
 use Rattle.h3_connection.specs.Listeners.{Decoding}
 use Rattle.h3_connection.specs.StreamSets.{stream_at, HaveDistinctIds}
 use Rattle.h3_world.specs.World.{World, party}
@@ -141,7 +141,7 @@ pub record HasControl (setup : Setup) (side : Side) (came : ℕ) (goaways : List
 pub record HasEncoderStream (setup : Setup) (side : Side) (came : ℕ) (instructions : List EncoderInstruction) (stream : Option Unidirectional) (on : Option ℕ) (decoding : Decoding) : Type 0 where
   pub stream_is : IsPeerStream came Encoder stream
   pub is_on : on ≡ came_on came (encoder_id (other side))
-  pub decoder : decoder_after_all (Some (announcing (announced_at setup side).limits.table)) (take (whole_in encoder_bytes (came - 1) instructions) instructions) ≡ Some decoding.decoder
+  pub decoder : decoder_after_all (Some (first_decoder (announced_at setup side))) (take (whole_in encoder_bytes (came - 1) instructions) instructions) ≡ Some decoding.decoder
   pub unread : decoding.unread ≡ rest_in encoder_bytes (came - 1) instructions
 
 -- of its decoder stream, on which these were written. It is read once the settings are known.

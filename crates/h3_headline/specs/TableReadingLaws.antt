@@ -4,12 +4,13 @@ use Rattle.std.specs.Prelude.{take, drop, if◌then◌else◌}
 use Rattle.std.proofs.lemmas.List.{take-append-drop}
 use Rattle.h3_field.specs.Field.{Field, section_size}
 use Rattle.h3_field.specs.Instruction.{encoder_bytes}
-use Rattle.h3_qpack.specs.DecoderState.{announcing, decoder_after_all}
+use Rattle.h3_qpack.specs.DecoderState.{decoder_after_all}
 use Rattle.h3_qpack.specs.EncoderHistory.{EncoderHistory}
 use Rattle.h3_qpack.specs.Instructions.{AreAccepted}
 use Rattle.h3_table.specs.Table.{table, evictions}
 use Rattle.h3_qpack.specs.WholeInstructions.{whole_in}
 use Rattle.h3_proto.specs.declared.stream.Side.{Side}
+use Rattle.h3_connection.specs.Endpoint.{first_decoder}
 use Rattle.h3_connection.specs.OwnIds.{other}
 use Rattle.h3_world.specs.declared.setup.Setup.{Setup}
 use Rattle.h3_world.specs.Came.{insertions_came, instructions_came}
@@ -60,7 +61,7 @@ table_read laws setup w side made h =
     let follows = sound.session.follows in
     record {
       decoder = r.decoder;
-      reads = subst (λ x. decoder_after_all (Some (announcing (announced_at setup x).limits.table)) (instructions_came (party w writer)) ≡ Some r.decoder) (other-other side) r.reads;
+      reads = subst (λ x. decoder_after_all (Some (first_decoder (announced_at setup x))) (instructions_came (party w writer)) ≡ Some r.decoder) (other-other side) r.reads;
       entries =
           at.entries ∙ table_end s.encoder.capacity (take s.received s.encoder.inserted)
           ∙ ap (λ n. table s.encoder.capacity (take n s.encoder.inserted)) follows.received

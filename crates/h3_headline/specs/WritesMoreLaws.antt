@@ -7,7 +7,7 @@ use Rattle.h3_field.specs.Instruction.{EncoderInstruction, encoder_bytes, Decode
 use Rattle.h3_field.specs.Instruction.EncoderInstruction.{SetCapacity, InsertWithStaticName, InsertWithEntryName, InsertLiteral, Duplicate}
 use Rattle.h3_field.specs.Instruction.DecoderInstruction.{Acknowledge, CancelStream, Increment}
 use Rattle.h3_coding.specs.Encodings.{encoding}
-use Rattle.h3_connection.specs.Endpoint.{goaway_encoding}
+use Rattle.h3_connection.specs.Endpoint.{goaway_encoding, first_decoder}
 use Rattle.h3_proto.specs.declared.stream.Side.{Side}
 use Rattle.h3_connection.specs.OwnIds.{other}
 use Rattle.h3_connection.specs.PeerReading.{Peer}
@@ -15,7 +15,7 @@ use Rattle.h3_connection.specs.Unidirectional.{Unidirectional}
 use Rattle.h3_world.specs.declared.setup.Setup.{Setup}
 use Rattle.h3_world.specs.Setup.{announced_at}
 use Rattle.h3_world.specs.OwnStreams.{settings_bytes}
-use Rattle.h3_qpack.specs.DecoderState.{announcing, decoder_after_all}
+use Rattle.h3_qpack.specs.DecoderState.{decoder_after_all}
 use Rattle.h3_connection.specs.Listeners.{Decoding}
 use Rattle.h3_headline.specs.Parts.{HaveBytes}
 use Rattle.h3_headline.specs.Standing.{HasControl, HasDecoderStream, HasEncoderStream, are_settings_there, replies_unread}
@@ -109,7 +109,7 @@ encoder_stream_more setup side came is more stream on decoding within h =
     record {
       stream_is = h.stream_is;
       is_on = h.is_on;
-      decoder = ap (λ l. decoder_after_all (Some (announcing (announced_at setup side).limits.table)) l) (taken_same encoder_bytes encoder_bytes_some (came - 1) is more fits) ∙ h.decoder;
+      decoder = ap (λ l. decoder_after_all (Some (first_decoder (announced_at setup side))) l) (taken_same encoder_bytes encoder_bytes_some (came - 1) is more fits) ∙ h.decoder;
       unread = h.unread ∙ sym (rest_same encoder_bytes encoder_bytes_some (came - 1) is more fits);
     }
 

@@ -24,6 +24,7 @@ ghost use Rattle.h3_world.specs.Pulling.{settled};
 ghost use Rattle.h3_world.specs.Run.{Run};
 ghost use Rattle.h3_world.specs.Sendable.{IsSendable};
 ghost use Rattle.h3_world.specs.Setup.{IsMadeSetup, JudgesPlainly, announced_at};
+ghost use Rattle.h3_world.specs.Step.{Step};
 ghost use Rattle.h3_world.specs.Streams.{flow};
 ghost use Rattle.h3_world.specs.World.{World, empty_world, party};
 ghost use Rattle.h3_headline.specs.InOrder.{IsInOrder};
@@ -47,7 +48,8 @@ pub fn no_connection_fault()
 /// A send that is in order is accepted, on a stream that is open, with a field section within the limit known. It is a header section, a
 /// piece of the body, a trailer or the end of a message.
 pub fn ordered_sends_are_accepted()
-    ensures { (setup : Setup) (before : List Event) (given : List Answer) (w new : World) (e : Event) (a : Answer) → Run (Happens setup) (empty_world setup) before given w → Happens setup w e a new → IsInOrder setup w e → a ≡ Done }
+    ensures run { (setup : Setup) (before : List Event) (given : List Answer) (w new : World) (e : Event) (a : Answer) → Run (Happens setup) (empty_world setup) before given w → Happens setup w e a new → IsInOrder setup w e → a ≡ Done }
+    ensures step { (setup : Setup) (w new : World) (e : Event) (a : Answer) → Step setup w e a new → IsInOrder setup w e → a ≡ Done }
 {}
 
 /// With everything delivered, a pull of a stream that was not given up pauses only if no part is left. All that the other side sent on it

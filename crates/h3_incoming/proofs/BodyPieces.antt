@@ -1,8 +1,8 @@
 -- A piece of a body that is read where it lies is what a delivery and a pull hand out.
-use Rattle.std.proofs.Common.{◌≡◌, ℕ, zero, suc, ◌+◌, ◌-◌, ◌<◌, ◌≤◌, ◌==◌, ◌&&◌, ◌||◌, Bool, true, false, not, nat_lt, nat_le, if◌then◌else◌, List, [], ◌∷◌, ◌++◌, length, take, drop, refl, ap, sym, ◌∙◌, subst, arith, length-append, append-nil, append_assoc}
-use Rattle.std.specs.Prelude.{Option, Some, None, IfSome, is_some, min, ◌^◌, ◌/◌}
+use Rattle.std.proofs.Common.{◌≡◌, ℕ, ◌+◌, ◌-◌, ◌<◌, ◌≤◌, ◌==◌, ◌&&◌, ◌||◌, Bool, true, false, not, nat_lt, if◌then◌else◌, List, [], ◌∷◌, ◌++◌, length, take, drop, refl, ap, sym, ◌∙◌, subst, arith, length-append, append-nil, append_assoc}
+use Rattle.std.specs.Prelude.{Option, Some, None, IfSome, is_some, min}
 use Rattle.std.specs.List.{concat}
-use Rattle.std.proofs.lemmas.Bool.{and_parts, eqb-true, le-leb, lt-ltb}
+use Rattle.std.proofs.lemmas.Bool.{and_parts, eqb-true, le-leb}
 use Rattle.std.proofs.lemmas.List.{length-take-le, drop-take, take-append-drop, take-append-le, take-take, take_all}
 use Rattle.h3_coding.specs.Begins.{Begins}
 use Rattle.h3_coding.specs.Varint.{varint_at}
@@ -10,21 +10,20 @@ use Rattle.h3_coding.specs.VarintLaws.{begins, of_front}
 use Rattle.h3_wire.specs.ExcessiveFrames.{is_excessive}
 use Rattle.h3_wire.specs.ExcessiveLaws.{no_data}
 use Rattle.h3_wire.specs.FrameLaws.{at_head}
-use Rattle.h3_wire.specs.Frames.{Whole, frame_at}
+use Rattle.h3_wire.specs.Frames.{Whole, frame_by}
 use Rattle.h3_wire.specs.Fronts.{IsKnown}
-use Rattle.h3_wire.specs.Known.{known}
+use Rattle.h3_wire.specs.Known.{known_by}
 use Rattle.h3_wire.specs.KnownLaws.{known-other}
 use Rattle.h3_wire.specs.PieceLaws.{without-within}
 use Rattle.h3_wire.specs.Pieces.{chunk_of, with_piece}
 use Rattle.h3_wire.specs.declared.proto.frame.Frame.TheVariants as frame
 use Rattle.h3_messages.specs.Content.{left_behind, is_exceeded}
-use Rattle.h3_messages.specs.declared.content.Content.{Content}
 use Rattle.h3_proto.specs.declared.stream.Side.{Side}
 use Rattle.h3_qpack.specs.DecoderState.{DecoderState}
 use Rattle.h3_connection.specs.Codes.{frame_error}
 use Rattle.h3_connection.specs.Delivering.{kept}
 use Rattle.h3_connection.specs.Incoming.{Incoming, Passes, is_body}
-use Rattle.h3_connection.specs.Pulling.{Pulled, just, connection_fault, malformed, begun_payload, body_of, in_payload, at_payload, at_frame, between_frames, pull_stream}
+use Rattle.h3_connection.specs.Pulling.{just, connection_fault, malformed, begun_payload, body_of, in_payload, at_payload, at_frame, pull_stream}
 use Rattle.h3_connection.specs.Skipping.{skipped}
 use Rattle.h3_connection.specs.declared.event.Item.TheVariants as item
 use Rattle.h3_connection.specs.declared.event.Malformation.TheVariants as malformation
@@ -33,11 +32,13 @@ use Rattle.h3_connection.specs.declared.event.StreamFault.{StreamFault}
 use Rattle.h3_connection.specs.declared.place.Place.{Place}
 use Rattle.h3_connection.specs.declared.place.Place.TheVariants.{BeforeHead, InBody, AfterTrailer, InSession}
 use Rattle.h3_connection.specs.declared.setup.Announced.{Announced}
-use Rattle.h3_incoming.specs.BodyPlaces.{data_at, length_of_data, keeps_nothing, piece_at, place_behind, front_to, piece_of, body_pulled, ReadsPiece}
+use Rattle.h3_incoming.specs.BodyPlaces.{data_at, length_of_data, keeps_nothing, piece_at, place_behind, ReadsPiece}
 use Rattle.h3_incoming.specs.Placing.{is_session}
 use Rattle.h3_incoming.specs.declared.body_place.BodyPlace.{BodyPlace}
 use Rattle.h3_incoming.proofs.FrontLaws.{finds_frame, found_now, within_frame, within_now}
 use Rattle.h3_incoming.proofs.PullLaws.{none_there, some_left, pull_of_payload, pull_of_frame, between_frame}
+use Rattle.h3_connection.specs.StrictConnection.{kinds_of}
+use Rattle.h3_wire.specs.declared.frame.kinds.FrameKinds.{FrameKinds}
 
 -- What a receiver is of which nothing is kept.
 record IsClear (i : Incoming) : Type 0 where
@@ -151,17 +152,17 @@ module _ (i : Incoming) (bytes : List ℕ) (clear : keeps_nothing i ≡ true) (n
     head : List ℕ
     some : 0 < length head
     parts : bytes ≡ head ++ rest
-    whole : (more : List ℕ) → frame_at (head ++ more) ≡ Whole (frame.Data (record { 0 = size })) more
+    whole : (kinds : FrameKinds) (more : List ℕ) → frame_by kinds (head ++ more) ≡ Whole (frame.Data (record { 0 = size })) more
 
   head_of : (size : ℕ) (mid rest : List ℕ) → Begins 0 bytes mid → Begins size mid rest → HasHead size rest
   head_of size mid rest a b = record {
     head = a.first ∷ (a.more ++ (b.first ∷ b.more));
     some = omega arith;
     parts = a.parts ∙ ap (λ l. a.first ∷ (a.more ++ l)) b.parts ∙ ap (λ l. a.first ∷ l) (sym (append_assoc a.more (b.first ∷ b.more) rest));
-    whole = λ more.
+    whole = λ kinds more.
         let all : (a.first ∷ (a.more ++ (b.first ∷ b.more))) ++ more ≡ a.first ∷ (a.more ++ (b.first ∷ (b.more ++ more))) = ap (λ l. a.first ∷ l) (append_assoc a.more (b.first ∷ b.more) more) in
-        ap frame_at all
-        ∙ at_head 0 size (a.first ∷ (a.more ++ (b.first ∷ (b.more ++ more)))) (b.first ∷ (b.more ++ more)) more
+        ap (frame_by kinds) all
+        ∙ at_head kinds 0 size (a.first ∷ (a.more ++ (b.first ∷ (b.more ++ more)))) (b.first ∷ (b.more ++ more)) more
         (of_front 0 a.first a.more (b.first ∷ (b.more ++ more)) a.asked a.value) (of_front size b.first b.more more b.asked b.value);
   }
 
@@ -213,13 +214,13 @@ module _ (i : Incoming) (bytes : List ℕ) (clear : keeps_nothing i ≡ true) (n
       let j : Incoming = record i { unread = fr ∷ [] } in
       let k : Incoming = record i { unread = piece ∷ [] } in
       let f = frame.Data (record { 0 = size }) in
-      let at_front : frame_at fr ≡ Whole f piece = d.whole piece in
-      let whole_known : known fr ≡ fr = known-other fr (subst IsKnown (sym at_front) tt) in
-      let at_known : frame_at (known fr) ≡ Whole f piece = ap frame_at whole_known ∙ at_front in
+      let at_front : (kinds : FrameKinds) → frame_by kinds fr ≡ Whole f piece = λ kinds. d.whole kinds piece in
+      let at_known : (kinds : FrameKinds) → frame_by kinds (known_by kinds fr) ≡ Whole f piece =
+      λ kinds. ap (frame_by kinds) (known-other kinds fr (subst IsKnown (sym (at_front kinds)) tt)) ∙ at_front kinds in
       let not_empty : (is_body i.place && (size == 0)) ≡ false = some_size (is_body i.place) size left in
       let joined_is : concat (fr ∷ []) ≡ fr = append-nil fr in
-      let found : frame_at (skipped (is_body i.place) (concat (fr ∷ []))) ≡ Whole f (concat (piece ∷ [])) =
-      ap (λ l. frame_at (skipped (is_body i.place) l)) joined_is ∙ found_now (is_body i.place) f fr piece (finds_frame (is_body i.place) fr piece f at_known not_empty)
+      let found : (kinds : FrameKinds) → frame_by kinds (skipped kinds (is_body i.place) (concat (fr ∷ []))) ≡ Whole f (concat (piece ∷ [])) = λ kinds.
+      ap (λ l. frame_by kinds (skipped kinds (is_body i.place) l)) joined_is ∙ found_now kinds (is_body i.place) f fr piece (finds_frame kinds (is_body i.place) fr piece f (at_known kinds) not_empty)
       ∙ ap (λ l. Whole f l) (sym (append-nil piece)) in
       let passes : Passes j k = record {
         same = refl;
@@ -239,11 +240,11 @@ module _ (i : Incoming) (bytes : List ℕ) (clear : keeps_nothing i ≡ true) (n
             ap (λ l. pull_stream side own id r (kept i l)) front_is
             ∙ ap (pull_stream side own id r) (kept_is i fr c.fault none (omega (arith, length-append d.head piece, d.some)))
             ∙ pull_of_frame side own id r j c.fault c.goes_on c.message c.section closed
-            ∙ between_frame side own id r j k f passes found
-            (ap (λ l. is_excessive own.choices.unfinished_limit (skipped (is_body i.place) l)) joined_is
-            ∙ within_now own.choices.unfinished_limit (is_body i.place) f fr
-            (within_frame own.choices.unfinished_limit (is_body i.place) fr piece f at_known not_empty
-            (not_true (is_excessive own.choices.unfinished_limit (known fr)) (no_data own.choices.unfinished_limit (known fr) piece (record { 0 = size }) at_known))))
+            ∙ between_frame side own id r j k f passes (found (kinds_of own))
+            (ap (λ l. is_excessive own.choices.unfinished_limit (skipped (kinds_of own) (is_body i.place) l)) joined_is
+            ∙ within_now (kinds_of own) own.choices.unfinished_limit (is_body i.place) f fr
+            (within_frame (kinds_of own) own.choices.unfinished_limit (is_body i.place) fr piece f (at_known (kinds_of own)) not_empty
+            (not_true (is_excessive own.choices.unfinished_limit (known_by (kinds_of own) fr)) (no_data (kinds_of own) own.choices.unfinished_limit (known_by (kinds_of own) fr) piece (record { 0 = size }) (at_known (kinds_of own))))))
             ∙ at_data side own id r k i.place size body
             ∙ in_one id (begun_payload k size) piece within c.open_still refl (omega (arith, piece_size, few))
             ∙ ap (λ x. just (pull.Item (item.Body piece)) x) new_is

@@ -5,7 +5,7 @@ use Rattle.std.specs.List.{concat}
 use Rattle.h3_field.specs.Field.{Field}
 use Rattle.h3_qpack.specs.DecodedSection.{Fields, decode_section}
 use Rattle.h3_qpack.specs.DecoderState.{DecoderState}
-use Rattle.h3_wire.specs.Frames.{Whole, frame_at}
+use Rattle.h3_wire.specs.Frames.{Whole, frame_by}
 use Rattle.h3_wire.specs.declared.proto.frame.PayloadLen.{PayloadLen}
 use Rattle.h3_wire.specs.declared.proto.frame.Frame.{Frame}
 use Rattle.h3_wire.specs.declared.proto.frame.Frame.TheVariants as frame
@@ -15,6 +15,8 @@ use Rattle.h3_incoming.specs.Answering.{Lists}
 use Rattle.h3_connection.specs.Coming.{decoded_fields, fields_in, fields_next, next_section, section_in}
 use Rattle.h3_incoming.specs.Finding.{FindsFrame}
 use Rattle.h3_incoming.proofs.FrontLaws.{Reads, stored_is, found_now}
+use Rattle.h3_connection.specs.StrictConnection.{kinds_of}
+use Rattle.h3_connection.specs.declared.setup.Announced.{Announced}
 
 -- no list is any
 pub lists_none : (listed came : Option (List Field)) → listed ≡ None → Lists listed came
@@ -36,16 +38,16 @@ pub lists_there : (r : DecoderState) (section : Option (List ℕ)) (bytes : List
 lists_there r section bytes listed e h = subst (λ o. IfSome o (λ b. Lists listed (fields_in r (Some b)))) (sym e) h
 
 -- that of the section that waits
-pub lists_waiting : (r : DecoderState) (i : Incoming) (section : Option (List ℕ)) (listed : Option (List Field)) → i.section ≡ section → is_some section ≡ true
-    → IfSome section (λ bytes. Lists listed (fields_in r (Some bytes))) → Lists listed (fields_next r i)
-lists_waiting r i (Some bytes) listed e there h = subst (λ o. Lists listed (fields_in r (next_section i o))) (sym e) h
-lists_waiting r i None listed e there h = absurd (cc)
+pub lists_waiting : (own : Announced) (r : DecoderState) (i : Incoming) (section : Option (List ℕ)) (listed : Option (List Field)) → i.section ≡ section → is_some section ≡ true
+    → IfSome section (λ bytes. Lists listed (fields_in r (Some bytes))) → Lists listed (fields_next own r i)
+lists_waiting own r i (Some bytes) listed e there h = subst (λ o. Lists listed (fields_in r (next_section own i o))) (sym e) h
+lists_waiting own r i None listed e there h = absurd (cc)
 
 -- that of the next frame
-pub lists_framed : (r : DecoderState) (old stored : Incoming) (left : List (List ℕ)) (in_body : Bool) (f : Frame PayloadLen) (bytes : List ℕ) (listed : Option (List Field)) → Reads old stored left in_body
-    → FindsFrame in_body f (concat stored.unread) (concat left) → old.section ≡ None → f ≡ frame.Headers bytes → Lists listed (fields_in r (Some bytes)) → Lists listed (fields_next r old)
-lists_framed r old stored left in_body f bytes listed reads h none is list =
-    let there : frame_at (skipped (is_body old.place) (concat old.unread)) ≡ Whole f (concat left) =
-    found_now (is_body old.place) f (concat old.unread) (concat left) (stored_is (λ b l. FindsFrame b f l (concat left)) old stored left in_body reads h) in
-    let section : next_section old old.section ≡ Some bytes = ap (next_section old) none ∙ ap section_in there ∙ ap (λ g. section_in (Whole g (concat left))) is in
+pub lists_framed : (own : Announced) (r : DecoderState) (old stored : Incoming) (left : List (List ℕ)) (in_body : Bool) (f : Frame PayloadLen) (bytes : List ℕ) (listed : Option (List Field)) → Reads old stored left in_body
+    → FindsFrame (kinds_of own) in_body f (concat stored.unread) (concat left) → old.section ≡ None → f ≡ frame.Headers bytes → Lists listed (fields_in r (Some bytes)) → Lists listed (fields_next own r old)
+lists_framed own r old stored left in_body f bytes listed reads h none is list =
+    let there : frame_by (kinds_of own) (skipped (kinds_of own) (is_body old.place) (concat old.unread)) ≡ Whole f (concat left) =
+    found_now (kinds_of own) (is_body old.place) f (concat old.unread) (concat left) (stored_is (λ b l. FindsFrame (kinds_of own) b f l (concat left)) old stored left in_body reads h) in
+    let section : next_section own old old.section ≡ Some bytes = ap (next_section own old) none ∙ ap section_in there ∙ ap (λ g. section_in (Whole g (concat left))) is in
     subst (λ o. Lists listed (fields_in r o)) (sym section) list

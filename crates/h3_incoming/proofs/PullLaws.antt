@@ -5,8 +5,8 @@ use Rattle.std.specs.List.{concat}
 use Rattle.std.proofs.lemmas.Bool.{lt-ltb}
 use Rattle.std.proofs.lemmas.List.{length-drop}
 use Rattle.h3_wire.specs.ExcessiveFrames.{is_excessive}
-use Rattle.h3_wire.specs.Frames.{Front, Whole, Refused, Unfinished, frame_at}
-use Rattle.h3_wire.specs.FrameLaws.{frame_at-nil, frame_at-shorter}
+use Rattle.h3_wire.specs.Frames.{Front, Whole, Refused, Unfinished, frame_by}
+use Rattle.h3_wire.specs.FrameLaws.{frame_by-nil, frame_by-shorter}
 use Rattle.h3_wire.specs.Fronts.{IsFinished, IsShorter}
 use Rattle.h3_wire.specs.Known.{refusal}
 use Rattle.h3_wire.specs.Pieces.{without, ending}
@@ -34,6 +34,7 @@ use Rattle.h3_incoming.specs.Finding.{FindsRefused, IsTooLong}
 use Rattle.h3_incoming.specs.Gives.{Gives}
 use Rattle.h3_incoming.specs.Placing.{is_session}
 use Rattle.h3_connection.specs.SkippingLaws.{skipped-length}
+use Rattle.h3_connection.specs.StrictConnection.{kinds_of}
 
 pub gives_as : (p q : Pulled) (answer : Pull) (new : Incoming) (before after : List ℕ) → p ≡ q → Gives q answer new before after → Gives p answer new before after
 gives_as p q answer new before after e h = subst (λ x. Gives x answer new before after) (sym e) h
@@ -132,44 +133,44 @@ module _ (side : Side) (own : Announced) (id : ℕ) (r : DecoderState) where
       ∙ ap (λ n. if nat_lt 0 n then at_payload id i else between_frames side own id r i) closed
 
   -- what a front that is no unfinished one gives
-  next_is : (i : Incoming) (bytes : List ℕ) (x : Front) → frame_at bytes ≡ x → IsFinished x → next_frame side own id r i bytes ≡ framed side own id r i x
-  next_is i [] x e h = let wrong : IsFinished (Unfinished 1) = subst IsFinished (sym e ∙ frame_at-nil) h in absurd wrong
+  next_is : (i : Incoming) (bytes : List ℕ) (x : Front) → frame_by (kinds_of own) bytes ≡ x → IsFinished x → next_frame side own id r i bytes ≡ framed side own id r i x
+  next_is i [] x e h = let wrong : IsFinished (Unfinished 1) = subst IsFinished (sym e ∙ frame_by-nil (kinds_of own)) h in absurd wrong
   next_is i (byte ∷ bytes) x e h = ap (framed side own id r i) e
 
   -- what stands between frames is too long, or it is not
-  pub between_excess : (i : Incoming) (is_section : Bool) → IsTooLong own.choices.unfinished_limit (is_body i.place) is_section (concat i.unread)
+  pub between_excess : (i : Incoming) (is_section : Bool) → IsTooLong (kinds_of own) own.choices.unfinished_limit (is_body i.place) is_section (concat i.unread)
       → between_frames side own id r i ≡ (if is_section then malformed id malformation.TooLong i [] else connection_fault excessive_load (record i { unread = [] }))
   between_excess i is_section h =
-      let bytes = skipped (is_body i.place) (concat i.unread) in
+      let bytes = skipped (kinds_of own) (is_body i.place) (concat i.unread) in
       ap (λ b. if b then excess id i bytes else next_frame side own id r (left_with i bytes) bytes) h.0
       ∙ ap (λ b. if b then malformed id malformation.TooLong i [] else connection_fault excessive_load (record i { unread = [] })) h.1
 
-  pub between_within : (i : Incoming) → is_excessive own.choices.unfinished_limit (skipped (is_body i.place) (concat i.unread)) ≡ false
-      → between_frames side own id r i ≡ next_frame side own id r (left_with i (skipped (is_body i.place) (concat i.unread))) (skipped (is_body i.place) (concat i.unread))
+  pub between_within : (i : Incoming) → is_excessive own.choices.unfinished_limit (skipped (kinds_of own) (is_body i.place) (concat i.unread)) ≡ false
+      → between_frames side own id r i ≡ next_frame side own id r (left_with i (skipped (kinds_of own) (is_body i.place) (concat i.unread))) (skipped (kinds_of own) (is_body i.place) (concat i.unread))
   between_within i e =
-      let bytes = skipped (is_body i.place) (concat i.unread) in
+      let bytes = skipped (kinds_of own) (is_body i.place) (concat i.unread) in
       ap (λ b. if b then excess id i bytes else next_frame side own id r (left_with i bytes) bytes) e
 
-  pub between_unfinished : (i new : Incoming) → Passes i new → concat new.unread ≡ skipped (is_body i.place) (concat i.unread)
-      → is_excessive own.choices.unfinished_limit (skipped (is_body i.place) (concat i.unread)) ≡ false
+  pub between_unfinished : (i new : Incoming) → Passes i new → concat new.unread ≡ skipped (kinds_of own) (is_body i.place) (concat i.unread)
+      → is_excessive own.choices.unfinished_limit (skipped (kinds_of own) (is_body i.place) (concat i.unread)) ≡ false
       → between_frames side own id r i ≡ next_frame side own id r new (concat new.unread)
   between_unfinished i new p e within =
       between_within i within ∙ ap (λ bytes. next_frame side own id r (left_with i bytes) bytes) (sym e)
       ∙ ap (λ j. next_frame side own id r j (concat new.unread)) (sym (left_is i new p))
 
-  pub between_refused : (i new : Incoming) (e : FrameProtocolError) → Passes i new → FindsRefused (is_body i.place) e (concat i.unread) (concat new.unread)
-      → is_excessive own.choices.unfinished_limit (skipped (is_body i.place) (concat i.unread)) ≡ false
+  pub between_refused : (i new : Incoming) (e : FrameProtocolError) → Passes i new → FindsRefused (kinds_of own) (is_body i.place) e (concat i.unread) (concat new.unread)
+      → is_excessive own.choices.unfinished_limit (skipped (kinds_of own) (is_body i.place) (concat i.unread)) ≡ false
       → between_frames side own id r i ≡ connection_fault (refusal_code (refusal e)) new
   between_refused i new e p h within = between_unfinished i new p h.0 within ∙ next_is new (concat new.unread) (Refused (refusal e)) h.1 tt
 
-  pub between_frame : (i new : Incoming) (f : Frame PayloadLen) → Passes i new → frame_at (skipped (is_body i.place) (concat i.unread)) ≡ Whole f (concat new.unread)
-      → is_excessive own.choices.unfinished_limit (skipped (is_body i.place) (concat i.unread)) ≡ false
+  pub between_frame : (i new : Incoming) (f : Frame PayloadLen) → Passes i new → frame_by (kinds_of own) (skipped (kinds_of own) (is_body i.place) (concat i.unread)) ≡ Whole f (concat new.unread)
+      → is_excessive own.choices.unfinished_limit (skipped (kinds_of own) (is_body i.place) (concat i.unread)) ≡ false
       → between_frames side own id r i ≡ at_frame side own id r side new i.place f
   between_frame i new f p e within =
-      let bytes = skipped (is_body i.place) (concat i.unread) in
-      let less : IsShorter (length bytes) (Whole f (concat new.unread)) = subst (IsShorter (length bytes)) e (frame_at-shorter bytes) in
+      let bytes = skipped (kinds_of own) (is_body i.place) (concat i.unread) in
+      let less : IsShorter (length bytes) (Whole f (concat new.unread)) = subst (IsShorter (length bytes)) e (frame_by-shorter (kinds_of own) bytes) in
       between_within i within ∙ next_is (left_with i bytes) bytes (Whole f (concat new.unread)) e tt
-      ∙ ap (λ j. at_frame side own id r side j i.place f) (left_left i bytes (concat new.unread) (omega (arith, less)) (skipped-length (is_body i.place) (concat i.unread)) ∙ sym (left_is i new p))
+      ∙ ap (λ j. at_frame side own id r side j i.place f) (left_left i bytes (concat new.unread) (omega (arith, less)) (skipped-length (kinds_of own) (is_body i.place) (concat i.unread)) ∙ sym (left_is i new p))
 
   pub gives_section : (i : Incoming) (section : Option (List ℕ)) (answer : Pull) (new : Incoming) (before after : List ℕ) → i.fault ≡ None → i.is_over ≡ false → is_session i.place ≡ false
       → i.section ≡ section → is_some section ≡ true → IfSome section (λ bytes. is_memory answer ≡ false → Gives (at_section side own id r i bytes) answer new before after)

@@ -23,44 +23,45 @@ use Rattle.h3_incoming.specs.declared.stream.front.Found.TheVariants as found
 use Rattle.h3_incoming.proofs.FrontLaws.{Reads, with_left, passes, passes_frames, stored_is, found_now, within_now}
 use Rattle.h3_incoming.proofs.PullLaws.{gives_as, between_excess, between_unfinished, between_refused, between_frame, place_passed}
 use Rattle.h3_incoming.proofs.ResumeLaws.{IsBetween, resumes_passed, resumes_begun}
+use Rattle.h3_connection.specs.StrictConnection.{kinds_of}
 
 -- a frame is too long: a field section, and any other
 pub pulled_section : (side : Side) (own : Announced) (id : ℕ) (r : DecoderState) (old stored : Incoming) (left : List (List ℕ)) (in_body : Bool) → Reads old stored left in_body
-    → IsWithin own.choices.unfinished_limit in_body found.LongSection (concat stored.unread) → between_frames side own id r old ≡ malformed id malformation.TooLong (with_left stored left) []
+    → IsWithin (kinds_of own) own.choices.unfinished_limit in_body found.LongSection (concat stored.unread) → between_frames side own id r old ≡ malformed id malformation.TooLong (with_left stored left) []
 pulled_section side own id r old stored left in_body reads h =
-    between_excess side own id r old true (stored_is (λ b l. IsWithin own.choices.unfinished_limit b found.LongSection l) old stored left in_body reads h)
+    between_excess side own id r old true (stored_is (λ b l. IsWithin (kinds_of own) own.choices.unfinished_limit b found.LongSection l) old stored left in_body reads h)
     ∙ ap {A = Incoming} (λ i. malformed id malformation.TooLong i []) (sym reads.is)
 
 pub pulled_excess : (side : Side) (own : Announced) (id : ℕ) (r : DecoderState) (old stored : Incoming) (left : List (List ℕ)) (in_body : Bool) → Reads old stored left in_body
-    → IsWithin own.choices.unfinished_limit in_body found.Excessive (concat stored.unread) → between_frames side own id r old ≡ connection_fault excessive_load (record stored { unread = [] })
+    → IsWithin (kinds_of own) own.choices.unfinished_limit in_body found.Excessive (concat stored.unread) → between_frames side own id r old ≡ connection_fault excessive_load (record stored { unread = [] })
 pulled_excess side own id r old stored left in_body reads h =
-    between_excess side own id r old false (stored_is (λ b l. IsWithin own.choices.unfinished_limit b found.Excessive l) old stored left in_body reads h)
+    between_excess side own id r old false (stored_is (λ b l. IsWithin (kinds_of own) own.choices.unfinished_limit b found.Excessive l) old stored left in_body reads h)
     ∙ ap (λ (i : Incoming). connection_fault excessive_load (record i { unread = [] })) (sym reads.is)
 
 pub pulled_unfinished : (side : Side) (own : Announced) (id : ℕ) (r : DecoderState) (old stored : Incoming) (left : List (List ℕ)) (in_body : Bool) → Reads old stored left in_body
-    → FindsLess in_body (concat stored.unread) (concat left) → IsWithin own.choices.unfinished_limit in_body found.Unfinished (concat stored.unread)
+    → FindsLess (kinds_of own) in_body (concat stored.unread) (concat left) → IsWithin (kinds_of own) own.choices.unfinished_limit in_body found.Unfinished (concat stored.unread)
     → between_frames side own id r old ≡ next_frame side own id r (with_left stored left) (concat left)
 pulled_unfinished side own id r old stored left in_body reads h small =
-    between_unfinished side own id r old (with_left stored left) (passes old stored left in_body reads) (stored_is (λ b l. FindsLess b l (concat left)) old stored left in_body reads h).0
-    (stored_is (λ b l. IsWithin own.choices.unfinished_limit b found.Unfinished l) old stored left in_body reads small)
+    between_unfinished side own id r old (with_left stored left) (passes old stored left in_body reads) (stored_is (λ b l. FindsLess (kinds_of own) b l (concat left)) old stored left in_body reads h).0
+    (stored_is (λ b l. IsWithin (kinds_of own) own.choices.unfinished_limit b found.Unfinished l) old stored left in_body reads small)
 
 pub pulled_refused : (side : Side) (own : Announced) (id : ℕ) (r : DecoderState) (old stored : Incoming) (left : List (List ℕ)) (in_body : Bool) (e : FrameProtocolError) (code : ℕ) → Reads old stored left in_body
-    → FindsRefused in_body e (concat stored.unread) (concat left) → IsWithin own.choices.unfinished_limit in_body (found.Refused e) (concat stored.unread) → code ≡ refusal_code (refusal e)
+    → FindsRefused (kinds_of own) in_body e (concat stored.unread) (concat left) → IsWithin (kinds_of own) own.choices.unfinished_limit in_body (found.Refused e) (concat stored.unread) → code ≡ refusal_code (refusal e)
     → between_frames side own id r old ≡ connection_fault code (with_left stored left)
 pulled_refused side own id r old stored left in_body e code reads h small is =
-    between_refused side own id r old (with_left stored left) e (passes old stored left in_body reads) (stored_is (λ b l. FindsRefused b e l (concat left)) old stored left in_body reads h)
-    (stored_is (λ b l. IsWithin own.choices.unfinished_limit b (found.Refused e) l) old stored left in_body reads small)
+    between_refused side own id r old (with_left stored left) e (passes old stored left in_body reads) (stored_is (λ b l. FindsRefused (kinds_of own) b e l (concat left)) old stored left in_body reads h)
+    (stored_is (λ b l. IsWithin (kinds_of own) own.choices.unfinished_limit b (found.Refused e) l) old stored left in_body reads small)
     ∙ ap (λ n. connection_fault n (with_left stored left)) (sym is)
 
 -- a frame is what it is at the place that was stored
 pub pulled_frame : (side : Side) (own : Announced) (id : ℕ) (r : DecoderState) (old stored : Incoming) (left : List (List ℕ)) (in_body : Bool) (f : Frame PayloadLen) (p : Pulled) → Reads old stored left in_body
-    → FindsFrame in_body f (concat stored.unread) (concat left) → KeepsWithin own.choices.unfinished_limit in_body (concat stored.unread)
+    → FindsFrame (kinds_of own) in_body f (concat stored.unread) (concat left) → KeepsWithin (kinds_of own) own.choices.unfinished_limit in_body (concat stored.unread)
     → at_frame side own id r side (with_left stored left) stored.place f ≡ p → between_frames side own id r old ≡ p
 pulled_frame side own id r old stored left in_body f p reads h small is =
     let mid = with_left stored left in
     let passed = passes old stored left in_body reads in
-    between_frame side own id r old mid f passed (found_now (is_body old.place) f (concat old.unread) (concat left) (stored_is (λ b l. FindsFrame b f l (concat left)) old stored left in_body reads h))
-    (within_now own.choices.unfinished_limit (is_body old.place) f (concat old.unread) (stored_is (λ b l. KeepsWithin own.choices.unfinished_limit b l) old stored left in_body reads small))
+    between_frame side own id r old mid f passed (found_now (kinds_of own) (is_body old.place) f (concat old.unread) (concat left) (stored_is (λ b l. FindsFrame (kinds_of own) b f l (concat left)) old stored left in_body reads h))
+    (within_now (kinds_of own) own.choices.unfinished_limit (is_body old.place) f (concat old.unread) (stored_is (λ b l. KeepsWithin (kinds_of own) own.choices.unfinished_limit b l) old stored left in_body reads small))
     ∙ ap (λ q. at_frame side own id r side mid q f) (sym (place_passed old mid passed)) ∙ is
 
 -- a session was begun, or refused, by its place
@@ -70,11 +71,11 @@ session_told own i before after session told h same = subst (λ p. at_session ow
 
 -- the payload was begun
 begun_is : (i : Incoming) (size : ℕ) (content : Content) → content ≡ left_behind i.content size → (record i { body_left = size; content = content }) ≡ begun_payload i size
-begun_is i size content e = ap (λ c. let x : Incoming = record i { body_left = size; content = c } in x) e
+begun_is i size known e = ap (λ c. let x : Incoming = record i { body_left = size; content = c } in x) e
 
 pub gives_payload : (side : Side) (own : Announced) (id : ℕ) (r : DecoderState) (old stored : Incoming) (left : List (List ℕ)) (in_body : Bool) (f : Frame PayloadLen) (size : ℕ) (content : Content)
-    (answer : Pull) (new : Incoming) (before after : List ℕ) → Reads old stored left in_body → FindsFrame in_body f (concat stored.unread) (concat left)
-    → KeepsWithin own.choices.unfinished_limit in_body (concat stored.unread)
+    (answer : Pull) (new : Incoming) (before after : List ℕ) → Reads old stored left in_body → FindsFrame (kinds_of own) in_body f (concat stored.unread) (concat left)
+    → KeepsWithin (kinds_of own) own.choices.unfinished_limit in_body (concat stored.unread)
     → at_frame side own id r side (with_left stored left) stored.place f ≡ at_payload id (begun_payload (with_left stored left) size) → content ≡ left_behind stored.content size
     → Gives (at_payload id (record (with_left stored left) { body_left = size; content = content })) answer new before after → Gives (between_frames side own id r old) answer new before after
 gives_payload side own id r old stored left in_body f size content answer new before after reads h small is e gives =
@@ -83,20 +84,20 @@ gives_payload side own id r old stored left in_body f size content answer new be
 
 -- want of memory before the frame, and behind it
 pub resumes_before : (own : Announced) (old stored : Incoming) (left : List (List ℕ)) (in_body : Bool) → Reads old stored left in_body → IsBetween old
-    → PassesFrames in_body (concat stored.unread) (concat left) → Resumes own old (with_left stored left)
+    → PassesFrames (kinds_of own) in_body (concat stored.unread) (concat left) → Resumes own old (with_left stored left)
 resumes_before own old stored left in_body reads between h =
-    resumes_passed own old (with_left stored left) between (passes old stored left in_body reads) (passes_frames old stored left in_body reads h)
+    resumes_passed own old (with_left stored left) between (passes old stored left in_body reads) (passes_frames (kinds_of own) old stored left in_body reads h)
 
 pub resumes_behind : (own : Announced) (old stored new begun : Incoming) (left : List (List ℕ)) (in_body : Bool) (f : Frame PayloadLen) → Reads old stored left in_body → IsBetween old
-    → FindsFrame in_body f (concat stored.unread) (concat left) → KeepsWithin own.choices.unfinished_limit in_body (concat stored.unread)
+    → FindsFrame (kinds_of own) in_body f (concat stored.unread) (concat left) → KeepsWithin (kinds_of own) own.choices.unfinished_limit in_body (concat stored.unread)
     → Begins stored.place f (with_left stored left) begun → new ≡ begun → Resumes own old new
 resumes_behind own old stored new begun left in_body f reads between h small begins same =
     subst (λ (x : Incoming). Resumes own old x) (sym same)
-    (resumes_begun own old (with_left stored left) begun f between (passes old stored left in_body reads) (stored_is (λ b l. FindsFrame b f l (concat left)) old stored left in_body reads h)
-    (stored_is (λ b l. KeepsWithin own.choices.unfinished_limit b l) old stored left in_body reads small) begins)
+    (resumes_begun own old (with_left stored left) begun f between (passes old stored left in_body reads) (stored_is (λ b l. FindsFrame (kinds_of own) b f l (concat left)) old stored left in_body reads h)
+    (stored_is (λ b l. KeepsWithin (kinds_of own) own.choices.unfinished_limit b l) old stored left in_body reads small) begins)
 
 pub resumes_payload : (own : Announced) (old stored new : Incoming) (left : List (List ℕ)) (in_body : Bool) (f : Frame PayloadLen) (size : ℕ) (content : Content) → Reads old stored left in_body → IsBetween old
-    → FindsFrame in_body f (concat stored.unread) (concat left) → KeepsWithin own.choices.unfinished_limit in_body (concat stored.unread)
+    → FindsFrame (kinds_of own) in_body f (concat stored.unread) (concat left) → KeepsWithin (kinds_of own) own.choices.unfinished_limit in_body (concat stored.unread)
     → Begins stored.place f (with_left stored left) (begun_payload (with_left stored left) size) → content ≡ left_behind stored.content size
     → new ≡ record (with_left stored left) { body_left = size; content = content } → Resumes own old new
 resumes_payload own old stored new left in_body f size content reads between h small begins e same =

@@ -1,13 +1,15 @@
 -- A pull that memory cut short loses nothing.
 use Rattle.std.proofs.Common.{◌≡◌, ℕ, zero, suc, ◌<◌, ◌≤◌, Bool, true, false, if◌then◌else◌, ◌&&◌, ◌==◌, List, [], ◌++◌, length, refl, ap, sym, ◌∙◌, subst, arith, inl, inr, ◌⊎◌}
-use Rattle.std.specs.Prelude.{None, Some, Option, nat_lt}
+use Rattle.std.specs.Prelude.{None, Some, Option, nat_lt, ◌-◌}
+use Rattle.h3_coding.specs.Varint.{varint_at}
 use Rattle.std.specs.List.{concat}
 use Rattle.std.proofs.lemmas.List.{length-drop}
 use Rattle.std.proofs.lemmas.List.Folds.{concat-append}
-use Rattle.h3_wire.specs.ExcessiveFrames.{is_excessive}
-use Rattle.h3_wire.specs.Frames.{Whole, frame_at}
+use Rattle.h3_wire.specs.ExcessiveFrames.{is_excessive, says_too_much}
+use Rattle.h3_wire.specs.Frames.{Whole, frame_by}
 use Rattle.h3_wire.specs.Pieces.{IsRest, chunk_of}
 use Rattle.h3_wire.specs.PieceLaws.{rest_behind, concat-without}
+use Rattle.h3_wire.specs.declared.frame.kinds.FrameKinds.{FrameKinds}
 use Rattle.h3_wire.specs.declared.proto.frame.PayloadLen.{PayloadLen}
 use Rattle.h3_wire.specs.declared.proto.frame.Frame.{Frame}
 use Rattle.h3_wire.specs.declared.proto.frame.Frame.TheVariants as frame
@@ -26,14 +28,16 @@ use Rattle.h3_messages.specs.Content.{is_exceeded}
 use Rattle.h3_connection.specs.Pulling.{Pulled, begun_section, begun_payload, left_with, at_payload, body_of, in_payload, malformed, new_section, connection_fault, excess, at_frame, next_frame, between_frames, pull_stream}
 use Rattle.h3_incoming.specs.Finding.{FindsFrame, KeepsWithin, PassesFrames}
 use Rattle.h3_incoming.specs.Placing.{is_session}
-use Rattle.h3_incoming.specs.Resuming.{Begins, Resumes, delivered}
+use Rattle.h3_connection.specs.PartReading.{unsaid}
+use Rattle.h3_incoming.specs.Resuming.{Begins, PullsAlike, Resumes, delivered}
 use Rattle.h3_connection.specs.SkippingLaws.{skipped-length, found_not_empty}
 use Rattle.h3_incoming.proofs.PullLaws.{pull_of_section, pull_of_payload, pull_of_frame, left_is, left_left, place_passed, between_frame}
+use Rattle.h3_connection.specs.StrictConnection.{kinds_of}
 
 pub resumes_same : (own : Announced) (old new : Incoming) → new ≡ old → Resumes own old new
 resumes_same own old new e = subst (λ x. Resumes own old x) (sym e) (record {
-  pulls = λ side id r pieces ends. refl;
-  lists = λ side id r pieces ends. inr refl;
+  alike = record { pulls = λ side id r pieces ends. refl; lists = λ side id r pieces ends. inr refl };
+  plainly = λ other known none. record { pulls = λ side id r pieces ends. refl; lists = λ side id r pieces ends. inr refl };
   gives_up = λ fault. refl;
   place = refl;
   response = refl;
@@ -82,14 +86,57 @@ between_passed : (old new : Incoming) → Passes old new → IsBetween old → I
 between_passed old new p b = subst IsBetween (sym p.same) (record { no_fault = b.no_fault; goes_on = b.goes_on; message = b.message; none = b.none; closed = b.closed; waits = b.waits })
 
 -- the list of a stream on which no section waits
-none_next : (r : DecoderState) (i : Incoming) → i.section ≡ None → fields_next r i ≡ fields_in r (section_in (frame_at (skipped (is_body i.place) (concat i.unread))))
-none_next r i none = ap (λ s. fields_in r (next_section i s)) none
+none_next : (own : Announced) (r : DecoderState) (i : Incoming) → i.section ≡ None → fields_next own r i ≡ fields_in r (section_in (frame_by (kinds_of own) (skipped (kinds_of own) (is_body i.place) (concat i.unread))))
+none_next own r i none = ap (λ s. fields_in r (next_section own i s)) none
 
--- Some frames were passed, and the next was not read.
-pub resumes_passed : (own : Announced) (old new : Incoming) → IsBetween old → Passes old new → PassesFrames (is_body old.place) (concat old.unread) (concat new.unread) → Resumes own old new
+-- where nothing is known of the content
+between_unsaid : (i : Incoming) → IsBetween i → IsBetween (unsaid i)
+between_unsaid i b = record { no_fault = b.no_fault; goes_on = b.goes_on; message = b.message; none = b.none; closed = b.closed; waits = b.waits }
+
+passes_unsaid : (old new : Incoming) → Passes old new → Passes (unsaid old) (unsaid new)
+passes_unsaid old new p = record { same = ap unsaid p.same; rest = p.rest }
+
+-- Some frames were passed, and the next was not read: so it is at any end to which the same kinds of frames are known.
+passed_alike : (own : Announced) (old new : Incoming) → IsBetween old → Passes old new → PassesFrames (kinds_of own) (is_body old.place) (concat old.unread) (concat new.unread) → PullsAlike own old new
+passed_alike own old new b p skips = record { pulls = λ side id r pieces ends. goes_on_alike side id r pieces ends; lists = λ side id r pieces ends. inr (lists_alike r pieces ends) }
+  where
+    -- the next frame that gives something is the same
+    next_alike : (pieces : List (List ℕ)) → skipped (kinds_of own) (is_body new.place) (concat (new.unread ++ pieces)) ≡ skipped (kinds_of own) (is_body old.place) (concat (old.unread ++ pieces))
+    next_alike pieces =
+        ap (λ q. skipped (kinds_of own) (is_body q) (concat (new.unread ++ pieces))) (place_passed old new p)
+        ∙ ap (skipped (kinds_of own) (is_body old.place)) (concat-append new.unread pieces) ∙ skips (concat pieces)
+        ∙ sym (ap (skipped (kinds_of own) (is_body old.place)) (concat-append old.unread pieces))
+
+    lists_alike : (r : DecoderState) (pieces : List (List ℕ)) (ends : Bool) → fields_next own r (delivered new pieces ends) ≡ fields_next own r (delivered old pieces ends)
+    lists_alike r pieces ends =
+        none_next own r (delivered new pieces ends) (between_passed old new p b).none
+        ∙ ap (λ l. fields_in r (section_in (frame_by (kinds_of own) l))) (next_alike pieces)
+        ∙ sym (none_next own r (delivered old pieces ends) b.none)
+
+    goes_on_alike : (side : Side) (id : ℕ) (r : DecoderState) (pieces : List (List ℕ)) (ends : Bool)
+        → pull_stream side own id r (delivered new pieces ends) ≡ pull_stream side own id r (delivered old pieces ends)
+    goes_on_alike side id r pieces ends =
+        let o = delivered old pieces ends in
+        let n = delivered new pieces ends in
+        let bytes = skipped (kinds_of own) (is_body old.place) (concat o.unread) in
+        let same : skipped (kinds_of own) (is_body n.place) (concat n.unread) ≡ bytes = next_alike pieces in
+        let short : length bytes ≤ length (concat n.unread) = subst (λ l. length l ≤ length (concat n.unread)) same (skipped-length (kinds_of own) (is_body n.place) (concat n.unread)) in
+        let behind = passes_behind old new pieces ends p in
+        let left : left_with n bytes ≡ left_with o bytes =
+        ap (λ (i : Incoming). left_with i bytes) (left_is o n behind)
+        ∙ left_left o (concat n.unread) bytes short (rest_short o.unread n.unread behind.rest) in
+        between_pull side own id r new pieces ends (between_passed old new p b)
+        ∙ ap (λ l. if is_excessive own.choices.unfinished_limit l then excess id n l else next_frame side own id r (left_with n l) l) same
+        ∙ ap (λ (i : Incoming). if is_excessive own.choices.unfinished_limit bytes then excess id n bytes else next_frame side own id r i bytes) left
+        ∙ ap (λ x. if is_excessive own.choices.unfinished_limit bytes then x else next_frame side own id r (left_with o bytes) bytes) (let_go_alike id bytes o n behind)
+        ∙ sym (between_pull side own id r old pieces ends b)
+
+pub resumes_passed : (own : Announced) (old new : Incoming) → IsBetween old → Passes old new → PassesFrames (kinds_of own) (is_body old.place) (concat old.unread) (concat new.unread) → Resumes own old new
 resumes_passed own old new b p skips = record {
-  pulls = λ side id r pieces ends. goes_on_alike side id r pieces ends;
-  lists = λ side id r pieces ends. inr (lists_alike r pieces ends);
+  alike = passed_alike own old new b p skips;
+  plainly = λ other known none.
+      passed_alike other (unsaid old) (unsaid new) (between_unsaid old b) (passes_unsaid old new p)
+      (subst (λ (kinds : FrameKinds). PassesFrames kinds (is_body old.place) (concat old.unread) (concat new.unread)) (sym known) skips);
   gives_up = λ fault. ap {A = Incoming} (λ i. given_up i fault) p.same;
   place = ap {A = Incoming} (λ i. i.place) p.same;
   response = ap {A = Incoming} (λ i. i.response) p.same;
@@ -100,37 +147,6 @@ resumes_passed own old new b p skips = record {
   was_reset = ap {A = Incoming} (λ i. i.was_reset) p.same;
   fault = ap {A = Incoming} (λ i. i.fault) p.same;
 }
-  where
-    -- the next frame that gives something is the same
-    next_alike : (pieces : List (List ℕ)) → skipped (is_body new.place) (concat (new.unread ++ pieces)) ≡ skipped (is_body old.place) (concat (old.unread ++ pieces))
-    next_alike pieces =
-        ap (λ q. skipped (is_body q) (concat (new.unread ++ pieces))) (place_passed old new p)
-        ∙ ap (skipped (is_body old.place)) (concat-append new.unread pieces) ∙ skips (concat pieces)
-        ∙ sym (ap (skipped (is_body old.place)) (concat-append old.unread pieces))
-
-    lists_alike : (r : DecoderState) (pieces : List (List ℕ)) (ends : Bool) → fields_next r (delivered new pieces ends) ≡ fields_next r (delivered old pieces ends)
-    lists_alike r pieces ends =
-        none_next r (delivered new pieces ends) (between_passed old new p b).none
-        ∙ ap (λ l. fields_in r (section_in (frame_at l))) (next_alike pieces)
-        ∙ sym (none_next r (delivered old pieces ends) b.none)
-
-    goes_on_alike : (side : Side) (id : ℕ) (r : DecoderState) (pieces : List (List ℕ)) (ends : Bool)
-        → pull_stream side own id r (delivered new pieces ends) ≡ pull_stream side own id r (delivered old pieces ends)
-    goes_on_alike side id r pieces ends =
-        let o = delivered old pieces ends in
-        let n = delivered new pieces ends in
-        let bytes = skipped (is_body old.place) (concat o.unread) in
-        let same : skipped (is_body n.place) (concat n.unread) ≡ bytes = next_alike pieces in
-        let short : length bytes ≤ length (concat n.unread) = subst (λ l. length l ≤ length (concat n.unread)) same (skipped-length (is_body n.place) (concat n.unread)) in
-        let behind = passes_behind old new pieces ends p in
-        let left : left_with n bytes ≡ left_with o bytes =
-        ap (λ (i : Incoming). left_with i bytes) (left_is o n behind)
-        ∙ left_left o (concat n.unread) bytes short (rest_short o.unread n.unread behind.rest) in
-        between_pull side own id r new pieces ends (between_passed old new p b)
-        ∙ ap (λ l. if is_excessive own.choices.unfinished_limit l then excess id n l else next_frame side own id r (left_with n l) l) same
-        ∙ ap (λ (i : Incoming). if is_excessive own.choices.unfinished_limit bytes then excess id n bytes else next_frame side own id r i bytes) left
-        ∙ ap (λ x. if is_excessive own.choices.unfinished_limit bytes then x else next_frame side own id r (left_with o bytes) bytes) (let_go_alike id bytes o n behind)
-        ∙ sym (between_pull side own id r old pieces ends b)
 
 -- The next frame has begun what it gives.
 section_alike : (side : Side) (own : Announced) (id : ℕ) (r : DecoderState) (pieces : List (List ℕ)) (ends : Bool) (mid : Incoming) (bytes : List ℕ) → IsBetween mid
@@ -220,8 +236,8 @@ payload_without id i = by_content (is_exceeded i.content)
 -- the list that comes next, if the frame has a section; else the answer has no header
 begun_lists : (side : Side) (own : Announced) (id : ℕ) (r : DecoderState) (pieces : List (List ℕ)) (ends : Bool) (mid new : Incoming) (f : Frame PayloadLen) (place : Place)
     → IsBetween mid → Begins place f mid new → (is_body place && is_empty_data f) ≡ false
-    → HasNoHeader (pull_stream side own id r (delivered new pieces ends)).answer ⊎ (fields_next r (delivered new pieces ends) ≡ fields_in r (section_of_frame f))
-begun_lists side own id r pieces ends mid new (frame.Headers bytes) place b h some = inr (ap (λ (i : Incoming). fields_next r (delivered i pieces ends)) h.1)
+    → HasNoHeader (pull_stream side own id r (delivered new pieces ends)).answer ⊎ (fields_next own r (delivered new pieces ends) ≡ fields_in r (section_of_frame f))
+begun_lists side own id r pieces ends mid new (frame.Headers bytes) place b h some = inr (ap (λ (i : Incoming). fields_next own r (delivered i pieces ends)) h.1)
 begun_lists side own id r pieces ends mid new (frame.Data len) InBody b h some =
     inl (subst (λ (x : Pulled). HasNoHeader x.answer) (sym (ap (λ (i : Incoming). pull_stream side own id r (delivered i pieces ends)) h.1 ∙ payload_alike side own id r pieces ends mid len.0 b (some_left len.0 some)))
     (payload_without id (begun_payload (delivered mid pieces ends) len.0)))
@@ -236,14 +252,76 @@ begun_lists side own id r pieces ends mid new (frame.MaxPushId push) place b h s
 begun_lists side own id r pieces ends mid new (frame.WebTransportStream session) place b h some = absurd h
 begun_lists side own id r pieces ends mid new (frame.Grease kind) place b h some = absurd h
 
-pub resumes_begun : (own : Announced) (old mid new : Incoming) (f : Frame PayloadLen) → IsBetween old → Passes old mid → FindsFrame (is_body old.place) f (concat old.unread) (concat mid.unread)
-    → KeepsWithin own.choices.unfinished_limit (is_body old.place) (concat old.unread) → Begins mid.place f mid new → Resumes own old new
+-- So it is at any end that takes the frame.
+begun_pulls : (own : Announced) (old mid new : Incoming) (f : Frame PayloadLen) → IsBetween old → Passes old mid → FindsFrame (kinds_of own) (is_body old.place) f (concat old.unread) (concat mid.unread)
+    → KeepsWithin (kinds_of own) own.choices.unfinished_limit (is_body old.place) (concat old.unread) → Begins mid.place f mid new → PullsAlike own old new
+begun_pulls own old mid new f b p finds small begins =
+    let here = between_passed old mid p b in
+    record { pulls = λ side id r pieces ends. goes_on_alike side id r pieces ends here; lists = λ side id r pieces ends. lists_alike side id r pieces ends here }
+  where
+    -- the frame is found in what comes
+    found_there : (pieces : List (List ℕ)) → frame_by (kinds_of own) (skipped (kinds_of own) (is_body old.place) (concat (old.unread ++ pieces))) ≡ Whole f (concat (mid.unread ++ pieces))
+    found_there pieces =
+        ap (λ l. frame_by (kinds_of own) (skipped (kinds_of own) (is_body old.place) l)) (concat-append old.unread pieces) ∙ finds (concat pieces) ∙ ap (λ l. Whole f l) (sym (concat-append mid.unread pieces))
+
+    goes_on_alike : (side : Side) (id : ℕ) (r : DecoderState) (pieces : List (List ℕ)) (ends : Bool) → IsBetween mid
+        → pull_stream side own id r (delivered new pieces ends) ≡ pull_stream side own id r (delivered old pieces ends)
+    goes_on_alike side id r pieces ends here =
+        let o = delivered old pieces ends in
+        let m = delivered mid pieces ends in
+        let there : frame_by (kinds_of own) (skipped (kinds_of own) (is_body old.place) (concat o.unread)) ≡ Whole f (concat m.unread) = found_there pieces in
+        let some = found_not_empty (kinds_of own) (is_body old.place) (concat o.unread) (concat m.unread) f there in
+        let place = place_passed old mid p in
+        begun_alike side own id r pieces ends mid new f mid.place here begins (subst (λ q. (is_body q && is_empty_data f) ≡ false) (sym place) some)
+        ∙ ap (λ q. at_frame side own id r side m q f) place
+        ∙ sym (between_frame side own id r o m f (passes_behind old mid pieces ends p) there
+        (ap (λ l. is_excessive own.choices.unfinished_limit (skipped (kinds_of own) (is_body old.place) l)) (concat-append old.unread pieces) ∙ small (concat pieces)))
+        ∙ sym (between_pull side own id r old pieces ends b)
+
+    lists_alike : (side : Side) (id : ℕ) (r : DecoderState) (pieces : List (List ℕ)) (ends : Bool) → IsBetween mid
+        → HasNoHeader (pull_stream side own id r (delivered old pieces ends)).answer ⊎ (fields_next own r (delivered new pieces ends) ≡ fields_next own r (delivered old pieces ends))
+    lists_alike side id r pieces ends here =
+        let o = delivered old pieces ends in
+        let m = delivered mid pieces ends in
+        let place = place_passed old mid p in
+        let some = found_not_empty (kinds_of own) (is_body old.place) (concat o.unread) (concat m.unread) f (found_there pieces) in
+        let old_list : fields_next own r o ≡ fields_in r (section_of_frame f) = none_next own r o b.none ∙ ap (λ x. fields_in r (section_in x)) (found_there pieces) in
+        either (begun_lists side own id r pieces ends mid new f mid.place here begins (subst (λ q. (is_body q && is_empty_data f) ≡ false) (sym place) some)) old_list (goes_on_alike side id r pieces ends here)
+      where
+        either : HasNoHeader (pull_stream side own id r (delivered new pieces ends)).answer ⊎ (fields_next own r (delivered new pieces ends) ≡ fields_in r (section_of_frame f))
+            → fields_next own r (delivered old pieces ends) ≡ fields_in r (section_of_frame f)
+            → pull_stream side own id r (delivered new pieces ends) ≡ pull_stream side own id r (delivered old pieces ends)
+            → HasNoHeader (pull_stream side own id r (delivered old pieces ends)).answer ⊎ (fields_next own r (delivered new pieces ends) ≡ fields_next own r (delivered old pieces ends))
+        either (inl without) is same = inl (subst (λ (x : Pulled). HasNoHeader x.answer) same without)
+        either (inr lists) is same = inr (lists ∙ sym is)
+
+-- what it gives is begun where nothing is known of the content
+begins_unsaid : (place : Place) (f : Frame PayloadLen) (old new : Incoming) → Begins place f old new → Begins place f (unsaid old) (unsaid new)
+begins_unsaid BeforeHead (frame.Headers bytes) old new h = (refl, ap unsaid h.1)
+begins_unsaid InBody (frame.Headers bytes) old new h = (refl, ap unsaid h.1)
+begins_unsaid AfterTrailer (frame.Headers bytes) old new h = (h.0, ap unsaid h.1)
+begins_unsaid InSession (frame.Headers bytes) old new h = (h.0, ap unsaid h.1)
+begins_unsaid place (frame.Data len) old new h = (h.0, ap unsaid h.1)
+begins_unsaid place (frame.CancelPush push) old new h = absurd h
+begins_unsaid place (frame.Settings settings) old new h = absurd h
+begins_unsaid place (frame.PushPromise promise) old new h = absurd h
+begins_unsaid place (frame.Goaway number) old new h = absurd h
+begins_unsaid place (frame.MaxPushId push) old new h = absurd h
+begins_unsaid place (frame.WebTransportStream session) old new h = absurd h
+begins_unsaid place (frame.Grease kind) old new h = absurd h
+
+pub resumes_begun : (own : Announced) (old mid new : Incoming) (f : Frame PayloadLen) → IsBetween old → Passes old mid → FindsFrame (kinds_of own) (is_body old.place) f (concat old.unread) (concat mid.unread)
+    → KeepsWithin (kinds_of own) own.choices.unfinished_limit (is_body old.place) (concat old.unread) → Begins mid.place f mid new → Resumes own old new
 resumes_begun own old mid new f b p finds small begins =
     let here = between_passed old mid p b in
     let begun = is_begun mid new f mid.place here.waits begins in
     record {
-      pulls = λ side id r pieces ends. goes_on_alike side id r pieces ends here;
-      lists = λ side id r pieces ends. lists_alike side id r pieces ends here;
+      alike = begun_pulls own old mid new f b p finds small begins;
+      plainly = λ other known none.
+          begun_pulls other (unsaid old) (unsaid mid) (unsaid new) f (between_unsaid old b) (passes_unsaid old mid p)
+          (subst (λ (kinds : FrameKinds). FindsFrame kinds (is_body old.place) f (concat old.unread) (concat mid.unread)) (sym known) finds)
+          (λ more. ap (λ b. b && says_too_much other.choices.unfinished_limit (varint_at (skipped (kinds_of other) (is_body old.place) (concat old.unread ++ more)))) none)
+          (begins_unsaid mid.place f mid new begins);
       gives_up = λ fault. begun.gives_up fault ∙ ap {A = Incoming} (λ i. given_up i fault) p.same;
       place = begun.place ∙ ap {A = Incoming} (λ i. i.place) p.same;
       response = begun.response ∙ ap {A = Incoming} (λ i. i.response) p.same;
@@ -254,39 +332,3 @@ resumes_begun own old mid new f b p finds small begins =
       was_reset = begun.was_reset ∙ ap {A = Incoming} (λ i. i.was_reset) p.same;
       fault = begun.fault ∙ ap {A = Incoming} (λ i. i.fault) p.same;
     }
-  where
-    -- the frame is found in what comes
-    found_there : (pieces : List (List ℕ)) → frame_at (skipped (is_body old.place) (concat (old.unread ++ pieces))) ≡ Whole f (concat (mid.unread ++ pieces))
-    found_there pieces =
-        ap (λ l. frame_at (skipped (is_body old.place) l)) (concat-append old.unread pieces) ∙ finds (concat pieces) ∙ ap (λ l. Whole f l) (sym (concat-append mid.unread pieces))
-
-    goes_on_alike : (side : Side) (id : ℕ) (r : DecoderState) (pieces : List (List ℕ)) (ends : Bool) → IsBetween mid
-        → pull_stream side own id r (delivered new pieces ends) ≡ pull_stream side own id r (delivered old pieces ends)
-    goes_on_alike side id r pieces ends here =
-        let o = delivered old pieces ends in
-        let m = delivered mid pieces ends in
-        let there : frame_at (skipped (is_body old.place) (concat o.unread)) ≡ Whole f (concat m.unread) = found_there pieces in
-        let some = found_not_empty (is_body old.place) (concat o.unread) (concat m.unread) f there in
-        let place = place_passed old mid p in
-        begun_alike side own id r pieces ends mid new f mid.place here begins (subst (λ q. (is_body q && is_empty_data f) ≡ false) (sym place) some)
-        ∙ ap (λ q. at_frame side own id r side m q f) place
-        ∙ sym (between_frame side own id r o m f (passes_behind old mid pieces ends p) there
-        (ap (λ l. is_excessive own.choices.unfinished_limit (skipped (is_body old.place) l)) (concat-append old.unread pieces) ∙ small (concat pieces)))
-        ∙ sym (between_pull side own id r old pieces ends b)
-
-    lists_alike : (side : Side) (id : ℕ) (r : DecoderState) (pieces : List (List ℕ)) (ends : Bool) → IsBetween mid
-        → HasNoHeader (pull_stream side own id r (delivered old pieces ends)).answer ⊎ (fields_next r (delivered new pieces ends) ≡ fields_next r (delivered old pieces ends))
-    lists_alike side id r pieces ends here =
-        let o = delivered old pieces ends in
-        let m = delivered mid pieces ends in
-        let place = place_passed old mid p in
-        let some = found_not_empty (is_body old.place) (concat o.unread) (concat m.unread) f (found_there pieces) in
-        let old_list : fields_next r o ≡ fields_in r (section_of_frame f) = none_next r o b.none ∙ ap (λ x. fields_in r (section_in x)) (found_there pieces) in
-        either (begun_lists side own id r pieces ends mid new f mid.place here begins (subst (λ q. (is_body q && is_empty_data f) ≡ false) (sym place) some)) old_list (goes_on_alike side id r pieces ends here)
-      where
-        either : HasNoHeader (pull_stream side own id r (delivered new pieces ends)).answer ⊎ (fields_next r (delivered new pieces ends) ≡ fields_in r (section_of_frame f))
-            → fields_next r (delivered old pieces ends) ≡ fields_in r (section_of_frame f)
-            → pull_stream side own id r (delivered new pieces ends) ≡ pull_stream side own id r (delivered old pieces ends)
-            → HasNoHeader (pull_stream side own id r (delivered old pieces ends)).answer ⊎ (fields_next r (delivered new pieces ends) ≡ fields_next r (delivered old pieces ends))
-        either (inl without) is same = inl (subst (λ (x : Pulled). HasNoHeader x.answer) same without)
-        either (inr lists) is same = inr (lists ∙ sym is)

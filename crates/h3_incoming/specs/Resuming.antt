@@ -1,5 +1,6 @@
 -- A receiver that goes on as another one would.
 use Rattle.std.specs.Prelude.{◌≡◌, ◌⊎◌, ℕ, Bool, true, false, ◌||◌, List, ◌++◌}
+use Rattle.h3_proto.specs.Config.{is_limit}
 use Rattle.h3_proto.specs.declared.stream.Side.{Side}
 use Rattle.h3_qpack.specs.DecoderState.{DecoderState}
 use Rattle.h3_connection.specs.declared.setup.Announced.{Announced}
@@ -13,7 +14,9 @@ use Rattle.h3_messages.specs.declared.content.Content.{Content}
 use Rattle.h3_wire.specs.declared.proto.frame.PayloadLen.{PayloadLen}
 use Rattle.h3_wire.specs.declared.proto.frame.Frame.{Frame}
 use Rattle.h3_wire.specs.declared.proto.frame.Frame.TheVariants as frame
+use Rattle.h3_connection.specs.PartReading.{unsaid}
 use Rattle.h3_connection.specs.Pulling.{pull_stream, begun_section, begun_payload}
+use Rattle.h3_connection.specs.StrictConnection.{kinds_of}
 
 -- further pieces, and the end or no end yet
 abbrev pub delivered : Incoming → List (List ℕ) → Bool → Incoming
@@ -33,11 +36,17 @@ Begins place _ old new = ⊥
 
 -- Whatever is delivered later, whatever the table is by then, its pulls answer the same, and leave the same, at an end that announced this. If
 -- an answer has a header, the list that came next is the same.
-pub record Resumes (own : Announced) (old new : Incoming) : Type 0 where
+pub record PullsAlike (own : Announced) (old new : Incoming) : Type 0 where
   pub pulls : (side : Side) (id : ℕ) (r : DecoderState) (pieces : List (List ℕ)) (ends : Bool)
       → pull_stream side own id r (delivered new pieces ends) ≡ pull_stream side own id r (delivered old pieces ends)
   pub lists : (side : Side) (id : ℕ) (r : DecoderState) (pieces : List (List ℕ)) (ends : Bool)
-      → HasNoHeader (pull_stream side own id r (delivered old pieces ends)).answer ⊎ (fields_next r (delivered new pieces ends) ≡ fields_next r (delivered old pieces ends))
+      → HasNoHeader (pull_stream side own id r (delivered old pieces ends)).answer ⊎ (fields_next own r (delivered new pieces ends) ≡ fields_next own r (delivered old pieces ends))
+
+-- It goes on as the other one, at an end that announced this.
+pub record Resumes (own : Announced) (old new : Incoming) : Type 0 where
+  pub alike : PullsAlike own old new
+  -- and so they do where nothing is known of the content, at each end that limits nothing and knows the same kinds of frames, whatever it judges
+  pub plainly : (other : Announced) → kinds_of other ≡ kinds_of own → is_limit other.choices.unfinished_limit ≡ false → PullsAlike other (unsaid old) (unsaid new)
   pub gives_up : (fault : StreamFault) → given_up new fault ≡ given_up old fault
   -- where its message is
   pub place : new.place ≡ old.place

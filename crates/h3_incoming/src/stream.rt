@@ -1,8 +1,11 @@
 //! What came on a request stream, and how much of it was returned.
-ghost use Rattle.std.specs.Prelude.{◌≡◌, ◌+◌, ◌<◌, ◌≤◌, ◌^◌, ◌++◌, length, true, IfErr, OnOk, OnErr};
+ghost use Rattle.std.specs.Prelude.{◌≡◌, ◌+◌, ◌<◌, ◌≤◌, ◌^◌, ◌++◌, List, length, true, IfErr, OnOk, OnErr};
 ghost use Rattle.std.specs.List.{concat};
 ghost use Rattle.h3_connection.specs.declared.event.StreamFault.TheVariants.{Reset, Canceled};
-ghost use Rattle.h3_connection.specs.Incoming.{nothing_came, given_up, awaits_head, awaiting};
+ghost use Rattle.h3_connection.specs.Incoming.{nothing_came, given_up, goes_on, awaits_head, awaiting, having_told};
+ghost use Rattle.h3_field.specs.Field.{Field};
+ghost use Rattle.h3_messages.specs.ResponseSaid.{response_said};
+ghost use Rattle.h3_proto.specs.declared.stream.Side.TheVariants.{Server};
 ghost use Rattle.h3_connection.specs.Delivering.{kept, with_end, given_up_once, cancellation};
 ghost use Rattle.h3_incoming.specs.Replying.{encodings};
 
@@ -10,7 +13,8 @@ use crate::replies::reply;
 use bytes::Bytes;
 use h3_connection::event::StreamFault;
 use h3_connection::place::Place;
-use h3_messages::Content;
+use h3_connection::setup::Announced;
+use h3_messages::{Content, ResponseSaid};
 use h3_proto::stream::StreamId;
 use h3_wire::frame::FrameBuffer;
 use std::alloc::{AllocError, Global};
@@ -128,7 +132,7 @@ impl IncomingStream {
     /// More bytes came. They are kept as they are, with no copy but of small pieces. Those of a stream that was given up are thrown away,
     /// and those of an unknown frame that is under way are freed. An `Err` changes nothing, and returns the bytes: an allocation failed.
     #[tactic(auto, using(crate::proofs::SomePieces::some_with))]
-    pub fn deliver(&mut self, bytes: Bytes) -> Result<(), Bytes>
+    pub fn deliver(&mut self, announced: &Announced, bytes: Bytes) -> Result<(), Bytes>
         requires { length (concat self.old.unread) + length bytes < 2 ^ 64 }
         ensures ok { OnOk result (self.new ≡ kept self.old bytes) }
         ensures same { OnErr result (self.new ≡ self.old) }
@@ -140,7 +144,7 @@ impl IncomingStream {
         self.came_behind = self.is_over;
         match self.unread.push(bytes) {
             Ok(()) => {
-                self.spare();
+                self.spare(announced);
                 Ok(())
             }
             Err(bytes) => Err(bytes),
@@ -149,11 +153,11 @@ impl IncomingStream {
 
     // If an unknown frame is under way at the front, its bytes are freed.
     #[inline(always)]
-    pub(super) fn spare(&mut self)
+    pub(super) fn spare(&mut self, announced: &Announced)
         ensures { self.new ≡ self.old }
     {
-        if self.unread.len() > 0 && self.begins_frame() {
-            self.unread.spare();
+        if self.unread.len() > 0 && self.begins_frame() && !self.unread.begins_known() {
+            self.unread.spare(announced.kinds());
         }
     }
 
@@ -213,6 +217,17 @@ impl IncomingStream {
         }
     }
 
+    /// A response with such a header section is sent to its request. A final one answers a CONNECT that was read: a 2xx one begins the
+    /// tunnel (RFC 9114, section 4.4). A stream of which nothing more comes stays as it is.
+    pub fn answer(&mut self, said: ResponseSaid)
+        ensures told { (fields : List Field) → said ≡ response_said fields → self.new ≡ having_told Server self.old fields }
+        ensures waits { self.new.waits_for ≡ self.old.waits_for }
+    {
+        if self.goes_on() {
+            self.content = said.answering(self.content);
+        }
+    }
+
     // Whether its header section is still to come.
     fn awaits_head(&self) -> bool
         ensures { result ≡ awaits_head self.now }
@@ -220,6 +235,13 @@ impl IncomingStream {
         let Place::BeforeHead = self.place else {
             return false;
         };
+        self.goes_on()
+    }
+
+    // Whether its end was not returned, and it was not given up.
+    fn goes_on(&self) -> bool
+        ensures { result ≡ goes_on self.now }
+    {
         !(self.is_over || self.fault.is_some())
     }
 

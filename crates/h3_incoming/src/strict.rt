@@ -2,7 +2,7 @@
 //! sections 4.1.2 and 4.2 to 4.5).
 ghost use Rattle.std.specs.Prelude.{◌≡◌, ◌≤◌, option_map, length, true, IfSome};
 ghost use Rattle.h3_header.specs.HeadRead.{head_by};
-ghost use Rattle.h3_connection.specs.StrictMessages.{broken_rule, malformation_by, violation_at, violation_of_head, content_of_head, content_behind, content_behind_large, content_at, large_content_at, response_of_head, response_behind, response_at, if_whole};
+ghost use Rattle.h3_connection.specs.StrictMessages.{broken_rule, malformation_by, violation_at, violation_of_head, content_read, content_behind, content_behind_large, content_at, large_content_at, response_of_head, response_behind, response_at, if_whole};
 ghost use Rattle.h3_incoming.specs.Outline.{list_read};
 
 use crate::outline::{ListRead, malformation_by, read_survey};
@@ -159,7 +159,7 @@ fn read_head(
     survey: &Survey<'_>,
 ) -> StrictRead
     ensures broken { result.broken ≡ option_map malformation_by (violation_of_head side announced.now survey.now.fields.now) }
-    ensures content { result.content ≡ content_of_head side awaited survey.now.fields.now }
+    ensures content { result.content ≡ content_read side awaited survey.now.fields.now }
     ensures response { result.response ≡ response_of_head side known survey.now.fields.now }
 {
     match side {
@@ -175,7 +175,7 @@ fn read_head(
             let head = request_by(survey, announced.extended_connect());
             StrictRead {
                 broken: told(head.violation),
-                content: head.content,
+                content: head.content.until_answered(),
                 response: Some(head.awaited),
             }
         }

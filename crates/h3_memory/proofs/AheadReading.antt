@@ -12,6 +12,7 @@ use Rattle.h3_connection.specs.StreamSets.{Streams}
 use Rattle.h3_connection.specs.StrictConnectionLaws.{refused_alike}
 use Rattle.h3_memory.specs.Kept.{Delivery}
 use Rattle.h3_memory.specs.Keeping.{Held, ahead}
+use Rattle.h3_connection.specs.StrictConnection.{kinds_of}
 
 module _ (mine : List Delivery) (incoming : Streams Incoming) (kept : List Arrival) where
   abbrev over : Held → Found → Found
@@ -77,7 +78,7 @@ module _ (mine : List Delivery) (incoming : Streams Incoming) (kept : List Arriv
       all = holding behind (held.control ++ bytes)
 
       found : PeerFound
-      found = read_peer (limit_of behind) behind.side all.peer
+      found = read_peer (kinds_of behind.announced) (limit_of behind) behind.side all.peer
 
       held_then : Held
       held_then = record held { control = [] }

@@ -46,7 +46,7 @@ module _ (side : Side) (own : Announced) (id : ℕ) where
       by_end r pieces false = h.pulls r (bytes ∷ pieces) false
 
       lists_by_end : (r : DecoderState) (pieces : List (List ℕ)) (ended : Bool)
-          → HasNoHeader (pull_stream side own id r (with_more (kept old bytes) pieces ended)).answer ⊎ (fields_next r (with_more (kept new bytes) pieces ended) ≡ fields_next r (with_more (kept old bytes) pieces ended))
+          → HasNoHeader (pull_stream side own id r (with_more (kept old bytes) pieces ended)).answer ⊎ (fields_next own r (with_more (kept new bytes) pieces ended) ≡ fields_next own r (with_more (kept old bytes) pieces ended))
       lists_by_end r pieces true = h.lists r (bytes ∷ pieces) true
       lists_by_end r pieces false = h.lists r (bytes ∷ pieces) false
 
@@ -65,8 +65,8 @@ module _ (side : Side) (own : Announced) (id : ℕ) where
         same = ap with_end h.same;
         pulls = λ r pieces ended. ap (pull_stream side own id r) (ended_more old pieces ended) ∙ h.pulls r pieces true ∙ sym (ap (pull_stream side own id r) (ended_more new pieces ended));
         lists = λ r pieces ended.
-            subst (λ x. HasNoHeader (pull_stream side own id r x).answer ⊎ (fields_next r (with_more (with_end new) pieces ended) ≡ fields_next r x)) (sym (ended_more old pieces ended))
-            (subst (λ x. HasNoHeader (pull_stream side own id r (with_more old pieces true)).answer ⊎ (fields_next r x ≡ fields_next r (with_more old pieces true))) (sym (ended_more new pieces ended)) (h.lists r pieces true));
+            subst (λ x. HasNoHeader (pull_stream side own id r x).answer ⊎ (fields_next own r (with_more (with_end new) pieces ended) ≡ fields_next own r x)) (sym (ended_more old pieces ended))
+            (subst (λ x. HasNoHeader (pull_stream side own id r (with_more old pieces true)).answer ⊎ (fields_next own r x ≡ fields_next own r (with_more old pieces true))) (sym (ended_more new pieces ended)) (h.lists r pieces true));
       }
 
   -- One that was given up is told so again by each pull, and stays.

@@ -1,7 +1,7 @@
 -- An endpoint that got what is kept sends as the one behind, and is left ahead of what that one is left: heads, trailers, ends of messages, GOAWAY
 -- frames.
 use Rattle.std.proofs.Common.{◌≡◌, ℕ, Bool, true, false, not, List, [], ◌∷◌, ◌++◌, refl, sym, ap, ◌∙◌, Option, Some, None, if◌then◌else◌}
-use Rattle.std.specs.Prelude.{◌&&◌, map, is_some, unwrap_or, option_map}
+use Rattle.std.specs.Prelude.{map, is_some, unwrap_or, option_map}
 use Rattle.h3_field.specs.Field.{Field, section_size}
 use Rattle.h3_header.specs.Head.{Head, has_pseudo}
 use Rattle.h3_connection.specs.OwnIds.{other}
@@ -10,14 +10,14 @@ use Rattle.h3_connection.specs.Endpoint.{EndpointHistory}
 use Rattle.h3_connection.specs.Incoming.{Incoming}
 use Rattle.h3_connection.specs.Outgoing.{Outgoing, OwnPart, nothing_sent, takes_head, takes_body, takes_end, with_finish, with_reset}
 use Rattle.h3_connection.specs.Outgoing.OwnPart.{OwnTrailer}
-use Rattle.h3_connection.specs.Pulling.{is_client, is_for}
+use Rattle.h3_connection.specs.Pulling.{is_for}
 use Rattle.h3_connection.specs.Sections.{written_section}
 use Rattle.h3_connection.specs.Lasts.{last_id}
 use Rattle.h3_connection.specs.Refusals.{first_of, is_too_large, refusal_of_head, refusal_of_trailer, unless_going}
-use Rattle.h3_connection.specs.Sending.{does, closed_or, unless_closed, sender_at, finish_refusal, goaway_refusal, with_outgoing, outgoing_at, counted, encoded, appended, fields_cost, head_part, asked, finish, goaway}
+use Rattle.h3_connection.specs.Sending.{does, closed_or, unless_closed, sender_at, finish_refusal, goaway_refusal, with_outgoing, outgoing_at, counted, encoded, appended, fields_cost, head_part, asked, finish, goaway, broken_head_at, known_of}
 use Rattle.h3_connection.specs.StreamSets.{Streams, stream_at, set_stream}
 use Rattle.h3_connection.specs.StrictConnection.{begins_none_after}
-use Rattle.h3_connection.specs.StrictSending.{broken_head, broken_trailer, early_trailer, unless_malformed}
+use Rattle.h3_connection.specs.StrictSending.{broken_trailer, early_trailer, unless_malformed, violation_of_own_head}
 use Rattle.h3_messages.specs.Content.{may_end}
 use Rattle.h3_connection.specs.declared.event.Malformation.{Malformation}
 use Rattle.h3_connection.specs.declared.event.Malformation.TheVariants as malformation
@@ -26,6 +26,7 @@ use Rattle.h3_connection.specs.declared.event.Refusal.TheVariants as refusal
 use Rattle.h3_memory.specs.Kept.{Delivery}
 use Rattle.h3_memory.specs.Keeping.{Held, ahead, handed_stream}
 use Rattle.h3_memory.proofs.Ahead.{further_taken, at_mapped, set_mapped}
+use Rattle.h3_connection.specs.StrictMessages.{malformation_by}
 
 -- The rules of a stream go by what was sent on it.
 abbrev pub judged : Option ℕ → (Outgoing → List (Bool × Refusal)) → Option Outgoing → Option Refusal
@@ -59,19 +60,27 @@ module _ (mine : List Delivery) where
       by_stream None e = cc
       by_stream (Some o) e = ap (set_stream (map (handed_stream mine) streams) id) (moves o) ∙ set_mapped mine streams id (change o)
 
-unless_set : (e : EndpointHistory) (there : Streams Incoming) (sent : Streams Outgoing) (b c : Bool) → b ≡ false
-    → record e { incoming = if b && c then there else e.incoming; outgoing = if b then sent else e.outgoing } ≡ e
-unless_set e there sent b c none = ap (λ t. let g : EndpointHistory = record e { incoming = if t && c then there else e.incoming; outgoing = if t then sent else e.outgoing } in g) none
+unless_set : (e : EndpointHistory) (there : Streams Incoming) (sent : Streams Outgoing) (b : Bool) → b ≡ false
+    → record e { incoming = if b then there else e.incoming; outgoing = if b then sent else e.outgoing } ≡ e
+unless_set e there sent b none = ap (λ t. let g : EndpointHistory = record e { incoming = if t then there else e.incoming; outgoing = if t then sent else e.outgoing } in g) none
 
 -- An end that asks for no strict messages remembers nothing of a head.
 pub asks_nothing : (e : EndpointHistory) (id : ℕ) (fields : List Field) → e.announced.choices.strict_messages ≡ false → asked e id fields ≡ e
-asks_nothing e id fields plain = unless_set e _ _ e.announced.choices.strict_messages (is_client e.side) plain
+asks_nothing e id fields plain = unless_set e _ _ e.announced.choices.strict_messages plain
 
--- A head, or a trailer, that goes out as these fields, where it is malformed for this reason.
-abbrev pub head_as : EndpointHistory → ℕ → Option Malformation → Head → List Field → Option Refusal × EndpointHistory
-head_as e id told head fields =
-    does (unless_closed e (refusal_of_head (sender_at e id) told (broken_head e.side e.announced e.peer.settings fields) head fields)) e
+-- A head, or a trailer, that goes out as these fields, where it is malformed for this reason, and breaks this rule.
+abbrev head_by : EndpointHistory → ℕ → Option Malformation → Option Malformation → Head → List Field → Option Refusal × EndpointHistory
+head_by e id told broken head fields =
+    does (unless_closed e (refusal_of_head (sender_at e id) told broken head fields)) e
     (asked (counted (appended (encoded e id fields) id (head_part head (written_section e.encoder id fields))) (fields_cost fields)) id fields)
+
+abbrev pub head_as : EndpointHistory → ℕ → Option Malformation → Head → List Field → Option Refusal × EndpointHistory
+head_as e id told head fields = head_by e id told (broken_head_at e id fields) head fields
+
+-- An end that asks for no strict messages judges by no rule of them.
+judges_nothing : (e : EndpointHistory) (id : ℕ) (told : Option Malformation) (head : Head) (fields : List Field) → e.announced.choices.strict_messages ≡ false → head_as e id told head fields ≡ head_by e id told None head fields
+judges_nothing e id told head fields plain =
+    ap (λ b. let rule : Option Malformation = if b then option_map malformation_by (violation_of_own_head e.side e.peer.settings (known_of (stream_at e.incoming id)) fields) else None in head_by e id told rule head fields) plain
 
 abbrev pub trailer_as : EndpointHistory → ℕ → Option Malformation → Head → List Field → Option Refusal × EndpointHistory
 trailer_as e id told head fields =
@@ -101,10 +110,12 @@ module _ (mine : List Delivery) (held : Held) (incoming : Streams Incoming) (kep
   -- **A head, or a list.** An end that judges plainly remembers nothing of a request.
   pub head_ahead : behind.announced.choices.strict_messages ≡ false → (id : ℕ) (told : Option Malformation) (head : Head) (fields : List Field) → head_as (ahead behind mine held incoming kept) id told head fields ≡ lifted (head_as behind id told head fields)
   head_ahead plain id told head fields =
-      ap (λ r. does r f (asked (sent f) id fields)) (judged_ahead mine behind.closed rules behind.outgoing id (λ o. refl))
+      judges_nothing f id told head fields plain
+      ∙ ap (λ r. does r f (asked (sent f) id fields)) (judged_ahead mine behind.closed rules behind.outgoing id (λ o. refl))
       ∙ done_ahead (judged behind.closed rules (stream_at behind.outgoing id)) (asked (sent f) id fields) (asked (sent behind) id fields)
       (λ goes. asks_nothing (sent f) id fields plain ∙ section_ahead id fields (head_part head) (goes_open behind.closed rules (stream_at behind.outgoing id) goes)
       ∙ ap (λ e. ahead e mine held incoming kept) (sym (asks_nothing (sent behind) id fields plain)))
+      ∙ ap lifted (sym (judges_nothing behind id told head fields plain))
     where
       sent : EndpointHistory → EndpointHistory
       sent e = counted (appended (encoded e id fields) id (head_part head (written_section e.encoder id fields))) (fields_cost fields)
@@ -115,7 +126,7 @@ module _ (mine : List Delivery) (held : Held) (incoming : Streams Incoming) (kep
           ∷ unless_going (begins_none_after behind.announced behind.side (last_id behind.peer.goaways))
           (unless_malformed told
           ((not (is_for (other behind.side) head), refusal.WrongSide)
-          ∷ unless_malformed (broken_head behind.side behind.announced behind.peer.settings fields) ((is_too_large behind.peer.settings fields, refusal.TooLarge (section_size fields)) ∷ [])))
+          ∷ (is_too_large behind.peer.settings fields, refusal.TooLarge (section_size fields)) ∷ []))
 
   -- **A trailer.**
   pub trailer_ahead : (id : ℕ) (told : Option Malformation) (head : Head) (fields : List Field) → trailer_as (ahead behind mine held incoming kept) id told head fields ≡ lifted (trailer_as behind id told head fields)

@@ -13,11 +13,11 @@ use Rattle.h3_connection.specs.Outgoing.{nothing_sent}
 use Rattle.h3_connection.specs.PartReading.{Resumes}
 use Rattle.h3_connection.specs.Sections.{written_section}
 use Rattle.h3_connection.specs.Refusals.{first_of, refusal_of_head, refusal_of_trailer}
-use Rattle.h3_connection.specs.Sending.{does, closed_or, unless_closed, sender_at, outgoing_at, body_refusal, appended, asked, counted, encoded, fields_cost, head_part, sent_bytes, open_refusal, finish_refusal, goaway_refusal, open_request, send_head, send_body, send_trailer, finish, goaway, cancel}
+use Rattle.h3_connection.specs.Sending.{does, closed_or, unless_closed, sender_at, outgoing_at, body_refusal, appended, asked, counted, encoded, fields_cost, head_part, sent_bytes, open_refusal, finish_refusal, goaway_refusal, open_request, send_head, send_body, send_trailer, finish, goaway, cancel, broken_head_at}
 use Rattle.h3_connection.specs.Shown.{waiting_heads}
 use Rattle.h3_connection.specs.StreamSets.{HaveDistinctIds, Streams, stream_at, set_stream}
 use Rattle.h3_connection.specs.StreamSetLaws.{set-distinct}
-use Rattle.h3_connection.specs.StrictSending.{broken_head, broken_protocol, broken_trailer, early_trailer}
+use Rattle.h3_connection.specs.StrictSending.{broken_protocol, broken_trailer, early_trailer}
 use Rattle.h3_connection.specs.declared.event.Malformation.{Malformation}
 use Rattle.h3_world.specs.EndLists.{send_fields, send_trailer_fields}
 use Rattle.h3_world.specs.Lists.{unreadable}
@@ -71,7 +71,7 @@ module _ (mine : List Delivery) (held : Held) (kept : List Arrival) (side : Side
   head_as_alike : behind.announced.choices.strict_messages ≡ false → (id : ℕ) (told : Option Malformation) (head : Head) (fields : List Field) → Alike (head_as behind id told head fields) (head_as (ahead behind mine held incoming kept) id told head fields)
   head_as_alike plain id told head fields =
       leaving (head_as behind id told head fields) (head_as f id told head fields) (head_ahead mine held incoming kept behind plain id told head fields)
-      (leaves_unless (unless_closed behind (refusal_of_head (sender_at behind id) told (broken_head behind.side behind.announced behind.peer.settings fields) head fields)) behind (asked sent id fields)
+      (leaves_unless (unless_closed behind (refusal_of_head (sender_at behind id) told (broken_head_at behind id fields) head fields)) behind (asked sent id fields)
       (record {
         announced = refl;
         incoming = ap (λ (e : EndpointHistory). e.incoming) (asks_nothing sent id fields plain);

@@ -50,7 +50,7 @@ pub catches_up : (laws : KeptLaws) (setup : Setup) (k : KeepingWorld) (side : Si
 catches_up laws setup k side h = all_read laws setup k.world (other side) (kept_at k side) h.sound (kept_readable setup k side h)
 
 -- the other side's writer, behind that
-caught_on : (laws : KeptLaws) (setup : Setup) (k : KeepingWorld) (side : Side) → IsSoundKeeping setup k → WritesOn setup k.world (caught_up setup k side) side
+pub caught_on : (laws : KeptLaws) (setup : Setup) (k : KeepingWorld) (side : Side) → IsSoundKeeping setup k → WritesOn setup k.world (caught_up setup k side) side
 caught_on laws setup k side h = subst (WritesOn setup k.world (caught_up setup k side)) (other-other side) (catches_up laws setup k side h).there
 
 -- A sender's call.

@@ -14,7 +14,7 @@ use Rattle.h3_connection.specs.OwnIds.{other, control_id, decoder_id}
 use Rattle.h3_connection.specs.PartReading.{MayRead, PeerReadsPart, after_frames, early, early_if, early_arrival}
 use Rattle.h3_connection.specs.PeerReading.{Peer, PeerFound, read_peer, read_within, with_unread}
 use Rattle.h3_connection.specs.StreamSets.{stream_at}
-use Rattle.h3_connection.specs.StrictConnection.{is_strict}
+use Rattle.h3_connection.specs.StrictConnection.{is_strict, kinds_of}
 use Rattle.h3_connection.specs.StrictConnectionLaws.{front_missed, held_taken, refused_alike}
 use Rattle.h3_connection.specs.declared.setup.Announced.{Announced}
 use Rattle.h3_connection.specs.Unidirectional.Role.{Control}
@@ -46,13 +46,14 @@ use Rattle.h3_memory.proofs.PartsRead.{Splits, Beyond, Within, splits}
 use Rattle.h3_memory.proofs.ReadingState.{Reading}
 use Rattle.h3_memory.proofs.TellsRole.{IsReadAs, came_on_is, control_reads, no_bytes_listened, told_stream}
 use Rattle.h3_memory.proofs.Unfinished.{control_unfinished}
+use Rattle.h3_wire.specs.declared.frame.kinds.FrameKinds.{FrameKinds}
 
 abbrev no_code : Peer → PeerFound
 no_code p = (p, None)
 
-within_all : (side : Side) (p : Peer) (bytes : List ℕ) → read_peer no_limit side (with_unread p bytes) ≡ read_within (length bytes) no_limit side (with_unread p bytes)
+within_all : (kinds : FrameKinds) (side : Side) (p : Peer) (bytes : List ℕ) → read_peer kinds no_limit side (with_unread p bytes) ≡ read_within kinds (length bytes) no_limit side (with_unread p bytes)
 unfolding read_peer
-within_all side p bytes = refl
+within_all kinds side p bytes = refl
 
 -- where the same settings are known
 learned_same : (o : Option (List (ℕ × ℕ))) (e : EndpointHistory) → if_learned o o e ≡ e
@@ -138,7 +139,7 @@ module _ (qpack : KeptLaws) (laws : Laws) (setup : Setup) (made : IsMadeSetup se
         (subst (λ x. PartStep setup w side mine (Bytes q count ∷ ds) x g (BytesCame id [] ∷ early f f.peer ++ more)) (sym (learned_same f.peer.settings f))
         (subst (λ l. PartStep setup w side mine (Bytes q count ∷ ds) f g (BytesCame id [] ∷ l ++ more)) (sym (early_same f.peer.settings f.decoder_on)) (stays setup w side mine (Bytes q count ∷ ds) f g (BytesCame id [] ∷ more) z)))
 
-    module _ (read rest : List ℕ) (P : Peer) (is_held : z.here.held.control ≡ read ++ rest) (reads : read_peer (limit_of z.er) z.er.side (with_unread z.er.peer (z.er.peer.unread ++ read)) ≡ no_code P)
+    module _ (read rest : List ℕ) (P : Peer) (is_held : z.here.held.control ≡ read ++ rest) (reads : read_peer (kinds_of z.er.announced) (limit_of z.er) z.er.side (with_unread z.er.peer (z.er.peer.unread ++ read)) ≡ no_code P)
         (first : lacks_settings (holding z.er read) ≡ false) (taken : are_refused z.er z.er.peer.settings P.settings ≡ false) where
       abbrev p : Peer
       p = with_unread P (P.unread ++ rest)
@@ -193,11 +194,12 @@ module _ (qpack : KeptLaws) (laws : Laws) (setup : Setup) (made : IsMadeSetup se
             ∙ ap (λ o. then_decoder None o (if_learned None o (record x { peer = P })) None) known
             ∙ no_bytes_listened (L x) (learned_unread (record x { peer = P }) pairs ∙ nothing)
           where
-            found_too : read_peer (limit_of x) x.side (with_unread x.peer (x.peer.unread ++ read)) ≡ no_code P
+            found_too : read_peer (kinds_of x.announced) (limit_of x) x.side (with_unread x.peer (x.peer.unread ++ read)) ≡ no_code P
             found_too =
-                ap (λ n. read_peer n x.side (with_unread x.peer (x.peer.unread ++ read))) limit_is
-                ∙ ap (λ t. read_peer (limit_of z.er) t (with_unread x.peer (x.peer.unread ++ read))) side_is
-                ∙ ap (λ y. read_peer (limit_of z.er) z.er.side (with_unread y (y.unread ++ read))) peer
+                ap (λ (a : Announced). read_peer (kinds_of a) (limit_of x) x.side (with_unread x.peer (x.peer.unread ++ read))) own
+                ∙ ap (λ n. read_peer (kinds_of z.er.announced) n x.side (with_unread x.peer (x.peer.unread ++ read))) limit_is
+                ∙ ap (λ t. read_peer (kinds_of z.er.announced) (limit_of z.er) t (with_unread x.peer (x.peer.unread ++ read))) side_is
+                ∙ ap (λ y. read_peer (kinds_of z.er.announced) (limit_of z.er) z.er.side (with_unread y (y.unread ++ read))) peer
                 ∙ reads
 
             first_too : lacks_settings (holding x read) ≡ false
@@ -205,7 +207,7 @@ module _ (qpack : KeptLaws) (laws : Laws) (setup : Setup) (made : IsMadeSetup se
                 ap (λ (a : Announced). (is_strict a && is_none x.peer.settings) && begins_other (x.peer.unread ++ read)) own
                 ∙ ap (λ (y : Peer). (is_strict z.er.announced && is_none y.settings) && begins_other (y.unread ++ read)) peer ∙ first
 
-            taken_too : are_refused (holding x read) x.peer.settings (read_peer (limit_of x) x.side (with_unread x.peer (x.peer.unread ++ read))).0.settings ≡ false
+            taken_too : are_refused (holding x read) x.peer.settings (read_peer (kinds_of x.announced) (limit_of x) x.side (with_unread x.peer (x.peer.unread ++ read))).0.settings ≡ false
             taken_too =
                 ap (λ (y : PeerFound). are_refused (holding x read) x.peer.settings y.0.settings) found_too
                 ∙ ap (λ (y : Peer). are_refused (holding x read) y.settings P.settings) peer
@@ -287,11 +289,11 @@ module _ (qpack : KeptLaws) (laws : Laws) (setup : Setup) (made : IsMadeSetup se
       settled (Same learned_none then_none early_none) = same_settings learned_none then_none early_none
       settled (New pairs unknown known) = new_settings pairs unknown known z.er.decoder_on refl
 
-    at : (p : Peer) → MayRead f p → PeerReadsPart (limit_of f) f.side f.peer p → Goes count ds id more p
+    at : (p : Peer) → MayRead f p → PeerReadsPart (kinds_of f.announced) (limit_of f) f.side f.peer p → Goes count ds id more p
     at p may h = by_split (splits z.er.peer.unread z.here.held.control h.front h.rest (sym (ap (λ (x : EndpointHistory). x.peer.unread) z.here.is) ∙ h.cut))
       where
-        reads_behind : read_peer (limit_of z.er) z.er.side (with_unread z.er.peer h.front) ≡ no_code h.read
-        reads_behind = sym (ap (λ (x : EndpointHistory). read_peer (limit_of x) x.side (with_unread x.peer h.front)) z.here.is) ∙ h.reads
+        reads_behind : read_peer (kinds_of z.er.announced) (limit_of z.er) z.er.side (with_unread z.er.peer h.front) ≡ no_code h.read
+        reads_behind = sym (ap (λ (x : EndpointHistory). read_peer (kinds_of x.announced) (limit_of x) x.side (with_unread x.peer h.front)) z.here.is) ∙ h.reads
 
         first_behind : ((is_strict z.er.announced && is_none z.er.peer.settings) && begins_other h.front) ≡ false
         first_behind =
@@ -306,12 +308,12 @@ module _ (qpack : KeptLaws) (laws : Laws) (setup : Setup) (made : IsMadeSetup se
         by_split : Splits z.er.peer.unread z.here.held.control h.front h.rest → Goes count ds id more p
         by_split (Beyond read is more_is) =
             subst (Goes count ds id more) (sym h.left)
-            (settled read h.rest h.read more_is (ap (λ l. read_peer (limit_of z.er) z.er.side (with_unread z.er.peer l)) (sym is) ∙ reads_behind)
+            (settled read h.rest h.read more_is (ap (λ l. read_peer (kinds_of z.er.announced) (limit_of z.er) z.er.side (with_unread z.er.peer l)) (sym is) ∙ reads_behind)
             (sym (ap (λ l. (is_strict z.er.announced && is_none z.er.peer.settings) && begins_other l) is) ∙ first_behind) taken_behind (learns z.er.peer.settings h.read.settings))
         by_split (Within left is more_is) =
-            let unfinished : IsUnfinishedFront h.front = control_unfinished setup s (party w s).own.control_taken (party w s).own.goaways h.front left (announces_at setup s made) z.two.both.writes_there.goaways (sym e.control.unread ∙ is) in
+            let unfinished : IsUnfinishedFront (kinds_of z.er.announced) h.front = control_unfinished (kinds_of z.er.announced) setup s (party w s).own.control_taken (party w s).own.goaways h.front left (announces_at setup s made) z.two.both.writes_there.goaways (sym e.control.unread ∙ is) in
             let nothing : no_code h.read ≡ no_code (with_unread z.er.peer h.front) =
-            sym reads_behind ∙ without_limit (limit_of z.er) z.er.side (with_unread z.er.peer h.front) (subst TakesAnyLength (sym e.announced) e.any) ∙ within_all z.er.side z.er.peer h.front ∙ waits (length h.front) z.er.side z.er.peer h.front unfinished in
+            sym reads_behind ∙ without_limit (kinds_of z.er.announced) (limit_of z.er) z.er.side (with_unread z.er.peer h.front) (subst TakesAnyLength (sym e.announced) e.any) ∙ within_all (kinds_of z.er.announced) z.er.side z.er.peer h.front ∙ waits (kinds_of z.er.announced) (length h.front) z.er.side z.er.peer h.front unfinished in
             nothing_read p
             (h.left ∙ ap (λ (x : PeerFound). with_unread x.0 (x.0.unread ++ h.rest)) nothing ∙ sym (ap (λ (x : EndpointHistory). with_unread x.peer (h.front ++ h.rest)) z.here.is) ∙ ap (λ l. with_unread f.peer l) (sym h.cut))
 

@@ -20,6 +20,8 @@ pub mod EventsKept
 pub mod EveryEvent
 pub mod FramesStep
 pub mod Giving
+pub mod GivesUpKept
+pub mod GivesUpStands
 pub mod GivingEnds
 pub mod Growing
 pub mod HandsOver
@@ -38,6 +40,7 @@ pub mod LooseBack
 pub mod MemoryAnswers
 pub mod MemoryKept
 pub mod MemoryMoves
+pub mod MemoryChanges
 pub mod MemoryRuns
 pub mod NothingKept
 pub mod Noticed
@@ -50,6 +53,7 @@ pub mod PartRuns
 pub mod PartSteps
 pub mod PartsHeld
 pub mod PartsKept
+pub mod PartsChange
 pub mod PartsLoose
 pub mod PartsRead
 pub mod PullSpares

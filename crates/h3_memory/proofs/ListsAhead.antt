@@ -47,17 +47,17 @@ lists_ahead mine held kept behind news id Request h = by_stream (stream_at behin
     given : Option Incoming → Pull
     given o = (pull_request behind id o).0
 
-    by_lists : (old new : Incoming) → HasNoHeader (pull_stream behind.side behind.announced id r old).answer ⊎ (fields_next r new ≡ fields_next r old)
-        → listed_pull (fields_next r new) (given (Some old)) ≡ listed_pull (fields_next r old) (given (Some old))
+    by_lists : (old new : Incoming) → HasNoHeader (pull_stream behind.side behind.announced id r old).answer ⊎ (fields_next behind.announced r new ≡ fields_next behind.announced r old)
+        → listed_pull (fields_next behind.announced r new) (given (Some old)) ≡ listed_pull (fields_next behind.announced r old) (given (Some old))
     by_lists old new (inr same) = ap (λ o. listed_pull o (given (Some old))) same
     by_lists old new (inl none) =
         let p = pull_stream behind.side behind.announced id r old in
         let q = within_limit behind id p in
-        any_list (fields_next r new) (fields_next r old) (given (Some old))
+        any_list (fields_next behind.announced r new) (fields_next behind.announced r old) (given (Some old))
         (answered_none q.answer (replied (with_incoming behind id q.incoming) q.replies)
         (within_none (nat_lt behind.announced.limits.blocked (heads_waiting r (set_stream behind.incoming id p.incoming))) p none))
 
-    by_stream : (o n : Option Incoming) → ResumesAt behind.side behind.announced id o n → listed_pull (fields_there r n) (given o) ≡ listed_pull (fields_there r o) (given o)
+    by_stream : (o n : Option Incoming) → ResumesAt behind.side behind.announced id o n → listed_pull (fields_there behind.announced r n) (given o) ≡ listed_pull (fields_there behind.announced r o) (given o)
     by_stream None None h = refl
     by_stream None (Some new) h = absurd h
     by_stream (Some old) None h = absurd h

@@ -56,7 +56,7 @@ behind setup w u v e writer id a keeps moves =
     moves_then (reader_of setup writer) (flow w writer id) (flow u writer id) (flow v writer id) [] (sent_in writer id e a) false (finished_in writer id e a) [] (pulled_in (other writer) id e a) false (ended_in (other writer) id e a)
     (quiet setup w u writer id keeps) moves
 
-caught_keeps : (q : KeptLaws) (setup : Setup) (k : KeepingWorld) (side : Side) → IsSoundKeeping setup k → KeepsParts k.world (caught_up setup k side)
+pub caught_keeps : (q : KeptLaws) (setup : Setup) (k : KeepingWorld) (side : Side) → IsSoundKeeping setup k → KeepsParts k.world (caught_up setup k side)
 caught_keeps q setup k side h = all_keep q setup k.world (other side) (kept_at k side) h.sound (kept_readable setup k side h)
 
 kept_world : (k : KeepingWorld) (side : Side) (v : World) (ds : List Delivery) → (with_kept k side v ds).world ≡ v

@@ -32,6 +32,7 @@ use Rattle.h3_memory.specs.Kept.{Delivery}
 use Rattle.h3_memory.specs.Keeping.{Held, ahead, came_of, held_of, text_of}
 use Rattle.h3_memory.proofs.AheadOwn.{IsOwnStream, control_comes, encoder_comes, decoder_comes}
 use Rattle.h3_memory.proofs.KeptAlike.{held_without}
+use Rattle.h3_connection.specs.StrictConnection.{kinds_of, knows_sessions}
 
 -- What the one behind has of each.
 control_is : (setup : Setup) (w : World) (side : Side) (e : EndpointHistory) → StandsAt setup w side e → IsOwnStream e (control_id (other side)) (party w (other side)).own.control_taken Control e.control_on
@@ -136,9 +137,9 @@ peer_leaves e x = by_refused (are_refused e e.peer.settings x.0.settings)
 held_leaves : (e : EndpointHistory) → streams_of (read_held e).0 ≡ streams_of e
 held_leaves e = by_missing (lacks_settings e)
   where
-    by_missing : (b : Bool) → streams_of (if◌then◌else◌ {A = Found} b (e, Some missing_settings) (after_peer e (read_peer (limit_of e) e.side e.peer))).0 ≡ streams_of e
+    by_missing : (b : Bool) → streams_of (if◌then◌else◌ {A = Found} b (e, Some missing_settings) (after_peer e (read_peer (kinds_of e.announced) (limit_of e) e.side e.peer))).0 ≡ streams_of e
     by_missing true = refl
-    by_missing false = peer_leaves e (read_peer (limit_of e) e.side e.peer)
+    by_missing false = peer_leaves e (read_peer (kinds_of e.announced) (limit_of e) e.side e.peer)
 
 heard_leaves : (e : EndpointHistory) (id : ℕ) (role : Role) (bytes : List ℕ) → streams_of (heard_as e id role bytes).0 ≡ streams_of e
 heard_leaves e id (Untold front) bytes = refl
@@ -162,7 +163,7 @@ heard_leaves e id (Session session) bytes = refl
 heard_leaves e id Ignored bytes = refl
 
 pub unidirectional_leaves : (e : EndpointHistory) (id : ℕ) (bytes : List ℕ) → kind_of e.side id ≡ PeerUnidirectional → streams_of (read_arrival e (BytesCame id bytes)).0 ≡ streams_of e
-unidirectional_leaves e id bytes kind = ap (λ k. streams_of (bytes_at e id bytes k).0) kind ∙ by_role (role_after (unidirectional_at e id).role bytes)
+unidirectional_leaves e id bytes kind = ap (λ k. streams_of (bytes_at e id bytes k).0) kind ∙ by_role (role_after (knows_sessions e.announced) (unidirectional_at e id).role bytes)
   where
     by_role : (x : Role × List ℕ) → streams_of (read_unidirectional e id (unidirectional_at e id) x).0 ≡ streams_of e
     by_role (role, rest) = heard_leaves (with_unidirectional e id (with_bytes (unidirectional_at e id) (role, rest))) id role rest

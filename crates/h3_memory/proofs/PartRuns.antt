@@ -18,12 +18,13 @@ use Rattle.h3_memory.proofs.HoldsStep.{holds_step}
 use Rattle.h3_memory.proofs.KeptLaws.{KeptLaws}
 use Rattle.h3_memory.proofs.PartSteps.{PartStep, front_step, whole_step}
 use Rattle.h3_memory.proofs.ReadingState.{Reading}
+use Rattle.h3_connection.specs.StrictConnection.{kinds_of}
 
 -- A front of what is held of the control stream is read.
 abbrev pub ReadsFramesOn : Setup → Type 0
 ReadsFramesOn setup =
     (w : World) (side : Side) (mine ds : List Delivery) (f g : EndpointHistory) (id : ℕ) (p : Rattle.h3_connection.specs.PeerReading.Peer) (more : List Arrival) → Reading setup w side mine ds f g (BytesCame id [] ∷ more) → f.control_on ≡ Some id
-    → MayRead f p → PeerReadsPart (limit_of f) f.side f.peer p → PartStep setup w side mine ds (after_frames f p) g (BytesCame id [] ∷ early f p ++ more)
+    → MayRead f p → PeerReadsPart (kinds_of f.announced) (limit_of f) f.side f.peer p → PartStep setup w side mine ds (after_frames f p) g (BytesCame id [] ∷ early f p ++ more)
 
 pub on_step : (qpack : KeptLaws) (laws : Laws) (setup : Setup) (made : IsMadeSetup setup) (frames : ReadsFramesOn setup) (w : World) (side : Side) (mine ds : List Delivery) (g : EndpointHistory) {f next : EndpointHistory} {arrivals more : List Arrival}
     → ReadsOn f arrivals next more → Reading setup w side mine ds f g arrivals → PartStep setup w side mine ds next g more

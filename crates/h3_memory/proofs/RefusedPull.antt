@@ -81,9 +81,9 @@ resumes_then side own id first second third h k =
       lists = λ r pieces ended. joined r pieces ended (h.lists r pieces ended) (k.lists r pieces ended);
     }
   where
-    joined : (r : DecoderState) (pieces : List (List ℕ)) (ended : Bool) → HasNoHeader (pull_stream side own id r (with_more first pieces ended)).answer ⊎ (fields_next r (with_more second pieces ended) ≡ fields_next r (with_more first pieces ended))
-        → HasNoHeader (pull_stream side own id r (with_more second pieces ended)).answer ⊎ (fields_next r (with_more third pieces ended) ≡ fields_next r (with_more second pieces ended))
-        → HasNoHeader (pull_stream side own id r (with_more first pieces ended)).answer ⊎ (fields_next r (with_more third pieces ended) ≡ fields_next r (with_more first pieces ended))
+    joined : (r : DecoderState) (pieces : List (List ℕ)) (ended : Bool) → HasNoHeader (pull_stream side own id r (with_more first pieces ended)).answer ⊎ (fields_next own r (with_more second pieces ended) ≡ fields_next own r (with_more first pieces ended))
+        → HasNoHeader (pull_stream side own id r (with_more second pieces ended)).answer ⊎ (fields_next own r (with_more third pieces ended) ≡ fields_next own r (with_more second pieces ended))
+        → HasNoHeader (pull_stream side own id r (with_more first pieces ended)).answer ⊎ (fields_next own r (with_more third pieces ended) ≡ fields_next own r (with_more first pieces ended))
     joined r pieces ended (inl none) later = inl none
     joined r pieces ended (inr same) (inl none) = inl (subst (λ (p : Pulled). HasNoHeader p.answer) (sym (h.pulls r pieces ended)) none)
     joined r pieces ended (inr same) (inr later) = inr (later ∙ same)

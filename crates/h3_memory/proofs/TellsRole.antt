@@ -16,12 +16,13 @@ use Rattle.h3_connection.specs.LimitedListeningLaws.{listens_nothing}
 use Rattle.h3_connection.specs.PeerReading.{Peer, read_peer, with_unread}
 use Rattle.h3_connection.specs.StreamSets.{stream_at}
 use Rattle.h3_connection.specs.StreamSetLaws.{set-same}
-use Rattle.h3_connection.specs.StrictConnection.{is_strict, stream_fault}
+use Rattle.h3_connection.specs.StrictConnection.{is_strict, stream_fault, kinds_of, knows_sessions}
 use Rattle.h3_connection.specs.StrictConnectionLaws.{nothing_held, nothing_told}
 use Rattle.h3_connection.specs.Unidirectional.{Unidirectional, Role, untold, role_after, with_bytes}
 use Rattle.h3_connection.specs.Unidirectional.Role.{Untold, Control, Encoder, Decoder}
 use Rattle.h3_headline.specs.PeerStreams.{with_role}
 use Rattle.h3_headline.specs.Standing.{IsPeerStream, came_on}
+use Rattle.h3_wire.specs.declared.frame.kinds.FrameKinds.{FrameKinds}
 
 -- A stream that told its role, at the endpoint that reads it.
 pub record IsReadAs (e : EndpointHistory) (id : ℕ) (role : Role) (on : Option ℕ) : Type 0 where
@@ -51,11 +52,11 @@ same_stream : (e : EndpointHistory) (id : ℕ) (role : Role) → stream_at e.uni
 same_stream e id role there = ap (λ l. record e { unidirectional = l }) (set-same e.unidirectional id (with_role role) there)
 
 -- the bytes go to the role
-pub role_reads : (e : EndpointHistory) (id : ℕ) (role : Role) (on : Option ℕ) (bytes : List ℕ) → ((bytes : List ℕ) → role_after role bytes ≡ (role, bytes)) → ((bytes : List ℕ) → with_bytes (with_role role) (role, bytes) ≡ with_role role)
+pub role_reads : (e : EndpointHistory) (id : ℕ) (role : Role) (on : Option ℕ) (bytes : List ℕ) → ((bytes : List ℕ) → role_after (knows_sessions e.announced) role bytes ≡ (role, bytes)) → ((bytes : List ℕ) → with_bytes (with_role role) (role, bytes) ≡ with_role role)
     → IsReadAs e id role on → read_arrival e (BytesCame id bytes) ≡ heard_as e id role bytes
 role_reads e id role on bytes same left h =
     ap (bytes_at e id bytes) h.kind
-    ∙ ap (λ (o : Option Unidirectional). read_unidirectional e id (Rattle.std.specs.Prelude.unwrap_or o untold) (role_after (Rattle.std.specs.Prelude.unwrap_or o untold).role bytes)) h.stream
+    ∙ ap (λ (o : Option Unidirectional). read_unidirectional e id (Rattle.std.specs.Prelude.unwrap_or o untold) (role_after (knows_sessions e.announced) (Rattle.std.specs.Prelude.unwrap_or o untold).role bytes)) h.stream
     ∙ ap (λ x. read_unidirectional e id (with_role role) x) (same bytes)
     ∙ ap (λ o. heard_as (with_unidirectional e id o) id role bytes) (left bytes)
     ∙ ap (λ x. heard_as x id role bytes) (same_stream e id role h.stream)
@@ -113,14 +114,14 @@ no_bytes_listened e none = by_settings (is_some e.peer.settings)
     by_settings false =
         ap (λ l. kept_unread e (l ++ [])) none ∙ ap (λ l. (record e { decoder_unread = l }, None)) (sym none)
 
-no_frames : (limit : ℕ) (side : Side) (p : Peer) → read_peer limit side (with_unread p []) ≡ (with_unread p [], None)
+no_frames : (kinds : FrameKinds) (limit : ℕ) (side : Side) (p : Peer) → read_peer kinds limit side (with_unread p []) ≡ (with_unread p [], None)
 unfolding read_peer
-no_frames limit side p = refl
+no_frames kinds limit side p = refl
 
 pub no_bytes_controlled : (e : EndpointHistory) → e.peer.unread ≡ [] → read_control e [] ≡ (e, None)
 no_bytes_controlled e none =
     nothing_held e none
-    ∙ ap (λ l. taken_peer e (read_peer (limit_of e) e.side (with_unread e.peer (l ++ [])))) none ∙ ap (taken_peer e) (no_frames (limit_of e) e.side e.peer)
+    ∙ ap (λ l. taken_peer e (read_peer (kinds_of e.announced) (limit_of e) e.side (with_unread e.peer (l ++ [])))) none ∙ ap (taken_peer e) (no_frames (kinds_of e.announced) (limit_of e) e.side e.peer)
     ∙ ap (λ l. taken_peer e (with_unread e.peer l, None)) (sym none) ∙ by_settings e.peer.settings
   where
     by_settings : (o : Option (List (ℕ × ℕ))) → then_decoder o o (if_learned o o e) None ≡ (e, None)

@@ -27,6 +27,7 @@ use Rattle.h3_headline.specs.ControlStreamLaws.{less_of, rest_unfinished, settin
 use Rattle.h3_headline.specs.PeerStreams.{Announces, settings_frame_of}
 use Rattle.h3_headline.specs.Standing.{AreGoaways, are_settings_there, control_left}
 use Rattle.h3_headline.specs.WritesMoreLaws.{type_of_control}
+use Rattle.h3_wire.specs.declared.frame.kinds.FrameKinds.{FrameKinds}
 
 -- a front of a front
 pub front_again : (n : ℕ) (all front left : List ℕ) → n ≤ length all → take n all ≡ front ++ left → (front ≡ take (length front) all) × (length front ≤ n)
@@ -90,13 +91,13 @@ each_goaway : (writer : Side) (before : Option ℕ) (ids : List ℕ) → AreGoaw
 each_goaway writer before [] h = tt
 each_goaway writer before (id ∷ ids) h = ((h.0, h.1, refl, tt), each_goaway writer (Some id) ids h.3)
 
-goaways_unfinished : (writer : Side) (n : ℕ) (ids : List ℕ) (front left : List ℕ) → AreGoaways writer None ids → rest_in goaway_encoding n ids ≡ front ++ left → IsUnfinishedFront front
-goaways_unfinished writer n ids front left h rest = of_rest goaway_encoding (IsOneGoaway writer) IsUnfinishedFront n ids front left (each_goaway writer None ids h) (rest_unfinished [] 0 writer None tt) one rest
+goaways_unfinished : (kinds : FrameKinds) (writer : Side) (n : ℕ) (ids : List ℕ) (front left : List ℕ) → AreGoaways writer None ids → rest_in goaway_encoding n ids ≡ front ++ left → IsUnfinishedFront kinds front
+goaways_unfinished kinds writer n ids front left h rest = of_rest goaway_encoding (IsOneGoaway writer) (IsUnfinishedFront kinds) n ids front left (each_goaway writer None ids h) (rest_unfinished kinds [] 0 writer None tt) one rest
   where
-    one : (id : ℕ) → IsOneGoaway writer id → (k : ℕ) → k < length (goaway_encoding id) → IsUnfinishedFront (take k (goaway_encoding id))
+    one : (id : ℕ) → IsOneGoaway writer id → (k : ℕ) → k < length (goaway_encoding id) → IsUnfinishedFront kinds (take k (goaway_encoding id))
     one id h k less =
-        subst IsUnfinishedFront (ap (λ b. if b then rest_in goaway_encoding (k - length (goaway_encoding id)) [] else take k (goaway_encoding id)) (not_whole (length (goaway_encoding id)) k less))
-        (rest_unfinished (id ∷ []) k writer None h)
+        subst (IsUnfinishedFront kinds) (ap (λ b. if b then rest_in goaway_encoding (k - length (goaway_encoding id)) [] else take k (goaway_encoding id)) (not_whole (length (goaway_encoding id)) k less))
+        (rest_unfinished kinds (id ∷ []) k writer None h)
 
 front_of_type : (n : ℕ) (xs : List ℕ) → drop 1 (take n (0 ∷ xs)) ≡ take (n - 1) xs
 front_of_type Rattle.std.specs.Prelude.zero xs = refl
@@ -111,22 +112,22 @@ some_settings a =
     let size = encoding (length (payload_of a.settings)) in
     omega (arith, ap length type_of_settings, length-append (encoding 4) size, length-append (encoding 4 ++ size) (payload_of a.settings))
 
-pub control_unfinished : (setup : Setup) (writer : Side) (came : ℕ) (ids front left : List ℕ) → Announces (announced_at setup writer) → AreGoaways writer None ids → control_left setup writer came ids ≡ front ++ left → IsUnfinishedFront front
-control_unfinished setup writer came ids front left made h is = by_settings (are_settings_there setup writer came) refl is
+pub control_unfinished : (kinds : FrameKinds) (setup : Setup) (writer : Side) (came : ℕ) (ids front left : List ℕ) → Announces (announced_at setup writer) → AreGoaways writer None ids → control_left setup writer came ids ≡ front ++ left → IsUnfinishedFront kinds front
+control_unfinished kinds setup writer came ids front left made h is = by_settings (are_settings_there setup writer came) refl is
   where
     a : Announced
     a = announced_at setup writer
 
     by_settings : (b : Bool) → are_settings_there setup writer came ≡ b
-        → (if b then rest_in goaway_encoding (came - length (settings_bytes a)) ids else drop 1 (take came (settings_bytes a))) ≡ front ++ left → IsUnfinishedFront front
-    by_settings true e is = goaways_unfinished writer (came - length (settings_bytes a)) ids front left h is
+        → (if b then rest_in goaway_encoding (came - length (settings_bytes a)) ids else drop 1 (take came (settings_bytes a))) ≡ front ++ left → IsUnfinishedFront kinds front
+    by_settings true e is = goaways_unfinished kinds writer (came - length (settings_bytes a)) ids front left h is
     by_settings false e is =
         let less = less_of (length (settings_bytes a)) came e in
         let sizes = length_settings a in
         let cut : take (came - 1) (settings_frame_of a) ≡ front ++ left = sym (ap (λ l. drop 1 (take came (l ++ settings_frame_of a))) type_of_control ∙ front_of_type came (settings_frame_of a)) ∙ is in
         let some : came - 1 ≤ length (settings_frame_of a) = omega (arith, less, sizes) in
         let again = front_again (came - 1) (settings_frame_of a) front left some cut in
-        subst IsUnfinishedFront (sym again.0) (settings_wait a (length front) made (short (length front) again.1 less sizes))
+        subst (IsUnfinishedFront kinds) (sym again.0) (settings_wait kinds a (length front) made (short (length front) again.1 less sizes))
       where
         short : (k : ℕ) → k ≤ came - 1 → came < length (settings_bytes a) → length (settings_bytes a) ≡ 1 + length (settings_frame_of a) → k < length (settings_frame_of a)
         short k h less sizes = omega (arith, h, less, sizes, some_settings a)

@@ -60,20 +60,20 @@ writes_on setup u v side mine ds ew g on t =
       distinct = t.distinct;
     }
 
-two_after : (setup : Setup) (v : World) (side : Side) (er ew y : EndpointHistory) → Stands setup v (with_end (ends_of side er ew) side y) → Two setup v side y ew
+pub two_after : (setup : Setup) (v : World) (side : Side) (er ew y : EndpointHistory) → Stands setup v (with_end (ends_of side er ew) side y) → Two setup v side y ew
 two_after setup v Client er ew y h = two_of setup v Client (ends_of Client y ew) h
 two_after setup v Server er ew y h = two_of setup v Server (ends_of Server y ew) h
 
-at_reader : (side : Side) (er ew : EndpointHistory) → end_at (ends_of side er ew) side ≡ er
+pub at_reader : (side : Side) (er ew : EndpointHistory) → end_at (ends_of side er ew) side ≡ er
 at_reader Client er ew = refl
 at_reader Server er ew = refl
 
 -- the same kept in two ways
-keeping_is : (k : KeepingWorld) (side : Side) (v : World) → keeping_so side v (kept_at k (other side)) [] ≡ with_kept k side v []
+pub keeping_is : (k : KeepingWorld) (side : Side) (v : World) → keeping_so side v (kept_at k (other side)) [] ≡ with_kept k side v []
 keeping_is k Client v = refl
 keeping_is k Server v = refl
 
-world_is : (k : KeepingWorld) (side : Side) (v : World) → (with_kept k side v []).world ≡ v
+pub world_is : (k : KeepingWorld) (side : Side) (v : World) → (with_kept k side v []).world ≡ v
 world_is k Client v = refl
 world_is k Server v = refl
 

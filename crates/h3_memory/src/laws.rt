@@ -63,6 +63,73 @@ pub fn each_step_keeps_worlds_sound()
     h3_headline::laws::what_is_cited_holds();
 }
 
+ghost use Rattle.h3_world.specs.Sound.{IsSoundWorld};
+ghost use Rattle.std.specs.Prelude.{Bool};
+ghost use Rattle.h3_headline.specs.Changes.{StaysAs, StaysBy};
+ghost use Rattle.h3_headline.specs.Contents.{GoneStays, KeepsParts, MovesBy};
+
+/// What each step changes of each stream: what a side sends on it, and what the other side pulls. A stream that was given up stays so, and one
+/// that is open. One that is not reset, and a server that has not gone away, stay so but for that. When a side reads what it keeps, no message
+/// changes.
+pub fn each_step_moves_messages()
+    ensures begins { (setup : Setup) → IsSoundKeeping setup (nothing_kept (empty_world setup)) }
+    ensures moves { (setup : Setup) (k new : KeepingWorld) (e : Event) (a : Answer) (writer : Side) (id : ℕ) → IsSoundKeeping setup k → StepWithMemory setup k e a new → MovesBy setup k.world e writer id a new.world }
+    ensures gone { (setup : Setup) (k new : KeepingWorld) (e : Event) (a : Answer) → IsSoundKeeping setup k → StepWithMemory setup k e a new → GoneStays k.world new.world }
+    ensures stays { (setup : Setup) (k new : KeepingWorld) (e : Event) (a : Answer) (writer : Side) (id : ℕ) → IsSoundKeeping setup k → StepWithMemory setup k e a new → StaysBy k.world e writer id a new.world }
+    ensures caught { (setup : Setup) (k : KeepingWorld) (side : Side) → IsSoundKeeping setup k → KeepsParts k.world (caught_up setup k side) × GoneStays k.world (caught_up setup k side) × IsSoundWorld setup (caught_up setup k side) }
+    ensures caught_as { (setup : Setup) (k : KeepingWorld) (side writer : Side) (id : ℕ) (resets goes : Bool) → IsSoundKeeping setup k → StaysAs writer id resets goes k.world (caught_up setup k side) }
+{
+    h3_world::laws::what_refused_memory_leaves_is_sound();
+    h3_headline::laws::what_is_cited_holds();
+}
+
+ghost use Rattle.h3_connection.specs.Announcing.{section_of};
+ghost use Rattle.h3_connection.specs.declared.event.Item.{Item};
+ghost use Rattle.h3_connection.specs.declared.event.Pull.TheVariants as gives_pull;
+ghost use Rattle.h3_connection.specs.declared.event.StreamFault.{StreamFault};
+ghost use Rattle.h3_world.specs.Items.{HasCome, handed_out};
+ghost use Rattle.h3_world.specs.Order.{next_part};
+ghost use Rattle.h3_world.specs.Pulling.{PausesExactly};
+ghost use Rattle.h3_world.specs.Sending.{given_up};
+ghost use Rattle.h3_world.specs.Setup.{announced_at};
+ghost use Rattle.h3_world.specs.Streams.{flow};
+ghost use Rattle.h3_memory.specs.Kept.{with_kept};
+
+/// A side that has read all that it keeps gives a message up, for whatever fault: at once, or after the part that comes next, which it hands
+/// to nobody. That leaves the world sound, and what the other side keeps readable.
+pub fn a_side_gives_a_stream_up()
+    ensures at_once { (setup : Setup) (k : KeepingWorld) (side : Side) (id : ℕ) (fault : StreamFault) → IsSoundKeeping setup k → settled (caught_up setup k side) side id ≡ None →
+        IsSoundKeeping setup (with_kept k side (given_up (caught_up setup k side) side id fault) []) }
+    ensures behind { (setup : Setup) (k : KeepingWorld) (side : Side) (id : ℕ) (fault : StreamFault) → IsSoundKeeping setup k → settled (caught_up setup k side) side id ≡ None →
+        (i : Item) → HasCome (section_of (announced_at setup side)) (flow (caught_up setup k side) (other side) id) (next_part (flow (caught_up setup k side) (other side) id)) i →
+        PausesExactly (caught_up setup k side) side id (gives_pull.Item i) → IsSoundKeeping setup (with_kept k side (given_up (handed_out (caught_up setup k side) side id i) side id fault) []) }
+{
+    h3_world::laws::a_side_gives_a_stream_up();
+    h3_world::laws::what_refused_memory_leaves_is_sound();
+    h3_headline::laws::what_is_cited_holds();
+}
+
+ghost use Rattle.h3_connection.specs.Endpoint.{EndpointHistory};
+ghost use Rattle.h3_connection.specs.Incoming.{Incoming};
+ghost use Rattle.h3_connection.specs.Keeping.{read_all, unkept};
+ghost use Rattle.h3_connection.specs.StreamSets.{stream_at};
+ghost use Rattle.h3_world.specs.Ends.{end_at, with_end};
+ghost use Rattle.h3_headline.specs.GivenUp.{IsGone, giving_up};
+ghost use Rattle.h3_memory.specs.Keeping.{StandsKeeping};
+
+/// Two endpoints that stand in a world with what they keep. Once one has read all that it keeps, and given up a stream that was not over,
+/// they stand in the world in which its side did so.
+pub fn ends_stand_once_a_stream_is_given_up()
+    ensures { (setup : Setup) (k : KeepingWorld) (ends : Ends) (side : Side) (id : ℕ) (fault : StreamFault) → IsMadeSetup setup → StandsKeeping setup k ends →
+        (next : EndpointHistory) (i x : Incoming) → read_all (end_at ends side).kept (unkept (end_at ends side)) ≡ (next, None) → stream_at next.incoming id ≡ Some i → i.fault ≡ None → i.is_over ≡ false → IsGone i x fault →
+        (settled (caught_up setup k side) side id ≡ None)
+        × StandsKeeping setup (with_kept k side (given_up (caught_up setup k side) side id fault) []) (with_end ends side (giving_up next id x)) }
+{
+    h3_world::laws::a_side_gives_a_stream_up();
+    h3_world::laws::what_refused_memory_leaves_is_sound();
+    h3_headline::laws::what_is_cited_holds();
+}
+
 /// If no answer reports out of memory and nothing is kept, a run is one of the world, and nothing is kept at its end.
 pub fn without_memory_answers_a_run_is_one_of_the_world()
     ensures run { (setup : Setup) (w : World) (events : List Event) (answers : List Answer) (new : KeepingWorld) → list_any is_out_of_memory answers ≡ false →

@@ -2,7 +2,7 @@
 -- definitions. Each row names the RFC section that asks it.
 use Rattle.std.specs.Prelude.{◌≡◌, true, [], ◌∷◌, codes, Some, None, refl}
 use Rattle.h3_messages.specs.Messages.{violation_of_request, violation_of_response, violation_of_trailer}
-use Rattle.h3_messages.specs.OwnMessages.{content_of_own_request, content_of_own_response, violation_of_own_request, violation_of_own_response, violation_of_own_trailer}
+use Rattle.h3_messages.specs.OwnMessages.{content_of_own_request, content_of_own_response, violation_of_own_answer, violation_of_own_request, violation_of_own_response, violation_of_own_trailer}
 use Rattle.h3_messages.specs.declared.content.Content.TheVariants.{Unsaid, Exactly, NoContent, Tunnel}
 use Rattle.h3_messages.specs.declared.violation.Violation.TheVariants.{ConnectionField, ContentLength, TrailerField, Status}
 use Rattle.h3_messages.proofs.Written.{field}
@@ -71,6 +71,61 @@ interim_with_length = refl
 pub switching : violation_of_own_response (field (codes ":status") (codes "101") ∷ []) ≡ Some Status
 unfolding violation_of_response
 switching = refl
+
+-- 200 to CONNECT: 9110 9.3.6
+pub tunnel : violation_of_own_answer (Some Tunnel) (field (codes ":status") (codes "200") ∷ []) ≡ None
+unfolding violation_of_response
+tunnel = refl
+
+-- 200 to CONNECT with length 5: 9110 8.6
+pub tunnel_with_length : violation_of_own_answer (Some Tunnel) (field (codes ":status") (codes "200") ∷ field (codes "content-length") (codes "5") ∷ []) ≡ Some ContentLength
+unfolding violation_of_response
+tunnel_with_length = refl
+
+-- 200 to CONNECT with length 0: 9110 8.6
+pub tunnel_with_no_length : violation_of_own_answer (Some Tunnel) (field (codes ":status") (codes "200") ∷ field (codes "content-length") (codes "0") ∷ []) ≡ Some ContentLength
+unfolding violation_of_response
+tunnel_with_no_length = refl
+
+-- 299 to CONNECT with length 5: 9110 8.6
+pub last_tunnel_with_length : violation_of_own_answer (Some Tunnel) (field (codes ":status") (codes "299") ∷ field (codes "content-length") (codes "5") ∷ []) ≡ Some ContentLength
+unfolding violation_of_response
+last_tunnel_with_length = refl
+
+-- 205 to CONNECT with length 0: 9110 8.6
+pub reset_tunnel_with_no_length : violation_of_own_answer (Some Tunnel) (field (codes ":status") (codes "205") ∷ field (codes "content-length") (codes "0") ∷ []) ≡ Some ContentLength
+unfolding violation_of_response
+reset_tunnel_with_no_length = refl
+
+-- 403 to CONNECT with length 5: 9110 8.6
+pub refused_connect_with_length : violation_of_own_answer (Some Tunnel) (field (codes ":status") (codes "403") ∷ field (codes "content-length") (codes "5") ∷ []) ≡ None
+unfolding violation_of_response
+refused_connect_with_length = refl
+
+-- 300 to CONNECT with length 5: 9110 8.6
+pub redirected_connect_with_length : violation_of_own_answer (Some Tunnel) (field (codes ":status") (codes "300") ∷ field (codes "content-length") (codes "5") ∷ []) ≡ None
+unfolding violation_of_response
+redirected_connect_with_length = refl
+
+-- 200 to GET with length 5: 9110 8.6
+pub answer_with_length : violation_of_own_answer (Some Unsaid) (field (codes ":status") (codes "200") ∷ field (codes "content-length") (codes "5") ∷ []) ≡ None
+unfolding violation_of_response
+answer_with_length = refl
+
+-- 200 to HEAD with length 5: 9110 8.6
+pub answer_to_head_with_length : violation_of_own_answer (Some NoContent) (field (codes ":status") (codes "200") ∷ field (codes "content-length") (codes "5") ∷ []) ≡ None
+unfolding violation_of_response
+answer_to_head_with_length = refl
+
+-- 200 with length 5, where it is not known what was asked: 9110 8.6
+pub unasked_with_length : violation_of_own_answer None (field (codes ":status") (codes "200") ∷ field (codes "content-length") (codes "5") ∷ []) ≡ None
+unfolding violation_of_response
+unasked_with_length = refl
+
+-- 101 to CONNECT: 9114 4.5
+pub switching_tunnel : violation_of_own_answer (Some Tunnel) (field (codes ":status") (codes "101") ∷ []) ≡ Some Status
+unfolding violation_of_response
+switching_tunnel = refl
 
 -- a trailer with authorization: 9110 6.5.1
 pub trailer_with_authorization : violation_of_own_trailer (field (codes "x") (codes "1") ∷ field (codes "authorization") (codes "1") ∷ []) ≡ Some TrailerField

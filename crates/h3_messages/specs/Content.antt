@@ -6,7 +6,7 @@ use Rattle.h3_messages.specs.Messages.{value_of, number_of, is_length, is_connec
 use Rattle.h3_messages.specs.declared.content.Asked.{Asked}
 use Rattle.h3_messages.specs.declared.content.Asked.TheVariants.{Head, Connect, Other}
 use Rattle.h3_messages.specs.declared.content.Content.{Content}
-use Rattle.h3_messages.specs.declared.content.Content.TheVariants.{Unsaid, Exactly, NoContent, Tunnel, Exceeded}
+use Rattle.h3_messages.specs.declared.content.Content.TheVariants.{Unsaid, Exactly, NoContent, Tunnel, Unanswered, Exceeded}
 
 -- method names are case-sensitive (RFC 9110, 9.1)
 abbrev pub asked_by : List ℕ → Asked
@@ -65,6 +65,19 @@ content_behind_status content status size = if is_interim_status status then con
 abbrev pub content_behind_response : Content → List Field → Content
 content_behind_response content fields = content_behind_status content (value_of (codes ":status") fields) (value_of (codes "content-length") fields)
 
+-- A server that read a CONNECT request has not answered it yet
+abbrev pub until_answered : Content → Content
+until_answered Tunnel = Unanswered
+until_answered content = content
+
+-- Its final response does: a 2xx one begins the tunnel, and behind another one the request is a message as others (RFC 9110, 9.3.6)
+abbrev pub answered_by_status : Content → List ℕ → Content
+answered_by_status Unanswered status = if is_interim_status status then Unanswered else (if slice_index status 0 == 50 then Tunnel else Unsaid)
+answered_by_status content status = content
+
+abbrev pub answered_by : Content → List Field → Content
+answered_by content fields = answered_by_status content (value_of (codes ":status") fields)
+
 -- RFC 9114 4.1.2: content-length and content
 -- What is left of it behind DATA of so many bytes: the sum of their lengths does not pass content-length (4.1.2)
 abbrev pub left_behind : Content → ℕ → Content
@@ -72,6 +85,7 @@ left_behind (Exactly left) size = if nat_le size left then Exactly (left - size)
 left_behind NoContent size = if size == 0 then NoContent else Exceeded
 left_behind Unsaid size = Unsaid
 left_behind Tunnel size = Tunnel
+left_behind Unanswered size = Unanswered
 left_behind Exceeded size = Exceeded
 
 -- more came than there may be

@@ -1,12 +1,12 @@
 -- The rules of messages judge a list by names and values alone: alike whichever flags its fields have.
-use Rattle.std.proofs.Common.{◌≡◌, ℕ, ◌+◌, Bool, not, ◌&&◌, ◌||◌, List, [], ◌∷◌, map, codes, cond, bytes_eq, slice_index, refl, sym, ap, ap₂, ◌∙◌, nat_lt, ◌==◌, if◌then◌else◌}
+use Rattle.std.proofs.Common.{◌≡◌, ℕ, ◌+◌, Bool, not, ◌&&◌, ◌||◌, List, [], ◌∷◌, Option, map, codes, cond, bytes_eq, slice_index, refl, sym, ap, ap₂, ◌∙◌, nat_lt, ◌==◌, if◌then◌else◌}
 use Rattle.std.specs.List.{list_all, list_any, count_by}
 use Rattle.std.proofs.lemmas.List.Sums.{sum_by-cons}
 use Rattle.h3_field.specs.Field.{Field, flagged, with_flags}
 use Rattle.h3_header.specs.Connect.{is_plain_host}
-use Rattle.h3_messages.specs.Content.{asked_by, awaited, awaited_by, content_of_request, content_behind_status, content_behind_response, said}
+use Rattle.h3_messages.specs.Content.{asked_by, awaited, awaited_by, content_of_request, content_behind_status, content_behind_response, said, answered_by, answered_by_status}
 use Rattle.h3_messages.specs.Messages.{has_name, holds, repeats, value_of, values_pass, is_one_of, is_word, is_pseudo, pseudo_first, request_names, response_names, only_pseudo_of, connection_names, has_connection_field, is_te_wrong, is_length, is_length_wrong, number_of, has_space_around, first_broken, is_connect, is_plain_connect, needs_authority, misses_pseudo, repeats_pseudo, is_protocol_wrong, names_port, is_connect_wrong, is_scheme, is_scheme_wrong, is_host, are_alike, misses_authority, is_host_wrong, is_target_wrong, is_authority_wrong, is_path_right, is_path_wrong, violation_of_request, is_length_misplaced, violation_of_response, violation_of_trailer}
-use Rattle.h3_messages.specs.OwnMessages.{or_broken, says_content, is_trace, violation_of_own_request, is_reset_content, is_own_length_misplaced, violation_of_own_response, is_no_trailer_name, has_no_trailer_field, violation_of_own_trailer, or_nothing, content_of_own_request, content_of_own_status, content_of_own_response}
+use Rattle.h3_messages.specs.OwnMessages.{or_broken, says_content, is_trace, violation_of_own_request, is_reset_content, is_own_length_misplaced, violation_of_own_response, says_tunnel_length, awaits_tunnel, violation_of_own_answer, is_no_trailer_name, has_no_trailer_field, violation_of_own_trailer, or_nothing, content_of_own_request, content_of_own_status, content_of_own_response}
 use Rattle.h3_messages.specs.declared.content.Content.{Content}
 use Rattle.h3_messages.specs.declared.content.Content.TheVariants.{Tunnel}
 use Rattle.h3_messages.specs.declared.violation.Violation.TheVariants.{PseudoOrder, RepeatedPseudo, WrongPseudo, MissingPseudo, ConnectionField, Protocol, Connect, Scheme, Authority, Path, Status, ContentLength, TrailerField, Value}
@@ -158,6 +158,9 @@ module _ (flag : Field → Bool) (fields : List Field) where
       (bytes_eq (value (codes ":status") i) (codes "204") && held (codes "content-length") i)
       || (is_reset_content (value (codes ":status") i) && says i)
 
+  tunnel_length : says_tunnel_length (with_flags flag fields) ≡ says_tunnel_length fields
+  tunnel_length = λ i. (slice_index (value (codes ":status") i) 0 == 50) && held (codes "content-length") i
+
   unfit : has_no_trailer_field (with_flags flag fields) ≡ has_no_trailer_field fields
   unfit = any_alike flag (λ f. is_no_trailer_name f.name) (λ f b. refl) fields
 
@@ -175,8 +178,11 @@ trailers_alike flag fields = trailer flag fields
 pub own_requests_alike : (flag : Field → Bool) (extended : Bool) (fields : List Field) → violation_of_own_request extended (with_flags flag fields) ≡ violation_of_own_request extended fields
 own_requests_alike flag extended fields = λ i. or_broken (request flag fields extended i) (trace flag fields i && says flag fields i) ContentLength
 
-pub own_responses_alike : (flag : Field → Bool) (fields : List Field) → violation_of_own_response (with_flags flag fields) ≡ violation_of_own_response fields
+own_responses_alike : (flag : Field → Bool) (fields : List Field) → violation_of_own_response (with_flags flag fields) ≡ violation_of_own_response fields
 own_responses_alike flag fields = λ i. or_broken (response flag fields i) (own_misplaced flag fields i) ContentLength
+
+pub own_answers_alike : (flag : Field → Bool) (known : Option Content) (fields : List Field) → violation_of_own_answer known (with_flags flag fields) ≡ violation_of_own_answer known fields
+own_answers_alike flag known fields = λ i. or_broken (own_responses_alike flag fields i) (tunnel_length flag fields i && awaits_tunnel known) ContentLength
 
 pub own_trailers_alike : (flag : Field → Bool) (fields : List Field) → violation_of_own_trailer (with_flags flag fields) ≡ violation_of_own_trailer fields
 own_trailers_alike flag fields = λ i. or_broken (trailer flag fields i) (unfit flag fields i) TrailerField
@@ -187,6 +193,9 @@ request_content_alike flag fields = λ i. if connect flag fields i then Tunnel e
 
 pub response_content_alike : (flag : Field → Bool) (content : Content) (fields : List Field) → content_behind_response content (with_flags flag fields) ≡ content_behind_response content fields
 response_content_alike flag content fields = λ i. content_behind_status content (value flag fields (codes ":status") i) (value flag fields (codes "content-length") i)
+
+pub answered_alike : (flag : Field → Bool) (content : Content) (fields : List Field) → answered_by content (with_flags flag fields) ≡ answered_by content fields
+answered_alike flag content fields = λ i. answered_by_status content (value flag fields (codes ":status") i)
 
 -- and what is sent, and what a request asks for
 pub awaited_alike : (flag : Field → Bool) (fields : List Field) → awaited_by (with_flags flag fields) ≡ awaited_by fields

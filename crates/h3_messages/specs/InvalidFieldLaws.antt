@@ -14,7 +14,8 @@ use Rattle.h3_header.specs.declared.headers.judge.BadPart.TheVariants as part
 use Rattle.h3_messages.specs.FirstInvalid.{Finds, FindsBad, FindsSpaced, breaks_value, is_value}
 use Rattle.h3_messages.specs.InvalidField.{is_invalid, invalid_field, IsFirst, HasInvalidPart, HasSpacedValue}
 use Rattle.h3_messages.specs.Messages.{first_broken, has_connection_field, has_space_around, holds, is_authority_wrong, is_connect_wrong, is_length_misplaced, is_length_wrong, is_path_wrong, is_protocol_wrong, is_pseudo, is_scheme_wrong, is_te_wrong, misses_pseudo, only_pseudo_of, pseudo_first, repeats, repeats_pseudo, request_names, response_names, value_of, violation_of_request, violation_of_response, violation_of_trailer}
-use Rattle.h3_messages.specs.OwnMessages.{has_no_trailer_field, is_own_length_misplaced, is_trace, or_broken, says_content, violation_of_own_request, violation_of_own_response, violation_of_own_trailer}
+use Rattle.h3_messages.specs.OwnMessages.{awaits_tunnel, has_no_trailer_field, is_own_length_misplaced, is_trace, or_broken, says_content, says_tunnel_length, violation_of_own_answer, violation_of_own_request, violation_of_own_response, violation_of_own_trailer}
+use Rattle.h3_messages.specs.declared.content.Content.{Content}
 use Rattle.h3_messages.specs.declared.violation.Violation.{Violation}
 use Rattle.h3_messages.specs.declared.violation.Violation.TheVariants as violation
 
@@ -214,8 +215,10 @@ module _ (any : Bool) (fields : List Field) (head : Head) (reads : head_by any f
   spaced_of_request extended is =
       spaced_of (spaced_request extended fields (of_reader (violation_of_request extended fields) (is_trace fields && says_content fields) violation.ContentLength refl is))
 
-  pub spaced_of_response : violation_of_own_response fields ≡ Some violation.Value → HasSpacedValue any true fields
-  spaced_of_response is = spaced_of (spaced_response fields (of_reader (violation_of_response fields) (is_own_length_misplaced fields) violation.ContentLength refl is))
+  pub spaced_of_response : (known : Option Content) → violation_of_own_answer known fields ≡ Some violation.Value → HasSpacedValue any true fields
+  spaced_of_response known is =
+      let own = of_reader (violation_of_own_response fields) (says_tunnel_length fields && awaits_tunnel known) violation.ContentLength refl is in
+      spaced_of (spaced_response fields (of_reader (violation_of_response fields) (is_own_length_misplaced fields) violation.ContentLength refl own))
 
   pub spaced_of_trailer : violation_of_own_trailer fields ≡ Some violation.Value → HasSpacedValue any true fields
   spaced_of_trailer is = spaced_of (spaced_trailer fields (of_reader (violation_of_trailer fields) (has_no_trailer_field fields) violation.TrailerField refl is))

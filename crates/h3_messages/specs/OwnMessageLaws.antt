@@ -4,9 +4,9 @@ use Rattle.std.specs.Prelude.{◌&&◌, ◌==◌, codes}
 use Rattle.h3_field.specs.Field.{Field}
 use Rattle.h3_messages.specs.Content.{asked_for, content_behind_response, content_expected, content_of_request, is_exceeded, is_interim_status, left_behind, may_end, takes_trailer}
 use Rattle.h3_messages.specs.Messages.{value_of, violation_of_request, violation_of_response, violation_of_trailer}
-use Rattle.h3_messages.specs.OwnMessages.{IsSentOf, content_of_own_request, content_of_own_response, has_no_trailer_field, is_own_length_misplaced, is_reset_content, is_trace, or_broken, or_nothing, says_content, violation_of_own_request, violation_of_own_response, violation_of_own_trailer}
+use Rattle.h3_messages.specs.OwnMessages.{IsSentOf, content_of_own_request, content_of_own_response, awaits_tunnel, has_no_trailer_field, is_own_length_misplaced, is_reset_content, is_trace, or_broken, or_nothing, says_content, says_tunnel_length, violation_of_own_answer, violation_of_own_request, violation_of_own_response, violation_of_own_trailer}
 use Rattle.h3_messages.specs.declared.content.Content.{Content}
-use Rattle.h3_messages.specs.declared.content.Content.TheVariants.{Unsaid, Exactly, NoContent, Tunnel, Exceeded}
+use Rattle.h3_messages.specs.declared.content.Content.TheVariants.{Unsaid, Exactly, NoContent, Tunnel, Unanswered, Exceeded}
 use Rattle.h3_messages.specs.declared.violation.Violation.{Violation}
 use Rattle.h3_messages.specs.declared.violation.Violation.TheVariants.{ContentLength, TrailerField}
 
@@ -20,6 +20,14 @@ own_request_unbroken extended_connect fields e = no_earlier (violation_of_reques
 pub own_response_unbroken : (fields : List Field) → violation_of_own_response fields ≡ None → violation_of_response fields ≡ None
 own_response_unbroken fields e = no_earlier (violation_of_response fields) (is_own_length_misplaced fields) ContentLength e
 
+pub own_answer_unbroken : (known : Option Content) (fields : List Field) → violation_of_own_answer known fields ≡ None → violation_of_own_response fields ≡ None
+own_answer_unbroken known fields e = no_earlier (violation_of_own_response fields) (says_tunnel_length fields && awaits_tunnel known) ContentLength e
+
+-- where it is not known what was asked, no rule comes behind those of the list
+pub unasked_answer : (v : Option Violation) (broken : Bool) (rule : Violation) → broken ≡ false → or_broken v broken rule ≡ v
+unasked_answer None broken rule e = ap (λ b. let v : Option Violation = if b then Some rule else None in v) e
+unasked_answer (Some v) broken rule e = refl
+
 pub own_trailer_unbroken : (fields : List Field) → violation_of_own_trailer fields ≡ None → violation_of_trailer fields ≡ None
 own_trailer_unbroken fields e = no_earlier (violation_of_trailer fields) (has_no_trailer_field fields) TrailerField e
 
@@ -29,6 +37,7 @@ as_expected Unsaid = (false, refl)
 as_expected (Exactly size) = (false, refl)
 as_expected NoContent = (false, refl)
 as_expected Tunnel = (false, refl)
+as_expected Unanswered = (false, refl)
 as_expected Exceeded = (false, refl)
 
 pub own_request_content : (fields : List Field) → IsSentOf (content_of_own_request fields) (content_of_request fields)
@@ -57,6 +66,7 @@ sent_ends sent expected h = ap may_end h.1 ∙ by_content expected h.0
     by_content (Exactly size) b = refl
     by_content NoContent b = refl
     by_content Tunnel b = refl
+    by_content Unanswered b = refl
     by_content Exceeded b = refl
 
 pub sent_trails : (sent expected : Content) → IsSentOf sent expected → takes_trailer sent ≡ takes_trailer expected
@@ -68,6 +78,7 @@ sent_trails sent expected h = ap takes_trailer h.1 ∙ by_content expected h.0
     by_content (Exactly size) b = refl
     by_content NoContent b = refl
     by_content Tunnel b = refl
+    by_content Unanswered b = refl
     by_content Exceeded b = refl
 
 counts_on : (c : Content) (b : Bool) (size : ℕ) → is_exceeded (left_behind (or_nothing c b) size) ≡ false
@@ -89,6 +100,7 @@ counts_on NoContent b size fits = by_size (size == 0) fits
     by_size true h = (refl, refl)
     by_size false h = absurd (cc)
 counts_on Tunnel b size fits = (refl, refl)
+counts_on Unanswered b size fits = (refl, refl)
 counts_on Exceeded b size fits = absurd (cc)
 
 pub sent_fits : (sent expected : Content) (size : ℕ) → IsSentOf sent expected → is_exceeded (left_behind sent size) ≡ false

@@ -1,11 +1,11 @@
 -- Which messages an endpoint may send: the rules by which its peer judges what comes (`Messages`), and those that bind a sender alone.
-use Rattle.std.specs.Prelude.{◌≡◌, ℕ, Bool, ◌&&◌, ◌||◌, List, [], ◌∷◌, codes, bytes_eq, nat_lt, if◌then◌else◌, Option, Some, None}
+use Rattle.std.specs.Prelude.{◌≡◌, ℕ, Bool, true, false, ◌&&◌, ◌||◌, List, [], ◌∷◌, codes, bytes_eq, slice_index, nat_lt, ◌==◌, if◌then◌else◌, Option, Some, None}
 use Rattle.std.specs.List.{list_any}
 use Rattle.h3_field.specs.Field.{Field}
 use Rattle.h3_messages.specs.Content.{asked_for, content_expected, content_of_request, is_interim_status}
 use Rattle.h3_messages.specs.Messages.{holds, is_one_of, number_of, value_of, violation_of_request, violation_of_response, violation_of_trailer}
 use Rattle.h3_messages.specs.declared.content.Content.{Content}
-use Rattle.h3_messages.specs.declared.content.Content.TheVariants.{Unsaid, Exactly}
+use Rattle.h3_messages.specs.declared.content.Content.TheVariants.{Unsaid, Exactly, Tunnel}
 use Rattle.h3_messages.specs.declared.violation.Violation.{Violation}
 use Rattle.h3_messages.specs.declared.violation.Violation.TheVariants.{ContentLength, TrailerField}
 
@@ -36,9 +36,22 @@ is_own_length_misplaced fields =
     (bytes_eq (value_of (codes ":status") fields) (codes "204") && holds (codes "content-length") fields)
     || (is_reset_content (value_of (codes ":status") fields) && says_content fields)
 
--- what a response breaks that is sent
+-- what a response breaks that is sent, whatever its request asked
 abbrev pub violation_of_own_response : List Field → Option Violation
 violation_of_own_response fields = or_broken (violation_of_response fields) (is_own_length_misplaced fields) ContentLength
+
+-- A server MUST NOT send content-length in a 2xx response to CONNECT (8.6), where a tunnel begins
+abbrev pub says_tunnel_length : List Field → Bool
+says_tunnel_length fields = (slice_index (value_of (codes ":status") fields) 0 == 50) && holds (codes "content-length") fields
+
+abbrev pub awaits_tunnel : Option Content → Bool
+awaits_tunnel (Some Tunnel) = true
+awaits_tunnel _ = false
+
+-- what one breaks behind a request, where its client awaits this, or it is not known what was asked
+abbrev pub violation_of_own_answer : Option Content → List Field → Option Violation
+violation_of_own_answer known fields =
+    or_broken (violation_of_own_response fields) (says_tunnel_length fields && awaits_tunnel known) ContentLength
 
 -- A sender MUST NOT generate a trailer field unless its definition permits that: no field for framing, routing, authentication, request
 -- modifiers, response control or content format (6.5.1). Those of authentication (11) and of cookies (RFC 6265, 4)

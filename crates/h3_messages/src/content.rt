@@ -1,6 +1,6 @@
 //! How much content a message has, and what comes of it (RFC 9114, 4.1.2; RFC 9110, 6.4.1, 8.6 and 9.3.6).
 ghost use Rattle.std.specs.Prelude.{◌≡◌, []};
-ghost use Rattle.h3_messages.specs.Content.{asked_by, asked_for, awaited, said, is_interim_status, is_without_content, content_of_status, content_expected, content_behind_status, left_behind, is_exceeded, may_end, takes_trailer};
+ghost use Rattle.h3_messages.specs.Content.{asked_by, asked_for, awaited, said, is_interim_status, is_without_content, content_of_status, content_expected, content_behind_status, until_answered, left_behind, is_exceeded, may_end, takes_trailer};
 ghost use Rattle.h3_messages.specs.OwnMessages.{or_nothing};
 
 use crate::text::{byte_at, is_same, length_of};
@@ -16,6 +16,8 @@ pub enum Content {
     NoContent,
     /// A tunnel's bytes, and no trailer (RFC 9114, 4.4).
     Tunnel,
+    /// As much as comes after a CONNECT request, until its server answers it.
+    Unanswered,
     /// More came than there may be (RFC 9114, 4.1.2).
     Exceeded,
 }
@@ -65,7 +67,9 @@ impl Content {
         match self {
             Content::NoContent => Asked::Head,
             Content::Tunnel => Asked::Connect,
-            Content::Unsaid | Content::Exactly(_) | Content::Exceeded => Asked::Other,
+            Content::Unsaid | Content::Exactly(_) | Content::Unanswered | Content::Exceeded => {
+                Asked::Other
+            }
         }
     }
 
@@ -75,6 +79,20 @@ impl Content {
         ensures { result ≡ content_behind_status self status.now [] }
     {
         behind_status(self, status, b"")
+    }
+
+    /// The same of a request that its server has read, and not yet answered.
+    pub fn until_answered(self) -> Content
+        ensures { result ≡ until_answered self }
+    {
+        match self {
+            Content::Tunnel => Content::Unanswered,
+            Content::Unsaid
+            | Content::Exactly(_)
+            | Content::NoContent
+            | Content::Unanswered
+            | Content::Exceeded => self,
+        }
     }
 
     /// No content if none may be sent and nothing says how much is.
@@ -88,7 +106,11 @@ impl Content {
                 }
                 Content::Unsaid
             }
-            Content::Exactly(_) | Content::NoContent | Content::Tunnel | Content::Exceeded => self,
+            Content::Exactly(_)
+            | Content::NoContent
+            | Content::Tunnel
+            | Content::Unanswered
+            | Content::Exceeded => self,
         }
     }
 
@@ -112,6 +134,7 @@ impl Content {
             }
             Content::Unsaid => Content::Unsaid,
             Content::Tunnel => Content::Tunnel,
+            Content::Unanswered => Content::Unanswered,
             Content::Exceeded => Content::Exceeded,
         }
     }
@@ -122,7 +145,11 @@ impl Content {
     {
         match self {
             Content::Exceeded => true,
-            Content::Unsaid | Content::Exactly(_) | Content::NoContent | Content::Tunnel => false,
+            Content::Unsaid
+            | Content::Exactly(_)
+            | Content::NoContent
+            | Content::Tunnel
+            | Content::Unanswered => false,
         }
     }
 
@@ -134,7 +161,7 @@ impl Content {
         match self {
             Content::Exactly(left) => left == 0,
             Content::Exceeded => false,
-            Content::Unsaid | Content::NoContent | Content::Tunnel => true,
+            Content::Unsaid | Content::NoContent | Content::Tunnel | Content::Unanswered => true,
         }
     }
 
@@ -144,7 +171,11 @@ impl Content {
     {
         match self {
             Content::Tunnel => false,
-            Content::Unsaid | Content::Exactly(_) | Content::NoContent | Content::Exceeded => true,
+            Content::Unsaid
+            | Content::Exactly(_)
+            | Content::NoContent
+            | Content::Unanswered
+            | Content::Exceeded => true,
         }
     }
 }

@@ -27,7 +27,7 @@ pub mod violation;
 pub use content::{Asked, Content, is_interim_status};
 pub use head::{RequestRead, ResponseRead, request_by, response_by};
 pub use invalid::invalid_field;
-pub use own::{OwnResponseRead, own_request_by, own_response_by, own_trailer_violation};
+pub use own::{OwnResponseRead, or_broken, own_request_by, own_response_by, own_trailer_violation};
 pub use response::trailer_violation_by;
 pub use response_said::ResponseSaid;
 pub use seen::Seen;

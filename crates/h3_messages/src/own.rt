@@ -17,7 +17,7 @@ use h3_field::HeaderField;
 /// What the header section of a response says that is to be sent.
 #[derive(Clone, Copy, Debug, PartialEq, Eq)]
 pub struct OwnResponseRead {
-    /// The first rule that it breaks: one of a response that is received, or else of its sender.
+    /// The first rule that it breaks, whatever its request asked: one of a response that is received, or else of its sender.
     pub violation: Option<Violation>,
     /// What it says of the content after it.
     pub said: ResponseSaid,
@@ -69,8 +69,8 @@ pub fn own_trailer_violation(fields: &[HeaderField]) -> Option<Violation>
     )
 }
 
-// The rule that was broken before, or else this one if it is broken.
-fn or_broken(earlier: Option<Violation>, is_broken: bool, rule: Violation) -> Option<Violation>
+/// The rule that was broken before, or else this one if it is broken.
+pub fn or_broken(earlier: Option<Violation>, is_broken: bool, rule: Violation) -> Option<Violation>
     ensures { result ≡ or_broken earlier is_broken rule }
 {
     match earlier {
@@ -119,7 +119,8 @@ fn response_said(survey: &Survey) -> ResponseSaid
     ensures { result ≡ response_said survey.now.fields.now }
 {
     let status = survey.value_of(Known::Status);
-    ResponseSaid::by(status, survey.value_of(Known::ContentLength))
+    let size = survey.value_of(Known::ContentLength);
+    ResponseSaid::by(status, size, survey.holds(Known::ContentLength))
 }
 
 // Whether a field is one that no trailer has (RFC 9110, 6.5.1).

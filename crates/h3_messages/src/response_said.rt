@@ -2,9 +2,10 @@
 //! 6.4.1, 8.6, 9.3.6 and 15.3.6).
 ghost use Rattle.std.specs.Prelude.{◌≡◌, List, if◌then◌else◌};
 ghost use Rattle.h3_field.specs.Field.{Field};
+ghost use Rattle.h3_messages.specs.Content.{answered_by};
 ghost use Rattle.h3_messages.specs.OwnMessages.{content_of_own_response};
 ghost use Rattle.h3_messages.specs.ResponseSaid.{response_said, said_by};
-ghost use Rattle.h3_messages.specs.declared.content.Content.TheVariants.{Tunnel};
+ghost use Rattle.h3_messages.specs.declared.content.Content.TheVariants.{Tunnel, Unanswered, Unsaid};
 
 use crate::content::{Asked, Content, content_of_status, is_interim_status};
 use crate::own::is_reset_content;
@@ -17,18 +18,22 @@ pub struct ResponseSaid {
     pub is_interim: bool,
     /// Whether a tunnel begins after it, if its request was CONNECT.
     pub opens_tunnel: bool,
+    /// Whether no server sends it in answer to CONNECT: it opens a tunnel, and has a `content-length` (RFC 9110, 8.6).
+    pub says_tunnel_length: bool,
     /// The content after a final one, except after HEAD and in a tunnel.
     pub content: Content,
 }
 
 impl ResponseSaid {
-    // What this status and this `content-length` say.
-    pub(crate) fn by(status: &[u8], size: &[u8]) -> ResponseSaid
-        ensures { result ≡ said_by status.now size.now }
+    // What this status and this `content-length` say, which may not be there.
+    pub(crate) fn by(status: &[u8], size: &[u8], has_length: bool) -> ResponseSaid
+        ensures { result ≡ said_by status.now size.now has_length }
     {
+        let opens_tunnel = byte_at(status, 0) == b'2';
         ResponseSaid {
             is_interim: is_interim_status(status),
-            opens_tunnel: byte_at(status, 0) == b'2',
+            opens_tunnel,
+            says_tunnel_length: opens_tunnel && has_length,
             content: content_of_status(status, size).or_nothing(is_reset_content(status)),
         }
     }
@@ -45,6 +50,33 @@ impl ResponseSaid {
             Asked::Connect => self.behind_connect(),
             Asked::Other => self.content,
         }
+    }
+
+    /// What is left to come of a request, of which so much was left, if its server sends such a header section. A final one answers CONNECT.
+    pub fn answering(self, content: Content) -> Content
+        ensures { (fields : List Field) → self ≡ response_said fields → result ≡ answered_by content fields }
+    {
+        match content {
+            Content::Unanswered => self.answering_connect(),
+            Content::Unsaid
+            | Content::Exactly(_)
+            | Content::NoContent
+            | Content::Tunnel
+            | Content::Exceeded => content,
+        }
+    }
+
+    // The same of CONNECT that was not answered.
+    fn answering_connect(self) -> Content
+        ensures { result ≡ (if self.is_interim then Unanswered else (if self.opens_tunnel then Tunnel else Unsaid)) }
+    {
+        if self.is_interim {
+            return Content::Unanswered;
+        }
+        if self.opens_tunnel {
+            return Content::Tunnel;
+        }
+        Content::Unsaid
     }
 
     // The content after a final response to CONNECT.

@@ -348,6 +348,12 @@ impl Config {
     /// - An instruction that is longer than the limit on what is unfinished is an error of its stream (RFC 9204, section 7.4):
     ///   QPACK_ENCODER_STREAM_ERROR or QPACK_DECODER_STREAM_ERROR.
     /// - The id of a WebTransport session names a bidirectional stream that a client opened. Else H3_ID_ERROR.
+    /// - No line of a field section names an entry of the dynamic table from the section's required insert count on (RFC 9204, section
+    ///   2.2.3). If the local end announces no table, the encoded count and the sign are 0 (sections 4.5.1.1 and 4.5.1.2). Else
+    ///   QPACK_DECOMPRESSION_FAILED.
+    ///
+    /// Without WebTransport announced, the frames of type 0x41 and the streams of type 0x54 are of unknown type: they are ignored (RFC 9114,
+    /// section 9).
     ///
     /// The local end keeps two rules itself: after a GOAWAY of its peer it sends no header section on a stream on which nothing was sent
     /// (RFC 9114, section 5.2), and it does not announce WebTransport without datagrams.

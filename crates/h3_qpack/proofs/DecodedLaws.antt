@@ -13,7 +13,7 @@ use Rattle.h3_field.specs.Reading.{Reading, Whole, Unfinished, Bad}
 use Rattle.h3_field.specs.Section.{HasLine, AreLines, NoLine, NextLine}
 use Rattle.h3_table.specs.TableState.{TableState}
 use Rattle.h3_qpack.specs.DecoderState.{DecoderState, count_capacity}
-use Rattle.h3_qpack.specs.Meaning.{field_at, HaveFields, HasPrefix, MeansFields, IsMissing, IsBadSection}
+use Rattle.h3_qpack.specs.Meaning.{table_for, is_allowed, field_at, HaveFields, HasPrefix, MeansFields, IsMissing, IsBadSection}
 use Rattle.h3_qpack.proofs.Counts.{one_residue}
 use Rattle.h3_field.specs.Values.{line_of}
 use Rattle.h3_qpack.specs.DecodedSection.{DecodedSection, Fields, Missing, BadSection, field_of, then_fields, fields_from, fields_within, fields_in, checked_count, near_count, count_of, with_base, count_and_base, with_fields, decoded_at, decoded_from, decode_section, IsDecodedAs, IsRefusalOf}
@@ -238,53 +238,63 @@ prefix_is capacity inserted p count base e = elim (zero_or_more capacity) [
 ]
 
 -- whole sections
-pub section_lines : (r : DecoderState) (bytes rest : List ℕ) (count base : ℕ) → HasPrefix r bytes rest count base → count ≤ r.table.inserted → decode_section r bytes ≡ with_fields count (fields_in r.table base rest)
+pub section_lines : (r : DecoderState) (bytes rest : List ℕ) (count base : ℕ) → HasPrefix r bytes rest count base → count ≤ r.table.inserted → decode_section r bytes ≡ with_fields count (fields_in (table_for r count) base rest)
 unfolding decode_section fields_in
 section_lines r bytes rest count base h received =
     ap (λ x. decoded_from r x) h.whole
+    ∙ ap (λ b. if b then decoded_at r rest (count_and_base (count_capacity r) r.table.inserted h.encoded) else BadSection) h.allowed
     ∙ ap (λ o. decoded_at r rest o) (prefix_some (count_capacity r) r.table.inserted h.encoded count base h.is)
-    ∙ ap (λ b. if b then Missing count else with_fields count (fields_in r.table base rest)) (le-ltb r.table.inserted count received)
+    ∙ ap (λ b. if b then Missing count else with_fields count (fields_in (table_for r count) base rest)) (le-ltb r.table.inserted count received)
 
 pub section_fields : (r : DecoderState) (bytes : List ℕ) (count : ℕ) (fields : List Field) → MeansFields r bytes count fields → decode_section r bytes ≡ Fields fields count
 unfolding decode_section fields_in
 section_fields r bytes count fields h =
     section_lines r bytes h.rest count h.base h.begins h.received
-    ∙ ap (λ o. with_fields count o) (fields_some (length h.rest) r.table h.base h.rest h.lines fields h.split h.named (omega arith))
+    ∙ ap (λ o. with_fields count o) (fields_some (length h.rest) (table_for r count) h.base h.rest h.lines fields h.split h.named (omega arith))
 
 pub section_missing : (r : DecoderState) (bytes : List ℕ) (count : ℕ) → IsMissing r bytes count → decode_section r bytes ≡ Missing count
 unfolding decode_section
 section_missing r bytes count h =
     ap (λ x. decoded_from r x) h.begins.whole
+    ∙ ap (λ b. if b then decoded_at r h.rest (count_and_base (count_capacity r) r.table.inserted h.begins.encoded) else BadSection) h.begins.allowed
     ∙ ap (λ o. decoded_at r h.rest o) (prefix_some (count_capacity r) r.table.inserted h.begins.encoded count h.base h.begins.is)
-    ∙ ap (λ b. if b then Missing count else with_fields count (fields_in r.table h.base h.rest)) (lt-ltb r.table.inserted count h.missing)
+    ∙ ap (λ b. if b then Missing count else with_fields count (fields_in (table_for r count) h.base h.rest)) (lt-ltb r.table.inserted count h.missing)
 
-fields_at : (r : DecoderState) (bytes rest : List ℕ) (encoded : EncodedPrefix) (count base : ℕ) (o : Option (List Field)) (fields : List Field) → prefix bytes ≡ Whole encoded rest → IsPrefix (count_capacity r) r.table.inserted encoded count base
-    → count ≤ r.table.inserted → fields_in r.table base rest ≡ Some fields → MeansFields r bytes count fields
+fields_at : (r : DecoderState) (bytes rest : List ℕ) (encoded : EncodedPrefix) (count base : ℕ) (o : Option (List Field)) (fields : List Field) → prefix bytes ≡ Whole encoded rest → is_allowed r encoded ≡ true → IsPrefix (count_capacity r) r.table.inserted encoded count base
+    → count ≤ r.table.inserted → fields_in (table_for r count) base rest ≡ Some fields → MeansFields r bytes count fields
 unfolding fields_in
-fields_at r bytes rest encoded count base o fields whole is received e =
-    let l = fields_are (length rest) r.table base rest fields e in
-    record { rest = rest; base = base; lines = l.lines; begins = record { encoded = encoded; whole = whole; is = is }; received = received; split = l.split; named = l.named }
+fields_at r bytes rest encoded count base o fields whole allowed is received e =
+    let l = fields_are (length rest) (table_for r count) base rest fields e in
+    record { rest = rest; base = base; lines = l.lines; begins = record { encoded = encoded; whole = whole; allowed = allowed; is = is }; received = received; split = l.split; named = l.named }
+
+missing_at : (r : DecoderState) (bytes rest : List ℕ) (encoded : EncodedPrefix) (count base : ℕ) → prefix bytes ≡ Whole encoded rest → is_allowed r encoded ≡ true → IsPrefix (count_capacity r) r.table.inserted encoded count base
+    → r.table.inserted < count → IsMissing r bytes count
+missing_at r bytes rest encoded count base whole allowed is missing = record { rest = rest; base = base; begins = record { encoded = encoded; whole = whole; allowed = allowed; is = is }; missing = missing }
 
 -- a section that is bad has no other value
-bad_fields : (r : DecoderState) (bytes rest : List ℕ) (encoded : EncodedPrefix) (count base : ℕ) (o : Option (List Field)) → IsBadSection r bytes → prefix bytes ≡ Whole encoded rest → IsPrefix (count_capacity r) r.table.inserted encoded count base
-    → count ≤ r.table.inserted → fields_in r.table base rest ≡ o → with_fields count o ≡ BadSection
-bad_fields r bytes rest encoded count base None bad whole is received e = refl
-bad_fields r bytes rest encoded count base (Some fields) bad whole is received e =
-    absurd (bad.no_fields count fields (fields_at r bytes rest encoded count base (Some fields) fields whole is received e))
+bad_fields : (r : DecoderState) (bytes rest : List ℕ) (encoded : EncodedPrefix) (count base : ℕ) (o : Option (List Field)) → IsBadSection r bytes → prefix bytes ≡ Whole encoded rest → is_allowed r encoded ≡ true → IsPrefix (count_capacity r) r.table.inserted encoded count base
+    → count ≤ r.table.inserted → fields_in (table_for r count) base rest ≡ o → with_fields count o ≡ BadSection
+bad_fields r bytes rest encoded count base None bad whole allowed is received e = refl
+bad_fields r bytes rest encoded count base (Some fields) bad whole allowed is received e =
+    absurd (bad.no_fields count fields (fields_at r bytes rest encoded count base (Some fields) fields whole allowed is received e))
 
-bad_at : (r : DecoderState) (bytes rest : List ℕ) (encoded : EncodedPrefix) (o : Option (ℕ × ℕ)) → IsBadSection r bytes → prefix bytes ≡ Whole encoded rest → count_and_base (count_capacity r) r.table.inserted encoded ≡ o → decoded_at r rest o ≡ BadSection
-bad_at r bytes rest encoded None bad whole e = refl
-bad_at r bytes rest encoded (Some (count, base)) bad whole e =
+bad_at : (r : DecoderState) (bytes rest : List ℕ) (encoded : EncodedPrefix) (o : Option (ℕ × ℕ)) → IsBadSection r bytes → prefix bytes ≡ Whole encoded rest → is_allowed r encoded ≡ true → count_and_base (count_capacity r) r.table.inserted encoded ≡ o → decoded_at r rest o ≡ BadSection
+bad_at r bytes rest encoded None bad whole allowed e = refl
+bad_at r bytes rest encoded (Some (count, base)) bad whole allowed e =
     let is = prefix_is (count_capacity r) r.table.inserted encoded count base e in
     elim (cases_lt r.table.inserted count) [
-      | inl missing ↦ absurd (bad.none_missing count (record { rest = rest; base = base; begins = record { encoded = encoded; whole = whole; is = is }; missing = missing }))
+      | inl missing ↦ absurd (bad.none_missing count (missing_at r bytes rest encoded count base whole allowed is missing))
       | inr received ↦
-          ap (λ b. if b then Missing count else with_fields count (fields_in r.table base rest)) (le-ltb r.table.inserted count received)
-          ∙ bad_fields r bytes rest encoded count base (fields_in r.table base rest) bad whole is received refl
+          ap (λ b. if b then Missing count else with_fields count (fields_in (table_for r count) base rest)) (le-ltb r.table.inserted count received)
+          ∙ bad_fields r bytes rest encoded count base (fields_in (table_for r count) base rest) bad whole allowed is received refl
     ]
 
 bad_from : (r : DecoderState) (bytes : List ℕ) (x : Reading EncodedPrefix) → IsBadSection r bytes → prefix bytes ≡ x → decoded_from r x ≡ BadSection
-bad_from r bytes (Whole encoded rest) bad e = bad_at r bytes rest encoded (count_and_base (count_capacity r) r.table.inserted encoded) bad e refl
+bad_from r bytes (Whole encoded rest) bad e = by_test (is_allowed r encoded) refl
+  where
+    by_test : (b : Bool) → is_allowed r encoded ≡ b → (if b then decoded_at r rest (count_and_base (count_capacity r) r.table.inserted encoded) else BadSection) ≡ BadSection
+    by_test true allowed = bad_at r bytes rest encoded (count_and_base (count_capacity r) r.table.inserted encoded) bad e allowed refl
+    by_test false refused = refl
 bad_from r bytes Unfinished bad e = refl
 bad_from r bytes Bad bad e = refl
 
@@ -323,9 +333,6 @@ prefix_refused r bytes new e h = from (prefix bytes) refl h
     from Bad is k = integer Overflow e k.0 (ap (decoded_from r) is)
 
 -- and the value says what the section is
-missing_at : (r : DecoderState) (bytes rest : List ℕ) (encoded : EncodedPrefix) (count base : ℕ) → prefix bytes ≡ Whole encoded rest → IsPrefix (count_capacity r) r.table.inserted encoded count base → r.table.inserted < count → IsMissing r bytes count
-missing_at r bytes rest encoded count base whole is missing = record { rest = rest; base = base; begins = record { encoded = encoded; whole = whole; is = is }; missing = missing }
-
 -- a section has a value other than that of fields or missing ones only where it is bad
 bad_only : (r : DecoderState) (bytes : List ℕ) → decode_section r bytes ≡ BadSection → IsBadSection r bytes
 bad_only r bytes e =
@@ -334,27 +341,31 @@ bad_only r bytes e =
       none_missing = λ count m. let f : BadSection ≡ Missing count = sym e ∙ section_missing r bytes count m in absurd (cc);
     }
 
-value_fields : (r : DecoderState) (bytes rest : List ℕ) (encoded : EncodedPrefix) (count base : ℕ) (o : Option (List Field)) → decode_section r bytes ≡ with_fields count o → prefix bytes ≡ Whole encoded rest
-    → IsPrefix (count_capacity r) r.table.inserted encoded count base → count ≤ r.table.inserted → fields_in r.table base rest ≡ o → IsDecodedAs r bytes (with_fields count o)
-value_fields r bytes rest encoded count base None value whole is received e = bad_only r bytes value
-value_fields r bytes rest encoded count base (Some fields) value whole is received e = fields_at r bytes rest encoded count base (Some fields) fields whole is received e
+value_fields : (r : DecoderState) (bytes rest : List ℕ) (encoded : EncodedPrefix) (count base : ℕ) (o : Option (List Field)) → decode_section r bytes ≡ with_fields count o → prefix bytes ≡ Whole encoded rest → is_allowed r encoded ≡ true
+    → IsPrefix (count_capacity r) r.table.inserted encoded count base → count ≤ r.table.inserted → fields_in (table_for r count) base rest ≡ o → IsDecodedAs r bytes (with_fields count o)
+value_fields r bytes rest encoded count base None value whole allowed is received e = bad_only r bytes value
+value_fields r bytes rest encoded count base (Some fields) value whole allowed is received e = fields_at r bytes rest encoded count base (Some fields) fields whole allowed is received e
 
-value_at : (r : DecoderState) (bytes rest : List ℕ) (encoded : EncodedPrefix) (o : Option (ℕ × ℕ)) → decode_section r bytes ≡ decoded_at r rest o → prefix bytes ≡ Whole encoded rest → count_and_base (count_capacity r) r.table.inserted encoded ≡ o
+value_at : (r : DecoderState) (bytes rest : List ℕ) (encoded : EncodedPrefix) (o : Option (ℕ × ℕ)) → decode_section r bytes ≡ decoded_at r rest o → prefix bytes ≡ Whole encoded rest → is_allowed r encoded ≡ true → count_and_base (count_capacity r) r.table.inserted encoded ≡ o
     → IsDecodedAs r bytes (decode_section r bytes)
-value_at r bytes rest encoded None value whole e = subst (IsDecodedAs r bytes) (sym value) (bad_only r bytes value)
-value_at r bytes rest encoded (Some (count, base)) value whole e =
+value_at r bytes rest encoded None value whole allowed e = subst (IsDecodedAs r bytes) (sym value) (bad_only r bytes value)
+value_at r bytes rest encoded (Some (count, base)) value whole allowed e =
     let is = prefix_is (count_capacity r) r.table.inserted encoded count base e in
     elim (cases_lt r.table.inserted count) [
       | inl missing ↦
-          let m = missing_at r bytes rest encoded count base whole is missing in
+          let m = missing_at r bytes rest encoded count base whole allowed is missing in
           subst (IsDecodedAs r bytes) (sym (section_missing r bytes count m)) m
       | inr received ↦
-          let lines = section_lines r bytes rest count base (record { encoded = encoded; whole = whole; is = is }) received in
-          subst (IsDecodedAs r bytes) (sym lines) (value_fields r bytes rest encoded count base (fields_in r.table base rest) lines whole is received refl)
+          let lines = section_lines r bytes rest count base (record { encoded = encoded; whole = whole; allowed = allowed; is = is }) received in
+          subst (IsDecodedAs r bytes) (sym lines) (value_fields r bytes rest encoded count base (fields_in (table_for r count) base rest) lines whole allowed is received refl)
     ]
 
 value_from : (r : DecoderState) (bytes : List ℕ) (x : Reading EncodedPrefix) → prefix bytes ≡ x → decode_section r bytes ≡ decoded_from r x → IsDecodedAs r bytes (decode_section r bytes)
-value_from r bytes (Whole encoded rest) e value = value_at r bytes rest encoded (count_and_base (count_capacity r) r.table.inserted encoded) value e refl
+value_from r bytes (Whole encoded rest) e value = by_test (is_allowed r encoded) refl value
+  where
+    by_test : (b : Bool) → is_allowed r encoded ≡ b → decode_section r bytes ≡ (if b then decoded_at r rest (count_and_base (count_capacity r) r.table.inserted encoded) else BadSection) → IsDecodedAs r bytes (decode_section r bytes)
+    by_test true allowed value = value_at r bytes rest encoded (count_and_base (count_capacity r) r.table.inserted encoded) value e allowed refl
+    by_test false refused value = subst (IsDecodedAs r bytes) (sym value) (bad_only r bytes value)
 value_from r bytes Unfinished e value = subst (IsDecodedAs r bytes) (sym value) (bad_only r bytes value)
 value_from r bytes Bad e value = subst (IsDecodedAs r bytes) (sym value) (bad_only r bytes value)
 

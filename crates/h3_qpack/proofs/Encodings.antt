@@ -21,7 +21,8 @@ use Rattle.h3_qpack.proofs.Newest.{chosen, newest_from-passes}
 use Rattle.h3_qpack.proofs.Drafts.{either_way, with_field}
 use Rattle.h3_table.specs.ReleasingLaws.{All-join}
 use Rattle.std.proofs.lemmas.List.{length-take-le}
-use Rattle.std.specs.Prelude.{◌==◌}
+use Rattle.std.specs.Prelude.{◌==◌, ◌&&◌, not}
+use Rattle.std.proofs.lemmas.Bool.{ne_eqb}
 use Rattle.h3_field.specs.Reading.{Whole}
 use Rattle.h3_field.specs.IntegerReading.{integer_limit}
 use Rattle.h3_field.specs.Prefix.{most_entries, prefix_bytes}
@@ -29,13 +30,14 @@ use Rattle.h3_field.specs.PrefixReading.{EncodedPrefix, prefix, IsPrefix}
 use Rattle.h3_field.specs.PrefixWriting.{written_prefix}
 use Rattle.h3_field.specs.Section.{with_value}
 use Rattle.h3_field.specs.PrefixLaws.{prefix_is_written, prefix_reads_back, prefix_is_read}
-use Rattle.h3_qpack.specs.Meaning.{HasPrefix, MeansFields}
-use Rattle.h3_qpack.specs.DecoderState.{DecoderState, count_capacity}
+use Rattle.h3_qpack.specs.Meaning.{is_allowed, HasPrefix, MeansFields}
+use Rattle.h3_qpack.specs.DecoderState.{DecoderState, checking, count_capacity}
 use Rattle.h3_qpack.specs.SectionEncoding.{encoded_section}
 use Rattle.h3_qpack.specs.Encodings.{decoder_of, IsWritten}
 use Rattle.h3_qpack.specs.Session.{Session, UndecodedSection, oldest, is_canceled, count_of, IsSound, DecodesTo}
 use Rattle.h3_qpack.proofs.NamedFieldsOf.{lines_alike}
 use Rattle.h3_qpack.proofs.Decoding.{found_back, name_back, section_counted, section_decodes, count_in_window}
+use Rattle.h3_qpack.proofs.UpTo.{lines_counted}
 
 -- written lines are read one behind the other
 pub lines_read : (lines : List FieldLine) → AllByRecursion IsWrittenLine lines → AreLines (flat_map line_bytes lines) lines
@@ -153,6 +155,19 @@ lines_plain h fs base lines fields none e =
     lines_alike (λ line. entry_number base line ≤ 0) (insertion_at fs) (entry_at h) base 0 lines fields
     (λ line few g named. absurd (nothing_at fs (entry_number base line) g (omega (arith, few)) named)) none e
 
+none_at : (base : ℕ) (line : FieldLine) → entry_number base line ≤ 0 → entry_number 0 line ≤ 0
+none_at base (StaticField index) few = omega arith
+none_at base (RelativeField index) few = omega arith
+none_at base (PostBaseField index) few = omega (arith, few)
+none_at base (StaticName index value n) few = omega arith
+none_at base (RelativeName index value n) few = omega arith
+none_at base (PostBaseName index value n) few = omega (arith, few)
+none_at base (Literal name value n) few = omega arith
+
+lines_at_none : (base : ℕ) (lines : List FieldLine) → AllByRecursion (λ line. entry_number base line ≤ 0) lines → AllByRecursion (λ line. entry_number 0 line ≤ 0) lines
+lines_at_none base [] few = tt
+lines_at_none base (line ∷ lines) few = (none_at base line few.0, lines_at_none base lines few.1)
+
 -- the prefix that is written is read
 pub prefix_read : (capacity count base : ℕ) (rest : List ℕ) → count < 2 ^ 62 → base < 2 ^ 62 → prefix (prefix_bytes capacity count base ++ rest) ≡ Whole (written_prefix capacity count base) rest
 prefix_read capacity count base rest few low =
@@ -183,6 +198,22 @@ pub record HasReadFor (s : Session) (b : UndecodedSection) (r : DecoderState) : 
 pub record Begins (r : DecoderState) (b : UndecodedSection) (base : ℕ) : Type 0 where
   pub begins : HasPrefix r (encoded_section b.encoder b.fields) (flat_map line_bytes (draft_of b.encoder b.fields).lines) (count_of b) base
 
+-- a prefix that names entries, to a decoder with a table
+allowed_there : (r : DecoderState) (p : EncodedPrefix) → 0 < count_capacity r → is_allowed r p ≡ true
+allowed_there r p some = by_choice r.checks_count (count_capacity r == 0) (ne_eqb (count_capacity r) 0 (λ e. absurd (omega (arith, e, some))))
+  where
+    by_choice : (a b : Bool) → b ≡ false → (if a && b then (p.encoded == 0) && not p.is_negative else true) ≡ true
+    by_choice true b none = rw none refl
+    by_choice false b none = refl
+
+-- a prefix that names none, to any decoder
+allowed_plain : (r : DecoderState) (capacity base : ℕ) → is_allowed r (written_prefix capacity 0 base) ≡ true
+allowed_plain r capacity base = by_choice (r.checks_count && (count_capacity r == 0))
+  where
+    by_choice : (b : Bool) → (if b then true else true) ≡ true
+    by_choice true = refl
+    by_choice false = refl
+
 abbrev pub base_of : UndecodedSection → Bool → ℕ
 base_of b true = length b.encoder.inserted
 base_of b false = 0
@@ -201,6 +232,7 @@ section_begins s b r h of is alive few w = by_count (nat_lt 0 (count_of b)) refl
           begins = record {
             encoded = written_prefix b.encoder.announced (count_of b) (length b.encoder.inserted);
             whole = prefix_read b.encoder.announced (count_of b) (length b.encoder.inserted) _ few w.base;
+            allowed = allowed_there r (written_prefix b.encoder.announced (count_of b) (length b.encoder.inserted)) (omega (arith, of.announced above, some));
             is = subst (λ c. IsPrefix c r.table.inserted (written_prefix b.encoder.announced (count_of b) (length b.encoder.inserted)) (count_of b) (length b.encoder.inserted)) (sym (of.announced above))
                 (subst (λ n. IsPrefix s.encoder.announced n (written_prefix b.encoder.announced (count_of b) (length b.encoder.inserted)) (count_of b) (length b.encoder.inserted)) (sym of.inserted)
                 (subst (λ c. IsPrefix s.encoder.announced s.received (written_prefix c (count_of b) (length b.encoder.inserted)) (count_of b) (length b.encoder.inserted)) (sym (w.announced above)) taken));
@@ -212,6 +244,7 @@ section_begins s b r h of is alive few w = by_count (nat_lt 0 (count_of b)) refl
           begins = record {
             encoded = written_prefix b.encoder.announced (count_of b) (length b.encoder.inserted);
             whole = prefix_read b.encoder.announced (count_of b) (length b.encoder.inserted) _ few w.base;
+            allowed = rw none (allowed_plain r b.encoder.announced (length b.encoder.inserted));
             is = rw none (plain (nat_lt 0 (count_capacity r)) refl);
           };
         }
@@ -254,7 +287,7 @@ section_means s b r h of is alive came w =
       begins = (section_begins s b r h of is alive few w).begins;
       received = omega (arith, came, of.inserted);
       split = lines_read lines w.lines;
-      named = by_count (nat_lt 0 (count_of b)) refl;
+      named = lines_counted r (count_of b) (base_of b (nat_lt 0 (count_of b))) lines (guarded_fields b.encoder b.fields) (low (nat_lt 0 (count_of b)) refl) (by_count (nat_lt 0 (count_of b)) refl);
     }
   where
     d : DecodesTo s b
@@ -269,6 +302,15 @@ section_means s b r h of is alive came w =
     few : count_of b < 2 ^ 62
     few = omega (arith, came, h.received, h.small)
 
+    counted : AllByRecursion (λ line. entry_number (length b.encoder.inserted) line ≤ count_of b) lines
+    counted = (section_counted b.encoder b.fields).lines
+
+    low : (t : Bool) → nat_lt 0 (count_of b) ≡ t → AllByRecursion (λ line. entry_number (base_of b t) line ≤ count_of b) lines
+    low true e = counted
+    low false e =
+        let none : count_of b ≡ 0 = grind (arith, common_steps) in
+        rw none (lines_at_none (length b.encoder.inserted) lines (rw none at counted))
+
     by_count : (t : Bool) → nat_lt 0 (count_of b) ≡ t → HaveFields r.table (base_of b t) lines (guarded_fields b.encoder b.fields)
     by_count true e =
         lines_same (decoder_of s).table r.table (length b.encoder.inserted) lines (guarded_fields b.encoder b.fields) (sym of.entries) (received_is ∙ sym of.inserted)
@@ -276,9 +318,8 @@ section_means s b r h of is alive came w =
         (lines_name (λ n. evictions s.encoder.capacity (take s.received s.encoder.inserted) < n) b.encoder b.fields d.present) d.lines)
     by_count false e =
         let none : count_of b ≡ 0 = grind (arith, common_steps) in
-        let counted : AllByRecursion (λ line. entry_number (length b.encoder.inserted) line ≤ count_of b) lines = (section_counted b.encoder b.fields).lines in
         lines_plain r.table (take s.received s.encoder.inserted) (length b.encoder.inserted) lines (guarded_fields b.encoder b.fields) (rw none at counted) d.lines
 
 -- the session's own decoder has read so
-pub own_read : (s : Session) (b : UndecodedSection) → IsSound s → HasReadFor s b (decoder_of s)
-own_read s b h = record { inserted = length-take-le s.received s.encoder.inserted h.received; entries = refl; announced = λ above. refl }
+pub own_read : (checks : Bool) (s : Session) (b : UndecodedSection) → IsSound s → HasReadFor s b (checking checks (decoder_of s))
+own_read checks s b h = record { inserted = length-take-le s.received s.encoder.inserted h.received; entries = refl; announced = λ above. refl }

@@ -7,7 +7,7 @@ use Rattle.h3_field.specs.Reading.{Reading, Whole, Unfinished, Bad}
 use Rattle.h3_field.specs.Section.{AreLines, NoLine, NextLine}
 use Rattle.h3_table.specs.TableState.{TableState}
 use Rattle.h3_qpack.specs.DecoderState.{DecoderState}
-use Rattle.h3_qpack.specs.Meaning.{HaveFields, MeansFields}
+use Rattle.h3_qpack.specs.Meaning.{table_for, HaveFields, MeansFields}
 use Rattle.h3_qpack.specs.SectionAnswers.{BeginsWith, BeginsWithNone, LinesAskMemory, MayAskMemory, IsReasonWith}
 use Rattle.h3_qpack.proofs.Hearings.{asks_memory}
 use Rattle.h3_field.specs.Values.{line_of}
@@ -67,7 +67,7 @@ section_asks r bytes count fields m some = record {
   base = m.base;
   begins = m.begins;
   received = m.received;
-  lines = some_ask r.table m.base m.rest m.lines fields m.split m.named some;
+  lines = some_ask (table_for r count) m.base m.rest m.lines fields m.split m.named some;
 }
 
 -- what begins with no line of a field

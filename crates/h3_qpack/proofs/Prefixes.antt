@@ -1,5 +1,6 @@
 -- The prefix of a section stands for one required insert count and one base.
-use Rattle.std.proofs.Common.{◌≡◌, inl, inr, ℕ, ◌≤◌, Bool, true, false, List, Ok, Err, refl, sym, ◌∙◌, arith, subst}
+use Rattle.std.proofs.Common.{◌≡◌, ◌≢◌, ◌⊎◌, ◌==◌, inl, inr, ℕ, ◌≤◌, Bool, true, false, List, Ok, Err, refl, sym, ◌∙◌, arith, subst}
+use Rattle.std.proofs.lemmas.Bool.{ne_eqb}
 use Rattle.h3_field.specs.Reading.{Reading, Whole, Unfinished, Bad}
 use Rattle.h3_field.specs.PrefixReading.{EncodedPrefix, prefix, IsPrefix, IsCount, IsBase}
 use Rattle.h3_field.specs.PrefixAnswer.{AnswersPrefix, HasNoPrefix}
@@ -9,7 +10,7 @@ use Rattle.h3_field.specs.declared.decoder_error.DecoderError.TheVariants as dec
 use Rattle.h3_field.specs.declared.parse_error.ParseError.{ParseError}
 use Rattle.h3_field.specs.declared.parse_error.ParseError.TheVariants.{Integer, String, InvalidPrefix, InvalidBase, OutOfMemory}
 use Rattle.h3_qpack.specs.DecoderState.{DecoderState, count_capacity}
-use Rattle.h3_qpack.specs.Meaning.{HasPrefix, IsBadSection}
+use Rattle.h3_qpack.specs.Meaning.{names_no_entry, is_allowed, HasPrefix, IsBadSection}
 use Rattle.h3_qpack.specs.SectionAnswers.{IsRefusal}
 use Rattle.h3_qpack.proofs.Counts.{one_count}
 
@@ -66,11 +67,40 @@ begins_once r bytes new rest p inserted capacity count base other_count other_ba
     record { rest_is = same.1; count_is = one.0; base_is = one.1 }
 
 pub has_prefix : (r : DecoderState) (bytes new : List ℕ) (p : EncodedPrefix) (inserted capacity count base : ℕ) → Begun r bytes new p inserted capacity
-    → IsPrefix capacity inserted p count base → HasPrefix r bytes new count base
-has_prefix r bytes new p inserted capacity count base b is = record { encoded = p; whole = b.whole; is = rw (b.inserted_is, b.capacity_is) at is }
+    → is_allowed r p ≡ true → IsPrefix capacity inserted p count base → HasPrefix r bytes new count base
+has_prefix r bytes new p inserted capacity count base b allowed is = record { encoded = p; whole = b.whole; allowed = allowed; is = rw (b.inserted_is, b.capacity_is) at is }
+
+-- the prefix of a section without a table, to a decoder that checks counts
+pub has_no_entry : (r : DecoderState) (bytes new : List ℕ) (p : EncodedPrefix) (inserted capacity : ℕ) → Begun r bytes new p inserted capacity
+    → r.checks_count ≡ true → capacity ≡ 0 → names_no_entry p ≡ true → HasPrefix r bytes new 0 0
+has_no_entry r bytes new p inserted capacity b checks none plain =
+    let empty : count_capacity r ≡ 0 = sym b.capacity_is ∙ none in
+    record { encoded = p; whole = b.whole; allowed = rw (checks, empty, plain) refl; is = inl (empty, refl, refl) }
 
 begins_nowhere : (r : DecoderState) (bytes : List ℕ) → ((rest : List ℕ) (count base : ℕ) → HasPrefix r bytes rest count base → ⊥) → IsBadSection r bytes
 begins_nowhere r bytes none = record { no_fields = λ count fields m. none m.rest count m.base m.begins; none_missing = λ count m. none m.rest count m.base m.begins }
+
+-- any other there
+pub no_other_prefix : (r : DecoderState) (bytes new : List ℕ) (p : EncodedPrefix) (inserted capacity : ℕ) → Begun r bytes new p inserted capacity
+    → r.checks_count ≡ true → capacity ≡ 0 → names_no_entry p ≡ false → IsBadSection r bytes
+no_other_prefix r bytes new p inserted capacity b checks none other = begins_nowhere r bytes (λ rest count base k. begins rest count base k)
+  where
+    refused : is_allowed r p ≡ false
+    refused = let empty : count_capacity r ≡ 0 = sym b.capacity_is ∙ none in rw (checks, empty, other) refl
+
+    begins : (rest : List ℕ) (count base : ℕ) → HasPrefix r bytes rest count base → ⊥
+    begins rest count base k =
+        let same = both_parts p k.encoded new rest (sym b.whole ∙ k.whole) in
+        let taken : is_allowed r p ≡ true = subst (λ q. is_allowed r q ≡ true) (sym same.0) k.allowed in
+        let both : true ≡ false = sym taken ∙ refused in
+        cc
+
+-- and wherever no such rule holds
+pub is_allowed_else : (r : DecoderState) (p : EncodedPrefix) (checks : Bool) (capacity : ℕ) → checks ≡ r.checks_count → capacity ≡ count_capacity r → ((checks ≡ true) × (capacity ≢ 0)) ⊎ (checks ≡ false) → is_allowed r p ≡ true
+is_allowed_else r p checks capacity same is (inl some) =
+    let there : (count_capacity r == 0) ≡ false = ne_eqb (count_capacity r) 0 (λ e. some.1 (is ∙ e)) in
+    rw (sym same ∙ some.0, there) refl
+is_allowed_else r p checks capacity same is (inr off) = rw (sym same ∙ off) refl
 
 -- a prefix that stands for no count and base
 pub no_prefix : (r : DecoderState) (bytes new : List ℕ) (p : EncodedPrefix) (inserted capacity : ℕ) (e : ParseError) → Begun r bytes new p inserted capacity

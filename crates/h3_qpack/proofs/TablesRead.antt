@@ -22,7 +22,7 @@ use Rattle.h3_qpack.proofs.NamedFieldsOf.{with_value-more}
 
 -- a decoder that announced a capacity and has read the one that was set, and then these insertions
 abbrev pub decoder_at : ℕ → ℕ → List Field → DecoderState
-decoder_at announced capacity inserted = record { announced = Some announced; table = table_state (table_of capacity inserted) }
+decoder_at announced capacity inserted = record { announced = Some announced; checks_count = false; table = table_state (table_of capacity inserted) }
 
 table_state_is : (capacity : ℕ) (fs : List Field) → table_state (table_of capacity fs) ≡ table_state_of capacity fs
 table_state_is capacity fs = ap (λ es. record { capacity = capacity; entries = es; inserted = length fs }) (sym (table-end capacity fs))

@@ -9,7 +9,7 @@ use Rattle.h3_field.specs.LineReading.{LineForm, line}
 use Rattle.h3_field.specs.declared.decoder_error.DecoderError.{DecoderError}
 use Rattle.h3_table.specs.TableState.{TableState}
 use Rattle.h3_qpack.specs.DecoderState.{DecoderState, count_capacity}
-use Rattle.h3_qpack.specs.Meaning.{field_at, MeansFields, IsMissing, IsBadSection}
+use Rattle.h3_qpack.specs.Meaning.{table_for, is_allowed, field_at, MeansFields, IsMissing, IsBadSection}
 use Rattle.h3_qpack.specs.SectionAnswers.{IsReasonFor}
 use Rattle.h3_field.specs.Values.{line_of}
 
@@ -76,10 +76,11 @@ with_fields count (Some fields) = Fields fields count
 
 abbrev pub decoded_at : DecoderState → List ℕ → Option (ℕ × ℕ) → DecodedSection
 decoded_at r rest None = BadSection
-decoded_at r rest (Some p) = if nat_lt r.table.inserted p.0 then Missing p.0 else with_fields p.0 (fields_in r.table p.1 rest)
+decoded_at r rest (Some p) = if nat_lt r.table.inserted p.0 then Missing p.0 else with_fields p.0 (fields_in (table_for r p.0) p.1 rest)
 
 abbrev pub decoded_from : DecoderState → Reading EncodedPrefix → DecodedSection
-decoded_from r (Whole p rest) = decoded_at r rest (count_and_base (count_capacity r) r.table.inserted p)
+decoded_from r (Whole p rest) =
+    if is_allowed r p then decoded_at r rest (count_and_base (count_capacity r) r.table.inserted p) else BadSection
 decoded_from r Unfinished = BadSection
 decoded_from r Bad = BadSection
 

@@ -4,7 +4,7 @@ use Rattle.h3_qpack.specs.DecoderState.{DecoderState}
 use Rattle.h3_qpack.specs.declared.decoder.Decoder.TheInside.{Inside}
 
 abbrev pub decoder_state_inside : Inside → DecoderState
-decoder_state_inside d = record { announced = d.announced; table = d.entries }
+decoder_state_inside d = record { announced = d.announced; checks_count = d.checks_count; table = d.entries }
 
 -- The table has at most the capacity that was announced.
 pub record IsDecoder (d : Inside) : Type 0 where

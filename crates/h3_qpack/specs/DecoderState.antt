@@ -1,5 +1,5 @@
 -- A decoder's table, and what an encoder instruction makes of it (RFC 9204, sections 3.2.2, 3.2.3 and 4.3).
-use Rattle.std.specs.Prelude.{ℕ, ◌-◌, ◌^◌, List, [], ◌∷◌, nat_le, if◌then◌else◌, Option, Some, None, unwrap_or}
+use Rattle.std.specs.Prelude.{ℕ, ◌-◌, ◌^◌, Bool, false, List, [], ◌∷◌, nat_le, if◌then◌else◌, Option, Some, None, unwrap_or}
 use Rattle.h3_field.specs.Field.{Field}
 use Rattle.h3_field.specs.Instruction.{EncoderInstruction}
 use Rattle.h3_field.specs.Instruction.EncoderInstruction.{SetCapacity}
@@ -9,11 +9,17 @@ use Rattle.h3_table.specs.TableState.{TableState, no_entries, entry_at, has_room
 pub record DecoderState : Type 0 where
   -- the greatest capacity that was announced; none where the table came with a capacity of its own
   pub announced : Option ℕ
+  -- whether each section is held to its required insert count
+  pub checks_count : Bool
   pub table : TableState
 
 -- a decoder that announced this capacity, before anything: its table has capacity 0
 abbrev pub announcing : ℕ → DecoderState
-announcing capacity = record { announced = Some capacity; table = no_entries }
+announcing capacity = record { announced = Some capacity; checks_count = false; table = no_entries }
+
+-- the same decoder, which holds sections to their counts or does not
+abbrev pub checking : Bool → DecoderState → DecoderState
+checking checks r = record r { checks_count = checks }
 
 -- RFC 9204 4.3.1: a capacity above the limit
 -- the greatest capacity that may be set

@@ -1,5 +1,5 @@
 -- What a writer of a section takes, and the decoder that reads it.
-use Rattle.std.specs.Prelude.{◌≡◌, ◌⊎◌, ◌<◌, ◌^◌, ℕ, List, [], length, take, nat_le, if◌then◌else◌, Some}
+use Rattle.std.specs.Prelude.{◌≡◌, ◌⊎◌, ◌<◌, ◌^◌, ℕ, false, List, [], length, take, nat_le, if◌then◌else◌, Some}
 use Rattle.std.specs.List.{AllByRecursion}
 use Rattle.h3_field.specs.Field.{Field}
 use Rattle.h3_field.specs.Line.{FieldLine, line_bytes}
@@ -23,7 +23,7 @@ IsWrittenInstruction i = IsSendable i × IsInstructionOfBytes i × (length (enco
 
 -- the decoder of a session, by the insertions that it has read
 abbrev pub decoder_of : Session → DecoderState
-decoder_of s = record { announced = Some s.encoder.announced; table = table_state (table_of s.encoder.capacity (take s.received s.encoder.inserted)) }
+decoder_of s = record { announced = Some s.encoder.announced; checks_count = false; table = table_state (table_of s.encoder.capacity (take s.received s.encoder.inserted)) }
 
 -- What a writer takes: the lines, and a base and a count below 2 ^ 62. A section that names entries was written for the announced
 -- capacity that the encoder goes by now.

@@ -8,7 +8,7 @@ use Rattle.h3_field.specs.declared.decoder_error.DecoderError.{DecoderError}
 use Rattle.h3_field.specs.declared.decoder_error.DecoderError.TheVariants.{InvalidInteger, InvalidString, InvalidIndex, DynamicTable, InvalidStaticIndex, UnknownPrefix, MissingRefs, BadBaseIndex, UnexpectedEnd, HeaderTooLong, BufSize, OutOfMemory}
 use Rattle.h3_table.specs.TableState.{TableState}
 use Rattle.h3_qpack.specs.DecoderState.{DecoderState}
-use Rattle.h3_qpack.specs.Meaning.{field_at, HasPrefix, IsMissing, IsBadSection}
+use Rattle.h3_qpack.specs.Meaning.{table_for, field_at, HasPrefix, IsMissing, IsBadSection}
 
 -- The bytes begin with a line that is of this field, and end with the rest.
 pub record BeginsWith (h : TableState) (base : ℕ) (bytes : List ℕ) (f : Field) (rest : List ℕ) : Type 0 where
@@ -33,7 +33,7 @@ pub record MayAskMemory (r : DecoderState) (bytes : List ℕ) : Type 0 where
   pub base : ℕ
   pub begins : HasPrefix r bytes rest count base
   pub received : count ≤ r.table.inserted
-  pub lines : LinesAskMemory r.table base rest
+  pub lines : LinesAskMemory (table_for r count) base rest
 
 -- A refusal is for want of memory or for missing insertions, each as given, or as the other reason says.
 abbrev pub IsReasonWith : Type 0 → Type 0 → (ℕ → Type 0) → DecoderError → Type 0

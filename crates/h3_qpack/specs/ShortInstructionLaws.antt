@@ -12,7 +12,7 @@ use Rattle.h3_field.specs.Section.{with_value}
 use Rattle.h3_field.specs.StaticTable.{static_table}
 use Rattle.h3_field.specs.StringLiteral.{Text, string_literal}
 use Rattle.h3_table.specs.TableState.{entry_at, has_room, with_capacity, with_entry}
-use Rattle.h3_qpack.specs.DecoderState.{DecoderState, announcing, decoder_after, decoder_after_all, greatest_capacity, inserting}
+use Rattle.h3_qpack.specs.DecoderState.{DecoderState, announcing, checking, decoder_after, decoder_after_all, greatest_capacity, inserting}
 use Rattle.h3_qpack.specs.InstructionSizes.{HasAnnounced, most_instruction}
 use Rattle.h3_qpack.specs.ShortLaws.{prefixed_short, string_short}
 
@@ -98,10 +98,10 @@ all_taken announced (i ∷ is) (Some r) new h e = (first (decoder_after r i) ref
     first None is_next e = absurd (nothing_after is new e)
 
 -- **The instructions that a decoder takes.**
-pub taken_instructions_short : (announced : ℕ) (instructions : List EncoderInstruction) (new : DecoderState) → decoder_after_all (Some (announcing announced)) instructions ≡ Some new
+pub taken_instructions_short : (checks : Bool) (announced : ℕ) (instructions : List EncoderInstruction) (new : DecoderState) → decoder_after_all (Some (checking checks (announcing announced))) instructions ≡ Some new
     → AllByRecursion (λ i. length (encoder_bytes i) ≤ most_instruction announced) instructions
-taken_instructions_short announced instructions new e =
-    all_taken announced instructions (Some (announcing announced)) new (λ r is. record { is = sym (ap (λ (d : DecoderState). d.announced) (some_same (announcing announced) r is)); within = omega (arith, ap (λ (d : DecoderState). d.table.capacity) (some_same (announcing announced) r is)) }) e
+taken_instructions_short checks announced instructions new e =
+    all_taken announced instructions (Some (checking checks (announcing announced))) new (λ r is. record { is = sym (ap (λ (d : DecoderState). d.announced) (some_same (checking checks (announcing announced)) r is)); within = omega (arith, ap (λ (d : DecoderState). d.table.capacity) (some_same (checking checks (announcing announced)) r is)) }) e
 
 -- **What a decoder writes.**
 pub reply_short : (i : DecoderInstruction) → length (decoder_bytes i) ≤ 10

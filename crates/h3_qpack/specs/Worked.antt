@@ -6,8 +6,9 @@ use Rattle.h3_field.specs.Instruction.DecoderInstruction.{Acknowledge, CancelStr
 use Rattle.h3_table.specs.Cancellations.{none_canceled}
 use Rattle.h3_qpack.specs.EncoderHistory.{EncoderHistory, no_choices, no_table, using_table, encoder_after}
 use Rattle.h3_field.specs.Instruction.EncoderInstruction.{SetCapacity, InsertLiteral, InsertWithEntryName, Duplicate}
-use Rattle.std.specs.Prelude.{Option, Some}
-use Rattle.h3_qpack.specs.DecoderState.{DecoderState, announcing, decoder_after_all}
+use Rattle.std.specs.Prelude.{Option, Some, option_map}
+use Rattle.h3_qpack.specs.DecodedSection.{DecodedSection, decode_section}
+use Rattle.h3_qpack.specs.DecoderState.{DecoderState, announcing, checking, decoder_after_all}
 use Rattle.h3_qpack.specs.SectionEncoding.{sent_section}
 
 -- an encoder that has written nothing
@@ -55,6 +56,19 @@ older_known = sent_section (encoder_after (sent_section (fresh 200 1) 0 (x_a_of 
 -- a table of two entries that three were inserted into
 abbrev pub three : Option DecoderState
 three = decoder_after_all (Some (announcing 100)) (SetCapacity 100 ∷ InsertLiteral (huffman_text (codes "x-a")) (huffman_text (codes "1")) ∷ Duplicate 0 ∷ InsertWithEntryName 0 (huffman_text (codes "2")) ∷ [])
+
+-- a decoder that checks counts or does not, behind the capacity 4096 and the insertions of a: b and c: d
+abbrev pub two_inserted : Bool → Option DecoderState
+two_inserted checks =
+    decoder_after_all (Some (checking checks (announcing 4096))) (SetCapacity 4096 ∷ InsertLiteral (huffman_text (codes "a")) (huffman_text (codes "b")) ∷ InsertLiteral (huffman_text (codes "c")) (huffman_text (codes "d")) ∷ [])
+
+-- what it makes of a section
+abbrev pub decoded_by : Bool → List ℕ → Option DecodedSection
+decoded_by checks bytes = option_map (λ r. decode_section r bytes) (two_inserted checks)
+
+-- and what one makes of it that announced no table
+abbrev pub decoded_without_table : Bool → List ℕ → DecodedSection
+decoded_without_table checks bytes = decode_section (checking checks (announcing 0)) bytes
 
 -- Three responses on stream 0, two of them interim, each with one more field; then the insertion is
 -- known to be received, and the stream is canceled.

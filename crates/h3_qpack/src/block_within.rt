@@ -9,7 +9,7 @@ ghost use Rattle.h3_qpack.specs.DecodedSection.{fields_in};
 ghost use Rattle.h3_qpack.specs.SectionAnswers.{LinesAskMemory, IsReasonFor, HasPut, PutsLine};
 ghost use Rattle.h3_qpack.specs.Sizes.{IsBlockWithin, PassesLimit, told_size};
 
-use crate::lines::{Lines, lent, post_base, relative};
+use crate::lines::{Lines, lent};
 use crate::within::LargeSection;
 use h3_field::block::{
     HeaderBlockField, Indexed, IndexedWithPostBase, LiteralWithNameRef, LiteralWithPostBaseNameRef,
@@ -88,7 +88,7 @@ impl<'t> Lines<'t> {
                 Ok(field) => put(block, &FieldRef::of(&field)),
                 Err(e) => Err(DecoderError::InvalidStaticIndex(e)),
             },
-            Ok(Indexed::Dynamic(index)) => match relative(self.entries(), self.base(), index) {
+            Ok(Indexed::Dynamic(index)) => match self.relative(index) {
                 Ok(entry) => put(block, &lent(&entry)),
                 Err(e) => Err(e),
             },
@@ -107,7 +107,7 @@ impl<'t> Lines<'t> {
         ensures { PutsLine self.now.table self.now.base buf.old buf.new block.old block.new result }
     {
         match IndexedWithPostBase::decode(buf) {
-            Ok(IndexedWithPostBase(index)) => match post_base(self.entries(), self.base(), index) {
+            Ok(IndexedWithPostBase(index)) => match self.post_base(index) {
                 Ok(entry) => put(block, &lent(&entry)),
                 Err(e) => Err(e),
             },
@@ -129,7 +129,7 @@ impl<'t> Lines<'t> {
                     Ok(name) => has_put_value(block, name, head.1, buf),
                     Err(_) => false,
                 },
-                NameRef::Dynamic(index) => match relative(self.entries(), self.base(), index) {
+                NameRef::Dynamic(index) => match self.relative(index) {
                     Ok(entry) => has_put_value(block, entry.name(), head.1, buf),
                     Err(_) => false,
                 },
@@ -146,7 +146,7 @@ impl<'t> Lines<'t> {
         ensures no { result ≡ false → block.new ≡ block.old }
     {
         match LiteralWithPostBaseNameRef::decode_index(buf) {
-            Ok(head) => match post_base(self.entries(), self.base(), head.0) {
+            Ok(head) => match self.post_base(head.0) {
                 Ok(entry) => has_put_value(block, entry.name(), head.1, buf),
                 Err(_) => false,
             },

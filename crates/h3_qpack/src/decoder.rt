@@ -8,8 +8,8 @@ ghost use Rattle.h3_qpack.specs.Increments.{increment_for};
 ghost use Rattle.h3_field.specs.Field.{Field, section_size};
 ghost use Rattle.h3_field.specs.declared.decoder_error.DecoderError.TheVariants.{OutOfMemory};
 ghost use Rattle.h3_field.specs.Shapes.{begins};
-ghost use Rattle.h3_qpack.specs.DecoderState.{DecoderState, announcing, greatest_capacity};
-ghost use Rattle.h3_qpack.specs.Meaning.{HasPrefix, MeansFields};
+ghost use Rattle.h3_qpack.specs.DecoderState.{DecoderState, announcing, checking, greatest_capacity};
+ghost use Rattle.h3_qpack.specs.Meaning.{HasPrefix, MeansFields, names_no_entry, table_for};
 ghost use Rattle.h3_qpack.specs.DecodedSection.{decode_section, fields_in, with_fields, IsRefusalOf, Fields};
 ghost use Rattle.h3_qpack.specs.Sizes.{IsBlockWithin};
 ghost use Rattle.h3_qpack.specs.SectionAnswers.{MayAskMemory, IsRefusal, IsReasonFor};
@@ -41,6 +41,8 @@ pub struct Decoder {
     entries: Entries,
     // the greatest capacity that was announced; none if the table came with a capacity of its own
     announced: Option<usize>,
+    // whether each section is held to its required insert count
+    checks_count: bool,
 }
 
 impl Model for Decoder {
@@ -65,17 +67,33 @@ impl Decoder {
             alloc,
             entries: Entries::new(alloc),
             announced: Some(capacity),
+            checks_count: false,
         }
     }
 
     /// A decoder with this table, whose capacity may be set to any.
     pub fn from(alloc: Global, table: DynamicTable) -> Decoder
-        ensures { result ≡ record { announced = None; table = table.table } }
+        ensures { result ≡ record { announced = None; checks_count = false; table = table.table } }
     {
         Decoder {
             alloc,
             entries: table.into_entries(),
             announced: None,
+            checks_count: false,
+        }
+    }
+
+    /// The same decoder, which holds each section to its required insert count, or does not. If it does, a line of an entry from that count
+    /// on is bad (RFC 9204, section 2.2.3), and without an announced table so is a prefix whose encoded count or sign is not 0 (sections
+    /// 4.5.1.1 and 4.5.1.2). Else an entry that is there may be named, and without a table a prefix says nothing.
+    pub fn checking_counts(self, checks: bool) -> Decoder
+        ensures { result ≡ checking checks self }
+    {
+        Decoder {
+            alloc: self.alloc,
+            entries: self.entries,
+            announced: self.announced,
+            checks_count: checks,
         }
     }
 
@@ -101,7 +119,7 @@ impl Decoder {
     /// The required insert count and the base of the section at the front, whose lines are left. What needs insertions that
     /// were not read is refused.
     fn take_prefix(&self, buf: &mut SliceCursor<'_>) -> Result<(usize, usize), DecoderError>
-        ensures ok { IfOk result (λ p. decode_section self.now buf.old ≡ with_fields p.0 (fields_in self.now.table p.1 buf.new)) }
+        ensures ok { IfOk result (λ p. decode_section self.now buf.old ≡ with_fields p.0 (fields_in (table_for self.now p.0) p.1 buf.new)) }
         ensures begins { IfOk result (λ p. HasPrefix self.now buf.old buf.new p.0 p.1 × (p.0 ≤ self.now.table.inserted)) }
         ensures err { IfErr result (IsRefusalOf (decode_section self.now buf.old)) }
         ensures memory { IfErr result (λ e. e ≢ OutOfMemory) }
@@ -112,6 +130,12 @@ impl Decoder {
         };
         let inserted = self.entries.inserted();
         let capacity = self.announced.unwrap_or(self.entries.capacity());
+        if self.checks_count && capacity == 0 {
+            if names_no_entry(prefix) {
+                return Ok((0, 0));
+            }
+            return Err(DecoderError::BadBaseIndex);
+        }
         let (count, base) = match prefix.get(inserted, capacity) {
             Ok(found) => found,
             Err(e) => return Err(DecoderError::from(e)),
@@ -120,6 +144,20 @@ impl Decoder {
             return Err(DecoderError::MissingRefs(count));
         }
         Ok((count, base))
+    }
+
+    /// The lines of a section of this required insert count and base, which name no entry that it may not.
+    fn lines(&self, count: usize, base: usize, longest_name: usize) -> Lines<'_>
+        ensures { result ≡ record { table = table_for self.now count; base = base } }
+    {
+        // (for the proof: no more entries are there than were inserted)
+        self.entries.evicted();
+        let most = if self.checks_count {
+            count
+        } else {
+            self.entries.inserted()
+        };
+        Lines::new(self.alloc, &self.entries, base, most, longest_name)
     }
 
     /// Decodes an encoded field section, to the end of `buf` (RFC 9204, section 4.5), as `decode_block`, into a list of fields of their own.
@@ -175,7 +213,7 @@ impl Decoder {
             Ok(found) => found,
             Err(e) => return Err(e),
         };
-        let lines = Lines::new(self.alloc, &self.entries, base, max as usize);
+        let lines = self.lines(count, base, max as usize);
         match lines.take_block(&mut ahead, count > 0, max, name, block) {
             Ok(decoded) => {
                 *buf = ahead;
@@ -205,7 +243,7 @@ impl Decoder {
             Ok(found) => found,
             Err(e) => return Err(e),
         };
-        let lines = Lines::new(self.alloc, &self.entries, base, usize::MAX);
+        let lines = self.lines(count, base, usize::MAX);
         match lines.block(&mut ahead, block) {
             Ok(mem_size) => {
                 *buf = ahead;
@@ -409,6 +447,18 @@ impl Decoder {
             return Err(e);
         }
         Ok(self.entries.inserted())
+    }
+}
+
+// RFC 9204 4.5.1.1: prefix without a table
+/// Whether the encoded count and the sign are 0.
+fn names_no_entry(prefix: HeaderPrefix) -> bool
+    ensures { result ≡ names_no_entry prefix }
+{
+    // by a table of one entry such a prefix has the count 0, and any other a greater one or none
+    match prefix.get(0, 32) {
+        Ok((count, _base)) => count == 0,
+        Err(_) => false,
     }
 }
 

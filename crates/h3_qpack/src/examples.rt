@@ -13,8 +13,9 @@ ghost use Rattle.h3_field.specs.Line.FieldLine.{RelativeField, PostBaseField, Li
 ghost use Rattle.h3_field.specs.Instruction.EncoderInstruction.{SetCapacity, InsertWithStaticName, InsertWithEntryName, InsertLiteral, Duplicate};
 ghost use Rattle.h3_qpack.specs.EncoderHistory.{is_refused, encoder_after_front, withdrawn};
 ghost use Rattle.h3_table.specs.Table.{table};
+ghost use Rattle.h3_qpack.specs.DecodedSection.{Fields, BadSection};
 ghost use Rattle.h3_qpack.specs.DecoderState.{announcing, decoder_after_all};
-ghost use Rattle.h3_qpack.specs.Worked.{three, fresh, sample, host_text, path_text, with_header, x_a, x_b, x_a_of, secret_a, secret_sent, older_known, three_canceled, canceled_first, one_kept, one_waits, one_acknowledged, two_on_a_stream, no_waiting, inserted_ahead, capped, twice_inserted, empty_b, x_long, two_drain, a_of_two, guarding, short_cookie, long_cookie, with_shortest};
+ghost use Rattle.h3_qpack.specs.Worked.{three, fresh, sample, host_text, path_text, with_header, x_a, x_b, x_a_of, decoded_by, decoded_without_table, secret_a, secret_sent, older_known, three_canceled, canceled_first, one_kept, one_waits, one_acknowledged, two_on_a_stream, no_waiting, inserted_ahead, capped, twice_inserted, empty_b, x_long, two_drain, a_of_two, guarding, short_cookie, long_cookie, with_shortest};
 
 /// Three requests for the same page: the first inserts two fields, the second names them, and the third may not.
 #[tactic(auto, unfolding(h3_field::specs::StaticTable::static_table, h3_field::specs::StaticTable::static_field, h3_field::specs::StaticTable::static_name, h3_huffman::specs::Huffman::huffman, h3_huffman::specs::Huffman::octets, h3_huffman::specs::Huffman::code_word, h3_huffman::specs::Huffman::bits))]
@@ -49,6 +50,25 @@ pub fn decoder()
     ensures above { decoder_after_all three (SetCapacity 101 ∷ []) ≡ None }
     ensures too_large { decoder_after_all (Some (announcing 220)) (SetCapacity 221 ∷ []) ≡ None }
     ensures early { decoder_after_all (Some (announcing 100)) (InsertWithEntryName 0 (huffman_text []) ∷ []) ≡ None }
+{}
+
+/// The required insert count of a section bounds what its lines may name, at a decoder that checks counts. It may be larger than is needed.
+/// Without a table the encoded count and the sign are 0 there.
+#[tactic(auto, unfolding(h3_field::specs::StaticTable::static_table, h3_field::specs::StaticTable::static_field, h3_field::specs::StaticTable::static_name, h3_huffman::specs::Huffman::huffman, h3_huffman::specs::Huffman::octets, h3_huffman::specs::Huffman::code_word, h3_huffman::specs::Huffman::bits, crate::specs::DecodedSection::decode_section, crate::specs::DecodedSection::fields_in))]
+pub fn counts()
+    ensures below { decoded_by true (2 ∷ 0 ∷ 128 ∷ []) ≡ Some (Fields (plain_field (codes "a") (codes "b") ∷ []) 1) }
+    ensures first { decoded_by true (2 ∷ 128 ∷ 16 ∷ []) ≡ Some (Fields (plain_field (codes "a") (codes "b") ∷ []) 1) }
+    ensures second { decoded_by true (3 ∷ 128 ∷ 16 ∷ []) ≡ Some (Fields (plain_field (codes "c") (codes "d") ∷ []) 2) }
+    ensures larger { decoded_by true (3 ∷ 0 ∷ 129 ∷ []) ≡ Some (Fields (plain_field (codes "a") (codes "b") ∷ []) 2) }
+    ensures at_the_count { decoded_by true (2 ∷ 0 ∷ 16 ∷ []) ≡ Some BadSection }
+    ensures name_at_the_count { decoded_by true (2 ∷ 0 ∷ 0 ∷ 0 ∷ []) ≡ Some BadSection }
+    ensures none { decoded_by true (0 ∷ 1 ∷ 128 ∷ []) ≡ Some BadSection }
+    ensures unchecked { decoded_by false (2 ∷ 0 ∷ 16 ∷ []) ≡ Some (Fields (plain_field (codes "c") (codes "d") ∷ []) 1) }
+    ensures count_alone { decoded_without_table true (1 ∷ 0 ∷ 209 ∷ []) ≡ BadSection }
+    ensures sign_alone { decoded_without_table true (0 ∷ 128 ∷ 209 ∷ []) ≡ BadSection }
+    ensures base_alone { decoded_without_table true (0 ∷ 5 ∷ 209 ∷ []) ≡ Fields (plain_field (codes ":method") (codes "GET") ∷ []) 0 }
+    ensures any_count { decoded_without_table false (1 ∷ 0 ∷ 209 ∷ []) ≡ Fields (plain_field (codes ":method") (codes "GET") ∷ []) 0 }
+    ensures any_sign { decoded_without_table false (0 ∷ 128 ∷ 209 ∷ []) ≡ Fields (plain_field (codes ":method") (codes "GET") ∷ []) 0 }
 {}
 
 /// An acknowledgment needs a tracked section, and what follows a refused one is left.

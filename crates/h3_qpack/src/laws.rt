@@ -1,13 +1,13 @@
 //! Laws over the definitions.
 
-ghost use Rattle.std.specs.Prelude.{◌≡◌, ◌==◌, ◌&&◌, ◌||◌, nat_lt, ℕ, ◌+◌, ◌-◌, ◌*◌, ◌%◌, ◌^◌, ◌<◌, ◌≤◌, ◌∷◌, Bool, true, false, List, Some};
+ghost use Rattle.std.specs.Prelude.{◌≡◌, ◌==◌, ◌&&◌, ◌||◌, nat_lt, ℕ, ◌+◌, ◌-◌, ◌*◌, ◌%◌, ◌^◌, ◌<◌, ◌≤◌, ◌∷◌, Bool, true, false, List, Option, Some, option_map};
 ghost use Rattle.h3_field.specs.Field.{Field, section_size};
 ghost use Rattle.h3_field.specs.ReadBack.{IsFieldOfBytes};
 ghost use Rattle.h3_field.specs.Section.{section_bytes};
 ghost use Rattle.h3_field.specs.Instruction.DecoderInstruction.{Acknowledge, CancelStream, Increment};
 ghost use Rattle.h3_table.specs.Table.{table};
 ghost use Rattle.std.specs.Prelude.{take, length, [], ◌++◌};
-ghost use Rattle.h3_qpack.specs.DecoderState.{DecoderState, announcing, decoder_after_all};
+ghost use Rattle.h3_qpack.specs.DecoderState.{DecoderState, announcing, checking, decoder_after_all};
 ghost use Rattle.std.specs.Prelude.{flat_map, map, max};
 ghost use Rattle.std.specs.List.{AllByRecursion};
 ghost use Rattle.h3_field.specs.Instruction.{EncoderInstruction, encoder_bytes, DecoderInstruction, decoder_bytes};
@@ -17,7 +17,7 @@ ghost use Rattle.h3_field.specs.Reading.{Unfinished};
 ghost use Rattle.h3_qpack.specs.WholeInstructions.{whole_in, rest_in, decoder_instructions_in};
 ghost use Rattle.h3_qpack.specs.Instructions.{HasRead, AreInstructions, AreDecoderInstructions, AreAccepted};
 ghost use Rattle.h3_qpack.specs.TableHistory.{IsReadAs, table_after_all, table_of};
-ghost use Rattle.h3_qpack.specs.Meaning.{MeansFields, IsMissing};
+ghost use Rattle.h3_qpack.specs.Meaning.{MeansFields, IsMissing, is_allowed, table_for};
 ghost use Rattle.h3_qpack.specs.DecodedSection.{DecodedSection, decode_section, IsDecodedAs};
 ghost use Rattle.h3_qpack.specs.Hearing.{Heard, heard, hear, heard_then, IsHeardAs, Listened, listened, listen, listened_then, IsListenedAs};
 ghost use Rattle.h3_field.specs.Secret.{is_secret};
@@ -30,6 +30,8 @@ ghost use Rattle.h3_qpack.specs.SectionSizes.{most_encoded};
 ghost use Rattle.h3_qpack.specs.InstructionSizes.{most_instruction};
 ghost use Rattle.h3_qpack.specs.Encodings.{decoder_of, HasInsertions, IsDecoderAt, IsWritten, IsWrittenInstruction, tried};
 ghost use Rattle.h3_field.specs.Prefix.{most_entries, IsRequiredCount};
+ghost use Rattle.h3_field.specs.PrefixReading.{EncodedPrefix};
+ghost use Rattle.h3_qpack.specs.NamedFields.{entry_number};
 ghost use Rattle.h3_qpack.specs.Session.{Session, UndecodedSection, oldest, is_canceled, count_of, tracked_references, IsSound, DecodesTo};
 ghost use Rattle.h3_qpack.specs.Schedule.{SessionEvent, SessionRun, beginning};
 ghost use Rattle.std.specs.Ordering.{nat_cmp};
@@ -168,11 +170,11 @@ pub fn every_section_decodes()
 /// Over every schedule, the encoding of a section means the section's fields to a decoder that has read its insertions: with the flags that
 /// the encoder set, if it guards secrets, and else as they are. Before that it is missing exactly so many, and is never bad. The decoder
 /// announced the capacity that the encoder goes by, or any other while the encoder has inserted nothing, as before the peer's settings
-/// came.
+/// came. Whether it checks counts does not matter.
 pub fn every_encoding_means_its_fields()
-    ensures means { (counts : Bool) (most announced limit : ℕ) (events : List SessionEvent) (s : Session) (b : UndecodedSection) → SessionRun (beginning counts most announced limit) events s →
+    ensures means { (checks counts : Bool) (most announced limit : ℕ) (events : List SessionEvent) (s : Session) (b : UndecodedSection) → SessionRun (beginning counts most announced limit) events s →
         oldest b.stream s.sections ≡ Some b → is_canceled s b.stream ≡ false → count_of b ≤ s.received → IsWritten s b →
-        MeansFields (decoder_of s) (encoded_section b.encoder b.fields) (count_of b) (guarded_fields b.encoder b.fields) }
+        MeansFields (checking checks (decoder_of s)) (encoded_section b.encoder b.fields) (count_of b) (guarded_fields b.encoder b.fields) }
     ensures value { (counts : Bool) (most announced limit other : ℕ) (events : List SessionEvent) (s : Session) (b : UndecodedSection) (r : DecoderState) → SessionRun (beginning counts most announced limit) events s → IsDecoderAt other s r →
         oldest b.stream s.sections ≡ Some b → is_canceled s b.stream ≡ false → IsWritten s b →
         decode_section r (encoded_section b.encoder b.fields) ≡ tried s b }
@@ -188,8 +190,8 @@ pub fn every_section_is_written()
 /// A decoder that announced a capacity refuses no instruction of an encoder that set that capacity or a smaller one. After any number of
 /// them it has read as many insertions, without the instruction that sets the capacity, and holds what of them fits.
 pub fn written_instructions_are_accepted()
-    ensures { (announced capacity : ℕ) (instructions : List EncoderInstruction) (inserted : List Field) (k : ℕ) → capacity ≤ announced → IsReadAs announced capacity instructions inserted → k ≤ length (opening capacity ++ instructions) →
-        (r : DecoderState) × (decoder_after_all (Some (announcing announced)) (take k (opening capacity ++ instructions)) ≡ Some r)
+    ensures { (checks : Bool) (announced capacity : ℕ) (instructions : List EncoderInstruction) (inserted : List Field) (k : ℕ) → capacity ≤ announced → IsReadAs announced capacity instructions inserted → k ≤ length (opening capacity ++ instructions) →
+        (r : DecoderState) × (decoder_after_all (Some (checking checks (announcing announced))) (take k (opening capacity ++ instructions)) ≡ Some r)
         × HasInsertions announced capacity (take (k - length (opening capacity)) inserted) r }
 {}
 
@@ -201,6 +203,24 @@ pub fn sections_leave_their_counts()
     ensures sent { (s : EncoderHistory) (stream : ℕ) (fields : List Field) →
         (sent_section s stream fields).required_insert_counts ≡ s.required_insert_counts ++ required_insert_count (draft_of (writing_on s stream) fields) ∷ [] }
     ensures read { (s : EncoderHistory) (i : DecoderInstruction) → (encoder_after s i).required_insert_counts ≡ s.required_insert_counts }
+{}
+
+/// The lines of a section that an encoder writes name no entry above the section's required insert count, which is the greatest that they
+/// name (RFC 9204, section 2.1.2). If they name none it is 0, and the prefix is two bytes 0, as without a table.
+pub fn sections_stay_within_their_counts()
+    ensures lines { (s : EncoderHistory) (fields : List Field) → AllByRecursion (λ line. entry_number (length s.inserted) line ≤ required_insert_count (draft_of s fields)) (draft_of s fields).lines }
+    ensures prefix { (s : EncoderHistory) (fields : List Field) → required_insert_count (draft_of s fields) ≡ 0 → encoded_section s fields ≡ 0 ∷ 0 ∷ flat_map line_bytes (draft_of s fields).lines }
+{}
+
+/// A decoder that checks no counts reads the lines of a section over its whole table, and without a table takes any prefix. One that checks
+/// them takes no section in another meaning, and reads instructions alike.
+pub fn counts_are_checked_if_asked()
+    ensures table { (r : DecoderState) (count : ℕ) → r.checks_count ≡ false → table_for r count ≡ r.table }
+    ensures prefix { (r : DecoderState) (p : EncodedPrefix) → r.checks_count ≡ false → is_allowed r p ≡ true }
+    ensures fields { (r : DecoderState) (bytes : List ℕ) (count : ℕ) (fields : List Field) → MeansFields (checking true r) bytes count fields → MeansFields (checking false r) bytes count fields }
+    ensures missing { (r : DecoderState) (bytes : List ℕ) (count : ℕ) → IsMissing (checking true r) bytes count → IsMissing (checking false r) bytes count }
+    ensures instructions { (checks : Bool) (r : Option DecoderState) (instructions : List EncoderInstruction) →
+        decoder_after_all (option_map (checking checks) r) instructions ≡ option_map (checking checks) (decoder_after_all r instructions) }
 {}
 
 /// The encoding of a list of fields is no longer than four times the list's size, whatever its encoder did before. That size is the sum of
@@ -226,7 +246,7 @@ pub fn sections_are_no_longer_than_their_lists()
 /// announced. The strings of an entry that fits it may be written in the Huffman code. An instruction of a decoder is one number, of at
 /// most ten bytes (RFC 9204, section 4.1.1).
 pub fn instructions_are_short()
-    ensures taken { (announced : ℕ) (instructions : List EncoderInstruction) (r : DecoderState) → decoder_after_all (Some (announcing announced)) instructions ≡ Some r →
+    ensures taken { (checks : Bool) (announced : ℕ) (instructions : List EncoderInstruction) (r : DecoderState) → decoder_after_all (Some (checking checks (announcing announced))) instructions ≡ Some r →
         AllByRecursion (λ i. length (encoder_bytes i) ≤ most_instruction announced) instructions }
     ensures replies { (i : DecoderInstruction) → length (decoder_bytes i) ≤ 10 }
 {}

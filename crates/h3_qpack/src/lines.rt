@@ -6,7 +6,7 @@ ghost use Rattle.h3_field.specs.declared.decoder_error.DecoderError.TheVariants.
 ghost use Rattle.h3_field.specs.declared.vas.Error.TheVariants.{RelativeIndex, PostbaseIndex};
 ghost use Rattle.h3_table.specs.TableState.{entry_at};
 ghost use Rattle.h3_field.specs.LineAnswer.{short_named_line};
-ghost use Rattle.h3_qpack.specs.Meaning.{field_at};
+ghost use Rattle.h3_qpack.specs.Meaning.{up_to, field_at};
 ghost use Rattle.h3_qpack.specs.SectionAnswers.{AnswersLineAt, BeginsWith};
 
 use h3_field::block::{
@@ -15,7 +15,7 @@ use h3_field::block::{
 };
 use h3_field::static_::StaticTable;
 use h3_field::{DecoderError, FieldRef, HeaderField, ShortString, SliceCursor, prefix_int, vas};
-use h3_table::entries::{Entries, Entry, MOST_INSERTIONS};
+use h3_table::entries::{Entries, Entry};
 use std::alloc::{AllocError, Global};
 use std::borrow::CowSlice;
 use std::marker::Model;
@@ -153,27 +153,6 @@ pub(crate) fn relative(
     }
 }
 
-// RFC 9204 3.2.6: post-base index
-/// The entry at a distance from the base on.
-pub(crate) fn post_base(
-    entries: &Entries,
-    base: usize,
-    index: usize,
-) -> Result<Entry<'_>, DecoderError>
-    ensures { MatchResult result (λ f. entry_at entries.now (base + index + 1) ≡ Some f) (λ e. (entry_at entries.now (base + index + 1) ≡ None) × (e ≡ InvalidIndex (PostbaseIndex index))) }
-{
-    // beyond all numbers of entries, if the sum might not fit
-    let number = if base < MOST_INSERTIONS && index < MOST_INSERTIONS {
-        base + index + 1
-    } else {
-        MOST_INSERTIONS
-    };
-    match entries.get(number) {
-        Some(entry) => Ok(entry),
-        None => Err(DecoderError::InvalidIndex(vas::Error::PostbaseIndex(index))),
-    }
-}
-
 /// How many bytes the name of an entry takes in the block of a field with another value. One of more than `most` bytes gets no room there.
 fn name_room(found: Result<Entry<'_>, DecoderError>, most: usize) -> usize {
     match found {
@@ -209,52 +188,44 @@ pub(crate) fn relative_name_room(
     }
 }
 
-/// The same for a line that refers to its name by the distance from the base on.
-fn post_base_name_room(
-    entries: &Entries,
-    base: usize,
-    most: usize,
-    buf: &SliceCursor<'_>,
-) -> usize {
-    let mut ahead = SliceCursor::new(buf.chunk());
-    match prefix_int::decode(3, &mut ahead) {
-        Ok((_, index)) => name_room(post_base(entries, base, index as usize), most),
-        Err(_) => 0,
-    }
-}
-
 /// The lines of a section with a base, over a table.
 #[derive(Drop)]
 pub(crate) struct Lines<'t> {
     alloc: Global,
     entries: &'t Entries,
     base: usize,
+    // no line names an entry above this number
+    most: usize,
     // a longer name of an entry gets no room after a value, since its field would pass the limit
     longest_name: usize,
 }
 
 impl<'t> Model for Lines<'t> {
+    ghost use Rattle.h3_qpack.specs.Meaning.{up_to};
     ghost use Rattle.h3_qpack.specs.Views.{Based};
 
     ghost Value = { Based };
 
-    ghost view = { λ l. record { table = l.entries.now; base = l.base } };
+    ghost view = { λ l. record { table = up_to l.most l.entries.now; base = l.base } };
 }
 
 impl<'t> Lines<'t> {
-    /// The lines of a section whose fields are kept up to a limit, which is the most bytes that a name may have.
+    /// The lines of a section that may name the entries up to a number, and whose fields are kept up to a limit, which is the most bytes
+    /// that a name may have.
     pub(crate) fn new(
         alloc: Global,
         entries: &'t Entries,
         base: usize,
+        most: usize,
         longest_name: usize,
     ) -> Lines<'t>
-        ensures { result ≡ record { table = entries.now; base = base } }
+        ensures { result ≡ record { table = up_to most entries.now; base = base } }
     {
         Lines {
             alloc,
             entries,
             base,
+            most,
             longest_name,
         }
     }
@@ -263,16 +234,43 @@ impl<'t> Lines<'t> {
         self.alloc
     }
 
-    pub(crate) fn entries(&self) -> &'t Entries
-        ensures { result.now ≡ self.now.table }
+    // RFC 9204 2.2.3: entries from the required insert count on
+    /// The entry at a distance below the base, if the section may name it.
+    #[inline(always)]
+    pub(crate) fn relative(&self, index: usize) -> Result<Entry<'t>, DecoderError>
+        ensures { MatchResult result (λ f. entry_at self.now.table (self.now.base - index) ≡ Some f) (λ e. (entry_at self.now.table (self.now.base - index) ≡ None) × (e ≡ InvalidIndex (RelativeIndex index))) }
     {
-        self.entries
+        let number = self.base.saturating_sub(index);
+        if number > self.most {
+            return Err(DecoderError::InvalidIndex(vas::Error::RelativeIndex(index)));
+        }
+        match self.entries.get(number) {
+            Some(entry) => Ok(entry),
+            None => Err(DecoderError::InvalidIndex(vas::Error::RelativeIndex(index))),
+        }
     }
 
-    pub(crate) fn base(&self) -> usize
-        ensures { result ≡ self.now.base }
+    // RFC 9204 3.2.6: post-base index
+    /// The entry at a distance from the base on, if the section may name it.
+    pub(crate) fn post_base(&self, index: usize) -> Result<Entry<'t>, DecoderError>
+        ensures { MatchResult result (λ f. entry_at self.now.table (self.now.base + index + 1) ≡ Some f) (λ e. (entry_at self.now.table (self.now.base + index + 1) ≡ None) × (e ≡ InvalidIndex (PostbaseIndex index))) }
     {
-        self.base
+        if self.base.saturating_add(index) >= self.most {
+            return Err(DecoderError::InvalidIndex(vas::Error::PostbaseIndex(index)));
+        }
+        match self.entries.get(self.base + index + 1) {
+            Some(entry) => Ok(entry),
+            None => Err(DecoderError::InvalidIndex(vas::Error::PostbaseIndex(index))),
+        }
+    }
+
+    /// How many bytes the name takes to which the line at the front refers by the distance from the base on, as `relative_name_room`.
+    fn post_base_name_room(&self, buf: &SliceCursor<'_>) -> usize {
+        let mut ahead = SliceCursor::new(buf.chunk());
+        match prefix_int::decode(3, &mut ahead) {
+            Ok((_, index)) => name_room(self.post_base(index as usize), self.longest_name),
+            Err(_) => 0,
+        }
     }
 
     /// The field of an indexed line.
@@ -286,7 +284,7 @@ impl<'t> Lines<'t> {
                 Ok(field) => Ok(LineField::own(field)),
                 Err(e) => Err(DecoderError::InvalidStaticIndex(e)),
             },
-            Ok(Indexed::Dynamic(index)) => match relative(self.entries, self.base, index) {
+            Ok(Indexed::Dynamic(index)) => match self.relative(index) {
                 Ok(entry) => Ok(LineField::entry(entry)),
                 Err(e) => Err(e),
             },
@@ -301,7 +299,7 @@ impl<'t> Lines<'t> {
         ensures { AnswersLineAt self.now.table self.now.base buf.old buf.new result }
     {
         match IndexedWithPostBase::decode(buf) {
-            Ok(IndexedWithPostBase(index)) => match post_base(self.entries, self.base, index) {
+            Ok(IndexedWithPostBase(index)) => match self.post_base(index) {
                 Ok(entry) => Ok(LineField::entry(entry)),
                 Err(e) => Err(e),
             },
@@ -342,7 +340,7 @@ impl<'t> Lines<'t> {
                 }
                 Err(_) => None,
             },
-            NameRef::Dynamic(index) => match relative(self.entries, self.base, index) {
+            NameRef::Dynamic(index) => match self.relative(index) {
                 Ok(entry) => {
                     let field = entry.with_short_value(value)?;
                     Some(field.with_never_indexed(never_indexed))
@@ -392,7 +390,7 @@ impl<'t> Lines<'t> {
                     value,
                     never_indexed,
                 },
-            ) => match relative(self.entries, self.base, index) {
+            ) => match self.relative(index) {
                 Ok(entry) => Ok(LineField::named(entry, value, never_indexed)),
                 Err(e) => Err(e),
             },
@@ -413,7 +411,7 @@ impl<'t> Lines<'t> {
         let Some(head) = LiteralWithPostBaseNameRef::decode_short(&mut ahead, &mut value) else {
             return None;
         };
-        let Ok(entry) = post_base(self.entries, self.base, head.0) else {
+        let Ok(entry) = self.post_base(head.0) else {
             return None;
         };
         let Some(field) = entry.with_short_value(value.as_slice()) else {
@@ -445,7 +443,7 @@ impl<'t> Lines<'t> {
         requires own { begins 0 15 buf.old ≡ true }
         ensures { AnswersLineAt self.now.table self.now.base buf.old buf.new result }
     {
-        let spare = post_base_name_room(self.entries, self.base, self.longest_name, buf);
+        let spare = self.post_base_name_room(buf);
         match LiteralWithPostBaseNameRef::decode_with_room(self.alloc, buf, spare) {
             Ok(
                 LiteralWithPostBaseNameRef {
@@ -453,7 +451,7 @@ impl<'t> Lines<'t> {
                     value,
                     never_indexed,
                 },
-            ) => match post_base(self.entries, self.base, index) {
+            ) => match self.post_base(index) {
                 Ok(entry) => Ok(LineField::named(entry, value, never_indexed)),
                 Err(e) => Err(e),
             },

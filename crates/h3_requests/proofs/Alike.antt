@@ -16,6 +16,8 @@ use Rattle.h3_connection.specs.declared.event.StreamFault.{StreamFault}
 use Rattle.h3_connection.specs.declared.event.StreamFault.TheVariants.{Canceled, Malformed, Reset}
 use Rattle.h3_requests.specs.Changing.{receiver_refusal}
 use Rattle.h3_requests.specs.Over.{AreAlike, codeless, without_code}
+use Rattle.h3_connection.specs.StrictConnection.{kinds_of}
+use Rattle.h3_connection.specs.declared.setup.Announced.{Announced}
 
 parts_stay : {X : Type 0} (g : RequestState → X) → ((r : RequestState) → g (codeless r) ≡ g r) → (a : Option RequestState) → option_map g a ≡ option_map g (option_map codeless a)
 parts_stay g same None = refl
@@ -73,19 +75,19 @@ pub refusal_is : (side : Side) (streams model : Streams RequestState) (id : ℕ)
 refusal_is side streams model id a view alike = refusal_of side a ∙ ap (refused_by side) (part_is has_ended (λ r. refl) streams model id a view alike) ∙ sym (refusal_of side (kept_at model id))
 
 -- of nothing nothing is held
-none_held : counted (held_of_request nothing_came) ≡ 0
-none_held = by_test (is_under_way [])
+none_held : (own : Announced) → counted (held_of_request own nothing_came) ≡ 0
+none_held own = by_test (is_under_way (kinds_of own) [])
   where
     by_test : (b : Bool) → counted ((if b then 0 else 0) + 0) ≡ 0
     by_test true = refl
     by_test false = refl
 
-held_of : (o : Option RequestState) → counted (held_of_request (unwrap_or (option_map (λ r. r.incoming) o) nothing_came)) ≡ unwrap_or (option_map (λ r. counted (held_of_request r.incoming)) o) 0
-held_of None = none_held
-held_of (Some r) = refl
+held_of : (own : Announced) (o : Option RequestState) → counted (held_of_request own (unwrap_or (option_map (λ r. r.incoming) o) nothing_came)) ≡ unwrap_or (option_map (λ r. counted (held_of_request own r.incoming)) o) 0
+held_of own None = none_held own
+held_of own (Some r) = refl
 
 -- how much of it is held
-pub held_is : (streams model : Streams RequestState) (id : ℕ) (a : Option RequestState) → streams ≡ model → AreAlike a (kept_at streams id)
-    → counted (held_of_request (unwrap_or (option_map (λ r. r.incoming) a) nothing_came)) ≡ counted (held_of_request (unwrap_or (option_map (λ r. r.incoming) (kept_at model id)) nothing_came))
-held_is streams model id a view alike =
-    held_of a ∙ ap (λ o. unwrap_or o 0) (part_is (λ r. counted (held_of_request r.incoming)) (λ r. refl) streams model id a view alike) ∙ sym (held_of (kept_at model id))
+pub held_is : (own : Announced) (streams model : Streams RequestState) (id : ℕ) (a : Option RequestState) → streams ≡ model → AreAlike a (kept_at streams id)
+    → counted (held_of_request own (unwrap_or (option_map (λ r. r.incoming) a) nothing_came)) ≡ counted (held_of_request own (unwrap_or (option_map (λ r. r.incoming) (kept_at model id)) nothing_came))
+held_is own streams model id a view alike =
+    held_of own a ∙ ap (λ o. unwrap_or o 0) (part_is (λ r. counted (held_of_request own r.incoming)) (λ r. refl) streams model id a view alike) ∙ sym (held_of own (kept_at model id))

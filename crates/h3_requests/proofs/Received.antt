@@ -4,7 +4,7 @@ use Rattle.std.specs.Prelude.{◌&&◌, not, Result, Ok, Err, Option, Some, None
 use Rattle.h3_messages.specs.declared.content.Content.{Content}
 use Rattle.h3_field.specs.Field.{Field}
 use Rattle.h3_connection.specs.Calls.{Sets, fresh_request}
-use Rattle.h3_connection.specs.Incoming.{Incoming, awaiting, awaits_head, is_before_head}
+use Rattle.h3_connection.specs.Incoming.{Incoming, awaiting, awaits_head, is_before_head, goes_on, having_told}
 use Rattle.h3_connection.specs.Sending.{content_of_response_to}
 use Rattle.h3_connection.specs.State.{RequestState, kept_at}
 use Rattle.h3_connection.specs.StreamSets.{Streams}
@@ -14,6 +14,8 @@ use Rattle.h3_requests.specs.Lending.{Writes}
 use Rattle.h3_requests.specs.Over.{IsOver}
 use Rattle.h3_requests.proofs.Counts.{kept_there}
 use Rattle.h3_requests.proofs.Ways.{over_closed, over_settled}
+use Rattle.h3_messages.specs.Content.{answered_by}
+use Rattle.h3_proto.specs.declared.stream.Side.TheVariants.{Server}
 
 abbrev receives : (Incoming → Incoming) → RequestState → RequestState
 receives change r = record r { incoming = change r.incoming }
@@ -75,14 +77,16 @@ awaits_over old new id expected said None was over same = tt
 awaits_over old new id expected said (Some r) was over same =
     subst (λ s. Sets old s id (asks expected said r)) (sym same) (record { here = was ∙ ap Some (sym (over_awaits r expected said over)); others = λ q ne. refl })
 
--- Nothing is sent on it either.
+-- Nothing is sent on it either, nor is it answered.
 abbrev pub says : List Field → RequestState → RequestState
-says fields r = record r { outgoing = is_to_have r.outgoing (content_of_response_to r.incoming.response fields) }
+says fields r = record r { incoming = having_told Server r.incoming fields; outgoing = is_to_have r.outgoing (content_of_response_to r.incoming.response fields) }
 
 over_says : (r : RequestState) (fields : List Field) → IsOver r → says fields r ≡ r
 over_says r fields h =
+    let none : goes_on r.incoming ≡ false = ap not (over_settled r h) in
     let closed : is_open r.outgoing ≡ false = over_closed r h in
-    ap (λ b. let q : RequestState = record r { outgoing = record r.outgoing { content = if b then content_of_response_to r.incoming.response fields else r.outgoing.content } } in q) closed
+    ap (λ b. let q : RequestState = record r { incoming = record r.incoming { content = if b then answered_by r.incoming.content fields else r.incoming.content }; outgoing = is_to_have r.outgoing (content_of_response_to r.incoming.response fields) } in q) none
+    ∙ ap (λ b. let q : RequestState = record r { outgoing = record r.outgoing { content = if b then content_of_response_to r.incoming.response fields else r.outgoing.content } } in q) closed
 
 pub says_over : (old new : Streams RequestState) (id : ℕ) (fields : List Field) (there : Option RequestState) → kept_at old id ≡ there → IfSome there IsOver → new ≡ old
     → IfSome there (λ r. Sets old new id (says fields r))

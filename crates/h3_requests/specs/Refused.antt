@@ -7,6 +7,8 @@ use Rattle.h3_connection.specs.State.{OutgoingState, RequestState, nothing_waits
 use Rattle.h3_connection.specs.StrictSending.{early_trailer, passes_content}
 use Rattle.h3_connection.specs.declared.event.Refusal.{Refusal}
 use Rattle.h3_connection.specs.declared.event.Refusal.TheVariants as refusal
+use Rattle.h3_connection.specs.Sending.{known_of}
+use Rattle.h3_messages.specs.declared.content.Content.{Content}
 
 -- the sender's part of a stream, where it is there
 abbrev pub outgoing_in : Option RequestState → OutgoingState
@@ -22,6 +24,10 @@ seen_in r =
       takes_body = takes_body (outgoing_in r);
       takes_end = takes_end (outgoing_in r);
     }
+
+-- what is known of what was asked on it
+abbrev pub known_in : Option RequestState → Option Content
+known_in r = known_of (option_map (λ r. r.incoming) r)
 
 -- The stream takes no head now, or no body and no trailer, whatever is in it.
 abbrev pub head_refused_at : Option RequestState → Option Refusal

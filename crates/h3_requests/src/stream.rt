@@ -11,6 +11,7 @@ ghost use Rattle.h3_requests.specs.Over.{reset_with, with_end_taken, IsOver, Rec
 use bytes::Bytes;
 use h3_connection::arrival::MOST_HELD;
 use h3_connection::event::StreamFault;
+use h3_connection::setup::Announced;
 use h3_incoming::IncomingStream;
 use h3_outgoing::OutgoingStream;
 use std::alloc::Global;
@@ -183,7 +184,7 @@ impl RequestStream {
     }
 
     // More bytes came. More than memory can hold is refused as out of memory. An `Err` changes nothing, and returns the bytes.
-    pub(crate) fn deliver(&mut self, bytes: Bytes) -> Result<(), Bytes>
+    pub(crate) fn deliver(&mut self, announced: &Announced, bytes: Bytes) -> Result<(), Bytes>
         ensures ok { OnOk result (self.new ≡ record self.old { incoming = kept self.old.incoming bytes }) }
         ensures back { IfErr result (λ b. b ≡ bytes) }
         ensures same { OnErr result (self.new ≡ self.old) }
@@ -192,7 +193,7 @@ impl RequestStream {
         if !self.has_room_for(bytes.len()) {
             return Err(bytes);
         }
-        self.incoming.deliver(bytes)
+        self.incoming.deliver(announced, bytes)
     }
 }
 

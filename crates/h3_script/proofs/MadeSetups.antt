@@ -13,6 +13,7 @@ use Rattle.h3_connection.specs.declared.setup.NewError.{NewError}
 use Rattle.h3_connection.specs.declared.setup.NewError.TheVariants.{Settings}
 use Rattle.h3_proto.specs.declared.frame.SettingsError.TheVariants.{InvalidSettingValue}
 use Rattle.h3_world.specs.MadeLaws.{is_made}
+use Rattle.h3_world.specs.TakesLaws.{setup_made}
 use Rattle.h3_world.specs.Setup.{both, announced_at, takes_settings, IsMade, IsMadeSetup, IsPlain, JudgesPlainly}
 use Rattle.h3_world.specs.declared.setup.Setup.{Setup}
 use Rattle.h3_world.specs.declared.event.Event.{Event}
@@ -98,7 +99,7 @@ sides most text setup events h = so_far_sides (said (lines_of text)) setup event
 pub script_made : (most : ℕ) (text : List ℕ) (setup : Setup) (events : List Event) → IsScript most text setup events → IsMadeSetup setup
 script_made most text setup events h =
     let made = sides most text setup events h in
-    record { client = made.client.0; server = made.server.0; takes = made.takes }
+    setup_made setup made.client.0 made.server.0 made.takes
 
 plain_at : (setup : Setup) (side : Side) → AreSides setup → IsPlain (announced_at setup side)
 plain_at setup Client made = made.client.1

@@ -8,19 +8,21 @@ use Rattle.h3_connection.specs.Endpoint.{EndpointHistory, Kind, kind_of}
 use Rattle.h3_connection.specs.Incoming.{nothing_came}
 use Rattle.h3_connection.specs.State.{EndpointState, StandsFor, kept_at}
 use Rattle.h3_connection.specs.Unread.{held_of_request, held_of_peer, held_at, held_in, counted, ShowsUnread}
+use Rattle.h3_connection.specs.declared.setup.Announced.{Announced}
 use Rattle.h3_streams.specs.Placed.{StreamsState, placed}
 
 -- a sum of counts that each stop at the greatest number
 pub counted_sum : (a b : ℕ) → min (2 ^ 64 - 1) (counted a + counted b) ≡ counted (a + b)
 counted_sum a b = omega arith
 
-pub held_request : (s : EndpointState) (n id : ℕ) → n ≡ counted (held_of_request (unwrap_or (option_map (λ r. r.incoming) (kept_at s.requests id)) nothing_came))
-    → (e : EndpointHistory) → StandsFor s e → n ≡ counted (held_of_request (incoming_at e id))
-held_request s n id is e h = is ∙ ap (λ i. counted (held_of_request (unwrap_or i nothing_came))) (h.incoming id)
+pub held_request : (s : EndpointState) (n id : ℕ) → n ≡ counted (held_of_request s.announced (unwrap_or (option_map (λ r. r.incoming) (kept_at s.requests id)) nothing_came))
+    → (e : EndpointHistory) → StandsFor s e → n ≡ counted (held_of_request e.announced (incoming_at e id))
+held_request s n id is e h =
+    is ∙ ap (λ i. counted (held_of_request s.announced (unwrap_or i nothing_came))) (h.incoming id) ∙ ap (λ (a : Announced). counted (held_of_request a (incoming_at e id))) h.announced
 
-pub held_peer : (s : EndpointState) (x : StreamsState) (n id : ℕ) → placed s x ≡ s → ((t : EndpointState) (e : EndpointHistory) → StandsFor (placed t x) e → n ≡ counted (held_of_peer e id))
+pub held_peer : (s : EndpointState) (x : StreamsState) (n id : ℕ) → placed s x ≡ s → ((t : EndpointState) (e : EndpointHistory) → StandsFor (placed t x) e → e.announced ≡ s.announced → n ≡ counted (held_of_peer e id))
     → (e : EndpointHistory) → StandsFor s e → n ≡ counted (held_of_peer e id)
-held_peer s x n id same is e h = is s e (subst (λ t. StandsFor t e) (sym same) h)
+held_peer s x n id same is e h = is s e (subst (λ t. StandsFor t e) (sym same) h) (sym h.announced)
 
 -- by the kind of the stream
 pub held_by_kind : (s : EndpointState) (n id : ℕ) (k : Kind) → k ≡ kind_of s.side id → ((e : EndpointHistory) → StandsFor s e → n ≡ counted (held_at e id k))

@@ -17,7 +17,7 @@ use Rattle.h3_connection.specs.Calls.{IsSame}
 use Rattle.h3_connection.specs.Endpoint.{EndpointHistory}
 use Rattle.h3_connection.specs.OwnIds.{other}
 use Rattle.h3_connection.specs.Pulling.{is_for, is_interim}
-use Rattle.h3_connection.specs.Refusals.{first_of, is_too_large, or_later}
+use Rattle.h3_connection.specs.Refusals.{first_of, is_too_large, or_later, unless_going}
 use Rattle.h3_connection.specs.State.{EndpointState, RequestState, kept_at}
 use Rattle.h3_connection.specs.StrictMessages.{malformation_by}
 use Rattle.h3_connection.specs.StrictSending.{peer_connects, unless_malformed, violation_of_own_head}
@@ -28,11 +28,11 @@ use Rattle.h3_connection.specs.declared.event.Refusal.TheVariants as refusal
 use Rattle.h3_connection.specs.declared.place.SendPlace.{SendPlace}
 use Rattle.h3_connection.specs.declared.place.SendPlace.TheVariants.{NothingSent, HeadSent, TrailerSent}
 use Rattle.h3_connection.specs.declared.setup.Announced.{Announced}
-use Rattle.h3_requests.specs.Refused.{head_refused_at, body_refused_at, early_trailer_at, outgoing_in, seen_in}
+use Rattle.h3_requests.specs.Refused.{body_refused_at, early_trailer_at, outgoing_in, seen_in, known_in}
 use Rattle.h3_session.proofs.Remembering.{before_trailer}
 use Rattle.h3_session.specs.InvalidFields.{NamesField}
 use Rattle.h3_session.specs.JudgedLists.{head_list_refusal, trailer_list_refusal, IsHeadAt, IsTrailer}
-use Rattle.h3_session.specs.Refused.{broken_behind, refused_behind, violation_behind}
+use Rattle.h3_session.specs.Refused.{broken_behind, head_refused_in, refused_behind, sender_on, violation_behind}
 use Rattle.h3_session.specs.SendingFields.{SendsFields}
 use Rattle.h3_session.specs.SendingLists.{IsJudgedOr, malformed, refusal_after}
 
@@ -69,12 +69,20 @@ module _ (choices : Choices) (fields : List Field) where
   behind_stream false true later names = tt
   behind_stream false false later names = names
 
-  pub head_names : (side : Side) (there : Option RequestState) (later told : Refusal) → (later ≢ refusal.OutOfMemory → head_list_refusal side (head_by choices.extensions.any_protocol fields) ≡ Some later)
-      → told ≡ refusal_after (head_refused_at there) later → Names told
-  head_names side there later told errs is =
-      let v = seen_in there in
-      subst Names (sym is) (behind_stream (not v.is_open) (not v.takes_head) later
-      (unless_memory later (λ differs. names_head side (head_by choices.extensions.any_protocol fields) later refl (errs differs))))
+  -- and behind the peer's GOAWAY
+  behind_going : (a b : Bool) (going : Option ℕ) (later : Refusal) → Names later
+      → Names (refusal_after (or_later (first_of ((a, refusal.NotOpen) ∷ (b, refusal.OutOfOrder) ∷ [])) (first_of (unless_going going []))) later)
+  behind_going true b going later names = tt
+  behind_going false true going later names = tt
+  behind_going false false (Some id) later names = tt
+  behind_going false false None later names = names
+
+  pub head_names : (s : EndpointState) (id : ℕ) (later told : Refusal) → (later ≢ refusal.OutOfMemory → head_list_refusal s.side (head_by choices.extensions.any_protocol fields) ≡ Some later)
+      → told ≡ refusal_after (head_refused_in s id) later → Names told
+  head_names s id later told errs is =
+      let v = seen_in (kept_at s.requests id) in
+      subst Names (sym is) (behind_going (not v.is_open) (not v.takes_head) (sender_on s id).going later
+      (unless_memory later (λ differs. names_head s.side (head_by choices.extensions.any_protocol fields) later refl (errs differs))))
 
   pub trailer_names : (there : Option RequestState) (later told : Refusal) → (later ≢ refusal.OutOfMemory → trailer_list_refusal (head_by choices.extensions.any_protocol fields) ≡ Some later)
       → told ≡ refusal_after (body_refused_at there) later → Names told
@@ -84,10 +92,10 @@ module _ (choices : Choices) (fields : List Field) where
       (unless_memory later (λ differs. names_trailer (head_by choices.extensions.any_protocol fields) later refl (errs differs))))
 
 -- and one that reads as a head by the rule that it breaks.
-abbrev TellsBroken : Option Refusal → SendPlace → EndpointState → List Field → Type 0
-TellsBroken (Some (refusal.Malformed malformation.Name)) place s fields = broken_behind place s fields ≡ Some malformation.Name
-TellsBroken (Some (refusal.Malformed malformation.Value)) place s fields = broken_behind place s fields ≡ Some malformation.Value
-TellsBroken _ place s fields = Unit {0}
+abbrev TellsBroken : Option Refusal → SendPlace → EndpointState → ℕ → List Field → Type 0
+TellsBroken (Some (refusal.Malformed malformation.Name)) place s id fields = broken_behind place s id fields ≡ Some malformation.Name
+TellsBroken (Some (refusal.Malformed malformation.Value)) place s id fields = broken_behind place s id fields ≡ Some malformation.Value
+TellsBroken _ place s id fields = Unit {0}
 
 by_list : (broken : Option Malformation) (b : Bool) (size : ℕ) (why : Malformation) → first_of (unless_malformed broken ((b, refusal.TooLarge size) ∷ [])) ≡ Some (refusal.Malformed why) → broken ≡ Some why
 by_list (Some w) b size why is = let same : w ≡ why = cc in ap Some same
@@ -114,54 +122,56 @@ NamesNone (refusal.Malformed malformation.Name) = ⊥
 NamesNone (refusal.Malformed malformation.Value) = ⊥
 NamesNone _ = Unit {0}
 
-module _ (s : EndpointState) (fields : List Field) where
+module _ (s : EndpointState) (id : ℕ) (fields : List Field) where
   abbrev any : Bool
   any = s.announced.choices.extensions.any_protocol
 
   module _ (head : Head) (reads : head_by any fields ≡ IsHead head) where
-    spaced_head : (side : Side) → violation_of_own_head side s.peer.settings fields ≡ Some violation.Value → HasSpacedValue any true fields
+    spaced_head : (side : Side) → violation_of_own_head side s.peer.settings (known_in (kept_at s.requests id)) fields ≡ Some violation.Value → HasSpacedValue any true fields
     spaced_head Client is = spaced_of_request any fields head reads (peer_connects s.peer.settings) is
-    spaced_head Server is = spaced_of_response any fields head reads is
+    spaced_head Server is = spaced_of_response any fields head reads (known_in (kept_at s.requests id)) is
 
-    spaced : (place : SendPlace) → violation_behind place s fields ≡ Some violation.Value → HasSpacedValue any true fields
+    spaced : (place : SendPlace) → violation_behind place s id fields ≡ Some violation.Value → HasSpacedValue any true fields
     spaced TrailerSent is = spaced_of_trailer any fields head reads is
     spaced HeadSent is = spaced_head s.side is
     spaced NothingSent is = spaced_head s.side is
 
-    names_broken : (o : Option Refusal) (place : SendPlace) → TellsBroken o place s fields → NamesField o s.announced.choices fields
+    names_broken : (o : Option Refusal) (place : SendPlace) → TellsBroken o place s id fields → NamesField o s.announced.choices fields
     names_broken (Some (refusal.Malformed malformation.Name)) place broken =
-        absurd (no_name (violation_behind place s fields) (rule_by s.announced.choices.strict_messages (violation_behind place s fields) malformation.Name broken).1)
+        absurd (no_name (violation_behind place s id fields) (rule_by s.announced.choices.strict_messages (violation_behind place s id fields) malformation.Name broken).1)
     names_broken (Some (refusal.Malformed malformation.Value)) place broken =
-        let rule = rule_by s.announced.choices.strict_messages (violation_behind place s fields) malformation.Value broken in
-        inr (subst (λ b. HasSpacedValue any b fields) (sym rule.0) (spaced place (value_by (violation_behind place s fields) rule.1)))
+        let rule = rule_by s.announced.choices.strict_messages (violation_behind place s id fields) malformation.Value broken in
+        inr (subst (λ b. HasSpacedValue any b fields) (sym rule.0) (spaced place (value_by (violation_behind place s id fields) rule.1)))
     names_broken _ place broken = tt
 
   module _ (place : SendPlace) where
-    told_broken : (o : Option Refusal) → (o ≢ Some refusal.OutOfMemory → o ≡ refused_behind s place fields) → TellsBroken o place s fields
+    told_broken : (o : Option Refusal) → (o ≢ Some refusal.OutOfMemory → o ≡ refused_behind s id place fields) → TellsBroken o place s id fields
     told_broken (Some (refusal.Malformed malformation.Name)) list =
-        by_list (broken_behind place s fields) (is_too_large s.peer.settings fields) (section_size fields) malformation.Name (sym (list (λ memory. absurd (cc))))
+        by_list (broken_behind place s id fields) (is_too_large s.peer.settings fields) (section_size fields) malformation.Name (sym (list (λ memory. absurd (cc))))
     told_broken (Some (refusal.Malformed malformation.Value)) list =
-        by_list (broken_behind place s fields) (is_too_large s.peer.settings fields) (section_size fields) malformation.Value (sym (list (λ memory. absurd (cc))))
+        by_list (broken_behind place s id fields) (is_too_large s.peer.settings fields) (section_size fields) malformation.Value (sym (list (λ memory. absurd (cc))))
     told_broken _ list = tt
 
-    none_told : (r : Refusal) → NamesNone r → TellsBroken (Some r) place s fields
+    none_told : (r : Refusal) → NamesNone r → TellsBroken (Some r) place s id fields
     none_told (refusal.Malformed malformation.Name) none = absurd none
     none_told (refusal.Malformed malformation.Value) none = absurd none
     none_told _ none = tt
 
-    judged_broken : (refused told : Refusal) → NamesNone refused → IsJudgedOr s place fields refused told → TellsBroken (Some told) place s fields
+    judged_broken : (refused told : Refusal) → NamesNone refused → IsJudgedOr s id place fields refused told → TellsBroken (Some told) place s id fields
     judged_broken refusal.OutOfMemory (refusal.Malformed malformation.Name) none h =
-        by_list (broken_behind place s fields) (is_too_large s.peer.settings fields) (section_size fields) malformation.Name (h.list refl (λ same. absurd (cc)))
+        by_list (broken_behind place s id fields) (is_too_large s.peer.settings fields) (section_size fields) malformation.Name (h.list refl (λ same. absurd (cc)))
     judged_broken refusal.OutOfMemory (refusal.Malformed malformation.Value) none h =
-        by_list (broken_behind place s fields) (is_too_large s.peer.settings fields) (section_size fields) malformation.Value (h.list refl (λ same. absurd (cc)))
+        by_list (broken_behind place s id fields) (is_too_large s.peer.settings fields) (section_size fields) malformation.Value (h.list refl (λ same. absurd (cc)))
     judged_broken refusal.OutOfMemory _ none h = tt
-    judged_broken refused told none h = subst (λ r. TellsBroken (Some r) place s fields) (sym (h.other (λ same. absurd (cc)))) (none_told refused none)
+    judged_broken refused told none h = subst (λ r. TellsBroken (Some r) place s id fields) (sym (h.other (λ same. absurd (cc)))) (none_told refused none)
 
 -- What a stream refuses a section by names no field.
-head_none : (a b : Bool) → NamesNone (unwrap_or (or_later (first_of ((a, refusal.NotOpen) ∷ (b, refusal.OutOfOrder) ∷ [])) None) refusal.OutOfMemory)
-head_none true b = tt
-head_none false true = tt
-head_none false false = tt
+head_none : (a b : Bool) (going : Option ℕ)
+    → NamesNone (unwrap_or (or_later (or_later (first_of ((a, refusal.NotOpen) ∷ (b, refusal.OutOfOrder) ∷ [])) (first_of (unless_going going []))) None) refusal.OutOfMemory)
+head_none true b going = tt
+head_none false true going = tt
+head_none false false (Some id) = tt
+head_none false false None = tt
 
 trailer_none : (a b takes ends : Bool)
     → NamesNone (unwrap_or (or_later (first_of ((a, refusal.NotOpen) ∷ (b, refusal.OutOfOrder) ∷ []))
@@ -178,26 +188,26 @@ module _ (s mid : EndpointState) (fields : List Field) (place : SendPlace) (rest
   abbrev begun : EndpointState
   begun = record s { requests = mid.requests }
 
-  names_judged : (refused told : Refusal) → NamesNone refused → IsJudgedOr mid place fields refused told → NamesField (Some told) s.announced.choices fields
-  names_judged refused told none h =
-      names_broken begun fields head reads (Some told) place (judged_broken begun fields place refused told none (subst (λ m. IsJudgedOr m place fields refused told) rest h))
+  names_judged : (id : ℕ) (refused told : Refusal) → NamesNone refused → IsJudgedOr mid id place fields refused told → NamesField (Some told) s.announced.choices fields
+  names_judged id refused told none h =
+      names_broken begun id fields head reads (Some told) place (judged_broken begun id fields place refused told none (subst (λ m. IsJudgedOr m id place fields refused told) rest h))
 
-  pub head_judged_names : (id : ℕ) (refused told : Refusal) → refused ≡ unwrap_or (or_later (head_refused_at (kept_at s.requests id)) None) refusal.OutOfMemory
-      → IsJudgedOr mid place fields refused told → NamesField (Some told) s.announced.choices fields
+  pub head_judged_names : (id : ℕ) (refused told : Refusal) → refused ≡ unwrap_or (or_later (head_refused_in s id) None) refusal.OutOfMemory
+      → IsJudgedOr mid id place fields refused told → NamesField (Some told) s.announced.choices fields
   head_judged_names id refused told why h =
       let v = seen_in (kept_at s.requests id) in
-      names_judged refused told (subst NamesNone (sym why) (head_none (not v.is_open) (not v.takes_head))) h
+      names_judged id refused told (subst NamesNone (sym why) (head_none (not v.is_open) (not v.takes_head) (sender_on s id).going)) h
 
   pub trailer_judged_names : (id : ℕ) (refused told : Refusal) → refused ≡ unwrap_or (or_later (body_refused_at (kept_at s.requests id)) (or_later None (early_trailer_at (kept_at s.requests id)))) refusal.OutOfMemory
-      → IsJudgedOr mid place fields refused told → NamesField (Some told) s.announced.choices fields
+      → IsJudgedOr mid id place fields refused told → NamesField (Some told) s.announced.choices fields
   trailer_judged_names id refused told why h =
       let v = seen_in (kept_at s.requests id) in
       let content = (outgoing_in (kept_at s.requests id)).content in
-      names_judged refused told (subst NamesNone (sym why) (trailer_none (not v.is_open) (not v.takes_body) (takes_trailer content) (may_end content))) h
+      names_judged id refused told (subst NamesNone (sym why) (trailer_none (not v.is_open) (not v.takes_body) (takes_trailer content) (may_end content))) h
 
   pub section_names : (behind : EndpointHistory → EndpointHistory) (new : EndpointState) (id : ℕ) (o : Option Refusal) → SendsFields behind mid new id fields place o → NamesField o s.announced.choices fields
   section_names behind new id o h =
-      names_broken begun fields head reads o place (told_broken begun fields place o (subst (λ m. o ≢ Some refusal.OutOfMemory → o ≡ refused_behind m place fields) rest h.list))
+      names_broken begun id fields head reads o place (told_broken begun id fields place o (subst (λ m. o ≢ Some refusal.OutOfMemory → o ≡ refused_behind m id place fields) rest h.list))
 
 -- What a list reads as in its place, and what its call leaves.
 module _ (s : EndpointState) (fields : List Field) (o : Option Refusal) where

@@ -50,6 +50,7 @@ mod Between
 pub mod Strict
 pub mod LentFrames
 pub mod WellSentLists
+pub mod SentAnswers
 pub mod Lacking
 pub mod MemoryTells
 pub mod MemoryUnchanged

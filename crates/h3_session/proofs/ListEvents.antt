@@ -9,8 +9,8 @@ use Rattle.h3_header.specs.ReadTakenLaws.{heads_are_taken}
 use Rattle.h3_connection.specs.Endpoint.{EndpointHistory}
 use Rattle.h3_connection.specs.Outgoing.{takes_head, takes_body}
 use Rattle.h3_connection.specs.Refusals.{of_list, refusal_of_head, refusal_of_trailer, with_pseudo, wrong_side}
-use Rattle.h3_connection.specs.Sending.{does, is_open, outgoing_at, sender_at, unless_closed}
-use Rattle.h3_connection.specs.StrictSending.{broken_head, broken_trailer, early_trailer, unless_malformed}
+use Rattle.h3_connection.specs.Sending.{does, is_open, outgoing_at, sender_at, unless_closed, broken_head_at}
+use Rattle.h3_connection.specs.StrictSending.{broken_trailer, early_trailer, unless_malformed}
 use Rattle.h3_connection.specs.declared.event.Malformation.{Malformation}
 use Rattle.h3_connection.specs.declared.event.Malformation.TheVariants as malformation
 use Rattle.h3_connection.specs.declared.event.Refusal.{Refusal}
@@ -43,11 +43,11 @@ module _ (e : EndpointHistory) (id : ℕ) (fields : List Field) where
 
   abbrev head_sent : Option Malformation → Head → Option Refusal × EndpointHistory
   head_sent protocol head =
-      does (unless_closed e (refusal_of_head (sender_at e id) protocol (broken_head e.side e.announced e.peer.settings fields) head fields)) e (after_head e id head fields)
+      does (unless_closed e (refusal_of_head (sender_at e id) protocol (broken_head_at e id fields) head fields)) e (after_head e id head fields)
 
   read_head : (r : HeadRead) → head_by any fields ≡ r → send_read_head e id fields r ≡ head_sent (unread_by r) (head_of_fields fields)
   read_head (IsHead h) is = ap (λ b. head_sent (rule b) h) (heads_are_taken any fields h is) ∙ ap (head_sent None) (head_is any fields h is)
-  read_head (IsNone why) is = sym (malformed_third why e.closed (not (is_open e id)) (not (takes_head (outgoing_at e id))) (sender_at e id).going (wrong_side e.side (head_of_fields fields) ∷ of_list (broken_head e.side e.announced e.peer.settings fields) e.peer.settings fields) e (after_head e id (head_of_fields fields) fields))
+  read_head (IsNone why) is = sym (malformed_third why e.closed (not (is_open e id)) (not (takes_head (outgoing_at e id))) (sender_at e id).going (wrong_side e.side (head_of_fields fields) ∷ of_list (broken_head_at e id fields) e.peer.settings fields) e (after_head e id (head_of_fields fields) fields))
 
   pub fields_sent : send_fields e id fields ≡ events.send_fields e id fields
   fields_sent = read_head (head_by any fields) refl

@@ -6,15 +6,13 @@ use Rattle.std.proofs.lemmas.Grind.{common_steps}
 use Rattle.std.proofs.lemmas.Bool.{cases_eq}
 use Rattle.h3_field.specs.Field.{Field}
 use Rattle.h3_header.specs.HeadRead.{HeadRead, IsHead, IsNone, head_by}
-use Rattle.h3_messages.specs.Content.{awaited_by}
-use Rattle.h3_messages.specs.declared.content.Content.{Content}
 use Rattle.h3_connection.specs.Answers.{call_refused}
 use Rattle.h3_connection.specs.Bounds.{IsBounded, OfStream, StandsBounded, TriesTwice, WaitsOnce}
 use Rattle.h3_connection.specs.Calls.{IsSame}
 use Rattle.h3_connection.specs.Endpoint.{EndpointHistory}
-use Rattle.h3_connection.specs.Incoming.{Incoming, awaiting}
+use Rattle.h3_connection.specs.Incoming.{Incoming, having_told}
 use Rattle.h3_connection.specs.Sections.{written_section}
-use Rattle.h3_connection.specs.Sending.{appended, asked, awaiting_at, counted, does, encoded, fields_cost, head_part, remembers}
+use Rattle.h3_connection.specs.Sending.{appended, asked, counted, does, encoded, fields_cost, head_part, telling_at}
 use Rattle.h3_connection.specs.SendingContracts.{CutsOff}
 use Rattle.h3_connection.specs.State.{EndpointState}
 use Rattle.h3_connection.specs.StreamSets.{Streams, set_stream, stream_at}
@@ -23,6 +21,7 @@ use Rattle.h3_connection.specs.declared.event.Refusal.{Refusal}
 use Rattle.h3_connection.specs.declared.event.Refusal.TheVariants as refusal
 use Rattle.h3_session.specs.SendingLists.{SendsFieldList, SendsList, SendsTrailerList, after_trailer, listed_head_refusal, listed_trailer_refusal, send_fields, send_read_head, send_read_trailer, send_trailer_fields}
 use Rattle.h3_session.proofs.MemoryUnchanged.{stands_unchanged}
+use Rattle.h3_proto.specs.declared.stream.Side.{Side}
 
 pub same_bounded : (old new : EndpointState) → IsSame old new → StandsBounded old → StandsBounded new
 same_bounded old new same h = record { history = h.history; stands = stands_unchanged old new h.history same h.stands; bounded = h.bounded }
@@ -45,16 +44,16 @@ one_if b = if b then 1 else 0
 count_more : (n q : ℕ) (i : Incoming) (streams : Streams Incoming) → waiting_above n ((q, i) ∷ streams) ≡ one_if (nat_lt n i.waits_for) + waiting_above n streams
 count_more n q i streams = sum_by-cons (λ s. if nat_lt n s.1.waits_for then 1 else 0) (q, i) streams
 
-as_many_wait : (n : ℕ) (streams : Streams Incoming) (id : ℕ) (i : Incoming) (said : Content) → stream_at streams id ≡ Some i → waiting_above n (set_stream streams id (awaiting i said)) ≡ waiting_above n streams
-as_many_wait n [] id i said there = cc
-as_many_wait n ((q, y) ∷ streams) id i said there = elim (cases_eq q id) [
+as_many_wait : (n : ℕ) (streams : Streams Incoming) (id : ℕ) (i : Incoming) (side : Side) (fields : List Field) → stream_at streams id ≡ Some i → waiting_above n (set_stream streams id (having_told side i fields)) ≡ waiting_above n streams
+as_many_wait n [] id i side fields there = cc
+as_many_wait n ((q, y) ∷ streams) id i side fields there = elim (cases_eq q id) [
   | inl same ↦
       let here : (q == id) ≡ true = grind (arith, common_steps) in
       let is : y.waits_for ≡ i.waits_for = ap (λ o. elim o [ None ↦ 0 | Some x ↦ x.waits_for ]) (rw here at there) in
-      rw here (omega (arith, count_more n id (awaiting i said) streams, count_more n q y streams, ap (λ w. one_if (nat_lt n w)) is))
+      rw here (omega (arith, count_more n id (having_told side i fields) streams, count_more n q y streams, ap (λ w. one_if (nat_lt n w)) is))
   | inr differs ↦
       let away : (q == id) ≡ false = grind (arith, common_steps) in
-      rw away (omega (arith, count_more n q y (set_stream streams id (awaiting i said)), count_more n q y streams, as_many_wait n streams id i said (rw away at there)))
+      rw away (omega (arith, count_more n q y (set_stream streams id (having_told side i fields)), count_more n q y streams, as_many_wait n streams id i side fields (rw away at there)))
 ]
 
 set_of : (P : Incoming → Type 0) (streams : Streams Incoming) (id q : ℕ) (i : Incoming) → P i → OfStream P (stream_at streams q) → OfStream P (stream_at (set_stream streams id i) q)
@@ -63,21 +62,21 @@ set_of P streams id q i here there = elim (cases_eq q id) [
   | inr differs ↦ rw (set-other streams id q i (other_id q id differs)) there
 ]
 
-awaits : (e : EndpointHistory) (id : ℕ) (said : Content) (at : Option Incoming) → stream_at e.incoming id ≡ at → IsBounded e → IsBounded (record e { incoming = awaiting_at e.incoming id said at })
-awaits e id said None is h = h
-awaits e id said (Some i) is h = record {
-  tries = λ q. set_of TriesTwice e.incoming id q (awaiting i said) (subst (λ at. OfStream TriesTwice at) is (h.tries id)) (h.tries q);
-  once = λ open_still q. set_of WaitsOnce e.incoming id q (awaiting i said) (subst (λ at. OfStream WaitsOnce at) is (h.once open_still id)) (h.once open_still q);
-  waiting = rw (as_many_wait e.decoding.decoder.table.inserted e.incoming id i said is) h.waiting;
+tells : (e : EndpointHistory) (id : ℕ) (fields : List Field) (at : Option Incoming) → stream_at e.incoming id ≡ at → IsBounded e → IsBounded (record e { incoming = telling_at e.side e.incoming id fields at })
+tells e id fields None is h = h
+tells e id fields (Some i) is h = record {
+  tries = λ q. set_of TriesTwice e.incoming id q (having_told e.side i fields) (subst (λ at. OfStream TriesTwice at) is (h.tries id)) (h.tries q);
+  once = λ open_still q. set_of WaitsOnce e.incoming id q (having_told e.side i fields) (subst (λ at. OfStream WaitsOnce at) is (h.once open_still id)) (h.once open_still q);
+  waiting = rw (as_many_wait e.decoding.decoder.table.inserted e.incoming id i e.side fields is) h.waiting;
 }
 
 asks : (e : EndpointHistory) (id : ℕ) (fields : List Field) → IsBounded e → IsBounded (asked e id fields)
-asks e id fields h = by_choice (remembers e.side e.announced)
+asks e id fields h = by_choice e.announced.choices.strict_messages
   where
-    by_choice : (b : Bool) → IsBounded (record e { incoming = if b then awaiting_at e.incoming id (awaited_by fields) (stream_at e.incoming id) else e.incoming; outgoing = (asked e id fields).outgoing })
+    by_choice : (b : Bool) → IsBounded (record e { incoming = if b then telling_at e.side e.incoming id fields (stream_at e.incoming id) else e.incoming; outgoing = (asked e id fields).outgoing })
     by_choice true =
-        let f = record e { incoming = awaiting_at e.incoming id (awaited_by fields) (stream_at e.incoming id) } in
-        rests f (record f { outgoing = (asked e id fields).outgoing }) refl refl refl refl (awaits e id (awaited_by fields) (stream_at e.incoming id) refl h)
+        let f = record e { incoming = telling_at e.side e.incoming id fields (stream_at e.incoming id) } in
+        rests f (record f { outgoing = (asked e id fields).outgoing }) refl refl refl refl (tells e id fields (stream_at e.incoming id) refl h)
     by_choice false = rests e (record e { outgoing = (asked e id fields).outgoing }) refl refl refl refl h
 
 does_on : (r : Option Refusal) (e f : EndpointHistory) → IsBounded e → IsBounded f → IsBounded (does r e f).1

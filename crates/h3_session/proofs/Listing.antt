@@ -16,6 +16,7 @@ use Rattle.h3_connection.specs.Coming.{fields_there, fields_of_kind, fields_item
 use Rattle.h3_session.specs.Listing.{ListsItem, ListsNext}
 use Rattle.h3_session.specs.Reading.{Finds}
 use Rattle.h3_session.proofs.ReceivingReading.{finds_by}
+use Rattle.h3_connection.specs.declared.setup.Announced.{Announced}
 
 lists_no : (listed came : Option (List Field)) → listed ≡ None → Lists listed came
 lists_no None came e = tt
@@ -28,15 +29,16 @@ pub lists_no_next : (s : EndpointState) (id : ℕ) (listed : Option (List Field)
 lists_no_next s id listed none = λ e h. lists_no listed (fields_behind e.kept e id) none
 
 -- A request stream, by what is stored of it.
-there_is : (r : DecoderState) (at : Option RequestState) → fields_at r at ≡ fields_there r (option_map (λ (q : RequestState). q.incoming) at)
-there_is r None = refl
-there_is r (Some q) = refl
+there_is : (own : Announced) (r : DecoderState) (at : Option RequestState) → fields_at own r at ≡ fields_there own r (option_map (λ (q : RequestState). q.incoming) at)
+there_is own r None = refl
+there_is own r (Some q) = refl
 
-pub lists_request : (s : EndpointState) (id : ℕ) (listed : Option (List Field)) → kind_of s.side id ≡ Request → Lists listed (fields_at s.decoding.decoder (kept_at s.requests id)) → ListsItem s id listed
+pub lists_request : (s : EndpointState) (id : ℕ) (listed : Option (List Field)) → kind_of s.side id ≡ Request → Lists listed (fields_at s.announced s.decoding.decoder (kept_at s.requests id)) → ListsItem s id listed
 lists_request s id listed kind given = λ e h.
     let here : kind_of e.side id ≡ Request = ap (λ side. kind_of side id) (sym h.side) ∙ kind in
-    let same : fields_at s.decoding.decoder (kept_at s.requests id) ≡ fields_item e id =
-    there_is s.decoding.decoder (kept_at s.requests id) ∙ ap (fields_there s.decoding.decoder) (h.incoming id) ∙ ap (λ d. fields_there d.decoder (stream_at e.incoming id)) h.decoding
+    let same : fields_at s.announced s.decoding.decoder (kept_at s.requests id) ≡ fields_item e id =
+    there_is s.announced s.decoding.decoder (kept_at s.requests id) ∙ ap (fields_there s.announced s.decoding.decoder) (h.incoming id) ∙ ap (λ d. fields_there s.announced d.decoder (stream_at e.incoming id)) h.decoding
+    ∙ ap (λ (a : Announced). fields_there a e.decoding.decoder (stream_at e.incoming id)) h.announced
     ∙ sym (ap (fields_of_kind e id) here) in
     subst (Lists listed) same given
 

@@ -13,10 +13,10 @@ use Rattle.h3_connection.specs.OwnIds.{other}
 use Rattle.h3_connection.specs.Pulling.{is_for, is_interim}
 use Rattle.h3_connection.specs.Outgoing.{takes_head, takes_body}
 use Rattle.h3_connection.specs.Refusals.{first_of, is_too_large, or_later, wrong_side, unless_going}
-use Rattle.h3_connection.specs.Sending.{does, closed_or, is_open, outgoing_at, sender_at}
+use Rattle.h3_connection.specs.Sending.{does, closed_or, is_open, outgoing_at, sender_at, broken_head_at}
 use Rattle.h3_connection.specs.SendingContracts.{CutsOff, MayLackMemory}
 use Rattle.h3_connection.specs.State.{EndpointState, RequestState, StandsFor, kept_at}
-use Rattle.h3_connection.specs.StrictSending.{broken_head, broken_protocol, broken_trailer, early_trailer, unless_malformed}
+use Rattle.h3_connection.specs.StrictSending.{broken_protocol, broken_trailer, early_trailer, unless_malformed}
 use Rattle.h3_connection.specs.declared.event.Malformation.{Malformation}
 use Rattle.h3_connection.specs.declared.event.Malformation.TheVariants as malformation
 use Rattle.h3_connection.specs.declared.setup.Announced.{Announced}
@@ -240,7 +240,7 @@ module _ (s : EndpointState) (id : ℕ) (fields : List Field) where
 
   -- the rules of a head behind those of its stream
   abbrev sides : EndpointHistory → Head → List (Bool × Refusal)
-  sides e head = (not (is_for (other e.side) head), refusal.WrongSide) ∷ unless_malformed (broken_head e.side e.announced e.peer.settings fields) ((is_too_large e.peer.settings fields, refusal.TooLarge (section_size fields)) ∷ [])
+  sides e head = (not (is_for (other e.side) head), refusal.WrongSide) ∷ unless_malformed (broken_head_at e id fields) ((is_too_large e.peer.settings fields, refusal.TooLarge (section_size fields)) ∷ [])
 
   as_fields : (new : EndpointState) (told : Option Refusal) → SendsList (λ e. send_read_head e id fields read) s new id fields told → SendsList (λ e. send_fields e id fields) s new id fields told
   as_fields new told h =
@@ -267,7 +267,7 @@ module _ (s : EndpointState) (id : ℕ) (fields : List Field) where
             let here : first_of (wrong_side e.side head ∷ []) ≡ Some later
             = subst (λ side. side_refused side head ≡ Some later) stands.side (errs differs) in
             ap (λ o. does o e (after_head e id head fields))
-            (head_behind e head is ∙ ap (λ p. first_of (unless_malformed p (sides e head))) (taken_in e head stands (is_taken head refl)) ∙ behind_rule (not (is_for (other e.side) head)) refusal.WrongSide (judged_last (broken_head e.side e.announced e.peer.settings fields) (is_too_large e.peer.settings fields) (section_size fields)) later here)
+            (head_behind e head is ∙ ap (λ p. first_of (unless_malformed p (sides e head))) (taken_in e head stands (is_taken head refl)) ∙ behind_rule (not (is_for (other e.side) head)) refusal.WrongSide (judged_last (broken_head_at e id fields) (is_too_large e.peer.settings fields) (section_size fields)) later here)
             ∙ ap (λ t. (Some t, e)) (refused_later (not (is_for (other e.side) head)) refusal.WrongSide later here);
         map = λ memory. (
           many memory,
@@ -275,7 +275,7 @@ module _ (s : EndpointState) (id : ℕ) (fields : List Field) where
               subst MayLackMap (sym (head_behind e head is)
               ∙ sym (told_of (listed_head_refusal e id head fields) e (after_head e id head fields)))
               (may_malformed (broken_protocol e.announced head) (sides e head)
-              (may_behind (not (is_for (other e.side) head)) refusal.WrongSide (broken_head e.side e.announced e.peer.settings fields) (is_too_large e.peer.settings fields) (section_size fields) tt)),
+              (may_behind (not (is_for (other e.side) head)) refusal.WrongSide (broken_head_at e id fields) (is_too_large e.peer.settings fields) (section_size fields) tt)),
         );
       }
   head_begins (IsNone why) later is_taken errs many =

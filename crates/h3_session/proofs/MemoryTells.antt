@@ -20,7 +20,7 @@ use Rattle.h3_connection.specs.Pulling.{is_client, is_for}
 use Rattle.h3_connection.specs.Refusals as refusals
 use Rattle.h3_connection.specs.Sending as sender
 use Rattle.h3_connection.specs.StreamSets.{stream_at}
-use Rattle.h3_connection.specs.StrictSending.{broken_head, broken_protocol, broken_trailer, early_trailer, passes_content, unless_malformed}
+use Rattle.h3_connection.specs.StrictSending.{broken_protocol, broken_trailer, early_trailer, passes_content, unless_malformed}
 use Rattle.h3_connection.specs.Unidirectional.{is_closed}
 use Rattle.h3_connection.specs.declared.arrival.Arrival.{Arrival}
 use Rattle.h3_messages.specs.Content.{may_end}
@@ -139,7 +139,7 @@ begun_tells (Some id) rules h = refl
 
 pub head_tells : (e : EndpointHistory) (id : ℕ) (head : Head) → TellsNoMemory (sender.send_head e id head).0
 head_tells e id head =
-    let broken = broken_head e.side e.announced e.peer.settings (head_fields head) in
+    let broken = sender.broken_head_at e id (head_fields head) in
     let listed = by_list broken (refusals.is_too_large e.peer.settings (head_fields head)) (section_size (head_fields head)) in
     let rules = unless_malformed broken ((refusals.is_too_large e.peer.settings (head_fields head), refusal.TooLarge (section_size (head_fields head))) ∷ []) in
     let sides : Bool × Refusal = (not (is_for (other e.side) head), refusal.WrongSide) in
@@ -156,7 +156,7 @@ head_tells e id head =
 pub fields_tell : (e : EndpointHistory) (id : ℕ) (fields : List Field) → TellsNoMemory (lists.send_fields e id fields).0
 fields_tell e id fields =
     let unread = unreadable (takes_any e.announced) fields in
-    let broken = broken_head e.side e.announced e.peer.settings fields in
+    let broken = sender.broken_head_at e id fields in
     let large = refusals.is_too_large e.peer.settings fields in
     let rules = unless_malformed broken ((large, refusal.TooLarge (section_size fields)) ∷ []) in
     let wrong = not (is_for (other e.side) (head_of_fields fields)) in

@@ -18,6 +18,7 @@ use Rattle.h3_connection.specs.Unidirectional.Role.{Untold, Control, Encoder, De
 use Rattle.h3_connection.specs.declared.arrival.Arrival.{Arrival}
 use Rattle.h3_connection.specs.declared.arrival.Arrival.TheVariants.{BytesCame, EndCame, ResetCame}
 use Rattle.h3_session.specs.Reading.{read_at}
+use Rattle.h3_connection.specs.StrictConnection.{kinds_of, knows_sessions}
 
 -- with these request streams
 abbrev pub with_requests : EndpointHistory → Streams Incoming → Streams Outgoing → EndpointHistory
@@ -97,7 +98,7 @@ taken_elsewhere e found =
 
 held_by : (e : EndpointHistory) → LooksElsewhere e (read_held e) (λ ins outs. read_held (with_requests e ins outs))
 held_by e =
-    let found = read_peer (limit_of e) e.side e.peer in
+    let found = read_peer (kinds_of e.announced) (limit_of e) e.side e.peer in
     either_by (lacks_settings e) e (e, Some missing_settings) (after_peer e found)
     (λ ins outs. (with_requests e ins outs, Some missing_settings)) (λ ins outs. after_peer (with_requests e ins outs) found)
     (nothing_found e (Some missing_settings)) (taken_elsewhere e found)
@@ -137,7 +138,7 @@ read_elsewhere e (ResetCame id code) ServerOpened none = nothing_found e _
 read_elsewhere e (BytesCame id bytes) OwnUnidirectional none = nothing_found e _
 read_elsewhere e (EndCame id) OwnUnidirectional none = nothing_found e _
 read_elsewhere e (ResetCame id code) OwnUnidirectional none = nothing_found e _
-read_elsewhere e (BytesCame id bytes) PeerUnidirectional none = unidirectional_elsewhere e id (unidirectional_at e id) (role_after (unidirectional_at e id).role bytes)
+read_elsewhere e (BytesCame id bytes) PeerUnidirectional none = unidirectional_elsewhere e id (unidirectional_at e id) (role_after (knows_sessions e.announced) (unidirectional_at e id).role bytes)
 read_elsewhere e (EndCame id) PeerUnidirectional none = record { apart = λ ins outs. refl; side = refl; kept = refl }
 read_elsewhere e (ResetCame id code) PeerUnidirectional none = record { apart = λ ins outs. refl; side = refl; kept = refl }
 

@@ -6,11 +6,11 @@ use Rattle.h3_wire.specs.Pieces.{with_piece}
 use Rattle.h3_connection.specs.Coming.{HasNoHeader, fields_next}
 use Rattle.h3_connection.specs.Delivering.{kept}
 use Rattle.h3_connection.specs.Incoming.{Incoming}
-use Rattle.h3_connection.specs.PartReading.{with_pieces, with_more}
+use Rattle.h3_connection.specs.PartReading.{ResumesPlainly, unsaid, with_pieces, with_more}
 use Rattle.h3_connection.specs.PartReading.{Resumes as GoesOnAsBefore}
 use Rattle.h3_connection.specs.Pulling.{pull_stream}
 use Rattle.h3_connection.specs.declared.setup.Announced.{Announced}
-use Rattle.h3_incoming.specs.Resuming.{Resumes, delivered}
+use Rattle.h3_incoming.specs.Resuming.{PullsAlike, Resumes, delivered}
 
 -- an empty piece is none
 abbrev some_pieces : List (List ℕ) → List (List ℕ)
@@ -55,14 +55,23 @@ same_but own old new h =
     ∙ ap (λ x. record new { response = old.response; place = old.place; waits_for = old.waits_for; tries = old.tries; ended = old.ended; was_reset = old.was_reset; is_over = x }) h.is_over
     ∙ ap (λ x. record new { response = old.response; place = old.place; waits_for = old.waits_for; tries = old.tries; ended = old.ended; was_reset = old.was_reset; is_over = old.is_over; fault = x }) h.fault
 
-pub goes_on_as_before : (side : Side) (own : Announced) (id : ℕ) (old new : Incoming) → Resumes own old new → old.fault ≡ None → GoesOnAsBefore side own id old new
-goes_on_as_before side own id old new h none = record {
-  same = same_but own old new h;
+goes_on : (side : Side) (own : Announced) (id : ℕ) (old new : Incoming) → new ≡ record old { unread = new.unread; section = new.section; body_left = new.body_left; content = new.content }
+    → PullsAlike own old new → old.fault ≡ None → new.fault ≡ None → GoesOnAsBefore side own id old new
+goes_on side own id old new same alike none still = record {
+  same = same;
   pulls = λ r pieces ends. ap (pull_stream side own id r) (more_is old pieces ends none)
-      ∙ sym (h.pulls side id r (some_pieces pieces) ends)
-      ∙ sym (ap (pull_stream side own id r) (more_is new pieces ends (h.fault ∙ none)));
+      ∙ sym (alike.pulls side id r (some_pieces pieces) ends)
+      ∙ sym (ap (pull_stream side own id r) (more_is new pieces ends still));
   lists = λ r pieces ends.
-      subst (λ (i : Incoming). HasNoHeader (pull_stream side own id r i).answer ⊎ (fields_next r (with_more new pieces ends) ≡ fields_next r i)) (sym (more_is old pieces ends none))
-      (subst (λ (i : Incoming). HasNoHeader (pull_stream side own id r (delivered old (some_pieces pieces) ends)).answer ⊎ (fields_next r i ≡ fields_next r (delivered old (some_pieces pieces) ends))) (sym (more_is new pieces ends (h.fault ∙ none)))
-      (h.lists side id r (some_pieces pieces) ends));
+      subst (λ (i : Incoming). HasNoHeader (pull_stream side own id r i).answer ⊎ (fields_next own r (with_more new pieces ends) ≡ fields_next own r i)) (sym (more_is old pieces ends none))
+      (subst (λ (i : Incoming). HasNoHeader (pull_stream side own id r (delivered old (some_pieces pieces) ends)).answer ⊎ (fields_next own r i ≡ fields_next own r (delivered old (some_pieces pieces) ends))) (sym (more_is new pieces ends still))
+      (alike.lists side id r (some_pieces pieces) ends));
 }
+
+pub goes_on_as_before : (side : Side) (own : Announced) (id : ℕ) (old new : Incoming) → Resumes own old new → old.fault ≡ None → GoesOnAsBefore side own id old new
+goes_on_as_before side own id old new h none = goes_on side own id old new (same_but own old new h) h.alike none (h.fault ∙ none)
+
+-- and so it does where nothing is known of the content
+pub goes_on_plainly : (side : Side) (own : Announced) (id : ℕ) (old new : Incoming) → Resumes own old new → old.fault ≡ None → ResumesPlainly side own id old new
+goes_on_plainly side own id old new h none other known no_limit =
+    goes_on side other id (unsaid old) (unsaid new) (ap unsaid (same_but own old new h)) (h.plainly other known no_limit) none (h.fault ∙ none)

@@ -31,7 +31,7 @@ use Rattle.h3_session.proofs.Opened.{stands_replied, stands_closed, some_there, 
 use Rattle.h3_session.specs.Changes.{ChangesRequests}
 use Rattle.h3_session.specs.Pulling.{PullsItem, fault_code, answer_code, closed_with, settled_in}
 use Rattle.h3_incoming.specs.Resuming.{Resumes}
-use Rattle.h3_session.proofs.PullingResumes.{goes_on_as_before}
+use Rattle.h3_session.proofs.PullingResumes.{goes_on_as_before, goes_on_plainly}
 
 -- whether the answer is settled
 settled_by : (s : EndpointState) (e : EndpointHistory) (id : ℕ) (k : Kind) → StandsFor s e → settled_in s id k ≡ settles_at e id k
@@ -109,6 +109,7 @@ resumed s mid e id before after h was goes rest r same = record {
   new = after.incoming;
   here = some_there s e id before h was;
   resumes = goes_on_as_before e.side e.announced id before.incoming after.incoming (subst (λ own. Resumes own before.incoming after.incoming) h.announced r.resumes) (no_fault before.incoming goes);
+  plainly = goes_on_plainly e.side e.announced id before.incoming after.incoming (subst (λ own. Resumes own before.incoming after.incoming) h.announced r.resumes) (no_fault before.incoming goes);
   stands =
       subst (λ n. StandsFor n (with_incoming e id after.incoming)) (sym rest)
       (subst (λ b. StandsFor (record s { requests = mid.requests; own = record s.own { decoder = b } }) (with_incoming e id after.incoming)) (sym same)

@@ -15,8 +15,8 @@ use Rattle.h3_connection.specs.Outgoing.{takes_head, takes_body}
 use Rattle.h3_connection.specs.OwnIds.{other}
 use Rattle.h3_connection.specs.Pulling.{is_for}
 use Rattle.h3_connection.specs.Refusals.{first_of, is_too_large, unless_going}
-use Rattle.h3_connection.specs.Sending.{does, closed_or, unless_closed, is_open, outgoing_at, send_head, send_trailer, sender_at}
-use Rattle.h3_connection.specs.StrictSending.{broken_head, broken_protocol, broken_trailer, early_trailer, unless_malformed}
+use Rattle.h3_connection.specs.Sending.{does, closed_or, unless_closed, is_open, outgoing_at, send_head, send_trailer, sender_at, broken_head_at}
+use Rattle.h3_connection.specs.StrictSending.{broken_protocol, broken_trailer, early_trailer, unless_malformed}
 use Rattle.h3_connection.specs.declared.event.Malformation.{Malformation}
 use Rattle.h3_connection.specs.declared.event.Malformation.TheVariants as malformation
 use Rattle.h3_connection.specs.declared.event.Refusal.{Refusal}
@@ -65,7 +65,7 @@ module _ (h : Head) (back : ReadsAsTaken h) (token : takes_protocol true h.proto
   rule taken = if taken then None else Some malformation.Value
 
   abbrev sides : Bool → List (Bool × Refusal)
-  sides b = (not b, refusal.WrongSide) ∷ unless_malformed (broken_head e.side e.announced e.peer.settings fields) ((is_too_large e.peer.settings fields, refusal.TooLarge (section_size fields)) ∷ [])
+  sides b = (not b, refusal.WrongSide) ∷ unless_malformed (broken_head_at e id fields) ((is_too_large e.peer.settings fields, refusal.TooLarge (section_size fields)) ∷ [])
 
   abbrev head_sent : Option Malformation → Bool → Option Refusal × EndpointHistory
   head_sent protocol b =

@@ -1,8 +1,7 @@
 -- What a head says is remembered where the endpoint asks for strict messages.
 use Rattle.std.proofs.Common.{◌≡◌, ℕ, Bool, true, false, if◌then◌else◌, List, Option, Some, None, refl, ap, sym, subst, ◌∙◌}
-use Rattle.std.specs.Prelude.{◌≢◌, ◌&&◌, IfSome, option_map}
+use Rattle.std.specs.Prelude.{◌≢◌, IfSome, option_map}
 use Rattle.h3_field.specs.Field.{Field}
-use Rattle.h3_messages.specs.Content.{awaited_by}
 use Rattle.h3_messages.specs.OwnMessages.{content_of_own_request}
 use Rattle.h3_messages.specs.declared.content.Content.{Content}
 use Rattle.h3_messages.specs.declared.response_said.ResponseSaid.{ResponseSaid}
@@ -12,11 +11,10 @@ use Rattle.h3_outgoing.specs.HistoryLaws.{said}
 use Rattle.h3_outgoing.specs.Sent.{is_to_have}
 use Rattle.h3_connection.specs.Calls.{AllSame, Sets}
 use Rattle.h3_connection.specs.Endpoint.{EndpointHistory}
-use Rattle.h3_connection.specs.Incoming.{Incoming, awaiting}
+use Rattle.h3_connection.specs.Incoming.{Incoming, awaiting, having_told}
 use Rattle.h3_connection.specs.Outgoing.{Outgoing, with_said}
-use Rattle.h3_connection.specs.Pulling.{is_client}
-use Rattle.h3_connection.specs.Sending.{asked, awaiting_at, content_of_own, content_of_response_to, known_of, saying_at}
-use Rattle.h3_connection.specs.StandsLaws.{stands_both, stands_sending}
+use Rattle.h3_connection.specs.Sending.{asked, content_of_own, content_of_response_to, known_of, saying_at, telling_at}
+use Rattle.h3_connection.specs.StandsLaws.{stands_both}
 use Rattle.h3_connection.specs.State.{EndpointState, IsOfOutgoing, OutgoingState, RequestState, SameAt, StandsFor, kept_at}
 use Rattle.h3_connection.specs.StreamSets.{Streams, stream_at}
 use Rattle.h3_connection.specs.declared.event.Refusal.{Refusal}
@@ -55,44 +53,32 @@ no_sender s e id h was = none_by (stream_at e.outgoing id) (subst (λ o. SameAt 
 abbrev said_at : Bool → Side → EndpointHistory → ℕ → List Field → EndpointHistory
 said_at strict side e id fields =
     record e {
-      incoming = if strict && is_client side then awaiting_at e.incoming id (awaited_by fields) (stream_at e.incoming id) else e.incoming;
+      incoming = if strict then telling_at side e.incoming id fields (stream_at e.incoming id) else e.incoming;
       outgoing = if strict then saying_at e.outgoing id (content_of_own side (known_of (stream_at e.incoming id)) fields) (stream_at e.outgoing id) else e.outgoing;
     }
 
 asked_is : (s : EndpointState) (e : EndpointHistory) (id : ℕ) (fields : List Field) → StandsFor s e → said_at s.announced.choices.strict_messages s.side e id fields ≡ asked e id fields
 asked_is s e id fields h = ap (λ own. said_at own.choices.strict_messages s.side e id fields) h.announced ∙ ap (λ side. said_at e.announced.choices.strict_messages side e id fields) h.side
 
--- a client,
-abbrev with_both : EndpointHistory → ℕ → Content → Content → Option Incoming → Option Outgoing → EndpointHistory
-with_both e id expected said i o = record e { incoming = awaiting_at e.incoming id expected i; outgoing = saying_at e.outgoing id said o }
+-- on its stream, by what is known of that
+abbrev with_both : EndpointHistory → Side → ℕ → List Field → Content → Option Incoming → Option Outgoing → EndpointHistory
+with_both e side id fields sent i o = record e { incoming = telling_at side e.incoming id fields i; outgoing = saying_at e.outgoing id sent o }
 
-awaited_stands : (s : EndpointState) (e : EndpointHistory) (new : Streams RequestState) (id : ℕ) (expected sent : Content) (there : Option RequestState) → StandsFor s e → kept_at s.requests id ≡ there
-    → IfSome there (λ r. Sets s.requests new id (record r { incoming = awaiting r.incoming expected; outgoing = is_to_have r.outgoing sent })) → (there ≡ None → AllSame s.requests new)
-    → StandsFor (record s { requests = new }) (with_both e id expected sent (stream_at e.incoming id) (stream_at e.outgoing id))
-awaited_stands s e new id expected sent None h was sets same =
-    subst (λ i. StandsFor (record s { requests = new }) (with_both e id expected sent i (stream_at e.outgoing id))) (sym (received_at s e id None h was))
-    (subst (λ o. StandsFor (record s { requests = new }) (with_both e id expected sent None o)) (sym (no_sender s e id h was)) (stands_same s e new h (same refl)))
-awaited_stands s e new id expected sent (Some r) h was sets same =
+abbrev tells : Side → List Field → (Option Content → Content) → RequestState → RequestState
+tells side fields sent r = record r { incoming = having_told side r.incoming fields; outgoing = is_to_have r.outgoing (sent r.incoming.response) }
+
+told_stands : (s : EndpointState) (e : EndpointHistory) (new : Streams RequestState) (side : Side) (id : ℕ) (fields : List Field) (sent : Option Content → Content) (there : Option RequestState) → StandsFor s e → kept_at s.requests id ≡ there
+    → IfSome there (λ r. Sets s.requests new id (tells side fields sent r)) → (there ≡ None → AllSame s.requests new)
+    → StandsFor (record s { requests = new }) (with_both e side id fields (sent (known_of (stream_at e.incoming id))) (stream_at e.incoming id) (stream_at e.outgoing id))
+told_stands s e new side id fields sent None h was sets same =
+    subst (λ i. StandsFor (record s { requests = new }) (with_both e side id fields (sent (known_of i)) i (stream_at e.outgoing id))) (sym (received_at s e id None h was))
+    (subst (λ o. StandsFor (record s { requests = new }) (with_both e side id fields (sent None) None o)) (sym (no_sender s e id h was)) (stands_same s e new h (same refl)))
+told_stands s e new side id fields sent (Some r) h was sets same =
     let sender = sender_at s e id r h was in
-    subst (λ i. StandsFor (record s { requests = new }) (with_both e id expected sent i (stream_at e.outgoing id))) (sym (received_at s e id (Some r) h was))
-    (subst (λ o. StandsFor (record s { requests = new }) (with_both e id expected sent (Some r.incoming) o)) (sym sender.is)
-    (stands_both s e new id (record r { incoming = awaiting r.incoming expected; outgoing = is_to_have r.outgoing sent }) (with_said sender.here sent) h (said sender.here r.outgoing sent sender.stands) sets))
-
--- and a server
-abbrev with_sent : EndpointHistory → ℕ → List Field → Option Incoming → Option Outgoing → EndpointHistory
-with_sent e id fields i o = record e { outgoing = saying_at e.outgoing id (content_of_response_to (known_of i) fields) o }
-
-answered_stands : (s : EndpointState) (e : EndpointHistory) (new : Streams RequestState) (id : ℕ) (fields : List Field) (there : Option RequestState) → StandsFor s e → kept_at s.requests id ≡ there
-    → IfSome there (λ r. Sets s.requests new id (record r { outgoing = is_to_have r.outgoing (content_of_response_to r.incoming.response fields) })) → (there ≡ None → AllSame s.requests new)
-    → StandsFor (record s { requests = new }) (with_sent e id fields (stream_at e.incoming id) (stream_at e.outgoing id))
-answered_stands s e new id fields None h was sets same =
-    subst (λ o. StandsFor (record s { requests = new }) (with_sent e id fields (stream_at e.incoming id) o)) (sym (no_sender s e id h was)) (stands_same s e new h (same refl))
-answered_stands s e new id fields (Some r) h was sets same =
-    let sender = sender_at s e id r h was in
-    let content = content_of_response_to r.incoming.response fields in
-    subst (λ i. StandsFor (record s { requests = new }) (with_sent e id fields i (stream_at e.outgoing id))) (sym (received_at s e id (Some r) h was))
-    (subst (λ o. StandsFor (record s { requests = new }) (with_sent e id fields (Some r.incoming) o)) (sym sender.is)
-    (stands_sending s e new id r (record r { outgoing = is_to_have r.outgoing content }) (with_said sender.here content) h was refl (said sender.here r.outgoing content sender.stands) sets))
+    let content = sent r.incoming.response in
+    subst (λ i. StandsFor (record s { requests = new }) (with_both e side id fields (sent (known_of i)) i (stream_at e.outgoing id))) (sym (received_at s e id (Some r) h was))
+    (subst (λ o. StandsFor (record s { requests = new }) (with_both e side id fields content (Some r.incoming) o)) (sym sender.is)
+    (stands_both s e new id (tells side fields sent r) (with_said sender.here content) h (said sender.here r.outgoing content sender.stands) sets))
 
 said_so : (s : EndpointState) (new : Streams RequestState) (id : ℕ) (fields : List Field) (strict : Bool) (side : Side) → (s.announced.choices.strict_messages ≡ strict) × (s.side ≡ side)
     → ((e : EndpointHistory) → StandsFor s e → StandsFor (record s { requests = new }) (said_at strict side e id fields)) → Remembers s (record s { requests = new }) id fields
@@ -110,18 +96,18 @@ pub told : (s now : EndpointState) (new : Streams RequestState) (id : ℕ) (fiel
 told s now new id fields expected sent view is sets same =
     subst (λ v. Remembers v (record s { requests = new }) id fields) view
     (said_so s new id fields true Client (ap (λ (v : EndpointState). v.announced.choices.strict_messages) view ∙ is.0, ap (λ (v : EndpointState). v.side) view ∙ is.1.0)
-    (λ e h.
-    subst (λ c. StandsFor (record s { requests = new }) (with_both e id c (content_of_own_request fields) (stream_at e.incoming id) (stream_at e.outgoing id))) is.1.1
-    (subst (λ c. StandsFor (record s { requests = new }) (with_both e id expected c (stream_at e.incoming id) (stream_at e.outgoing id))) is.1.2 (awaited_stands s e new id expected sent (kept_at s.requests id) h refl sets same))))
+    (λ e h. told_stands s e new Client id fields (λ _. content_of_own_request fields) (kept_at s.requests id) h refl
+    (subst (λ c. IfSome (kept_at s.requests id) (λ r. Sets s.requests new id (record r { incoming = awaiting r.incoming c; outgoing = is_to_have r.outgoing (content_of_own_request fields) }))) is.1.1
+    (subst (λ c. IfSome (kept_at s.requests id) (λ r. Sets s.requests new id (record r { incoming = awaiting r.incoming expected; outgoing = is_to_have r.outgoing c }))) is.1.2 sets)) same))
 
 -- a server that does,
 pub answered : (s now : EndpointState) (new : Streams RequestState) (id : ℕ) (fields : List Field) (response : ResponseSaid) → s ≡ now → IsSaid now.side now.announced fields (Response response)
-    → IfSome (kept_at s.requests id) (λ r. Sets s.requests new id (record r { outgoing = is_to_have r.outgoing (content_of_response_to r.incoming.response fields) })) → (kept_at s.requests id ≡ None → AllSame s.requests new)
-    → Remembers now (record s { requests = new }) id fields
+    → IfSome (kept_at s.requests id) (λ r. Sets s.requests new id (record r { incoming = having_told Server r.incoming fields; outgoing = is_to_have r.outgoing (content_of_response_to r.incoming.response fields) }))
+    → (kept_at s.requests id ≡ None → AllSame s.requests new) → Remembers now (record s { requests = new }) id fields
 answered s now new id fields response view is sets same =
     subst (λ v. Remembers v (record s { requests = new }) id fields) view
     (said_so s new id fields true Server (ap (λ (v : EndpointState). v.announced.choices.strict_messages) view ∙ is.0, ap (λ (v : EndpointState). v.side) view ∙ is.1.0)
-    (λ e h. answered_stands s e new id fields (kept_at s.requests id) h refl sets same))
+    (λ e h. told_stands s e new Server id fields (λ known. content_of_response_to known fields) (kept_at s.requests id) h refl sets same))
 
 -- and any other
 pub silent : (s now : EndpointState) (id : ℕ) (fields : List Field) → s ≡ now → IsSaid now.side now.announced fields Nothing → Remembers now s id fields

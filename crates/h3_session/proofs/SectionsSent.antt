@@ -13,8 +13,8 @@ use Rattle.h3_session.specs.SendingFields.{IsJudged, Queues, SendsFields}
 use Rattle.h3_session.proofs.SendingSections.{not_begun}
 use Rattle.h3_session.proofs.SendingStands.{counted_stands}
 
-pub section_refused : (s : EndpointState) (id : ℕ) (fields : List Field) (place : SendPlace) (r : Refusal) → (r ≡ refusal.OutOfMemory → broken_behind place s fields ≡ None)
-    → (r ≢ refusal.OutOfMemory → refused_behind s place fields ≡ Some r) → SendsFields (λ e. e) s s id fields place (Some r)
+pub section_refused : (s : EndpointState) (id : ℕ) (fields : List Field) (place : SendPlace) (r : Refusal) → (r ≡ refusal.OutOfMemory → broken_behind place s id fields ≡ None)
+    → (r ≢ refusal.OutOfMemory → refused_behind s id place fields ≡ Some r) → SendsFields (λ e. e) s s id fields place (Some r)
 section_refused s id fields place r unbroken refused = record {
   done = λ never. absurd (cc);
   list = λ differs. sym (refused (λ is. differs (ap Some is)));
@@ -25,17 +25,17 @@ section_refused s id fields place r unbroken refused = record {
 }
 
 -- of a list that breaks no rule its size tells, and of another one the rule
-pub of_size : (s : EndpointState) (place : SendPlace) (fields : List Field) (told : Option Refusal) → broken_behind place s fields ≡ None → size_refused s.peer.settings fields ≡ told
-    → refused_behind s place fields ≡ told
-of_size s place fields told kept sized = ap (λ broken. list_refused broken s.peer.settings fields) kept ∙ sized
+pub of_size : (s : EndpointState) (id : ℕ) (place : SendPlace) (fields : List Field) (told : Option Refusal) → broken_behind place s id fields ≡ None → size_refused s.peer.settings fields ≡ told
+    → refused_behind s id place fields ≡ told
+of_size s id place fields told kept sized = ap (λ broken. list_refused broken s.peer.settings fields) kept ∙ sized
 
-pub section_malformed : (s : EndpointState) (id : ℕ) (fields : List Field) (place : SendPlace) (why : Malformation) → broken_behind place s fields ≡ Some why
+pub section_malformed : (s : EndpointState) (id : ℕ) (fields : List Field) (place : SendPlace) (why : Malformation) → broken_behind place s id fields ≡ Some why
     → SendsFields (λ e. e) s s id fields place (Some (refusal.Malformed why))
 section_malformed s id fields place why broken =
     section_refused s id fields place (refusal.Malformed why) (λ never. absurd (cc)) (λ _. ap (λ rule. list_refused rule s.peer.settings fields) broken)
 
 pub section_sent : (s mid now : EndpointState) (id : ℕ) (fields : List Field) (place : SendPlace) (sum : ℕ) → now ≡ mid → IsJudged s fields sum
-    → refused_behind s place fields ≡ None → Queues s mid id fields place → SendsFields (λ e. e) s (record now { sent = sum }) id fields place None
+    → refused_behind s id place fields ≡ None → Queues s mid id fields place → SendsFields (λ e. e) s (record now { sent = sum }) id fields place None
 section_sent s mid now id fields place sum is judged fits queued =
     let total : mid.sent + fields_cost fields + 64 ≡ sum = ap (λ n. n + fields_cost fields + 64) queued.sent ∙ sym judged.sum_is in
     subst (λ v. SendsFields (λ e. e) s (record v { sent = sum }) id fields place None) (sym is) (record {

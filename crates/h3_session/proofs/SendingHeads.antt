@@ -22,10 +22,10 @@ use Rattle.h3_connection.specs.declared.event.Refusal.{Refusal}
 use Rattle.h3_connection.specs.declared.event.Refusal.TheVariants as refusal
 use Rattle.h3_connection.specs.declared.place.SendPlace.{SendPlace}
 use Rattle.h3_connection.specs.declared.place.SendPlace.TheVariants.{NothingSent, HeadSent, TrailerSent}
-use Rattle.h3_requests.specs.Refused.{head_refused_at, body_refused_at, early_trailer_at}
+use Rattle.h3_requests.specs.Refused.{head_refused_at, body_refused_at, early_trailer_at, known_in}
 use Rattle.h3_session.proofs.Opened.{stands_same}
 use Rattle.h3_session.specs.SendingLists.{IsJudgedOr, NotMalformed, SendsJudged, SendsJudgedHead, SendsJudgedTrailer, SendsListedHead, SendsListedTrailer, after_head, after_trailer, listed_head_refusal, listed_trailer_refusal, send_listed_head, send_listed_trailer}
-use Rattle.h3_session.specs.Refused.{list_refused, refused_behind, broken_behind, own_head_refused, own_trailer_refused, head_refused, trailer_refused, going_refused, head_refused_in}
+use Rattle.h3_session.specs.Refused.{list_refused, refused_behind, broken_behind, own_head_refused, own_trailer_refused, head_refused, trailer_refused, going_refused, head_refused_in, broken_head_in}
 use Rattle.h3_session.proofs.ReceivingCancel.{requests_same}
 use Rattle.h3_session.specs.SendingFields.{IsPart, SendsFields, asking}
 use Rattle.h3_session.proofs.Parts.{before_head, in_body, place_pushed}
@@ -81,9 +81,9 @@ module _ (rule : EndpointHistory → Option Refusal) (after : EndpointHistory �
   section_sends : (behind : EndpointHistory → EndpointHistory) (new : EndpointState) (place : SendPlace) (refused : Option Refusal) (part : EndpointHistory → OwnPart)
       → ((e : EndpointHistory) → StandsFor old e → rule e ≡ list_refused broken old.peer.settings fields) → ((e : EndpointHistory) → StandsFor old e → IsPart e id fields place (part e))
       → ((e : EndpointHistory) → after e ≡ behind (counted (appended (encoded e id fields) id (part e)) (fields_cost fields)))
-      → broken ≡ broken_behind place old fields → SendsFields behind old new id fields place refused → SendsSection (λ e. does (rule e) e (after e)) old new id fields refused
+      → broken ≡ broken_behind place old id fields → SendsFields behind old new id fields place refused → SendsSection (λ e. does (rule e) e (after e)) old new id fields refused
   section_sends behind new place refused part is parts afters rules h =
-      let same_list : refused_behind old place fields ≡ list_refused broken old.peer.settings fields = ap (λ b. list_refused b old.peer.settings fields) (sym rules) in
+      let same_list : refused_behind old id place fields ≡ list_refused broken old.peer.settings fields = ap (λ b. list_refused b old.peer.settings fields) (sym rules) in
       record {
         done = λ e stands not_memory.
             done_by new e refused stands (is e stands ∙ sym (h.list not_memory ∙ same_list)) (λ none. subst (StandsFor new) (sym (afters e)) (h.done none e (part e) stands (parts e stands))) (λ some. h.same some not_memory);
@@ -172,11 +172,11 @@ module _ (rule : EndpointHistory → Option Refusal) (after : EndpointHistory �
             judged = λ e h memory. absurd (differs (same_told r refusal.OutOfMemory memory));
           }
 
--- the rules of a list are those of its place, whatever is stored of the streams
-behind_alike : (place : SendPlace) (s : EndpointState) (requests : Streams RequestState) (fields : List Field) → broken_behind place s fields ≡ broken_behind place (record s { requests = requests }) fields
-behind_alike NothingSent s requests fields = refl
-behind_alike HeadSent s requests fields = refl
-behind_alike TrailerSent s requests fields = refl
+-- the rules of a list are those of its place, where the same is stored of the streams
+behind_alike : (place : SendPlace) (s : EndpointState) (id : ℕ) (requests : Streams RequestState) (fields : List Field) → AllSame s.requests requests → broken_behind place s id fields ≡ broken_behind place (record s { requests = requests }) id fields
+behind_alike NothingSent s id requests fields same = ap (λ o. broken_head s.side s.announced s.peer.settings (known_in o) fields) (sym (same.each id))
+behind_alike HeadSent s id requests fields same = ap (λ o. broken_head s.side s.announced s.peer.settings (known_in o) fields) (sym (same.each id))
+behind_alike TrailerSent s id requests fields same = refl
 
 -- `send_head`
 abbrev place_behind : Bool → SendPlace
@@ -219,30 +219,30 @@ head_is s e id head fields (Some r) h was takes =
     let section = written_section e.encoder id fields in
     record { sends_on = o.here; piece = head_piece (is_interim head.status) section; place_is = head_place (outgoing_at e id).parts (is_interim head.status) section o.unsent }
 
-head_rule : (s : EndpointState) (id : ℕ) (head : Head) (fields : List Field) → head_refused s id head ≡ None → (e : EndpointHistory) → StandsFor s e → listed_head_refusal e id head fields ≡ list_refused (broken_head s.side s.announced s.peer.settings fields) s.peer.settings fields
-head_rule s id head fields none e h = sym (head_refusal_is s e id head fields h) ∙ ap (λ o. or_later o (list_refused (broken_head s.side s.announced s.peer.settings fields) s.peer.settings fields)) none
+head_rule : (s : EndpointState) (id : ℕ) (head : Head) (fields : List Field) → head_refused s id head ≡ None → (e : EndpointHistory) → StandsFor s e → listed_head_refusal e id head fields ≡ list_refused (broken_head_in s id fields) s.peer.settings fields
+head_rule s id head fields none e h = sym (head_refusal_is s e id head fields h) ∙ ap (λ o. or_later o (list_refused (broken_head_in s id fields) s.peer.settings fields)) none
 
 head_refuses : (s : EndpointState) (id : ℕ) (head : Head) (fields : List Field) (r : Refusal) → head_refused s id head ≡ Some r → SendsListedHead s s id head fields (Err r)
 head_refuses s id head fields r is =
-    section_refused (λ e. listed_head_refusal e id head fields) (λ e. after_head e id head fields) s id fields (broken_head s.side s.announced s.peer.settings fields) r
-    (λ e h. sym (head_refusal_is s e id head fields h) ∙ ap (λ o. or_later o (list_refused (broken_head s.side s.announced s.peer.settings fields) s.peer.settings fields)) is) (λ memory. head_takes_none s id head (is ∙ ap Some memory))
+    section_refused (λ e. listed_head_refusal e id head fields) (λ e. after_head e id head fields) s id fields (broken_head_in s id fields) r
+    (λ e h. sym (head_refusal_is s e id head fields h) ∙ ap (λ o. or_later o (list_refused (broken_head_in s id fields) s.peer.settings fields)) is) (λ memory. head_takes_none s id head (is ∙ ap Some memory))
 
 head_lacks : (s : EndpointState) (id : ℕ) (head : Head) (fields : List Field) → head_refused s id head ≡ None → SendsListedHead s s id head fields (Err refusal.OutOfMemory)
-head_lacks s id head fields none = section_lacks (λ e. listed_head_refusal e id head fields) (λ e. after_head e id head fields) s id fields (broken_head s.side s.announced s.peer.settings fields) (head_rule s id head fields none)
+head_lacks s id head fields none = section_lacks (λ e. listed_head_refusal e id head fields) (λ e. after_head e id head fields) s id fields (broken_head_in s id fields) (head_rule s id head fields none)
 
 -- the rules of a head are those of its place
-behind_head : (interim : Bool) (s : EndpointState) (fields : List Field) → broken_head s.side s.announced s.peer.settings fields ≡ broken_behind (place_behind interim) s fields
-behind_head true s fields = refl
-behind_head false s fields = refl
+behind_head : (interim : Bool) (s : EndpointState) (id : ℕ) (fields : List Field) → broken_head_in s id fields ≡ broken_behind (place_behind interim) s id fields
+behind_head true s id fields = refl
+behind_head false s id fields = refl
 
 head_sends : (old new : EndpointState) (id : ℕ) (head : Head) (given fields : List Field) (place : SendPlace) (result : Result Unit Refusal) → head_refused old id head ≡ None → given ≡ fields
     → place ≡ (if is_interim head.status then NothingSent else HeadSent) → SendsFields (asking id given) old new id given place (call_refused result) → SendsListedHead old new id head fields result
 head_sends old new id head given fields place result none are at h =
     let sent_here : SendsFields (asking id fields) old new id fields (place_behind (is_interim head.status)) (call_refused result)
     = subst (λ p. SendsFields (asking id fields) old new id fields p (call_refused result)) at (subst (λ fs. SendsFields (asking id fs) old new id fs place (call_refused result)) are h) in
-    section_sends (λ e. listed_head_refusal e id head fields) (λ e. after_head e id head fields) old id fields (broken_head old.side old.announced old.peer.settings fields) (asking id fields) new (place_behind (is_interim head.status)) (call_refused result) (λ e. head_part head (written_section e.encoder id fields))
+    section_sends (λ e. listed_head_refusal e id head fields) (λ e. after_head e id head fields) old id fields (broken_head_in old id fields) (asking id fields) new (place_behind (is_interim head.status)) (call_refused result) (λ e. head_part head (written_section e.encoder id fields))
     (head_rule old id head fields none) (λ e stands. head_is old e id head fields (kept_at old.requests id) stands refl (head_allowed (going_refused old) (own_head_refused old.announced old.side head) old.closed (kept_at old.requests id) none)) (λ e. refl)
-    (behind_head (is_interim head.status) old fields) sent_here
+    (behind_head (is_interim head.status) old id fields) sent_here
 
 head_open : (s : EndpointState) (id : ℕ) (head : Head) → s.closed ≡ None → head_refused s id head ≡ or_later (head_refused_in s id) (own_head_refused s.announced s.side head)
 head_open s id head closed = ap (λ c. closed_or c (or_later (head_refused_in s id) (own_head_refused s.announced s.side head))) closed
@@ -281,14 +281,14 @@ head_sent s m n id head later given fields place result closed is rest same none
     (head_sends mid n id head given fields place result taken are at (subst (λ v. SendsFields (asking id given) v n id given place (call_refused result)) rest h))
 
 -- The same where its list is at hand: no room was made for it,
-rules_at : (s n : EndpointState) (head : Head) (fields : List Field) (place : SendPlace) → place ≡ (if is_interim head.status then NothingSent else HeadSent) → n ≡ record s { requests = n.requests }
-    → broken_head s.side s.announced s.peer.settings fields ≡ broken_behind place n fields
-rules_at s n head fields place at rest =
-    behind_head (is_interim head.status) s fields ∙ ap (λ p. broken_behind p s fields) (sym at) ∙ behind_alike place s n.requests fields ∙ ap (λ v. broken_behind place v fields) (sym rest)
+rules_at : (s n : EndpointState) (id : ℕ) (head : Head) (fields : List Field) (place : SendPlace) → place ≡ (if is_interim head.status then NothingSent else HeadSent) → n ≡ record s { requests = n.requests } → AllSame s.requests n.requests
+    → broken_head_in s id fields ≡ broken_behind place n id fields
+rules_at s n id head fields place at rest same =
+    behind_head (is_interim head.status) s id fields ∙ ap (λ p. broken_behind p s id fields) (sym at) ∙ behind_alike place s id n.requests fields same ∙ ap (λ v. broken_behind place v id fields) (sym rest)
 
 pub head_judged : (s n : EndpointState) (id : ℕ) (head : Head) (fields : List Field) (place : SendPlace) (refused r : Refusal) → s.closed ≡ None → own_head_refused s.announced s.side head ≡ None
     → place ≡ (if is_interim head.status then NothingSent else HeadSent) → n ≡ record s { requests = n.requests } → AllSame s.requests n.requests
-    → refused ≡ unwrap_or (or_later (head_refused_in s id) None) refusal.OutOfMemory → IsJudgedOr n place fields refused r → SendsJudgedHead s n id head fields (Err r)
+    → refused ≡ unwrap_or (or_later (head_refused_in s id) None) refusal.OutOfMemory → IsJudgedOr n id place fields refused r → SendsJudgedHead s n id head fields (Err r)
 head_judged s n id head fields place refused r closed sent at rest same why judged = by (or_later (head_refused_in s id) None) refl
   where
     open_rule : head_refused s id head ≡ or_later (head_refused_in s id) None
@@ -305,12 +305,12 @@ head_judged s n id head fields place refused r closed sent at rest same why judg
         }
     by None is =
         let want : refused ≡ refusal.OutOfMemory = why ∙ ap (λ o. unwrap_or o refusal.OutOfMemory) is in
-        let rules = rules_at s n head fields place at rest in
+        let rules = rules_at s n id head fields place at rest same in
         subst (λ v. SendsJudgedHead s v id head fields (Err r)) (sym rest)
-        (section_judged (λ e. listed_head_refusal e id head fields) (λ e. after_head e id head fields) s id fields (broken_head s.side s.announced s.peer.settings fields) n.requests same r
+        (section_judged (λ e. listed_head_refusal e id head fields) (λ e. after_head e id head fields) s id fields (broken_head_in s id fields) n.requests same r
         (head_rule s id head fields (open_rule ∙ is))
         (λ differs. ap (λ b. list_refused b s.peer.settings fields) rules
-        ∙ ap (λ settings. list_refused (broken_behind place n fields) settings fields) (ap (λ (v : EndpointState). v.peer.settings) (sym rest)) ∙ judged.list want differs)
+        ∙ ap (λ settings. list_refused (broken_behind place n id fields) settings fields) (ap (λ (v : EndpointState). v.peer.settings) (sym rest)) ∙ judged.list want differs)
         (λ memory. rules ∙ judged.unbroken want memory))
 
 -- or it was sent
@@ -321,9 +321,9 @@ head_sent_judged s m n id head later given fields place result closed is rest sa
     record {
       sends = head_sent s m n id head later given fields place result closed is rest same none are at h;
       judged = λ e stands memory.
-          unbroken_told (λ e. listed_head_refusal e id head fields) (λ e. after_head e id head fields) s id fields (broken_head s.side s.announced s.peer.settings fields)
+          unbroken_told (λ e. listed_head_refusal e id head fields) (λ e. after_head e id head fields) s id fields (broken_head_in s id fields)
           (head_rule s id head fields (head_open s id head closed ∙ ap (or_later (head_refused_in s id)) (sym is) ∙ none))
-          (rules_at s m head fields place at rest ∙ ap (broken_behind place m) (sym are) ∙ h.unbroken memory) e stands;
+          (rules_at s m id head fields place at rest same ∙ ap (broken_behind place m id) (sym are) ∙ h.unbroken memory) e stands;
     }
 
 -- `send_trailer`
@@ -405,7 +405,7 @@ trailer_sent s m n id trailer later given fields result closed is rest same none
 
 -- The same where its list is at hand: no room was made for it,
 pub trailer_judged : (s n : EndpointState) (id : ℕ) (trailer : Head) (fields : List Field) (refused r : Refusal) → s.closed ≡ None → own_trailer_refused s.announced trailer ≡ None → n ≡ record s { requests = n.requests } → AllSame s.requests n.requests
-    → refused ≡ unwrap_or (or_later (body_refused_at (kept_at s.requests id)) (or_later None (early_trailer_at (kept_at s.requests id)))) refusal.OutOfMemory → IsJudgedOr n TrailerSent fields refused r
+    → refused ≡ unwrap_or (or_later (body_refused_at (kept_at s.requests id)) (or_later None (early_trailer_at (kept_at s.requests id)))) refusal.OutOfMemory → IsJudgedOr n id TrailerSent fields refused r
     → SendsJudgedTrailer s n id trailer fields (Err r)
 trailer_judged s n id trailer fields refused r closed sent rest same why judged = by (or_later (body_refused_at (kept_at s.requests id)) (behind_order s id None)) refl
   where
@@ -423,12 +423,12 @@ trailer_judged s n id trailer fields refused r closed sent rest same why judged 
         }
     by None is =
         let want : refused ≡ refusal.OutOfMemory = why ∙ ap (λ o. unwrap_or o refusal.OutOfMemory) is in
-        let rules : broken_trailer s.announced fields ≡ broken_behind TrailerSent n fields = ap (λ v. broken_behind TrailerSent v fields) (sym rest) in
+        let rules : broken_trailer s.announced fields ≡ broken_behind TrailerSent n id fields = ap (λ v. broken_behind TrailerSent v id fields) (sym rest) in
         subst (λ v. SendsJudgedTrailer s v id trailer fields (Err r)) (sym rest)
         (section_judged (λ e. listed_trailer_refusal e id trailer fields) (λ e. after_trailer e id fields) s id fields (broken_trailer s.announced fields) n.requests same r
         (trailer_rule s id trailer fields (open_rule ∙ is))
         (λ differs. ap (λ b. list_refused b s.peer.settings fields) rules
-        ∙ ap (λ settings. list_refused (broken_behind TrailerSent n fields) settings fields) (ap (λ (v : EndpointState). v.peer.settings) (sym rest)) ∙ judged.list want differs)
+        ∙ ap (λ settings. list_refused (broken_behind TrailerSent n id fields) settings fields) (ap (λ (v : EndpointState). v.peer.settings) (sym rest)) ∙ judged.list want differs)
         (λ memory. rules ∙ judged.unbroken want memory))
 
 -- or it was sent
@@ -441,5 +441,5 @@ trailer_sent_judged s m n id trailer later given fields result closed is rest sa
       judged = λ e stands memory.
           unbroken_told (λ e. listed_trailer_refusal e id trailer fields) (λ e. after_trailer e id fields) s id fields (broken_trailer s.announced fields)
           (trailer_rule s id trailer fields (trailer_open s id trailer closed ∙ ap (λ l. or_later (body_refused_at (kept_at s.requests id)) (behind_order s id l)) (sym is) ∙ none))
-          (ap (λ v. broken_behind TrailerSent v fields) (sym rest) ∙ ap (broken_behind TrailerSent m) (sym are) ∙ h.unbroken memory) e stands;
+          (ap (λ v. broken_behind TrailerSent v id fields) (sym rest) ∙ ap (broken_behind TrailerSent m id) (sym are) ∙ h.unbroken memory) e stands;
     }

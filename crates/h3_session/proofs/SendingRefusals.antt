@@ -17,7 +17,7 @@ use Rattle.h3_connection.specs.Outgoing.{Outgoing, nothing_sent, is_sent_off, ta
 use Rattle.h3_connection.specs.Pulling.{is_client, is_for}
 use Rattle.h3_connection.specs.OwnIds.{other}
 use Rattle.h3_connection.specs.Refusals.{Sender, SenderStream, first_of, going_away, needed, not_next, of_list, or_later, raised, refusal_of_body, refusal_of_end, refusal_of_goaway, refusal_of_head, refusal_of_trailer, refusal_to_open, refusal_to_stop, seen, unless_going}
-use Rattle.h3_connection.specs.Sending.{closed_or, outgoing_at, is_open, open_refusal, body_refusal, finish_refusal, reset_refusal, goaway_refusal, seen_at, sender_at}
+use Rattle.h3_connection.specs.Sending.{closed_or, outgoing_at, is_open, open_refusal, body_refusal, finish_refusal, reset_refusal, goaway_refusal, seen_at, sender_at, broken_head_at, known_of}
 use Rattle.h3_connection.specs.State.{EndpointState, RequestState, StandsFor, IsOfOutgoing, SameAt, kept_at}
 use Rattle.h3_connection.specs.StreamSets.{stream_at}
 use Rattle.h3_connection.specs.StrictSending.{broken_head, broken_protocol, broken_trailer, early_trailer, passes_content, unless_malformed}
@@ -25,9 +25,9 @@ use Rattle.h3_connection.specs.declared.event.Malformation.{Malformation}
 use Rattle.h3_connection.specs.declared.event.Malformation.TheVariants as malformation
 use Rattle.h3_connection.specs.declared.event.Refusal.{Refusal}
 use Rattle.h3_connection.specs.declared.event.Refusal.TheVariants as refusal
-use Rattle.h3_requests.specs.Refused.{body_refused_at, data_refused_at, early_trailer_at, end_refused_at, head_refused_at, outgoing_in, seen_in}
+use Rattle.h3_requests.specs.Refused.{body_refused_at, data_refused_at, early_trailer_at, end_refused_at, head_refused_at, outgoing_in, seen_in, known_in}
 use Rattle.h3_session.specs.SendingLists.{listed_head_refusal, listed_trailer_refusal, order_refusal, place_refusal}
-use Rattle.h3_session.specs.Refused.{body_refused, end_refused, goaway_refused, head_refused, is_critical_in, list_refused, open_refused, own_head_refused, own_trailer_refused, protocol_refused, pseudo_refused, reset_refused, sender_on, side_refused, streams_of, trailer_refused, going_refused, head_refused_in}
+use Rattle.h3_session.specs.Refused.{body_refused, end_refused, goaway_refused, head_refused, is_critical_in, list_refused, open_refused, own_head_refused, own_trailer_refused, protocol_refused, pseudo_refused, reset_refused, sender_on, side_refused, streams_of, trailer_refused, going_refused, head_refused_in, broken_head_in}
 use Rattle.h3_connection.specs.StrictConnection.{begins_none_after}
 
 -- a stream, by what is stored of its sender's part
@@ -82,11 +82,12 @@ over_at None (Some r) h = absurd h.same
 over_at (Some o) None h = absurd h.same
 
 -- the rule that a list breaks
-broken_same : (s : EndpointState) (e : EndpointHistory) (fields : List Field) → StandsFor s e → broken_head s.side s.announced s.peer.settings fields ≡ broken_head e.side e.announced e.peer.settings fields
-broken_same s e fields h =
-    ap (λ side. broken_head side s.announced s.peer.settings fields) h.side
-    ∙ ap (λ own. broken_head e.side own s.peer.settings fields) h.announced
-    ∙ ap (λ p. broken_head e.side e.announced p.settings fields) h.peer
+broken_same : (s : EndpointState) (e : EndpointHistory) (id : ℕ) (fields : List Field) → StandsFor s e → broken_head_in s id fields ≡ broken_head_at e id fields
+broken_same s e id fields h =
+    ap (λ side. broken_head side s.announced s.peer.settings (known_in (kept_at s.requests id)) fields) h.side
+    ∙ ap (λ own. broken_head e.side own s.peer.settings (known_in (kept_at s.requests id)) fields) h.announced
+    ∙ ap (λ p. broken_head e.side e.announced p.settings (known_in (kept_at s.requests id)) fields) h.peer
+    ∙ ap (λ i. broken_head e.side e.announced e.peer.settings (known_of i) fields) (h.incoming id)
 
 -- Opening a request stream.
 pub open_refusal_is : (s : EndpointState) (e : EndpointHistory) → StandsFor s e → open_refused s ≡ open_refusal e
@@ -158,15 +159,15 @@ in_more_parts None false false false p q r None (Some why) list = refl
 
 -- Sending a head, as a list.
 pub head_refusal_is : (s : EndpointState) (e : EndpointHistory) (id : ℕ) (head : Head) (fields : List Field) → StandsFor s e
-    → or_later (head_refused s id head) (list_refused (broken_head s.side s.announced s.peer.settings fields) s.peer.settings fields) ≡ listed_head_refusal e id head fields
+    → or_later (head_refused s id head) (list_refused (broken_head_in s id fields) s.peer.settings fields) ≡ listed_head_refusal e id head fields
 head_refusal_is s e id head fields h =
     let v = seen_in (kept_at s.requests id) in
-    let broken = broken_head s.side s.announced s.peer.settings fields in
+    let broken = broken_head_in s id fields in
     in_parts s.closed (not v.is_open) (not v.takes_head) (not (is_for (other s.side) head)) refusal.NotOpen refusal.OutOfOrder refusal.WrongSide (sender_on s id).going (broken_protocol s.announced head) (of_list broken s.peer.settings fields)
     ∙ ap (λ c. closed_or c (refusal_of_head (sender_on s id) (broken_protocol s.announced head) broken head fields)) h.closed
     ∙ ap (λ v. closed_or e.closed (refusal_of_head v (broken_protocol s.announced head) broken head fields)) (sender_same s e id h)
     ∙ ap (λ own. closed_or e.closed (refusal_of_head (sender_at e id) (broken_protocol own head) broken head fields)) h.announced
-    ∙ ap (λ b. closed_or e.closed (refusal_of_head (sender_at e id) (broken_protocol e.announced head) b head fields)) (broken_same s e fields h)
+    ∙ ap (λ b. closed_or e.closed (refusal_of_head (sender_at e id) (broken_protocol e.announced head) b head fields)) (broken_same s e id fields h)
 
 -- Sending a trailer, as a list.
 pub trailer_refusal_is : (s : EndpointState) (e : EndpointHistory) (id : ℕ) (head : Head) (fields : List Field) → StandsFor s e

@@ -9,9 +9,9 @@ use Rattle.h3_connection.specs.Outgoing.{takes_head, takes_body}
 use Rattle.h3_connection.specs.OwnIds.{other}
 use Rattle.h3_connection.specs.Pulling.{is_for}
 use Rattle.h3_connection.specs.Refusals.{is_too_large, unless_going}
-use Rattle.h3_connection.specs.Sending.{is_open, outgoing_at, sender_at}
+use Rattle.h3_connection.specs.Sending.{is_open, outgoing_at, sender_at, broken_head_at, known_of}
 use Rattle.h3_connection.specs.StrictMessages.{broken_rule}
-use Rattle.h3_connection.specs.StrictSending.{broken_head, broken_protocol, broken_trailer, early_trailer, unless_malformed}
+use Rattle.h3_connection.specs.StrictSending.{broken_protocol, broken_trailer, early_trailer, unless_malformed}
 use Rattle.h3_connection.specs.StrictSendingLaws.{head_taken, trailer_taken, not_closed, passed, not_early, not_malformed, was_allowed, not_going}
 use Rattle.h3_connection.specs.StrictSends.{IsStrictTo}
 use Rattle.h3_connection.specs.declared.event.Refusal.{Refusal}
@@ -20,6 +20,7 @@ use Rattle.h3_connection.specs.declared.place.Place.TheVariants.{BeforeHead, InB
 use Rattle.h3_connection.specs.declared.setup.Announced.{Announced}
 use Rattle.h3_session.specs.SendingLists.{after_head, after_trailer, listed_head_refusal, listed_trailer_refusal, send_read_head, send_read_trailer}
 use Rattle.h3_session.specs.StrictLists.{SendsWellFormedLists, SendsWellFormedTrailerLists}
+use Rattle.h3_connection.specs.StreamSets.{stream_at}
 
 head_list : (r : HeadRead) (e : EndpointHistory) (peer : Announced) (id : ℕ) (fields : List Field) → IsStrictTo e peer → (send_read_head e id fields r).0 ≡ None → broken_rule (other e.side) peer BeforeHead fields ≡ None
 head_list (IsNone why) e peer id fields strict sent = absurd (cc)
@@ -27,7 +28,7 @@ head_list (IsHead head) e peer id fields strict sent =
     let rule = listed_head_refusal e id head fields in
     let after = after_head e id head fields in
     let protocol = broken_protocol e.announced head in
-    let broken = broken_head e.side e.announced e.peer.settings fields in
+    let broken = broken_head_at e id fields in
     let size = (is_too_large e.peer.settings fields, refusal.TooLarge (section_size fields)) ∷ [] in
     let wrong = (not (is_for (other e.side) head), refusal.WrongSide) ∷ unless_malformed broken size in
     let going = (sender_at e id).going in
@@ -35,7 +36,7 @@ head_list (IsHead head) e peer id fields strict sent =
     let allowed = not_closed e.closed _ (was_allowed rule e after sent) in
     let there = passed (not (is_open e id)) refusal.NotOpen ((not (takes_head (outgoing_at e id)), refusal.OutOfOrder) ∷ judged) allowed in
     let placed = not_early protocol wrong (not_going going (unless_malformed protocol wrong) (passed (not (takes_head (outgoing_at e id))) refusal.OutOfOrder judged there)) in
-    head_taken e.side e.announced peer e.peer.settings fields strict.strict strict.knows
+    head_taken e.side e.announced peer e.peer.settings (known_of (stream_at e.incoming id)) fields strict.strict strict.knows
     (not_malformed broken size (passed (not (is_for (other e.side) head)) refusal.WrongSide (unless_malformed broken size) placed))
 
 trailer_list : (r : HeadRead) (e : EndpointHistory) (peer : Announced) (id : ℕ) (fields : List Field) → IsStrictTo e peer → (send_read_trailer e id fields r).0 ≡ None → broken_rule (other e.side) peer InBody fields ≡ None

@@ -13,13 +13,13 @@ use Rattle.h3_connection.specs.Sending.{closed_or}
 use Rattle.h3_connection.specs.State.{EndpointState, OutgoingState, kept_at}
 use Rattle.h3_connection.specs.StrictConnection.{begins_none_after}
 use Rattle.h3_connection.specs.StrictMessages.{malformation_by}
-use Rattle.h3_connection.specs.StrictSending.{broken_protocol, unless_malformed, violation_of_own_head}
+use Rattle.h3_connection.specs.StrictSending.{broken_protocol, unless_malformed, violation_of_own_head, broken_head}
 use Rattle.h3_connection.specs.declared.event.Malformation.{Malformation}
 use Rattle.h3_connection.specs.declared.event.Refusal.{Refusal}
 use Rattle.h3_connection.specs.declared.setup.Announced.{Announced}
 use Rattle.h3_connection.specs.declared.place.SendPlace.{SendPlace}
 use Rattle.h3_connection.specs.declared.place.SendPlace.TheVariants.{NothingSent, HeadSent, TrailerSent}
-use Rattle.h3_requests.specs.Refused.{body_refused_at, data_refused_at, early_trailer_at, end_refused_at, head_refused_at, outgoing_in, seen_in}
+use Rattle.h3_requests.specs.Refused.{body_refused_at, data_refused_at, early_trailer_at, end_refused_at, head_refused_at, outgoing_in, seen_in, known_in}
 use Rattle.h3_streams.specs.Placed.{StreamsState, is_critical_at}
 
 -- the sender's part of a request stream
@@ -105,14 +105,18 @@ open_refused s = closed_or s.closed (refusal_to_open s.side (last_id s.peer.goaw
 abbrev pub goaway_refused : EndpointState → ℕ → Option Refusal
 goaway_refused s id = closed_or s.closed (refusal_of_goaway s.side id s.last_goaway)
 
--- The rule that a list breaks, where rules are asked, by the place of its message behind it: as a trailer, or as a head.
-abbrev pub violation_behind : SendPlace → EndpointState → List Field → Option Violation
-violation_behind TrailerSent s fields = violation_of_own_trailer fields
-violation_behind HeadSent s fields = violation_of_own_head s.side s.peer.settings fields
-violation_behind NothingSent s fields = violation_of_own_head s.side s.peer.settings fields
+-- The rule that a list breaks on a stream, where rules are asked, by the place of its message behind it: as a trailer, or as a head.
+abbrev pub violation_behind : SendPlace → EndpointState → ℕ → List Field → Option Violation
+violation_behind TrailerSent s id fields = violation_of_own_trailer fields
+violation_behind HeadSent s id fields = violation_of_own_head s.side s.peer.settings (known_in (kept_at s.requests id)) fields
+violation_behind NothingSent s id fields = violation_of_own_head s.side s.peer.settings (known_in (kept_at s.requests id)) fields
 
-abbrev pub broken_behind : SendPlace → EndpointState → List Field → Option Malformation
-broken_behind place s fields = if s.announced.choices.strict_messages then option_map malformation_by (violation_behind place s fields) else None
+abbrev pub broken_behind : SendPlace → EndpointState → ℕ → List Field → Option Malformation
+broken_behind place s id fields = if s.announced.choices.strict_messages then option_map malformation_by (violation_behind place s id fields) else None
+
+-- as a head
+abbrev pub broken_head_in : EndpointState → ℕ → List Field → Option Malformation
+broken_head_in s id fields = broken_head s.side s.announced s.peer.settings (known_in (kept_at s.requests id)) fields
 
 -- The size of a section is judged last, and by the peer's settings.
 abbrev pub size_refused : Option (List (ℕ × ℕ)) → List Field → Option Refusal
@@ -122,5 +126,5 @@ abbrev pub list_refused : Option Malformation → Option (List (ℕ × ℕ)) →
 list_refused broken settings fields = first_of (of_list broken settings fields)
 
 -- what refuses a section by its list, by the place of its message behind it
-abbrev pub refused_behind : EndpointState → SendPlace → List Field → Option Refusal
-refused_behind s place fields = list_refused (broken_behind place s fields) s.peer.settings fields
+abbrev pub refused_behind : EndpointState → ℕ → SendPlace → List Field → Option Refusal
+refused_behind s id place fields = list_refused (broken_behind place s id fields) s.peer.settings fields

@@ -62,11 +62,11 @@ pub record Remembers (old new : EndpointState) (id : ℕ) (fields : List Field) 
 pub record SendsFields (behind : EndpointHistory → EndpointHistory) (old new : EndpointState) (id : ℕ) (fields : List Field) (place : SendPlace) (refused : Option Refusal) : Type 0 where
   pub done : refused ≡ None → (e : EndpointHistory) (part : OwnPart) → StandsFor old e → IsPart e id fields place part
       → StandsFor new (behind (counted (appended (encoded e id fields) id part) (fields_cost fields)))
-  pub list : refused ≢ Some refusal.OutOfMemory → refused ≡ refused_behind old place fields
+  pub list : refused ≢ Some refusal.OutOfMemory → refused ≡ refused_behind old id place fields
   pub same : refused ≢ None → refused ≢ Some refusal.OutOfMemory → new ≡ old
   pub memory : refused ≡ Some refusal.OutOfMemory → (e : EndpointHistory) → StandsFor old e → CutsOff e id fields new
-  pub too_large : refused ≡ Some refusal.OutOfMemory → refused_behind old place fields ≢ None → new ≡ old
-  pub unbroken : refused ≡ Some refusal.OutOfMemory → broken_behind place old fields ≡ None
+  pub too_large : refused ≡ Some refusal.OutOfMemory → refused_behind old id place fields ≢ None → new ≡ old
+  pub unbroken : refused ≡ Some refusal.OutOfMemory → broken_behind place old id fields ≡ None
 
 -- The sum of what was sent, with the section.
 pub record IsJudged (s : EndpointState) (fields : List Field) (sum : ℕ) : Type 0 where

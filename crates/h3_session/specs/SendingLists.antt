@@ -11,10 +11,10 @@ use Rattle.h3_connection.specs.Outgoing.OwnPart.{OwnTrailer}
 use Rattle.h3_connection.specs.Pulling.{malformation_of}
 use Rattle.h3_connection.specs.Sections.{written_section}
 use Rattle.h3_connection.specs.Refusals.{first_of, not_next, refusal_of_head, refusal_of_trailer, unless_going}
-use Rattle.h3_connection.specs.Sending.{does, unless_closed, outgoing_at, seen_at, sender_at, appended, asked, counted, encoded, fields_cost, head_part}
+use Rattle.h3_connection.specs.Sending.{does, unless_closed, outgoing_at, seen_at, sender_at, appended, asked, counted, encoded, fields_cost, head_part, broken_head_at}
 use Rattle.h3_connection.specs.SendingContracts.{CutsOff, MayLackMemory, SendsSection}
 use Rattle.h3_connection.specs.State.{EndpointState, StandsFor}
-use Rattle.h3_connection.specs.StrictSending.{broken_head, broken_protocol, broken_trailer, early_trailer}
+use Rattle.h3_connection.specs.StrictSending.{broken_protocol, broken_trailer, early_trailer}
 use Rattle.h3_connection.specs.declared.event.Refusal.{Refusal}
 use Rattle.h3_connection.specs.declared.event.Refusal.TheVariants as refusal
 use Rattle.h3_connection.specs.declared.place.SendPlace.{SendPlace}
@@ -22,7 +22,7 @@ use Rattle.h3_session.specs.Refused.{broken_behind, refused_behind}
 
 -- A head that is sent as this list: as `send_head`, which sends `head_fields`. What was read of a list has a protocol that is taken.
 abbrev pub listed_head_refusal : EndpointHistory → ℕ → Head → List Field → Option Refusal
-listed_head_refusal e id head fields = unless_closed e (refusal_of_head (sender_at e id) (broken_protocol e.announced head) (broken_head e.side e.announced e.peer.settings fields) head fields)
+listed_head_refusal e id head fields = unless_closed e (refusal_of_head (sender_at e id) (broken_protocol e.announced head) (broken_head_at e id fields) head fields)
 
 abbrev pub after_head : EndpointHistory → ℕ → Head → List Field → EndpointHistory
 after_head e id head fields = asked (counted (appended (encoded e id fields) id (head_part head (written_section e.encoder id fields))) (fields_cost fields)) id fields
@@ -64,10 +64,10 @@ abbrev pub SendsJudgedTrailer : EndpointState → EndpointState → ℕ → Head
 SendsJudgedTrailer old new id trailer fields result = SendsJudged (λ e. send_listed_trailer e id trailer fields) old new id fields (call_refused result)
 
 -- What a list is refused by for which no room was made: by the stream's refusal, or else by its own before want of memory
-pub record IsJudgedOr (s : EndpointState) (place : SendPlace) (fields : List Field) (refused told : Refusal) : Type 0 where
+pub record IsJudgedOr (s : EndpointState) (id : ℕ) (place : SendPlace) (fields : List Field) (refused told : Refusal) : Type 0 where
   pub other : refused ≢ refusal.OutOfMemory → told ≡ refused
-  pub list : refused ≡ refusal.OutOfMemory → told ≢ refusal.OutOfMemory → refused_behind s place fields ≡ Some told
-  pub unbroken : refused ≡ refusal.OutOfMemory → told ≡ refusal.OutOfMemory → broken_behind place s fields ≡ None
+  pub list : refused ≡ refusal.OutOfMemory → told ≢ refusal.OutOfMemory → refused_behind s id place fields ≡ Some told
+  pub unbroken : refused ≡ refusal.OutOfMemory → told ≡ refusal.OutOfMemory → broken_behind place s id fields ≡ None
 
 -- Why a stream takes no head now, whatever is in it.
 abbrev pub place_refusal : EndpointHistory → ℕ → Option Refusal

@@ -1,16 +1,17 @@
 -- What a head that is sent says of content, as one walk over its list tells it.
-use Rattle.std.specs.Prelude.{◌≡◌, ℕ, true, false, List, Option}
+use Rattle.std.specs.Prelude.{◌≡◌, ℕ, Bool, true, false, List, Option}
 use Rattle.h3_field.specs.Field.{Field}
 use Rattle.h3_messages.specs.Content.{awaited_by}
-use Rattle.h3_messages.specs.OwnMessages.{content_of_own_request}
+use Rattle.h3_messages.specs.OwnMessages.{content_of_own_request, violation_of_own_request, violation_of_own_response}
 use Rattle.h3_messages.specs.ResponseSaid.{response_said}
-use Rattle.h3_connection.specs.StrictSending.{violation_of_own_head}
+use Rattle.h3_connection.specs.StrictSending.{peer_connects}
 use Rattle.h3_connection.specs.declared.setup.Announced.{Announced}
 use Rattle.h3_proto.specs.declared.stream.Side.{Side}
 use Rattle.h3_proto.specs.declared.stream.Side.TheVariants.{Client, Server}
 use Rattle.h3_session.specs.declared.endpoint.strict.Said.{Said}
 use Rattle.h3_session.specs.declared.endpoint.strict.Said.TheVariants.{Nothing, Request, Response}
 use Rattle.h3_session.specs.declared.endpoint.strict.SentRead.{SentRead}
+use Rattle.h3_messages.specs.declared.violation.Violation.{Violation}
 
 -- by the side that sends it: a client sends requests, and a server responses
 abbrev pub IsSaidBy : Side → List Field → Said → Type 0
@@ -24,6 +25,16 @@ IsSaid side own fields Nothing = own.choices.strict_messages ≡ false
 IsSaid side own fields (Request awaited content) = (own.choices.strict_messages ≡ true) × IsSaidBy side fields (Request awaited content)
 IsSaid side own fields (Response said) = (own.choices.strict_messages ≡ true) × IsSaidBy side fields (Response said)
 
--- a walk told of a head the rule that it breaks, and what it says, by the peer's settings
+-- a response that opens a tunnel, and says a length
+abbrev pub says_length_of_tunnel : Said → Bool
+says_length_of_tunnel (Response said) = said.says_tunnel_length
+says_length_of_tunnel _ = false
+
+-- what a list breaks as a head, whatever was asked
+abbrev pub violation_of_own_list : Side → Option (List (ℕ × ℕ)) → List Field → Option Violation
+violation_of_own_list Client settings fields = violation_of_own_request (peer_connects settings) fields
+violation_of_own_list Server settings fields = violation_of_own_response fields
+
+-- a walk told of a head the rule that its list breaks, and what it says, by the peer's settings
 abbrev pub IsReadOf : Side → Option (List (ℕ × ℕ)) → List Field → SentRead → Type 0
-IsReadOf side settings fields read = (read.violation ≡ violation_of_own_head side settings fields) × IsSaidBy side fields read.said
+IsReadOf side settings fields read = (read.violation ≡ violation_of_own_list side settings fields) × IsSaidBy side fields read.said

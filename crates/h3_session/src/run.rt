@@ -5,6 +5,7 @@ ghost use Rattle.h3_world.specs.Ends.{new_ends};
 ghost use Rattle.h3_world.specs.Few.{AreFew};
 ghost use Rattle.h3_world.specs.Headline.{is_out_of_memory};
 ghost use Rattle.h3_world.specs.Setup.{IsMadeSetup, JudgesPlainly};
+ghost use Rattle.h3_faithful.specs.Faithful.{UntilFault};
 ghost use Rattle.h3_session.specs.Headlines.{RunsInKeepingWorld, RunsInWorld};
 ghost use Rattle.h3_session.specs.Messages.{HandsOutAlways};
 ghost use Rattle.h3_session.specs.Strict.{RunsToEnd, RunsUntilMemory, TakesWhatIsSent, one_judges_more};
@@ -19,6 +20,7 @@ mod typed;
 use self::acting::act;
 use self::typed::events_are_typed;
 use crate::endpoint::Endpoint;
+use h3_faithful::laws::each_side_gets_what_the_other_sent;
 use h3_headline::laws::two_endpoints_run_in_a_world;
 use h3_headline::parts::endpoints_hand_out_what_was_sent;
 use h3_memory::laws::{
@@ -98,6 +100,11 @@ fn beside<A: Drop, B: Drop>(first: A, second: Result<B, AllocError>) -> Result<(
 /// - `memory`: within the bounds of `headline` all answers are those of a run of a world in which allocations may fail. What a side keeps
 ///   and has not read counts as not delivered there. An answer that does not report out of memory is one of that world, and one that does
 ///   loses nothing; no connection fault arises. The endpoints that are returned stand in its last world, with what they keep.
+/// - `faithful`: in every setup, with both sides strict, one or none, with limits or without, within the bounds of `headline` on what is sent
+///   alone, up to a connection fault. By the events and their answers alone, after each event: what a side pulled from a stream is a front of
+///   what the other side sent on it, and with the end it is all of that. A send that is next on its stream is accepted, or an allocation fails.
+///   (A strict side, or a list, may be found malformed. And a strict connection begins no request after GOAWAY.) With nothing left to
+///   deliver, a pull pauses only after all that was sent.
 /// - `front`: in every setup, with both sides strict, one or none, with limits or without. The answers up to the first that reports out of
 ///   memory are those of a run of the world of a connection. In each of its steps all that `headline` says holds, and each side receives
 ///   what the other side sent. The bounds are those of `headline` on what is sent alone. If a side is strict or limits what is unfinished, a
@@ -129,6 +136,7 @@ pub fn run(alloc: Global, setup: Setup, events: &[Event]) -> Result<Outcome, All
     ensures each { IfOk result (λ out. AnswersEach (new_ends setup) events.now out.answers.items) }
     ensures messages { IfOk result (λ out. AreFew setup events.now → JudgesPlainly setup → HandsOutAlways setup events.now out.answers.items) }
     ensures memory { IfOk result (λ out. AreFew setup events.now → JudgesPlainly setup → RunsInKeepingWorld setup events.now out.answers.items out.client out.server) }
+    ensures faithful { IfOk result (λ out. AreFew setup events.now → UntilFault setup events.now out.answers.items) }
     ensures front { IfOk result (λ out. AreFew setup events.now → RunsUntilMemory setup events.now out.answers.items) }
     ensures runs { IfOk result (λ out. list_any is_out_of_memory out.answers.items ≡ false →
         RunsTo (new_ends setup) events.now out.answers.items out.client out.server) }
@@ -137,6 +145,7 @@ pub fn run(alloc: Global, setup: Setup, events: &[Event]) -> Result<Outcome, All
     ensures judged { IfOk result (λ out. list_any is_out_of_memory out.answers.items ≡ false → AreFew setup events.now → one_judges_more setup ≡ true → TakesWhatIsSent setup events.now out.answers.items →
         RunsToEnd setup events.now out.answers.items out.client out.server) }
 {
+    each_side_gets_what_the_other_sent();
     two_endpoints_run_in_a_world();
     endpoints_hand_out_what_was_sent();
     two_endpoints_run_with_memory();

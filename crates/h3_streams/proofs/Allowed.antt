@@ -7,14 +7,15 @@ use Rattle.h3_connection.specs.PeerReading.{Peer, with_unread}
 use Rattle.h3_unidirectional.specs.Fronts.{KeepsPart}
 use Rattle.h3_unidirectional.specs.Learned.{capacity_of, blocked_of, usable_capacity}
 use Rattle.h3_connection.specs.PeerReadingLaws.{nothing_read_on}
+use Rattle.h3_wire.specs.declared.frame.kinds.FrameKinds.{FrameKinds}
 
 -- nothing was read
-pub nothing_read : (last : Bool) (limit : ℕ) (side : Side) (p : Peer) → KeepsPart last limit side p p
-nothing_read last limit side p =
+pub nothing_read : (kinds : FrameKinds) (last : Bool) (limit : ℕ) (side : Side) (p : Peer) → KeepsPart kinds last limit side p p
+nothing_read kinds last limit side p =
     record {
       each = λ q is. record {
         after = q;
-        part = record { front = []; rest = q.unread; cut = refl; read = with_unread q []; reads = nothing_read_on limit side q; left = refl };
+        part = record { front = []; rest = q.unread; cut = refl; read = with_unread q []; reads = nothing_read_on kinds limit side q; left = refl };
         kept = is;
       };
     }

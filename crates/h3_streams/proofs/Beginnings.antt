@@ -15,7 +15,7 @@ use Rattle.h3_connection.specs.State.{EndpointState, StandsFor, IsToldPeer}
 use Rattle.h3_streams.proofs.PlacedLaws.{stands_control, stands_encoder, stands_decoder}
 use Rattle.h3_streams.specs.Placed.{StreamsState, placed}
 use Rattle.h3_connection.specs.PeerReadingLaws.{nothing_read_on}
-use Rattle.h3_connection.specs.StrictConnection.{is_strict, stream_fault}
+use Rattle.h3_connection.specs.StrictConnection.{is_strict, kinds_of, stream_fault}
 use Rattle.h3_connection.specs.StrictConnectionLaws.{nothing_told, nothing_held}
 use Rattle.h3_connection.specs.Codes.{encoder_stream_error, decoder_stream_error}
 
@@ -41,7 +41,7 @@ control_begins s x e id h told none =
     let nothing = h.reached.control none in
     let p = with_unread e.peer [] in
     let f = record e { control_on = Some id } in
-    let read : read_peer (limit_of e) e.side (with_unread e.peer (e.peer.unread ++ [])) ≡ (p, None) = ap (λ l. read_peer (limit_of e) e.side (with_unread e.peer l)) (none_behind e.peer.unread nothing) ∙ nothing_read_on (limit_of e) e.side e.peer in
+    let read : read_peer (kinds_of e.announced) (limit_of e) e.side (with_unread e.peer (e.peer.unread ++ [])) ≡ (p, None) = ap (λ l. read_peer (kinds_of e.announced) (limit_of e) e.side (with_unread e.peer l)) (none_behind e.peer.unread nothing) ∙ nothing_read_on (kinds_of e.announced) (limit_of e) e.side e.peer in
     let same : x.peer ≡ kept_peer (keeps_last e.announced.choices) p = h.peer ∙ ap (λ l. kept_peer (keeps_last e.announced.choices) (with_unread e.peer l)) nothing in
     let new = record e { control_on = Some id; peer = p } in
     record {

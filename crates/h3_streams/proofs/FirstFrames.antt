@@ -13,7 +13,7 @@ use Rattle.h3_connection.specs.declared.arrival.Arrival.TheVariants.{BytesCame}
 use Rattle.h3_connection.specs.Codes.{missing_settings, settings_error}
 use Rattle.h3_connection.specs.Control.{are_refused, if_learned, is_table_usable, lacks_settings, read_held, settings_alone, taken_peer, then_decoder, with_table}
 use Rattle.h3_connection.specs.KeptGoawayLaws.{peer_twice, reads_alike}
-use Rattle.h3_connection.specs.StrictConnection.{is_strict, settings_refused}
+use Rattle.h3_connection.specs.StrictConnection.{is_strict, kinds_of, settings_refused}
 use Rattle.h3_connection.specs.StrictConnectionLaws.{held_missing, held_refused, held_taken, still_first}
 use Rattle.h3_wire.specs.FirstFrames.{begins_other}
 use Rattle.h3_connection.specs.Delivering.{unidirectional_at}
@@ -36,6 +36,7 @@ use Rattle.h3_streams.proofs.Again.{touched, nothing_more, touched_stands}
 use Rattle.h3_streams.proofs.Frames.{stands_peer, peer_found, peer_part}
 use Rattle.h3_streams.proofs.PeerAgain.{read_again}
 use Rattle.h3_streams.proofs.Peers.{with_early}
+use Rattle.h3_wire.specs.declared.frame.kinds.FrameKinds.{FrameKinds}
 
 -- what settings change
 used_is : (b : Bool) (e : EndpointHistory) (capacity blocked : ℕ) → (if b then with_table e capacity blocked else e) ≡ record e { encoder = (if b then with_table e capacity blocked else e).encoder; own = (if b then with_table e capacity blocked else e).own }
@@ -107,13 +108,13 @@ kept_alone false p o = refl
 
 -- which settings came, by what is stored
 same_settings : (s : EndpointState) (x : StreamsState) (e : EndpointHistory) (side : Side) (own : Announced) → StandsFor (placed s x) e → e.side ≡ side → e.announced ≡ own
-    → (read_peer (limit_of e) e.side e.peer).0.settings ≡ (read_peer own.choices.unfinished_limit side x.peer).0.settings
+    → (read_peer (kinds_of e.announced) (limit_of e) e.side e.peer).0.settings ≡ (read_peer (kinds_of own) own.choices.unfinished_limit side x.peer).0.settings
 same_settings s x e side own h same are =
     ap (λ (y : PeerFound). y.0.settings)
-    (sym (reads_alike (keeps_last e.announced.choices) (limit_of e) e.side e.peer)
-    ∙ ap (λ (o : Peer). kept_found (keeps_last e.announced.choices) (read_peer (limit_of e) e.side o)) (sym h.peer)
-    ∙ ap (λ t. kept_found (keeps_last e.announced.choices) (read_peer (limit_of e) t x.peer)) same
-    ∙ ap (λ (a : Announced). kept_found (keeps_last e.announced.choices) (read_peer a.choices.unfinished_limit side x.peer)) are)
+    (sym (reads_alike (kinds_of e.announced) (keeps_last e.announced.choices) (limit_of e) e.side e.peer)
+    ∙ ap (λ (o : Peer). kept_found (keeps_last e.announced.choices) (read_peer (kinds_of e.announced) (limit_of e) e.side o)) (sym h.peer)
+    ∙ ap (λ t. kept_found (keeps_last e.announced.choices) (read_peer (kinds_of e.announced) (limit_of e) t x.peer)) same
+    ∙ ap (λ (a : Announced). kept_found (keeps_last e.announced.choices) (read_peer (kinds_of a) a.choices.unfinished_limit side x.peer)) are)
 
 -- whether they are refused
 refused_as : (e : EndpointHistory) (side : Side) (own : Announced) (o q : Option (List (ℕ × ℕ))) → e.side ≡ side → e.announced ≡ own → o ≡ None → are_refused e o q ≡ settings_refused side own q
@@ -135,8 +136,8 @@ first_missing x side own id unknown lacks s e r on = subst (Reads s (Some missin
 
 -- what is found where none does, and the settings are taken
 taken_found : (s : EndpointState) (x : StreamsState) (e : EndpointHistory) (side : Side) (own : Announced) (id : ℕ) → IsRead s x e side own id Control → x.peer.settings ≡ None
-    → false ≡ (is_strict own && begins_other x.peer.unread) → settings_refused side own (read_peer own.choices.unfinished_limit side x.peer).0.settings ≡ false
-    → read_held e ≡ taken_peer e (read_peer (limit_of e) e.side e.peer)
+    → false ≡ (is_strict own && begins_other x.peer.unread) → settings_refused side own (read_peer (kinds_of own) own.choices.unfinished_limit side x.peer).0.settings ≡ false
+    → read_held e ≡ taken_peer e (read_peer (kinds_of e.announced) (limit_of e) e.side e.peer)
 taken_found s x e side own id r unknown first good =
     held_taken e (missing_as s x e own false r.stands r.own_is unknown first)
     (refused_as e side own e.peer.settings _ r.side_is r.own_is (unknown_before s x e r.stands unknown)
@@ -144,8 +145,8 @@ taken_found s x e side own id r unknown first good =
 
 -- a fault
 taken_fault : (x : StreamsState) (side : Side) (own : Announced) (id : ℕ) (p : Peer) (n : Encoding) (out : List ℕ) (code : ℕ) → x.peer.settings ≡ None → false ≡ (is_strict own && begins_other x.peer.unread)
-    → settings_refused side own (read_peer own.choices.unfinished_limit side x.peer).0.settings ≡ false
-    → kept_found (keeps_last own.choices) (read_peer own.choices.unfinished_limit side x.peer) ≡ (p, Some code) → Learns x.encoding n x.own.encoder out p.settings
+    → settings_refused side own (read_peer (kinds_of own) own.choices.unfinished_limit side x.peer).0.settings ≡ false
+    → kept_found (keeps_last own.choices) (read_peer (kinds_of own) own.choices.unfinished_limit side x.peer) ≡ (p, Some code) → Learns x.encoding n x.own.encoder out p.settings
     → ReadsHeld x (record x { peer = p; encoding = n; own = record x.own { encoder = out } }) side own id (Some code)
 taken_fault x side own id p n out code unknown first good read l s e r on =
     let h = r.stands in
@@ -159,15 +160,15 @@ taken_fault x side own id p n out code unknown first good read l s e r on =
 
 -- settings that are refused
 refused_fault : (x : StreamsState) (side : Side) (own : Announced) (id : ℕ) (p : Peer) (n : Encoding) (out : List ℕ) (code : ℕ) → x.peer.settings ≡ None → false ≡ (is_strict own && begins_other x.peer.unread)
-    → settings_refused side own (read_peer own.choices.unfinished_limit side x.peer).0.settings ≡ true
-    → kept_found (keeps_last own.choices) (settings_alone x.peer (read_peer own.choices.unfinished_limit side x.peer).0.settings, Some settings_error) ≡ (p, Some code) → Learns x.encoding n x.own.encoder out None
+    → settings_refused side own (read_peer (kinds_of own) own.choices.unfinished_limit side x.peer).0.settings ≡ true
+    → kept_found (keeps_last own.choices) (settings_alone x.peer (read_peer (kinds_of own) own.choices.unfinished_limit side x.peer).0.settings, Some settings_error) ≡ (p, Some code) → Learns x.encoding n x.own.encoder out None
     → ReadsHeld x (record x { peer = p; encoding = n; own = record x.own { encoder = out } }) side own id (Some code)
 refused_fault x side own id p n out code unknown first bad read l s e r on =
     let h = r.stands in
     let before = unknown_before s x e h unknown in
     let last = keeps_last e.announced.choices in
-    let o = (read_peer own.choices.unfinished_limit side x.peer).0.settings in
-    let there = (read_peer (limit_of e) e.side e.peer).0.settings in
+    let o = (read_peer (kinds_of own) own.choices.unfinished_limit side x.peer).0.settings in
+    let there = (read_peer (kinds_of e.announced) (limit_of e) e.side e.peer).0.settings in
     let came : there ≡ o = same_settings s x e side own h r.side_is r.own_is in
     let refused : are_refused e e.peer.settings there ≡ true = refused_as e side own e.peer.settings there r.side_is r.own_is before ∙ ap (settings_refused side own) came ∙ bad in
     let q = settings_alone e.peer there in
@@ -182,12 +183,12 @@ refused_fault x side own id p n out code unknown first bad read l s e r on =
     )
 
 pub first_fault : (x : StreamsState) (side : Side) (own : Announced) (id : ℕ) (p : Peer) (n : Encoding) (out : List ℕ) (code : ℕ) → x.peer.settings ≡ None → false ≡ (is_strict own && begins_other x.peer.unread)
-    → kept_found (keeps_last own.choices) (found_first side own x.peer (read_peer own.choices.unfinished_limit side x.peer)) ≡ (p, Some code) → Learns x.encoding n x.own.encoder out (settings_taken side own p.settings)
+    → kept_found (keeps_last own.choices) (found_first side own x.peer (read_peer (kinds_of own) own.choices.unfinished_limit side x.peer)) ≡ (p, Some code) → Learns x.encoding n x.own.encoder out (settings_taken side own p.settings)
     → ReadsHeld x (record x { peer = p; encoding = n; own = record x.own { encoder = out } }) side own id (Some code)
 first_fault x side own id p n out code unknown first read l = by_refusal (settings_refused side own o) refl
   where
     found : PeerFound
-    found = read_peer own.choices.unfinished_limit side x.peer
+    found = read_peer (kinds_of own) own.choices.unfinished_limit side x.peer
 
     o : Option (List (ℕ × ℕ))
     o = found.0.settings
@@ -230,12 +231,12 @@ taken_kept side own p found good read = ap (settings_refused side own) (sym (ap 
 
 -- then what the decoder said is read
 pub first_read : (x new : StreamsState) (side : Side) (own : Announced) (id : ℕ) (p : Peer) (n : Encoding) (out : List ℕ) (fault : Option ℕ) → x.peer.settings ≡ None → false ≡ (is_strict own && begins_other x.peer.unread)
-    → kept_found (keeps_last own.choices) (found_first side own x.peer (read_peer own.choices.unfinished_limit side x.peer)) ≡ (p, None) → Learns x.encoding n x.own.encoder out (settings_taken side own p.settings)
+    → kept_found (keeps_last own.choices) (found_first side own x.peer (read_peer (kinds_of own) own.choices.unfinished_limit side x.peer)) ≡ (p, None) → Learns x.encoding n x.own.encoder out (settings_taken side own p.settings)
     → ReadsEarly own (record x { peer = p; encoding = n; own = record x.own { encoder = out } }) new fault → ReadsHeld x new side own id fault
 first_read x new side own id p n out fault unknown first found learns early s e r on =
     let h = r.stands in
-    let good = none_refused side own x.peer p (read_peer own.choices.unfinished_limit side x.peer) found in
-    let l = learns_all side own x n out p (taken_kept side own p (read_peer own.choices.unfinished_limit side x.peer) good.0 good.1) learns in
+    let good = none_refused side own x.peer p (read_peer (kinds_of own) own.choices.unfinished_limit side x.peer) found in
+    let l = learns_all side own x n out p (taken_kept side own p (read_peer (kinds_of own) own.choices.unfinished_limit side x.peer) good.0 good.1) learns in
     let is = peer_found s x e side own p None h r.side_is r.own_is good.1 in
     let q = is.after in
     let f = record e { peer = q } in
@@ -255,14 +256,14 @@ early_peer : (side : Side) (q : Option (List (ℕ × ℕ))) (on : Option ℕ) �
 early_peer side None on h = tt
 early_peer side (Some pairs) on h = h
 
-frames_on : (e : EndpointHistory) (id : ℕ) (p : Peer) → e.peer.settings ≡ None → e.control_on ≡ Some id → MayRead e p → PeerReadsPart (limit_of e) e.side e.peer p
+frames_on : (e : EndpointHistory) (id : ℕ) (p : Peer) → e.peer.settings ≡ None → e.control_on ≡ Some id → MayRead e p → PeerReadsPart (kinds_of e.announced) (limit_of e) e.side e.peer p
     → (more : List Arrival) → ReadsOn e (BytesCame id [] ∷ more) (if_learned None p.settings (record e { peer = p })) (BytesCame id [] ∷ early_if None p.settings e.decoder_on ++ more)
 frames_on e id p unknown on may part more =
     subst (λ o. ReadsOn e (BytesCame id [] ∷ more) (if_learned o p.settings (record e { peer = p })) (BytesCame id [] ∷ early_if o p.settings e.decoder_on ++ more)) unknown (ReadsOn.ReadsFrames on may part)
 
 -- the reading of the frames was refused memory
 pub first_stopped : (x : StreamsState) (side : Side) (own : Announced) (id : ℕ) (p : Peer) (n : Encoding) (out : List ℕ) (left : Left) → x.peer.settings ≡ None → false ≡ (is_strict own && begins_other x.peer.unread)
-    → KeepsPart (keeps_last own.choices) own.choices.unfinished_limit side x.peer p → settings_refused side own p.settings ≡ false → Learns x.encoding n x.own.encoder out (settings_taken side own p.settings) → left ≡ record { id = id; bytes = []; early = early_of p.settings x.decoder_on }
+    → KeepsPart (kinds_of own) (keeps_last own.choices) own.choices.unfinished_limit side x.peer p → settings_refused side own p.settings ≡ false → Learns x.encoding n x.own.encoder out (settings_taken side own p.settings) → left ≡ record { id = id; bytes = []; early = early_of p.settings x.decoder_on }
     → StopsHeld x (record x { peer = p; encoding = n; own = record x.own { encoder = out } }) side own id (left_arrivals left)
 first_stopped x side own id p n out left unknown first part good learns is s e r on =
     let h = r.stands in
@@ -288,19 +289,19 @@ first_stopped x side own id p n out left unknown first part good learns is s e r
     }
 
 -- all frames were read
-whole_part : (limit : ℕ) (side : Side) (old new : Peer) → read_peer limit side old ≡ (new, None) → PeerReadsPart limit side old new
-whole_part limit side old new read =
+whole_part : (kinds : FrameKinds) (limit : ℕ) (side : Side) (old new : Peer) → read_peer kinds limit side old ≡ (new, None) → PeerReadsPart kinds limit side old new
+whole_part kinds limit side old new read =
     record { front = old.unread; rest = []; cut = sym (append-nil old.unread); read = new; reads = read; left = sym (ap (λ l. with_unread new l) (append-nil new.unread)) }
 
 -- the reading of what the decoder said before was refused memory
 pub early_stopped : (x new : StreamsState) (side : Side) (own : Announced) (id : ℕ) (p : Peer) (n : Encoding) (out : List ℕ) (left : List Arrival) → x.peer.settings ≡ None → false ≡ (is_strict own && begins_other x.peer.unread)
-    → kept_found (keeps_last own.choices) (found_first side own x.peer (read_peer own.choices.unfinished_limit side x.peer)) ≡ (p, None) → Learns x.encoding n x.own.encoder out (settings_taken side own p.settings)
+    → kept_found (keeps_last own.choices) (found_first side own x.peer (read_peer (kinds_of own) own.choices.unfinished_limit side x.peer)) ≡ (p, None) → Learns x.encoding n x.own.encoder out (settings_taken side own p.settings)
     → StopsEarly own (record x { peer = p; encoding = n; own = record x.own { encoder = out } }) new side left → StopsHeld x new side own id left
 early_stopped x new side own id p n out left unknown first finds learns early s e r on =
     let h = r.stands in
     let before = unknown_before s x e h unknown in
-    let good = none_refused side own x.peer p (read_peer own.choices.unfinished_limit side x.peer) finds in
-    let l = learns_all side own x n out p (taken_kept side own p (read_peer own.choices.unfinished_limit side x.peer) good.0 good.1) learns in
+    let good = none_refused side own x.peer p (read_peer (kinds_of own) own.choices.unfinished_limit side x.peer) finds in
+    let l = learns_all side own x n out p (taken_kept side own p (read_peer (kinds_of own) own.choices.unfinished_limit side x.peer) good.0 good.1) learns in
     let found = peer_found s x e side own p None h r.side_is r.own_is good.1 in
     let due = missing_as s x e own false h r.own_is unknown first in
     let q = found.after in
@@ -320,16 +321,16 @@ early_stopped x new side own id p n out left unknown first finds learns early s 
     let decoder : g.decoder_on ≡ e.decoder_on = ap (λ (o : EndpointHistory). o.decoder_on) is in
     let role : (unidirectional_at g id).role ≡ Control = ap (λ (o : EndpointHistory). (unidirectional_at o id).role) is ∙ r.role_is in
     let kind : kind_of g.side id ≡ PeerUnidirectional = ap (λ t. kind_of t id) side_is ∙ r.kind in
-    let again : read_peer (limit_of e) e.side q ≡ (q, None) =
-    ap (λ (o : PeerFound). read_peer (limit_of e) e.side o.0) (sym found.found) ∙ read_again (limit_of e) e.side e.peer (ap (λ (o : PeerFound). o.1) found.found) ∙ ap (λ (o : PeerFound). (o.0, None)) found.found in
-    let done : read_peer (limit_of g) g.side g.peer ≡ (g.peer, None) =
-    ap (λ n. read_peer n g.side g.peer) limit_is ∙ ap (λ t. read_peer (limit_of e) t g.peer) side_is ∙ subst (λ o. read_peer (limit_of e) e.side o ≡ (o, None)) (sym peer) again in
+    let again : read_peer (kinds_of e.announced) (limit_of e) e.side q ≡ (q, None) =
+    ap (λ (o : PeerFound). read_peer (kinds_of e.announced) (limit_of e) e.side o.0) (sym found.found) ∙ read_again (kinds_of e.announced) (limit_of e) e.side e.peer (ap (λ (o : PeerFound). o.1) found.found) ∙ ap (λ (o : PeerFound). (o.0, None)) found.found in
+    let done : read_peer (kinds_of g.announced) (limit_of g) g.side g.peer ≡ (g.peer, None) =
+    ap (λ (a : Announced). read_peer (kinds_of a) (limit_of g) g.side g.peer) own_is ∙ ap (λ n. read_peer (kinds_of e.announced) n g.side g.peer) limit_is ∙ ap (λ t. read_peer (kinds_of e.announced) (limit_of e) t g.peer) side_is ∙ subst (λ o. read_peer (kinds_of e.announced) (limit_of e) e.side o ≡ (o, None)) (sym peer) again in
     let there = first_stands s x e id p q n out h on unknown found.kept l in
     let stops = early s (touched g id) (touched_stands s _ g id there role control) (own_is ∙ r.own_is) (side_is ∙ r.side_is) r.early in
     let arrivals : early_if None g.peer.settings g.decoder_on ≡ early_if None q.settings e.decoder_on = ap (λ (o : Peer). early_if None o.settings g.decoder_on) peer ∙ ap (λ o. early_if None q.settings o) decoder in
     record {
       after = stops.after;
-      reads = λ more. ReadsSome.Steps (frames_on e id q before on may (whole_part (limit_of e) e.side e.peer q found.found) more)
+      reads = λ more. ReadsSome.Steps (frames_on e id q before on may (whole_part (kinds_of e.announced) (limit_of e) e.side e.peer q found.found) more)
           (ReadsSome.Steps (ReadsOn.ReadsWhole (nothing_more g id kind role control still done)) (subst (λ a. ReadsSome (touched g id) (a ++ more) stops.after (left ++ more)) arrivals (stops.reads more)));
       stands = stops.stands;
       kinds = subst (λ t. All (IsPeers t) left) side_is stops.kinds;

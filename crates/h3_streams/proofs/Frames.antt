@@ -23,6 +23,8 @@ use Rattle.h3_streams.proofs.EncoderReads.{first_found}
 use Rattle.h3_streams.proofs.PeerAgain.{settings_stay}
 use Rattle.h3_streams.proofs.Peers.{one_peer, told_by, told_peer}
 use Rattle.h3_connection.specs.StrictConnectionLaws.{held_taken, known_missed, known_refused}
+use Rattle.h3_connection.specs.StrictConnection.{kinds_of}
+use Rattle.h3_wire.specs.declared.frame.kinds.FrameKinds.{FrameKinds}
 
 -- the peer's bytes are held
 held_read : (s : EndpointState) (x : StreamsState) (e : EndpointHistory) (side : Side) (own : Announced) (id : ℕ) (bytes : List ℕ) (p : Peer) → IsRead s x e side own id Control → p ≡ with_unread x.peer (x.peer.unread ++ bytes)
@@ -91,28 +93,28 @@ stands_peer s x e id p q h on kept known =
 -- What the reading of the stored peer finds is kept of what that of the endpoint's finds.
 pub record IsFound (e : EndpointHistory) (p : Peer) (fault : Option ℕ) : Type 0 where
   pub after : Peer
-  pub found : read_peer (limit_of e) e.side e.peer ≡ (after, fault)
+  pub found : read_peer (kinds_of e.announced) (limit_of e) e.side e.peer ≡ (after, fault)
   pub kept : p ≡ kept_peer (keeps_last e.announced.choices) after
 
 pub peer_found : (s : EndpointState) (x : StreamsState) (e : EndpointHistory) (side : Side) (own : Announced) (p : Peer) (fault : Option ℕ) → StandsFor (placed s x) e → e.side ≡ side → e.announced ≡ own
-    → kept_found (keeps_last own.choices) (read_peer own.choices.unfinished_limit side x.peer) ≡ (p, fault) → IsFound e p fault
+    → kept_found (keeps_last own.choices) (read_peer (kinds_of own) own.choices.unfinished_limit side x.peer) ≡ (p, fault) → IsFound e p fault
 peer_found s x e side own p fault h same are is =
     let last = keeps_last e.announced.choices in
-    let found : PeerFound = read_peer (limit_of e) e.side e.peer in
+    let found : PeerFound = read_peer (kinds_of e.announced) (limit_of e) e.side e.peer in
     let here : kept_found last found ≡ (p, fault) =
-    sym (reads_alike last (limit_of e) e.side e.peer) ∙ ap (λ (o : Peer). kept_found last (read_peer (limit_of e) e.side o)) (sym h.peer) ∙ ap (λ t. kept_found last (read_peer (limit_of e) t x.peer)) same
-    ∙ ap (λ (a : Announced). kept_found (keeps_last a.choices) (read_peer a.choices.unfinished_limit side x.peer)) are ∙ is in
+    sym (reads_alike (kinds_of e.announced) last (limit_of e) e.side e.peer) ∙ ap (λ (o : Peer). kept_found last (read_peer (kinds_of e.announced) (limit_of e) e.side o)) (sym h.peer) ∙ ap (λ t. kept_found last (read_peer (kinds_of e.announced) (limit_of e) t x.peer)) same
+    ∙ ap (λ (a : Announced). kept_found (keeps_last a.choices) (read_peer (kinds_of a) a.choices.unfinished_limit side x.peer)) are ∙ is in
     record { after = found.0; found = ap (λ f. (let y : PeerFound = (found.0, f) in y)) (ap (λ (y : PeerFound). y.1) here); kept = sym (ap (λ (y : PeerFound). y.0) here) }
 
 pub peer_part : (s : EndpointState) (x : StreamsState) (e : EndpointHistory) (side : Side) (own : Announced) (p : Peer) → StandsFor (placed s x) e → e.side ≡ side → e.announced ≡ own
-    → KeepsPart (keeps_last own.choices) own.choices.unfinished_limit side x.peer p → IsPart (keeps_last e.announced.choices) (limit_of e) e.side e.peer p
+    → KeepsPart (kinds_of own) (keeps_last own.choices) own.choices.unfinished_limit side x.peer p → IsPart (kinds_of e.announced) (keeps_last e.announced.choices) (limit_of e) e.side e.peer p
 peer_part s x e side own p h same are part =
-    let here = subst (λ t. KeepsPart (keeps_last e.announced.choices) (limit_of e) t x.peer p) (sym same) (subst (λ (a : Announced). KeepsPart (keeps_last a.choices) a.choices.unfinished_limit side x.peer p) (sym are) part) in
+    let here = subst (λ t. KeepsPart (kinds_of e.announced) (keeps_last e.announced.choices) (limit_of e) t x.peer p) (sym same) (subst (λ (a : Announced). KeepsPart (kinds_of a) (keeps_last a.choices) a.choices.unfinished_limit side x.peer p) (sym are) part) in
     here.each e.peer h.peer
 
-pub settings_part : (limit : ℕ) (side : Side) (old new : Peer) → PeerReadsPart limit side old new → new.settings ≡ None → old.settings ≡ None
-settings_part limit side old new part none =
-    settings_stay limit side (with_unread old part.front) (ap (λ (found : PeerFound). found.0.settings) part.reads ∙ sym (ap (λ (p : Peer). p.settings) part.left) ∙ none)
+pub settings_part : (kinds : FrameKinds) (limit : ℕ) (side : Side) (old new : Peer) → PeerReadsPart kinds limit side old new → new.settings ≡ None → old.settings ≡ None
+settings_part kinds limit side old new part none =
+    settings_stay kinds limit side (with_unread old part.front) (ap (λ (found : PeerFound). found.0.settings) part.reads ∙ sym (ap (λ (p : Peer). p.settings) part.left) ∙ none)
 
 some_settings : (o : Option (List (ℕ × ℕ))) → is_some o ≡ true → (pairs : List (ℕ × ℕ)) × (o ≡ Some pairs)
 some_settings None h = absurd (cc)
@@ -122,18 +124,18 @@ known_peer : (s : EndpointState) (x : StreamsState) (e : EndpointHistory) → St
 known_peer s x e h known = ap (λ (p : Peer). is_some p.settings) (sym h.peer) ∙ sym known
 
 pub frames_read : (x : StreamsState) (side : Side) (own : Announced) (id : ℕ) (p : Peer) (fault : Option ℕ) → true ≡ is_some x.peer.settings
-    → kept_found (keeps_last own.choices) (read_peer own.choices.unfinished_limit side x.peer) ≡ (p, fault) → ReadsHeld x (record x { peer = p }) side own id fault
+    → kept_found (keeps_last own.choices) (read_peer (kinds_of own) own.choices.unfinished_limit side x.peer) ≡ (p, fault) → ReadsHeld x (record x { peer = p }) side own id fault
 frames_read x side own id p fault known read s e r on =
     let h = r.stands in
     let f = peer_found s x e side own p fault h r.side_is r.own_is read in
     let q = f.after in
-    let stays : q.settings ≡ None → e.peer.settings ≡ None = λ none. settings_stay (limit_of e) e.side e.peer (ap (λ (y : PeerFound). y.0.settings) f.found ∙ none) in
+    let stays : q.settings ≡ None → e.peer.settings ≡ None = λ none. settings_stay (kinds_of e.announced) (limit_of e) e.side e.peer (ap (λ (y : PeerFound). y.0.settings) f.found ∙ none) in
     let pairs = some_settings e.peer.settings (known_peer s x e h known) in
-    let held : read_held e ≡ taken_peer e (read_peer (limit_of e) e.side e.peer) = held_taken e (known_missed e pairs.0 pairs.1) (known_refused e e.peer.settings _ pairs.0 pairs.1) in
+    let held : read_held e ≡ taken_peer e (read_peer (kinds_of e.announced) (limit_of e) e.side e.peer) = held_taken e (known_missed e pairs.0 pairs.1) (known_refused e e.peer.settings _ pairs.0 pairs.1) in
     subst (Reads s fault (record x { peer = p })) (sym (held ∙ ap (taken_peer e) f.found ∙ known_after e.peer.settings q.settings (record e { peer = q }) fault (known_peer s x e h known)))
     (refl, stands_peer s x e id p q h on f.kept stays)
 
-pub frames_stopped : (x : StreamsState) (side : Side) (own : Announced) (id : ℕ) (p : Peer) (left : Left) → true ≡ is_some x.peer.settings → KeepsPart (keeps_last own.choices) own.choices.unfinished_limit side x.peer p
+pub frames_stopped : (x : StreamsState) (side : Side) (own : Announced) (id : ℕ) (p : Peer) (left : Left) → true ≡ is_some x.peer.settings → KeepsPart (kinds_of own) (keeps_last own.choices) own.choices.unfinished_limit side x.peer p
     → left ≡ record { id = id; bytes = []; early = None } → StopsHeld x (record x { peer = p }) side own id (left_arrivals left)
 frames_stopped x side own id p left known part is s e r on =
     let h = r.stands in
@@ -146,7 +148,7 @@ frames_stopped x side own id p left known part is s e r on =
       reads = λ more. subst (λ g. ReadsSome e (BytesCame id [] ∷ more) g (BytesCame id [] ∷ more)) (known_frames e.peer.settings q.settings (record e { peer = q }) knows)
           (subst (λ l. ReadsSome e (BytesCame id [] ∷ more) (after_frames e q) (BytesCame id [] ∷ l ++ more)) (known_early e.peer.settings q.settings e.decoder_on knows)
           (ReadsSome.Steps (ReadsOn.ReadsFrames on (record { first = known_missed e pairs.0 pairs.1; taken = known_refused e e.peer.settings _ pairs.0 pairs.1 }) here.part) ReadsSome.Stays));
-      stands = stands_peer s x e id p q h on here.kept (settings_part (limit_of e) e.side e.peer q here.part);
+      stands = stands_peer s x e id p q h on here.kept (settings_part (kinds_of e.announced) (limit_of e) e.side e.peer q here.part);
       kinds = one_peer e.side id [] r.kind;
     } in
     subst (StopsAt s (record x { peer = p }) e (BytesCame id [] ∷ [])) (sym (ap left_arrivals is)) stops

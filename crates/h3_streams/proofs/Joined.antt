@@ -50,14 +50,14 @@ sets_second xs zs ys ws id x same none sets =
     record { here = in_second zs ws id (same.each id ∙ none) ∙ sets.here; others = λ q ne. same_first xs zs ys ws q (same.each q) (sets.others q ne) }
 
 -- what is done to one of the lists
-pub receives : (old new part later : Streams Unidirectional) (id : ℕ) (bytes : List ℕ) (received : Received) → peer_stream old id ≡ peer_stream part id → ((x : Unidirectional) → Sets part later id x → Sets old new id x)
-    → Receives part later id bytes received → Receives old new id bytes received
-receives old new part later id bytes received is lift r =
+pub receives : (sessions : Bool) (old new part later : Streams Unidirectional) (id : ℕ) (bytes : List ℕ) (received : Received) → peer_stream old id ≡ peer_stream part id → ((x : Unidirectional) → Sets part later id x → Sets old new id x)
+    → Receives sessions part later id bytes received → Receives sessions old new id bytes received
+receives sessions old new part later id bytes received is lift r =
     record {
-      sets = subst (λ (o : Unidirectional). Sets old new id (with_bytes o (role_after o.role bytes))) (sym is) (lift _ r.sets);
-      given = subst (λ (o : Unidirectional). received ≡ received_by (role_after o.role bytes)) (sym is) r.given;
+      sets = subst (λ (o : Unidirectional). Sets old new id (with_bytes o (role_after sessions o.role bytes))) (sym is) (lift _ r.sets);
+      given = subst (λ (o : Unidirectional). received ≡ received_by (role_after sessions o.role bytes)) (sym is) r.given;
       front = λ role rest told tells.
-          subst (λ (o : Unidirectional). TellsFirst o.role bytes role rest) (sym is) (r.front role rest told (subst (λ (o : Unidirectional). role_after o.role bytes ≡ (role, rest)) is tells));
+          subst (λ (o : Unidirectional). TellsFirst sessions o.role bytes role rest) (sym is) (r.front role rest told (subst (λ (o : Unidirectional). role_after sessions o.role bytes ≡ (role, rest)) is tells));
     }
 
 pub closes : (old new part later : Streams Unidirectional) (id : ℕ) (code : Option ℕ) (critical : Bool) → peer_stream old id ≡ peer_stream part id → ((x : Unidirectional) → Sets part later id x → Sets old new id x)
@@ -136,11 +136,11 @@ plain_pull x plain_role.Encoder = refl
 plain_pull x plain_role.Decoder = refl
 plain_pull x plain_role.Ignored = refl
 
-plain_after : (role : PlainRole) (bytes : List ℕ) → role_after (plain role) bytes ≡ (plain role, bytes)
-plain_after plain_role.Control bytes = refl
-plain_after plain_role.Encoder bytes = refl
-plain_after plain_role.Decoder bytes = refl
-plain_after plain_role.Ignored bytes = refl
+plain_after : (sessions : Bool) (role : PlainRole) (bytes : List ℕ) → role_after sessions (plain role) bytes ≡ (plain role, bytes)
+plain_after sessions plain_role.Control bytes = refl
+plain_after sessions plain_role.Encoder bytes = refl
+plain_after sessions plain_role.Decoder bytes = refl
+plain_after sessions plain_role.Ignored bytes = refl
 
 plain_kept : (x : Unidirectional) (role : PlainRole) (bytes : List ℕ) → x.role ≡ plain role → with_bytes x (plain role, bytes) ≡ x
 plain_kept x plain_role.Control bytes is = ap (λ r. record x { role = r }) (sym is)
@@ -159,38 +159,38 @@ pulls_plain streams id role h =
     subst (λ o. Pulls o NoMessages streams streams id) (sym p.1)
     (ap (λ (a : Pull × Unidirectional). a.0) (sym is), subst (λ (a : Pull × Unidirectional). Sets streams streams id a.1) (sym is) (itself streams id x p.1))
 
-told_stays : (role : PlainRole) (bytes : List ℕ) (r : Role) (rest : List ℕ) → role_after (plain role) bytes ≡ (r, rest) → TellsFirst (plain role) bytes r rest
-told_stays role bytes r rest h =
-    let e : ◌≡◌ {A = Role × List ℕ} (plain role, bytes) (r, rest) = sym (plain_after role bytes) ∙ h in
-    record { front = []; cut = ap (λ (p : Role × List ℕ). p.1) e; tells = plain_after role [] ∙ ap (λ (p : Role × List ℕ). (p.0, [])) e }
+told_stays : (sessions : Bool) (role : PlainRole) (bytes : List ℕ) (r : Role) (rest : List ℕ) → role_after sessions (plain role) bytes ≡ (r, rest) → TellsFirst sessions (plain role) bytes r rest
+told_stays sessions role bytes r rest h =
+    let e : ◌≡◌ {A = Role × List ℕ} (plain role, bytes) (r, rest) = sym (plain_after sessions role bytes) ∙ h in
+    record { front = []; cut = ap (λ (p : Role × List ℕ). p.1) e; tells = plain_after sessions role [] ∙ ap (λ (p : Role × List ℕ). (p.0, [])) e }
 
-pub receives_plain : (streams : Streams Unidirectional) (id : ℕ) (role : PlainRole) (bytes : List ℕ) (received : Received) → IsPlain role (kept_at streams id) → received ≡ received_by (plain role, bytes)
-    → Receives streams streams id bytes received
-receives_plain streams id role bytes received h is =
+pub receives_plain : (sessions : Bool) (streams : Streams Unidirectional) (id : ℕ) (role : PlainRole) (bytes : List ℕ) (received : Received) → IsPlain role (kept_at streams id) → received ≡ received_by (plain role, bytes)
+    → Receives sessions streams streams id bytes received
+receives_plain sessions streams id role bytes received h is =
     let p = some_plain role (kept_at streams id) h in
     let x = p.0 in
     let there : peer_stream streams id ≡ x = ap (λ o. unwrap_or o untold) p.1 in
-    let after : role_after (peer_stream streams id).role bytes ≡ (plain role, bytes) = ap (λ (o : Unidirectional). role_after o.role bytes) there ∙ ap (λ r. role_after r bytes) p.2 ∙ plain_after role bytes in
+    let after : role_after sessions (peer_stream streams id).role bytes ≡ (plain role, bytes) = ap (λ (o : Unidirectional). role_after sessions o.role bytes) there ∙ ap (λ r. role_after sessions r bytes) p.2 ∙ plain_after sessions role bytes in
     record {
       sets = subst (λ o. Sets streams streams id o) (sym (ap (λ a. with_bytes (peer_stream streams id) a) after ∙ ap (λ o. with_bytes o (plain role, bytes)) there ∙ plain_kept x role bytes p.2)) (itself streams id x p.1);
       given = is ∙ ap received_by (sym after);
       front = λ r rest told tells.
-          subst (λ was. TellsFirst was bytes r rest) (sym (ap (λ (o : Unidirectional). o.role) there ∙ p.2)) (told_stays role bytes r rest (ap (λ was. role_after was bytes) (sym (ap (λ (o : Unidirectional). o.role) there ∙ p.2)) ∙ tells));
+          subst (λ was. TellsFirst sessions was bytes r rest) (sym (ap (λ (o : Unidirectional). o.role) there ∙ p.2)) (told_stays sessions role bytes r rest (ap (λ was. role_after sessions was bytes) (sym (ap (λ (o : Unidirectional). o.role) there ∙ p.2)) ∙ tells));
     }
 
 pub same_itself : (streams : Streams Unidirectional) → AllSame streams streams
 same_itself streams = record { each = λ q. refl }
 
 -- bytes of a stream of the second list, while the first stays as it is
-pub receives_second : (xs zs ys ws : Streams Unidirectional) (id : ℕ) (bytes : List ℕ) (received : Received) → AllSame xs zs → kept_at xs id ≡ None → Receives ys ws id bytes received → Receives (xs ++ ys) (zs ++ ws) id bytes received
-receives_second xs zs ys ws id bytes received same none r =
-    receives (xs ++ ys) (zs ++ ws) ys ws id bytes received (stream_second xs ys id none) (λ x. sets_second xs zs ys ws id x same none) r
+pub receives_second : (sessions : Bool) (xs zs ys ws : Streams Unidirectional) (id : ℕ) (bytes : List ℕ) (received : Received) → AllSame xs zs → kept_at xs id ≡ None → Receives sessions ys ws id bytes received → Receives sessions (xs ++ ys) (zs ++ ws) id bytes received
+receives_second sessions xs zs ys ws id bytes received same none r =
+    receives sessions (xs ++ ys) (zs ++ ws) ys ws id bytes received (stream_second xs ys id none) (λ x. sets_second xs zs ys ws id x same none) r
 
 -- of one that is in neither, and now in the first
-pub receives_first : (xs zs ys : Streams Unidirectional) (id : ℕ) (bytes : List ℕ) (received : Received) → kept_at xs id ≡ None → kept_at ys id ≡ None → Receives xs zs id bytes received → Receives (xs ++ ys) (zs ++ ys) id bytes received
-receives_first xs zs ys id bytes received none absent r =
+pub receives_first : (sessions : Bool) (xs zs ys : Streams Unidirectional) (id : ℕ) (bytes : List ℕ) (received : Received) → kept_at xs id ≡ None → kept_at ys id ≡ None → Receives sessions xs zs id bytes received → Receives sessions (xs ++ ys) (zs ++ ys) id bytes received
+receives_first sessions xs zs ys id bytes received none absent r =
     let whole : peer_stream (xs ++ ys) id ≡ peer_stream xs id = ap (λ o. unwrap_or o untold) (in_second xs ys id none ∙ absent ∙ sym none) in
-    receives (xs ++ ys) (zs ++ ys) xs zs id bytes received whole (λ x. sets_first xs zs ys id x) r
+    receives sessions (xs ++ ys) (zs ++ ys) xs zs id bytes received whole (λ x. sets_first xs zs ys id x) r
 
 pub closes_second : (xs ys ws : Streams Unidirectional) (id : ℕ) (code : Option ℕ) (critical : Bool) → kept_at xs id ≡ None → Closes ys ws id code critical → Closes (xs ++ ys) (xs ++ ws) id code critical
 closes_second xs ys ws id code critical none c =

@@ -3,8 +3,8 @@ use Rattle.std.proofs.Common.{◌≡◌, ℕ, zero, suc, ◌<◌, Bool, true, fa
 use Rattle.h3_proto.specs.declared.stream.Side.{Side}
 use Rattle.h3_proto.specs.declared.stream.Side.TheVariants.{Client, Server}
 use Rattle.h3_wire.specs.ExcessiveFrames.{is_excessive}
-use Rattle.h3_wire.specs.Frames.{Front, Whole, Unknown, Refused, Unfinished, frame_at}
-use Rattle.h3_wire.specs.Known.{known, IsWaiting}
+use Rattle.h3_wire.specs.Frames.{Front, Whole, Unknown, Refused, Unfinished, frame_by}
+use Rattle.h3_wire.specs.Known.{known_by, IsWaiting}
 use Rattle.h3_wire.specs.KnownLaws.{known_is, known_known}
 use Rattle.h3_wire.specs.Fronts.{IsKnown}
 use Rattle.h3_wire.specs.declared.proto.frame.PayloadLen.{PayloadLen}
@@ -14,6 +14,7 @@ use Rattle.h3_connection.specs.PeerReading.{Peer, PeerFound, with_unread, read_m
 use Rattle.h3_connection.specs.PeerReadingLaws.{peer_step, step_excessive, step_within, frame_keeps}
 use Rattle.h3_connection.specs.SkippingLaws.{rest_shorter}
 use Rattle.h3_unidirectional.specs.PeerLaws.{peer_waits}
+use Rattle.h3_wire.specs.declared.frame.kinds.FrameKinds.{FrameKinds}
 
 -- what holds of both ways
 if_both : (P : PeerFound → Type 0) (b : Bool) (x y : PeerFound) → P x → P y → P (if b then x else y)
@@ -49,52 +50,52 @@ along : (P : Peer → Type 0) → ((p : Peer) → ((q : Peer) → length q.unrea
 along P step p = along_within P step (suc (length p.unread)) p (omega arith)
 
 -- a peer after a frame has fewer bytes
-fewer_after : (side : Side) (p : Peer) (f : Frame PayloadLen) (rest : List ℕ) → frame_at (known p.unread) ≡ Whole f rest → length (read_frame side (with_unread p rest) p.settings f).0.unread < length p.unread
-fewer_after side p f rest is =
+fewer_after : (kinds : FrameKinds) (side : Side) (p : Peer) (f : Frame PayloadLen) (rest : List ℕ) → frame_by kinds (known_by kinds p.unread) ≡ Whole f rest → length (read_frame side (with_unread p rest) p.settings f).0.unread < length p.unread
+fewer_after kinds side p f rest is =
     let size : length (read_frame side (with_unread p rest) p.settings f).0.unread ≡ length rest = ap length (frame_keeps side (with_unread p rest) p.settings f) in
-    omega (arith, rest_shorter p.unread rest f is, size)
+    omega (arith, rest_shorter kinds p.unread rest f is, size)
 
 -- what is found behind a frame
 kept_behind : (p : Peer) (x : PeerFound) (go : Peer → PeerFound) → Keeps p x → (Keeps x.0 (go x.0)) → Keeps p (unless_fault x go)
 kept_behind p (q, Some code) go h k = h
 kept_behind p (q, None) go h k = λ later. h (k later)
 
-settings_front : (limit : ℕ) (side : Side) (p : Peer) (x : Front) → frame_at (known p.unread) ≡ x → ((q : Peer) → length q.unread < length p.unread → Keeps q (read_peer limit side q))
-    → Keeps p (at_front (read_peer limit side) side p (known p.unread) x)
-settings_front limit side p (Whole f rest) is each =
-    kept_behind p (read_frame side (with_unread p rest) p.settings f) (read_peer limit side) (settings_kept side (with_unread p rest) f p.settings refl)
-    (each (read_frame side (with_unread p rest) p.settings f).0 (fewer_after side p f rest is))
-settings_front limit side p (Unknown kind rest) is each = λ h. h
-settings_front limit side p (Refused e) is each = λ h. h
-settings_front limit side p (Unfinished least) is each = λ h. h
+settings_front : (kinds : FrameKinds) (limit : ℕ) (side : Side) (p : Peer) (x : Front) → frame_by kinds (known_by kinds p.unread) ≡ x → ((q : Peer) → length q.unread < length p.unread → Keeps q (read_peer kinds limit side q))
+    → Keeps p (at_front (read_peer kinds limit side) side p (known_by kinds p.unread) x)
+settings_front kinds limit side p (Whole f rest) is each =
+    kept_behind p (read_frame side (with_unread p rest) p.settings f) (read_peer kinds limit side) (settings_kept side (with_unread p rest) f p.settings refl)
+    (each (read_frame side (with_unread p rest) p.settings f).0 (fewer_after kinds side p f rest is))
+settings_front kinds limit side p (Unknown kind rest) is each = λ h. h
+settings_front kinds limit side p (Refused e) is each = λ h. h
+settings_front kinds limit side p (Unfinished least) is each = λ h. h
 
 -- Settings that came stay.
-pub settings_stay : (limit : ℕ) (side : Side) (p : Peer) → (read_peer limit side p).0.settings ≡ None → p.settings ≡ None
-settings_stay limit side =
-    along (λ p. Keeps p (read_peer limit side p))
-    (λ p each. rw (peer_step limit side p) (if_both (Keeps p) (is_excessive limit (known p.unread)) _ _ (λ h. h) (settings_front limit side p (frame_at (known p.unread)) refl each)))
+pub settings_stay : (kinds : FrameKinds) (limit : ℕ) (side : Side) (p : Peer) → (read_peer kinds limit side p).0.settings ≡ None → p.settings ≡ None
+settings_stay kinds limit side =
+    along (λ p. Keeps p (read_peer kinds limit side p))
+    (λ p each. rw (peer_step kinds limit side p) (if_both (Keeps p) (is_excessive limit (known_by kinds p.unread)) _ _ (λ h. h) (settings_front kinds limit side p (frame_by kinds (known_by kinds p.unread)) refl each)))
 
-abbrev Again : ℕ → Side → PeerFound → Type 0
-Again limit side x = x.1 ≡ None → read_peer limit side x.0 ≡ (x.0, None)
+abbrev Again : FrameKinds → ℕ → Side → PeerFound → Type 0
+Again kinds limit side x = x.1 ≡ None → read_peer kinds limit side x.0 ≡ (x.0, None)
 
-again_behind : (limit : ℕ) (side : Side) (x : PeerFound) → Again limit side (read_peer limit side x.0) → Again limit side (unless_fault x (read_peer limit side))
-again_behind limit side (q, Some code) h = λ none. absurd (cc)
-again_behind limit side (q, None) h = h
+again_behind : (kinds : FrameKinds) (limit : ℕ) (side : Side) (x : PeerFound) → Again kinds limit side (read_peer kinds limit side x.0) → Again kinds limit side (unless_fault x (read_peer kinds limit side))
+again_behind kinds limit side (q, Some code) h = λ none. absurd (cc)
+again_behind kinds limit side (q, None) h = h
 
-again_front : (limit : ℕ) (side : Side) (p : Peer) (x : Front) → frame_at (known p.unread) ≡ x → is_excessive limit (known p.unread) ≡ false
-    → ((q : Peer) → length q.unread < length p.unread → Again limit side (read_peer limit side q)) → Again limit side (at_front (read_peer limit side) side p (known p.unread) x)
-again_front limit side p (Whole f rest) is small each =
-    again_behind limit side (read_frame side (with_unread p rest) p.settings f) (each (read_frame side (with_unread p rest) p.settings f).0 (fewer_after side p f rest is))
-again_front limit side p (Unknown kind rest) is small each = λ none. absurd (subst IsKnown is (known_is p.unread))
-again_front limit side p (Refused e) is small each = λ none. absurd (cc)
-again_front limit side p (Unfinished least) is small each =
-    λ none. peer_waits limit side (with_unread p (known p.unread)) (known p.unread) (ap (is_excessive limit) (known_known p.unread) ∙ small) (sym (known_known p.unread)) (subst IsWaiting (sym is) tt)
+again_front : (kinds : FrameKinds) (limit : ℕ) (side : Side) (p : Peer) (x : Front) → frame_by kinds (known_by kinds p.unread) ≡ x → is_excessive limit (known_by kinds p.unread) ≡ false
+    → ((q : Peer) → length q.unread < length p.unread → Again kinds limit side (read_peer kinds limit side q)) → Again kinds limit side (at_front (read_peer kinds limit side) side p (known_by kinds p.unread) x)
+again_front kinds limit side p (Whole f rest) is small each =
+    again_behind kinds limit side (read_frame side (with_unread p rest) p.settings f) (each (read_frame side (with_unread p rest) p.settings f).0 (fewer_after kinds side p f rest is))
+again_front kinds limit side p (Unknown kind rest) is small each = λ none. absurd (subst IsKnown is (known_is kinds p.unread))
+again_front kinds limit side p (Refused e) is small each = λ none. absurd (cc)
+again_front kinds limit side p (Unfinished least) is small each =
+    λ none. peer_waits kinds limit side (with_unread p (known_by kinds p.unread)) (known_by kinds p.unread) (ap (is_excessive limit) (known_known kinds p.unread) ∙ small) (sym (known_known kinds p.unread)) (subst IsWaiting (sym is) tt)
 
-again_by : (large : Bool) (limit : ℕ) (side : Side) (p : Peer) → is_excessive limit (known p.unread) ≡ large → ((q : Peer) → length q.unread < length p.unread → Again limit side (read_peer limit side q))
-    → Again limit side (read_peer limit side p)
-again_by true limit side p e each = rw (step_excessive limit side p e) (λ none. absurd (cc))
-again_by false limit side p e each = rw (step_within limit side p e) (again_front limit side p (frame_at (known p.unread)) refl e each)
+again_by : (kinds : FrameKinds) (large : Bool) (limit : ℕ) (side : Side) (p : Peer) → is_excessive limit (known_by kinds p.unread) ≡ large → ((q : Peer) → length q.unread < length p.unread → Again kinds limit side (read_peer kinds limit side q))
+    → Again kinds limit side (read_peer kinds limit side p)
+again_by kinds true limit side p e each = rw (step_excessive kinds limit side p e) (λ none. absurd (cc))
+again_by kinds false limit side p e each = rw (step_within kinds limit side p e) (again_front kinds limit side p (frame_by kinds (known_by kinds p.unread)) refl e each)
 
 -- What was read whole gives nothing more.
-pub read_again : (limit : ℕ) (side : Side) (p : Peer) → (read_peer limit side p).1 ≡ None → read_peer limit side (read_peer limit side p).0 ≡ ((read_peer limit side p).0, None)
-read_again limit side = along (λ p. Again limit side (read_peer limit side p)) (λ p each. again_by (is_excessive limit (known p.unread)) limit side p refl each)
+pub read_again : (kinds : FrameKinds) (limit : ℕ) (side : Side) (p : Peer) → (read_peer kinds limit side p).1 ≡ None → read_peer kinds limit side (read_peer kinds limit side p).0 ≡ ((read_peer kinds limit side p).0, None)
+read_again kinds limit side = along (λ p. Again kinds limit side (read_peer kinds limit side p)) (λ p each. again_by kinds (is_excessive limit (known_by kinds p.unread)) limit side p refl each)

@@ -1,12 +1,11 @@
 -- What is kept of the unidirectional streams, as a part of what an endpoint keeps.
 use Rattle.std.specs.Prelude.{◌≡◌, ℕ, List, [], Option, Some, None, unwrap_or, Bool, ◌||◌, true, false, if◌then◌else◌}
-use Rattle.h3_qpack.specs.DecoderState.{announcing}
 use Rattle.h3_qpack.specs.EncoderState.{encoder_state}
 use Rattle.h3_proto.specs.declared.stream.Side.{Side}
 use Rattle.h3_connection.specs.Calls.{Sets, AllSame}
 use Rattle.h3_connection.specs.Codes.{closed_critical_stream}
 use Rattle.h3_connection.specs.Control.{Found}
-use Rattle.h3_connection.specs.Endpoint.{EndpointHistory, Kind, first_encoder, is_read_as}
+use Rattle.h3_connection.specs.Endpoint.{first_decoder, EndpointHistory, Kind, first_encoder, is_read_as}
 use Rattle.h3_connection.specs.Endpoint.Kind.{Request, ServerOpened, OwnUnidirectional, PeerUnidirectional}
 use Rattle.h3_connection.specs.Listeners.{Decoding, Encoding}
 use Rattle.h3_connection.specs.OwnIds.{other, is_own}
@@ -55,7 +54,7 @@ first_streams announced =
       encoder_on = None;
       decoder_on = None;
       peer = nothing_read;
-      decoding = record { decoder = announcing announced.limits.table; unread = [] };
+      decoding = record { decoder = first_decoder announced; unread = [] };
       encoding = record { encoder = encoder_state (first_encoder announced); unread = [] };
       own = first_own announced.settings;
     }
@@ -96,11 +95,12 @@ pub record Closes (old new : Streams Unidirectional) (id : ℕ) (code : Option �
   pub sets : Sets old new id (closed_by (peer_stream old id) code)
   pub critical_is : critical ≡ is_critical (peer_stream old id).role
 
--- What bytes do to their stream: for whom they are, and what tells a role stands in front of the bytes that are for it.
-pub record Receives (old new : Streams Unidirectional) (id : ℕ) (bytes : List ℕ) (received : Received) : Type 0 where
-  pub sets : Sets old new id (with_bytes (peer_stream old id) (role_after (peer_stream old id).role bytes))
-  pub given : received ≡ received_by (role_after (peer_stream old id).role bytes)
-  pub front : (r : Role) (rest : List ℕ) → is_untold r ≡ false → role_after (peer_stream old id).role bytes ≡ (r, rest) → TellsFirst (peer_stream old id).role bytes r rest
+-- What bytes do to their stream, whether sessions are known or not: for whom they are, and what tells a role stands in front of the bytes that
+-- are for it.
+pub record Receives (sessions : Bool) (old new : Streams Unidirectional) (id : ℕ) (bytes : List ℕ) (received : Received) : Type 0 where
+  pub sets : Sets old new id (with_bytes (peer_stream old id) (role_after sessions (peer_stream old id).role bytes))
+  pub given : received ≡ received_by (role_after sessions (peer_stream old id).role bytes)
+  pub front : (r : Role) (rest : List ℕ) → is_untold r ≡ false → role_after sessions (peer_stream old id).role bytes ≡ (r, rest) → TellsFirst sessions (peer_stream old id).role bytes r rest
 
 abbrev pub closing_code : Bool → Option ℕ
 closing_code critical = if critical then Some closed_critical_stream else None

@@ -85,7 +85,7 @@ impl ConnectionStreams {
         if !self.has_room(id, bytes.len()) {
             return Err(Left::of(id, bytes));
         }
-        match self.unidirectional.receive(alloc, id, bytes) {
+        match self.unidirectional.receive(alloc, own, id, bytes) {
             Ok(Received::Nothing) => Ok(None),
             Ok(Received::Push) => Ok(Some(push_fault(side))),
             Ok(Received::Session(session)) => Ok(session_fault(own, session)),

@@ -4,7 +4,7 @@ ghost use Rattle.std.specs.Vec.{vec_capacity};
 ghost use Rattle.h3_connection.specs.KeptGoaways.{keeps_last, kept_found};
 ghost use Rattle.h3_connection.specs.PeerReading.{read_peer};
 ghost use Rattle.h3_unidirectional.specs.Fronts.{KeepsPart, found_first};
-ghost use Rattle.h3_connection.specs.StrictConnection.{settings_refused};
+ghost use Rattle.h3_connection.specs.StrictConnection.{kinds_of, settings_refused};
 ghost use Rattle.h3_streams.specs.Stopping.{Learns, settings_taken};
 
 use h3_connection::setup::Announced;
@@ -54,8 +54,8 @@ pub(crate) fn read_first(
     own: &Announced,
 ) -> Result<Option<Code>, AllocError>
     requires unknown { peer.old.settings ≡ None }
-    ensures ok { IfOk result (λ fault. kept_found (keeps_last own.now.choices) (found_first side own.now peer.old (read_peer own.now.choices.unfinished_limit side peer.old)) ≡ (peer.new, fault)) }
-    ensures err { OnErr result (KeepsPart (keeps_last own.now.choices) own.now.choices.unfinished_limit side peer.old peer.new) }
+    ensures ok { IfOk result (λ fault. kept_found (keeps_last own.now.choices) (found_first side own.now peer.old (read_peer (kinds_of own.now) own.now.choices.unfinished_limit side peer.old)) ≡ (peer.new, fault)) }
+    ensures err { OnErr result (KeepsPart (kinds_of own.now) (keeps_last own.now.choices) own.now.choices.unfinished_limit side peer.old peer.new) }
     ensures taken { OnErr result (settings_refused side own.now peer.new.settings ≡ false) }
     ensures learns { Learns encoding.old encoding.new out.old.items out.new.items (settings_taken side own.now peer.new.settings) }
 {
@@ -66,7 +66,7 @@ pub(crate) fn read_first(
     let Ok(()) = out.reserve(CAPACITY_LEN) else {
         return Err(AllocError);
     };
-    let outcome = peer.read_first(alloc, side, own);
+    let outcome = peer.read_first(alloc, side, own, own.kinds());
     use_settings(peer, encoding, out, side, own);
     outcome
 }

@@ -2,6 +2,7 @@
 ghost use Rattle.std.specs.Prelude.{◌≡◌, ◌≢◌, ◌+◌, ◌<◌, ◌^◌, ℕ, length, IsSome, IfSome, IfNone, Some, None, is_some, is_none, IfOk, IfErr, OnOk, OnErr};
 ghost use Rattle.std.specs.List.{concat};
 ghost use Rattle.h3_connection.specs.Calls.{Sets, AllSame};
+ghost use Rattle.h3_connection.specs.StrictConnection.{knows_sessions};
 ghost use Rattle.h3_connection.specs.State.{kept_at};
 ghost use Rattle.h3_connection.specs.Unidirectional.{is_closed};
 ghost use Rattle.h3_connection.specs.Unread.{held_of_role};
@@ -10,6 +11,7 @@ ghost use Rattle.h3_unidirectional.specs.Told.{kind_in};
 
 use bytes::Bytes;
 use h3_connection::event::Pull;
+use h3_connection::setup::Announced;
 use h3_proto::stream::StreamId;
 use h3_unidirectional::stream::{Kind, Received, UnidirectionalStream};
 use std::alloc::{AllocError, Global};
@@ -128,18 +130,19 @@ pub(crate) fn close(
 /// Bytes come on a stream that is there.
 fn receive_there(
     streams: &mut BTreeMap<u64, UnidirectionalStream>,
+    own: &Announced,
     id: StreamId,
     bytes: Bytes,
 ) -> Result<Received, Bytes>
     requires there { IsSome (kept_at streams.old.entries id) }
     requires fits { length (concat (peer_stream streams.old.entries id).unread) + length bytes < 2 ^ 64 }
-    ensures ok { IfOk result (λ received. Receives streams.old.entries streams.new.entries id bytes received) }
+    ensures ok { IfOk result (λ received. Receives (knows_sessions own.now) streams.old.entries streams.new.entries id bytes received) }
     ensures err { IfErr result (λ back. (back ≡ bytes) × AllSame streams.old.entries streams.new.entries) }
 {
     let Some(stream) = streams.get_mut(&id.into_inner()) else {
         unreachable!()
     };
-    stream.receive(bytes)
+    stream.receive(own, bytes)
 }
 
 /// Takes the stream of this id out, if there is one.
@@ -154,17 +157,18 @@ fn take_out(streams: &mut BTreeMap<u64, UnidirectionalStream>, id: StreamId)
 pub(crate) fn receive(
     streams: &mut BTreeMap<u64, UnidirectionalStream>,
     alloc: Global,
+    own: &Announced,
     id: StreamId,
     bytes: Bytes,
 ) -> Result<Received, Bytes>
     requires { length (concat (peer_stream streams.old.entries id).unread) + length bytes < 2 ^ 64 }
-    ensures ok { IfOk result (λ received. Receives streams.old.entries streams.new.entries id bytes received) }
+    ensures ok { IfOk result (λ received. Receives (knows_sessions own.now) streams.old.entries streams.new.entries id bytes received) }
     ensures err { IfErr result (λ back. (back ≡ bytes) × AllSame streams.old.entries streams.new.entries) }
 {
     let Ok(is_new) = open(streams, alloc, id) else {
         return Err(bytes);
     };
-    match receive_there(streams, id, bytes) {
+    match receive_there(streams, own, id, bytes) {
         Ok(received) => Ok(received),
         Err(back) => {
             if is_new {

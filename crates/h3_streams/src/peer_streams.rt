@@ -3,6 +3,7 @@ ghost use Rattle.std.specs.Prelude.{◌≡◌, ◌+◌, ◌<◌, ◌^◌, ◌++�
 ghost use Rattle.std.specs.List.{concat};
 ghost use Rattle.h3_connection.specs.Calls.{AllSame};
 ghost use Rattle.h3_connection.specs.Keeping.{is_settled_peer};
+ghost use Rattle.h3_connection.specs.StrictConnection.{knows_sessions};
 ghost use Rattle.h3_connection.specs.State.{kept_at};
 ghost use Rattle.h3_connection.specs.Unidirectional.{is_closed};
 ghost use Rattle.h3_connection.specs.Unread.{held_of_role};
@@ -14,6 +15,7 @@ use crate::map;
 use crate::plain::PlainStreams;
 use bytes::Bytes;
 use h3_connection::event::Pull;
+use h3_connection::setup::Announced;
 use h3_proto::stream::StreamId;
 use h3_unidirectional::stream::{Kind, Received, UnidirectionalStream};
 use std::alloc::{AllocError, Global};
@@ -45,20 +47,21 @@ fn receive_elsewhere(
     plain: &mut PlainStreams,
     kept: &mut BTreeMap<u64, UnidirectionalStream>,
     alloc: Global,
+    own: &Announced,
     id: StreamId,
     bytes: Bytes,
 ) -> Result<Received, Bytes>
     requires absent { kept_at (plain_streams plain.old) id ≡ None }
     requires fits { length (concat (peer_stream kept.old.entries id).unread) + length bytes < 2 ^ 64 }
-    ensures ok { IfOk result (λ received. Receives (plain_streams plain.old ++ kept.old.entries) (plain_streams plain.new ++ kept.new.entries) id bytes received) }
+    ensures ok { IfOk result (λ received. Receives (knows_sessions own.now) (plain_streams plain.old ++ kept.old.entries) (plain_streams plain.new ++ kept.new.entries) id bytes received) }
     ensures err { IfErr result (λ back. (back ≡ bytes) × AllSame (plain_streams plain.old ++ kept.old.entries) (plain_streams plain.new ++ kept.new.entries)) }
 {
     if map::has(kept, id) {
-        return map::receive(kept, alloc, id, bytes);
+        return map::receive(kept, alloc, own, id, bytes);
     }
-    match plain.begin(id.into_inner(), kept.len(), bytes) {
+    match plain.begin(own, id.into_inner(), kept.len(), bytes) {
         Ok(received) => Ok(received),
-        Err(bytes) => map::receive(kept, alloc, id, bytes),
+        Err(bytes) => map::receive(kept, alloc, own, id, bytes),
     }
 }
 
@@ -159,16 +162,17 @@ impl PeerStreams {
     pub(crate) fn receive(
         &mut self,
         alloc: Global,
+        own: &Announced,
         id: StreamId,
         bytes: Bytes,
     ) -> Result<Received, Bytes>
         requires { length (concat (peer_stream self.old id).unread) + length bytes < 2 ^ 64 }
-        ensures ok { IfOk result (λ received. Receives self.old self.new id bytes received) }
+        ensures ok { IfOk result (λ received. Receives (knows_sessions own.now) self.old self.new id bytes received) }
         ensures err { IfErr result (λ back. (back ≡ bytes) × AllSame self.old self.new) }
     {
         match self.plain.role(id.into_inner()) {
             Some(role) => Ok(role.received(bytes)),
-            None => receive_elsewhere(&mut self.plain, &mut self.kept, alloc, id, bytes),
+            None => receive_elsewhere(&mut self.plain, &mut self.kept, alloc, own, id, bytes),
         }
     }
 }

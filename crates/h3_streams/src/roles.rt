@@ -138,7 +138,7 @@ impl ConnectionStreams {
         if !self.peer.has_settings() {
             return self.first_frames(alloc, side, own, id);
         }
-        let Ok(fault) = self.peer.read(alloc, side, own.choices) else {
+        let Ok(fault) = self.peer.read(alloc, side, own.choices, own.kinds()) else {
             return Err(Left::held(id));
         };
         Ok(fault)

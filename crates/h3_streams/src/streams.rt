@@ -82,7 +82,11 @@ impl ConnectionStreams {
             encoder_on: None,
             decoder_on: None,
             peer: PeerControl::new(alloc),
-            decoding: Decoding::new(alloc, announced.limits.table as usize),
+            decoding: Decoding::new(
+                alloc,
+                announced.limits.table as usize,
+                announced.choices.extensions.strict_connection,
+            ),
             encoding: Encoding::new(alloc, announced.choices),
             own,
         })

@@ -6,6 +6,7 @@ ghost use Rattle.h3_connection.specs.Unread.{held_of_role, held_of_peer, counted
 ghost use Rattle.h3_streams.specs.Placed.{placed, stream_of_peer};
 
 use crate::streams::{ConnectionStreams, is_read_as};
+use h3_connection::setup::Announced;
 use h3_proto::stream::StreamId;
 
 /// How much a reader holds of a stream: all that it holds, if that is its stream.
@@ -19,10 +20,10 @@ impl ConnectionStreams {
     /// How many bytes came on a unidirectional stream of the peer and are held, at most the greatest `usize`. They are held as its type or
     /// its session, or by the reader of the control, encoder or decoder stream. It takes no memory.
     #[tactic(auto, using(crate::proofs::Held::held_stands))]
-    pub fn held(&self, id: StreamId) -> usize
-        ensures { (s : EndpointState) (e : EndpointHistory) → StandsFor (placed s self.now) e → result ≡ counted (held_of_peer e id) }
+    pub fn held(&self, own: &Announced, id: StreamId) -> usize
+        ensures { (s : EndpointState) (e : EndpointHistory) → StandsFor (placed s self.now) e → e.announced ≡ own.now → result ≡ counted (held_of_peer e id) }
     {
-        let control = held_by(self.control_on, id, self.peer.held());
+        let control = held_by(self.control_on, id, self.peer.held(own.kinds()));
         let encoder = held_by(self.encoder_on, id, self.decoding.unread_len());
         let decoder = held_by(self.decoder_on, id, self.encoding.unread_len());
         self.held_by_stream(id)

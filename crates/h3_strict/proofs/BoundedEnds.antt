@@ -5,8 +5,6 @@ use Rattle.h3_proto.specs.declared.stream.Side.{Side}
 use Rattle.h3_proto.specs.declared.stream.Side.TheVariants.{Client, Server}
 use Rattle.h3_field.specs.Field.{Field}
 use Rattle.h3_header.specs.Reads.{head_of_fields}
-use Rattle.h3_messages.specs.Content.{awaited_by}
-use Rattle.h3_messages.specs.declared.content.Content.{Content}
 use Rattle.h3_connection.specs.Bounds.{IsBounded, OfStream, TriesTwice, WaitsOnce}
 use Rattle.h3_connection.specs.CallLists.{Call, Result, called, endpoint_after}
 use Rattle.h3_connection.specs.CallLists as list
@@ -14,13 +12,13 @@ use Rattle.h3_connection.specs.CallLists.Call.{Advance, Cancel, Finish, Goaway, 
 use Rattle.h3_connection.specs.CallLists.Result.{Done, Opened}
 use Rattle.h3_connection.specs.Control.{Found}
 use Rattle.h3_connection.specs.Endpoint.{EndpointHistory, bytes_waiting, new_endpoint}
-use Rattle.h3_connection.specs.Incoming.{Incoming, awaiting}
+use Rattle.h3_connection.specs.Incoming.{Incoming, having_told}
 use Rattle.h3_connection.specs.Keeping.{arrives, keeping, pulls, read_all, read_arrival, unkept, unless_faulty}
 use Rattle.h3_connection.specs.OwnIds.{other}
 use Rattle.h3_connection.specs.PartReading.{Goes, ReadsPart, ReadsWhole, Stops}
 use Rattle.h3_connection.specs.Sections.{written_section}
 use Rattle.h3_connection.specs.Sending as sender
-use Rattle.h3_connection.specs.Sending.{awaiting_at}
+use Rattle.h3_connection.specs.Sending.{telling_at}
 use Rattle.h3_connection.specs.StreamSets.{Streams, set_stream, stream_at}
 use Rattle.h3_connection.specs.Shown.{has_outgoing, is_finished, is_reset, waiting}
 use Rattle.h3_connection.specs.declared.arrival.Arrival.{Arrival}
@@ -76,32 +74,32 @@ pulled_sets ends side (p, e) h k = sets ends side e h k
 listed_sets : (ends : Ends) (side : Side) (id : ℕ) (x : Pull × EndpointHistory) → AreBounded ends → IsBounded x.1 → AreBounded (was_listed ends side id x).1
 listed_sets ends side id (p, e) h k = sets ends side e h k
 
--- What a list leaves of an endpoint: a client that asks for strict messages remembers what its request asks for.
+-- What a list leaves of an endpoint: one that asks for strict messages goes by its own head.
 abbrev with_streams : EndpointHistory → Streams Incoming → EndpointHistory
 with_streams e l = record e { incoming = l }
 
-awaits_bounds : (e : EndpointHistory) (id : ℕ) (asked : Content) (o : Option Incoming) → stream_at e.incoming id ≡ o → IsBounded e → IsBounded (with_streams e (awaiting_at e.incoming id asked o))
-awaits_bounds e id asked None is h = h
-awaits_bounds e id asked (Some i) is h =
-    let less : (awaiting i asked).waits_for ≤ waits_at (stream_at e.incoming id) = subst (λ o. i.waits_for ≤ waits_at o) (sym is) (omega arith) in
+told_bounds : (e : EndpointHistory) (id : ℕ) (fields : List Field) (o : Option Incoming) → stream_at e.incoming id ≡ o → IsBounded e → IsBounded (with_streams e (telling_at e.side e.incoming id fields o))
+told_bounds e id fields None is h = h
+told_bounds e id fields (Some i) is h =
+    let less : (having_told e.side i fields).waits_for ≤ waits_at (stream_at e.incoming id) = subst (λ o. i.waits_for ≤ waits_at o) (sym is) (omega arith) in
     record {
       tries = λ j. set_bounds TriesTwice j (subst (OfStream TriesTwice) is (h.tries id)) (h.tries j);
       once = λ open_still j. set_bounds WaitsOnce j (subst (OfStream WaitsOnce) is (h.once open_still id)) (h.once open_still j);
-      waiting = omega (arith, count_set e.decoding.decoder.table.inserted e.incoming id (awaiting i asked) less, h.waiting);
+      waiting = omega (arith, count_set e.decoding.decoder.table.inserted e.incoming id (having_told e.side i fields) less, h.waiting);
     }
   where
-    by_test : (P : Incoming → Type 0) (b : Bool) (j : ℕ) → P (awaiting i asked) → OfStream P (stream_at e.incoming j) → OfStream P (if b then Some (awaiting i asked) else stream_at e.incoming j)
+    by_test : (P : Incoming → Type 0) (b : Bool) (j : ℕ) → P (having_told e.side i fields) → OfStream P (stream_at e.incoming j) → OfStream P (if b then Some (having_told e.side i fields) else stream_at e.incoming j)
     by_test P true j here there = here
     by_test P false j here there = there
 
-    set_bounds : (P : Incoming → Type 0) (j : ℕ) → P (awaiting i asked) → OfStream P (stream_at e.incoming j) → OfStream P (stream_at (set_stream e.incoming id (awaiting i asked)) j)
-    set_bounds P j here there = subst (OfStream P) (sym (set_at e.incoming id j (awaiting i asked))) (by_test P (id == j) j here there)
+    set_bounds : (P : Incoming → Type 0) (j : ℕ) → P (having_told e.side i fields) → OfStream P (stream_at e.incoming j) → OfStream P (stream_at (set_stream e.incoming id (having_told e.side i fields)) j)
+    set_bounds P j here there = subst (OfStream P) (sym (set_at e.incoming id j (having_told e.side i fields))) (by_test P (id == j) j here there)
 
 asked_bounds : (e : EndpointHistory) (id : ℕ) (fields : List Field) → IsBounded e → IsBounded (sender.asked e id fields)
-asked_bounds e id fields h = again (by_choice (sender.remembers e.side e.announced))
+asked_bounds e id fields h = again (by_choice e.announced.choices.strict_messages)
   where
-    by_choice : (b : Bool) → IsBounded (with_streams e (if b then awaiting_at e.incoming id (awaited_by fields) (stream_at e.incoming id) else e.incoming))
-    by_choice true = awaits_bounds e id (awaited_by fields) (stream_at e.incoming id) refl h
+    by_choice : (b : Bool) → IsBounded (with_streams e (if b then telling_at e.side e.incoming id fields (stream_at e.incoming id) else e.incoming))
+    by_choice true = told_bounds e id fields (stream_at e.incoming id) refl h
     by_choice false = h
 
     again : IsBounded (with_streams e (sender.asked e id fields).incoming) → IsBounded (sender.asked e id fields)

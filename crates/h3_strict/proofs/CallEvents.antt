@@ -48,7 +48,7 @@ use Rattle.h3_headline.specs.FlowLaws.{open_there}
 use Rattle.h3_headline.specs.Messages.{is_on}
 use Rattle.h3_headline.specs.Standing.{Stands}
 use Rattle.h3_headline.specs.Steps.{IsThere}
-use Rattle.h3_strict.proofs.KeepsCounts.{SameCounts, out_set, same_counts}
+use Rattle.h3_strict.proofs.KeepsCounts.{SameCounts, head_keeps, out_set, same_counts}
 use Rattle.h3_strict.proofs.SendEvents.{flows_with, flows_with_party, interim_tally, part_tally, request_tally, response_tally, sends_part}
 use Rattle.h3_strict.proofs.SentLaws.{TakesBody, TakesEnd, TakesHead, TakesTrailer, body_is_behind, body_rules, finish_rules, head_rules, is_head_part, trailer_is_late, trailer_rules, head_judged, trailer_judged}
 use Rattle.h3_strict.proofs.SentTallies.{after_head, side_of}
@@ -149,7 +149,8 @@ module _ (setup : Setup) (w : World) (ends : Ends) (known : ℕ → Bool) (h : S
   behind_head s i part p e v there flows out in_same announced none fine =
       part_tally setup w v ends known s i part p e
       (sends_part w v ends s i part p e flows (λ id. ap (λ (l : Streams Outgoing). unwrap_or (stream_at l id) nothing_sent) out ∙ out_set (end_at ends s).outgoing i p id)
-      (λ id. subst (λ (l : Streams Incoming). SameCounts (incoming_at (end_at ends s) id) (unwrap_or (stream_at l id) nothing_came)) (sym in_same) (same_counts (incoming_at (end_at ends s) id))) announced)
+      (λ id. head_keeps s (incoming_at (end_at ends s) id) (incoming_at e id)
+      (subst (λ (l : Streams Incoming). SameCounts (incoming_at (end_at ends s) id) (unwrap_or (stream_at l id) nothing_came)) (sym in_same) (same_counts (incoming_at (end_at ends s) id)))) announced)
       (sound_flow (plain_setup setup) w s i h.sound there).out none fine.0 fine.1 t
 
   -- **A body.**

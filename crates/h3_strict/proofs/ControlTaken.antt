@@ -17,6 +17,7 @@ use Rattle.h3_headline.specs.Standing.{AreGoaways}
 use Rattle.h3_headline.specs.UnitLaws.{drop_past, goes_on, take_both}
 use Rattle.h3_headline.specs.WritesMoreLaws.{type_of_control}
 use Rattle.h3_strict.proofs.ControlTexts.{Fits, all_fits, goaways_fit}
+use Rattle.h3_wire.specs.declared.frame.kinds.FrameKinds.{FrameKinds}
 
 -- the ids are written in eight bytes at most
 small_goaways : (writer : Side) (before : Option ℕ) (ids : List ℕ) → AreGoaways writer before ids → AllByRecursion (λ id. id < 2 ^ 62) ids
@@ -71,25 +72,25 @@ module _ (a : Announced) (came count : ℕ) (ids : List ℕ) where
       record { there = g.count; is = ap (λ l. rest_in goaway_encoding few ids ++ l) new_is ∙ g.bytes }
 
 -- **What comes of a control stream.**
-module _ (limit : ℕ) (side writer : Side) (p : Peer) (a : Announced) (came count : ℕ) (ids : List ℕ) (h : Announces a) (taken : length (payload_of a.settings) ≤ limit) (room : 8 ≤ limit) (all : AreGoaways writer None ids) where
+module _ (kinds : FrameKinds) (limit : ℕ) (side writer : Side) (p : Peer) (a : Announced) (came count : ℕ) (ids : List ℕ) (h : Announces a) (taken : length (payload_of a.settings) ≤ limit) (room : 8 ≤ limit) (all : AreGoaways writer None ids) where
   abbrev text : Peer
   text = with_unread p (p.unread ++ comes a came count ids)
 
   within_fits : (most : ℕ) (b : Bool) → nat_le (length (settings_bytes a)) came ≡ b
-      → p.unread ≡ (if b then rest_in goaway_encoding (came - length (settings_bytes a)) ids else drop 1 (take came (settings_bytes a))) → Fits (read_within most limit side text)
+      → p.unread ≡ (if b then rest_in goaway_encoding (came - length (settings_bytes a)) ids else drop 1 (take came (settings_bytes a))) → Fits (read_within kinds most limit side text)
   within_fits most true there is =
       let front = goaways_waiting a came count ids (leb-true (length (settings_bytes a)) came there) in
       let units = flat_map goaway_encoding (left a came count ids) in
       let small = small_goaways writer None ids all in
-      goaways_fit limit most side text (left a came count ids) (drop front.there units) room (small_behind (whole_in goaway_encoding (came - length (settings_bytes a)) ids) ids small)
+      goaways_fit kinds limit most side text (left a came count ids) (drop front.there units) room (small_behind (whole_in goaway_encoding (came - length (settings_bytes a)) ids) ids small)
       (ap (λ l. (l ++ comes a came count ids) ++ drop front.there units) is ∙ ap (λ l. l ++ drop front.there units) front.is ∙ take-append-drop front.there units)
   within_fits most false there is =
       let short = less_of (length (settings_bytes a)) came there in
       let units = settings_frame_of a ++ flat_map goaway_encoding ids in
-      all_fits limit most side text a ids (drop (came + count - 1) units) h taken room (small_goaways writer None ids all)
+      all_fits kinds limit most side text a ids (drop (came + count - 1) units) h taken room (small_goaways writer None ids all)
       (ap (λ l. (l ++ comes a came count ids) ++ drop (came + count - 1) units) is ∙ ap (λ l. l ++ drop (came + count - 1) units) (settings_waiting a came count ids short) ∙ take-append-drop (came + count - 1) units)
 
   pub control_fits : (b : Bool) → nat_le (length (settings_bytes a)) came ≡ b → p.unread ≡ (if b then rest_in goaway_encoding (came - length (settings_bytes a)) ids else drop 1 (take came (settings_bytes a)))
-      → Fits (read_peer limit side text)
+      → Fits (read_peer kinds limit side text)
   unfolding read_peer
   control_fits b there is = within_fits (length text.unread) b there is

@@ -11,10 +11,9 @@ use Rattle.h3_proto.specs.declared.stream.Side.{Side}
 use Rattle.h3_wire.specs.Encoded.{frame_encoding, head_encoding}
 use Rattle.h3_wire.specs.EncodedLaws.{length-encoding, written_goaway, written_settings}
 use Rattle.h3_wire.specs.ExcessiveFrames.{is_excessive, is_kept_whole, says_too_much}
-use Rattle.h3_wire.specs.FrameLaws.{frame_at-nil}
-use Rattle.h3_wire.specs.Frames.{Front, Unfinished, Whole, frame_at, settings_frame}
+use Rattle.h3_wire.specs.FrameLaws.{frame_by-nil}
+use Rattle.h3_wire.specs.Frames.{Front, Unfinished, Whole, frame_by, settings_frame}
 use Rattle.h3_wire.specs.Fronts.{IsKnown, IsUnfinishedFront}
-use Rattle.h3_wire.specs.Known.{known}
 use Rattle.h3_wire.specs.KnownLaws.{known-other}
 use Rattle.h3_wire.specs.UnfinishedLaws.{front_of_frame}
 use Rattle.h3_wire.specs.declared.proto.frame.Frame.TheVariants as frame
@@ -28,6 +27,7 @@ use Rattle.h3_headline.specs.PeerStreams.{Announces, settings_frame_of}
 use Rattle.h3_headline.specs.Standing.{with_meaning}
 use Rattle.h3_strict.proofs.TakenFronts.{head_within}
 use Rattle.h3_strict.specs.Plainly.{is_excess}
+use Rattle.h3_wire.specs.declared.frame.kinds.FrameKinds.{FrameKinds}
 
 -- it is no fault of what is too long
 abbrev pub Fits : PeerFound → Type 0
@@ -37,17 +37,17 @@ behind_fits : (x : PeerFound) (go : Peer → PeerFound) → Fits x → (x.1 ≡ 
 behind_fits (q, Some code) go h goes = h
 behind_fits (q, None) go h goes = goes refl
 
-module _ (limit : ℕ) where
+module _ (kinds : FrameKinds) (limit : ℕ) where
   -- a frame at the front that is not too long
-  front_fits : (most : ℕ) (side : Side) (p : Peer) (x : Front) → frame_at p.unread ≡ x → IsKnown x → is_excessive limit p.unread ≡ false
-      → Fits (at_front (read_within most limit side) side p p.unread x) → Fits (read_within (suc most) limit side p)
+  front_fits : (most : ℕ) (side : Side) (p : Peer) (x : Front) → frame_by kinds p.unread ≡ x → IsKnown x → is_excessive limit p.unread ≡ false
+      → Fits (at_front (read_within kinds most limit side) side p p.unread x) → Fits (read_within kinds (suc most) limit side p)
   front_fits most side p x at here small h =
-      let go = read_within most limit side in
-      ap (λ l. is_excess false (unless_excessive limit l p (at_front go side p l (frame_at l))).1) (known-other p.unread (subst IsKnown (sym at) here))
-      ∙ ap (λ b. is_excess false (if b then (let y : PeerFound = (with_unread p [], Some excessive_load) in y) else at_front go side p p.unread (frame_at p.unread)).1) small
+      let go = read_within kinds most limit side in
+      ap (λ l. is_excess false (unless_excessive limit l p (at_front go side p l (frame_by kinds l))).1) (known-other kinds p.unread (subst IsKnown (sym at) here))
+      ∙ ap (λ b. is_excess false (if b then (let y : PeerFound = (with_unread p [], Some excessive_load) in y) else at_front go side p p.unread (frame_by kinds p.unread)).1) small
       ∙ ap (λ y. is_excess false (at_front go side p p.unread y).1) at ∙ h
 
-  waits_fit : (most : ℕ) (side : Side) (p : Peer) → IsUnfinishedFront p.unread → is_excessive limit p.unread ≡ false → Fits (read_within (suc most) limit side p)
+  waits_fit : (most : ℕ) (side : Side) (p : Peer) → IsUnfinishedFront kinds p.unread → is_excessive limit p.unread ≡ false → Fits (read_within kinds (suc most) limit side p)
   waits_fit most side p u small = front_fits most side p (Unfinished u.0) u.1 tt small refl
 
   -- a kept frame within the limit
@@ -56,8 +56,8 @@ module _ (limit : ℕ) where
       head_within limit kind (length payload) bytes more (payload ++ behind) low small (e ∙ append_assoc (head_encoding kind (length payload)) payload behind)
       (ap (λ b. b && nat_lt limit (length payload)) kept ∙ le-ltb limit (length payload) taken)
 
-  nothing_within : (bytes more : List ℕ) → bytes ++ more ≡ [] → (is_excessive limit bytes ≡ false) × IsUnfinishedFront bytes
-  nothing_within [] more e = (and_right (is_limit limit) (says_too_much limit (varint_at [])) (ap (says_too_much limit) none_at_end), (1, frame_at-nil))
+  nothing_within : (bytes more : List ℕ) → bytes ++ more ≡ [] → (is_excessive limit bytes ≡ false) × IsUnfinishedFront kinds bytes
+  nothing_within [] more e = (and_right (is_limit limit) (says_too_much limit (varint_at [])) (ap (says_too_much limit) none_at_end), (1, frame_by-nil kinds))
   nothing_within (byte ∷ bytes) more e = absurd (cc)
 
   abbrev are_small : List ℕ → Type 0
@@ -80,7 +80,7 @@ module _ (limit : ℕ) where
       by_rule false = refl
 
   -- **GOAWAY frames, of which this much came.**
-  pub goaways_fit : (most : ℕ) (side : Side) (p : Peer) (ids more : List ℕ) → 8 ≤ limit → are_small ids → p.unread ++ more ≡ flat_map goaway_encoding ids → Fits (read_within most limit side p)
+  pub goaways_fit : (most : ℕ) (side : Side) (p : Peer) (ids more : List ℕ) → 8 ≤ limit → are_small ids → p.unread ++ more ≡ flat_map goaway_encoding ids → Fits (read_within kinds most limit side p)
   goaways_fit zero side p ids more room small e = refl
   goaways_fit (suc most) side p [] more room small e = let none = nothing_within p.unread more e in waits_fit most side p none.1 none.0
   goaways_fit (suc most) side p (id ∷ ids) more room small e =
@@ -89,13 +89,13 @@ module _ (limit : ℕ) where
       elim (cases_lt (length p.unread) (length (goaway_encoding id))) [
         | inl less ↦
             let front = short_front p.unread more (goaway_encoding id) (flat_map goaway_encoding ids) e (omega (arith, less)) in
-            waits_fit most side p (subst IsUnfinishedFront (sym front) (front_of_frame 7 (encoding id) (length p.unread) (lit< tt) (omega (arith, short)) refl refl less)) fits
+            waits_fit most side p (subst (IsUnfinishedFront kinds) (sym front) (front_of_frame kinds 7 (encoding id) (length p.unread) (lit< tt) (omega (arith, short)) refl refl less)) fits
         | inr there ↦
             let longer = long_front p.unread more (goaway_encoding id) (flat_map goaway_encoding ids) e there in
             let rest = drop (length (goaway_encoding id)) p.unread in
             let q = with_unread p rest in
-            front_fits most side p (Whole (frame.Goaway id) rest) (ap frame_at longer.front_is ∙ written_goaway id rest small.0) tt fits
-            (behind_fits (read_frame side q p.settings (frame.Goaway id)) (read_within most limit side) (goaway_fits side q p.settings id)
+            front_fits most side p (Whole (frame.Goaway id) rest) (ap (frame_by kinds) longer.front_is ∙ written_goaway kinds id rest small.0) tt fits
+            (behind_fits (read_frame side q p.settings (frame.Goaway id)) (read_within kinds most limit side) (goaway_fits side q p.settings id)
             (λ none. goaways_fit most side (read_frame side q p.settings (frame.Goaway id)).0 ids more room small.1 (ap (λ l. l ++ more) (goaway_keeps side q p.settings id) ∙ longer.rest_is)))
       ]
 
@@ -109,20 +109,20 @@ module _ (limit : ℕ) where
 
   -- **The settings, and the GOAWAY frames behind them.**
   pub all_fits : (most : ℕ) (side : Side) (p : Peer) (a : Announced) (ids more : List ℕ) → Announces a → length (payload_of a.settings) ≤ limit → 8 ≤ limit → are_small ids
-      → p.unread ++ more ≡ settings_frame_of a ++ flat_map goaway_encoding ids → Fits (read_within most limit side p)
+      → p.unread ++ more ≡ settings_frame_of a ++ flat_map goaway_encoding ids → Fits (read_within kinds most limit side p)
   all_fits zero side p a ids more h taken room small e = refl
   all_fits (suc most) side p a ids more h taken room small e =
       let fits = frame_within 4 (payload_of a.settings) (flat_map goaway_encoding ids) p.unread more (lit< tt) h.small taken refl e in
       elim (cases_lt (length p.unread) (length (settings_frame_of a))) [
         | inl less ↦
             let front = short_front p.unread more (settings_frame_of a) (flat_map goaway_encoding ids) e (omega (arith, less)) in
-            waits_fit most side p (subst IsUnfinishedFront (sym front) (front_of_frame 4 (payload_of a.settings) (length p.unread) (lit< tt) h.small refl refl less)) fits
+            waits_fit most side p (subst (IsUnfinishedFront kinds) (sym front) (front_of_frame kinds 4 (payload_of a.settings) (length p.unread) (lit< tt) h.small refl refl less)) fits
         | inr there ↦
             let longer = long_front p.unread more (settings_frame_of a) (flat_map goaway_encoding ids) e there in
             let rest = drop (length (settings_frame_of a)) p.unread in
             let q = with_unread p rest in
             let kept = with_meaning a.settings in
-            front_fits most side p (Whole (frame.Settings kept) rest) (ap frame_at longer.front_is ∙ written_settings a.settings rest h.small ∙ ap (λ r. settings_frame r rest) h.received) tt fits
-            (behind_fits (read_frame side q p.settings (frame.Settings kept)) (read_within most limit side) (settings_fit side q p.settings kept)
+            front_fits most side p (Whole (frame.Settings kept) rest) (ap (frame_by kinds) longer.front_is ∙ written_settings kinds a.settings rest h.small ∙ ap (λ r. settings_frame r rest) h.received) tt fits
+            (behind_fits (read_frame side q p.settings (frame.Settings kept)) (read_within kinds most limit side) (settings_fit side q p.settings kept)
             (λ none. goaways_fit most side (read_frame side q p.settings (frame.Settings kept)).0 ids more room small (ap (λ l. l ++ more) (settings_keep side q p.settings kept) ∙ longer.rest_is)))
       ]

@@ -10,20 +10,20 @@ use Rattle.h3_proto.specs.StreamIds.{is_request_stream}
 use Rattle.h3_proto.specs.declared.stream.Side.{Side}
 use Rattle.h3_proto.specs.declared.stream.Side.TheVariants.{Client, Server}
 use Rattle.h3_connection.specs.Codes.{closed_critical_stream, decoder_stream_error, id_error}
-use Rattle.h3_connection.specs.Control.{Found, if_learned, read_control, read_decoder, read_encoder, taken_peer, then_decoder, with_table}
-use Rattle.h3_connection.specs.Delivering.{bytes_at, end_at, heard_as, push_code, reset_at, unidirectional_at, unless_second, with_unidirectional}
+use Rattle.h3_connection.specs.Control.{Found, if_learned, read_decoder, read_encoder, taken_peer, then_decoder, with_table}
+use Rattle.h3_connection.specs.Delivering.{end_at, push_code, reset_at, unidirectional_at, unless_second, with_unidirectional}
 use Rattle.h3_connection.specs.Endpoint.{EndpointHistory, Kind, Own, bytes_waiting, goaway_encoding, is_second, kind_of, limit_of}
 use Rattle.h3_connection.specs.Endpoint.Kind.{OwnUnidirectional, PeerUnidirectional, Request, ServerOpened}
 use Rattle.h3_connection.specs.ExcessiveInstructions.{hear_up_to, listen_up_to}
-use Rattle.h3_connection.specs.Keeping.{arrives, read_arrival}
+use Rattle.h3_connection.specs.Keeping.{arrives}
 use Rattle.h3_connection.specs.Listeners.{hearing_fault, listening_fault}
 use Rattle.h3_connection.specs.OwnIds.{control_id, decoder_id, encoder_id, is_own, other}
 use Rattle.h3_connection.specs.PeerReading.{Peer, PeerFound, read_peer, with_unread}
 use Rattle.h3_connection.specs.Shown.{has_outgoing, is_finished, is_reset, waiting}
 use Rattle.h3_connection.specs.StreamSets.{stream_at}
-use Rattle.h3_connection.specs.StrictConnection.{is_no_session, is_strict}
-use Rattle.h3_connection.specs.StrictConnectionLaws.{control_taken, fault_as_found}
-use Rattle.h3_connection.specs.Unidirectional.{Role, is_critical}
+use Rattle.h3_connection.specs.StrictConnection.{is_no_session, is_strict, kinds_of, knows_sessions}
+use Rattle.h3_connection.specs.StrictConnectionLaws.{fault_as_found}
+use Rattle.h3_connection.specs.Unidirectional.{Role, is_critical, role_after}
 use Rattle.h3_connection.specs.Unidirectional.Role.{Control, Decoder, Encoder, Ignored, Push, Session, Untold}
 use Rattle.h3_connection.specs.declared.arrival.Arrival.{Arrival}
 use Rattle.h3_connection.specs.declared.arrival.Arrival.TheVariants.{BytesCame, EndCame, ResetCame}
@@ -44,7 +44,7 @@ use Rattle.h3_headline.specs.ComingLaws.{kind_is}
 use Rattle.h3_headline.specs.EncoderStreamLaws.{all_dropped}
 use Rattle.h3_headline.specs.OwnEventLaws.{each_own}
 use Rattle.h3_headline.specs.PeerStreams.{Announces, IsTyped, behind_type, no_limit, role_by, settings_frame_of, with_role}
-use Rattle.h3_headline.specs.RoleLaws.{heard_typed, typed_control, typed_decoder, typed_encoder}
+use Rattle.h3_headline.specs.RoleLaws.{peer_stream, role_then, with_role_then, typed_control, typed_decoder, typed_encoder}
 use Rattle.h3_headline.specs.Standing.{AreGoaways, IsPeerStream, replies_unread}
 use Rattle.h3_headline.specs.UnitLaws.{goes_on}
 use Rattle.h3_headline.specs.WritesMoreLaws.{type_of_control, type_of_decoder, type_of_encoder}
@@ -53,7 +53,7 @@ use Rattle.h3_strict.proofs.ControlTexts.{Fits}
 use Rattle.h3_strict.proofs.InstructionsFit.{AreShort, AreShortReplies, hearing_fits, listening_fits}
 use Rattle.h3_strict.proofs.KeepsCounts.{if_learned_same}
 use Rattle.h3_strict.proofs.LimitPulls.{limited_result}
-use Rattle.h3_strict.proofs.LimitReading.{ArrivesWithin, Exceeds, Otherwise, arrives_within, loose}
+use Rattle.h3_strict.proofs.LimitReading.{ArrivesWithin, Exceeds, Otherwise, arrives_within, loose, told_arrival, told_as, told_bytes, told_control, told_role}
 use Rattle.h3_strict.proofs.LimitSteps.{IsWithin, at_end}
 use Rattle.h3_strict.proofs.PlainReading.{learned_limit, read_if}
 use Rattle.h3_strict.specs.Limits.{limited_end, unlimited_ends}
@@ -96,17 +96,17 @@ session_fits false = refl
 
 -- what comes for a role
 abbrev RoleFits : EndpointHistory → ℕ → Role → List ℕ → Type 0
-RoleFits e id Control bytes = FoundFits (read_control (record e { control_on = Some id }) bytes)
-RoleFits e id Encoder bytes = FoundFits (read_encoder (record e { encoder_on = Some id }) bytes)
-RoleFits e id Decoder bytes = FoundFits (read_decoder (record e { decoder_on = Some id }) bytes)
+RoleFits e id Control bytes = FoundFits (told_control (record e { control_on = Some id }) bytes)
+RoleFits e id Encoder bytes = FoundFits (read_encoder (record (loose e) { encoder_on = Some id }) bytes)
+RoleFits e id Decoder bytes = FoundFits (read_decoder (record (loose e) { decoder_on = Some id }) bytes)
 RoleFits e id _ bytes = Unit {0}
 
-heard_fits : (e : EndpointHistory) (id : ℕ) (role : Role) (bytes : List ℕ) → RoleFits e id role bytes → FoundFits (heard_as e id role bytes)
+heard_fits : (e : EndpointHistory) (id : ℕ) (role : Role) (bytes : List ℕ) → RoleFits e id role bytes → FoundFits (told_as e id role bytes)
 heard_fits e id (Untold front) bytes h = refl
-heard_fits e id Control bytes h = second_fits (is_second e.control_on id) e (read_control (record e { control_on = Some id }) bytes) h
-heard_fits e id Encoder bytes h = second_fits (is_second e.encoder_on id) e (read_encoder (record e { encoder_on = Some id }) bytes) h
-heard_fits e id Decoder bytes h = second_fits (is_second e.decoder_on id) e (read_decoder (record e { decoder_on = Some id }) bytes) h
-heard_fits e id (Session n) bytes h = session_fits (is_no_session e.announced n)
+heard_fits e id Control bytes h = second_fits (is_second e.control_on id) (loose e) (told_control (record e { control_on = Some id }) bytes) h
+heard_fits e id Encoder bytes h = second_fits (is_second e.encoder_on id) (loose e) (read_encoder (record (loose e) { encoder_on = Some id }) bytes) h
+heard_fits e id Decoder bytes h = second_fits (is_second e.decoder_on id) (loose e) (read_decoder (record (loose e) { decoder_on = Some id }) bytes) h
+heard_fits e id (Session n) bytes h = session_fits (is_no_session (loose e).announced n)
 heard_fits e id (Push n) bytes h = push_fits e.side
 heard_fits e id Ignored bytes h = refl
 
@@ -126,6 +126,17 @@ reset_fits e id code Request = refl
 reset_fits e id code ServerOpened = refl
 reset_fits e id code OwnUnidirectional = refl
 reset_fits e id code PeerUnidirectional = critical_fits (is_critical (unidirectional_at e id).role)
+
+-- what the bytes of a stream do that told its type
+told_typed : (e : EndpointHistory) (id kind : ℕ) (role : Role) (came count : ℕ) (units : List ℕ) → IsTyped kind role → IsPeerStream came role (stream_at e.unidirectional id)
+    → told_bytes e id (take count (drop came (kind ∷ units))) PeerUnidirectional ≡ told_as (with_unidirectional e id (with_role (role_by (came + count) role))) id (role_by (came + count) role) (behind_type came count units)
+told_typed e id kind role came count units t h =
+    let bytes = take count (drop came (kind ∷ units)) in
+    let next = role_by (came + count) role in
+    let rest = behind_type came count units in
+    ap (λ o. told_role e id o (role_after (knows_sessions e.announced) o.role bytes)) (peer_stream came role (stream_at e.unidirectional id) h)
+    ∙ ap (λ x. told_role e id (with_role (role_by came role)) x) (role_then (knows_sessions e.announced) kind role came count units t)
+    ∙ ap (λ o. told_as (with_unidirectional e id o) id next rest) (with_role_then kind role (role_by came role) rest (came + count == 0) t)
 
 -- What holds of a reader and of a writer, which wrote that on its own streams.
 pub record Carries (setup_of : Announced) (limit : ℕ) (writer : Side) (own : Own) (er ew : EndpointHistory) : Type 0 where
@@ -156,7 +167,7 @@ replies_short limit (i ∷ is) room = (omega (arith, room, reply_short i), repli
 
 module _ (a : Announced) (limit : ℕ) (writer : Side) (own : Own) (er ew : EndpointHistory) (c : Carries a limit writer own er ew) where
   abbrev ComesFit : ℕ → ℕ → Type 0
-  ComesFit count id = FoundFits (bytes_at (loose er) id (take count (bytes_waiting ew id)) (kind_of er.side id))
+  ComesFit count id = FoundFits (told_bytes er id (take count (bytes_waiting ew id)) (kind_of er.side id))
 
   told_fits : (b : Bool) (e : EndpointHistory) (id : ℕ) (role : Role) (bytes : List ℕ) → RoleFits e id role bytes → RoleFits e id (if b then Untold [] else role) bytes
   told_fits true e id role bytes h = tt
@@ -164,14 +175,14 @@ module _ (a : Announced) (limit : ℕ) (writer : Side) (own : Own) (er ew : Endp
 
   -- the reader of one of the writer's streams
   abbrev reading : ℕ → ℕ → ℕ → Role → EndpointHistory
-  reading count id came role = with_unidirectional (loose er) id (with_role (role_by (came + count) role))
+  reading count id came role = with_unidirectional er id (with_role (role_by (came + count) role))
 
   typed_comes : (count id kind came : ℕ) (role : Role) (units : List ℕ) → IsTyped kind role → kind_of er.side id ≡ PeerUnidirectional → IsPeerStream came role (stream_at er.unidirectional id)
       → bytes_waiting ew id ≡ drop came (kind ∷ units) → RoleFits (reading count id came role) id role (behind_type came count units) → ComesFit count id
   typed_comes count id kind came role units typed there is waits fits =
-      ap (λ k. is_excess false (bytes_at (loose er) id (take count (bytes_waiting ew id)) k).1) there
-      ∙ ap (λ l. is_excess false (bytes_at (loose er) id (take count l) PeerUnidirectional).1) waits
-      ∙ ap (λ (x : Found). is_excess false x.1) (heard_typed (loose er) id kind role came count units typed is)
+      ap (λ k. is_excess false (told_bytes er id (take count (bytes_waiting ew id)) k).1) there
+      ∙ ap (λ l. is_excess false (told_bytes er id (take count l) PeerUnidirectional).1) waits
+      ∙ ap (λ (x : Found). is_excess false x.1) (told_typed er id kind role came count units typed is)
       ∙ heard_fits (reading count id came role) id (role_by (came + count) role) (behind_type came count units) (told_fits (came + count == 0) (reading count id came role) id role (behind_type came count units) fits)
 
   -- what waited of the decoder stream is read once the settings are known
@@ -205,15 +216,14 @@ module _ (a : Announced) (limit : ℕ) (writer : Side) (own : Own) (er ew : Endp
       let id = control_id writer in
       let came = own.control_taken in
       let units = settings_frame_of a ++ flat_map goaway_encoding own.goaways in
-      let e : EndpointHistory = record (reading count id came Control) { control_on = Some id } in
+      let e : EndpointHistory = loose (record (reading count id came Control) { control_on = Some id }) in
       let text : settings_bytes a ++ flat_map goaway_encoding own.goaways ≡ 0 ∷ units =
       append_assoc (encoding 0) (settings_frame_of a) (flat_map goaway_encoding own.goaways) ∙ ap (λ k. k ++ units) type_of_control in
-      let fits : Fits (read_peer (limit_of er) er.side (with_unread er.peer (er.peer.unread ++ behind_type came count units))) =
-      ap (λ n. is_excess false (read_peer n er.side (with_unread er.peer (er.peer.unread ++ behind_type came count units))).1) c.limit_is
-      ∙ control_fits limit er.side writer er.peer a came count own.goaways c.announces c.settings_taken (omega (arith, c.room)) c.goaways (nat_le (length (settings_bytes a)) came) refl c.unread in
+      let fits : Fits (read_peer (kinds_of er.announced) (limit_of er) er.side (with_unread er.peer (er.peer.unread ++ behind_type came count units))) =
+      ap (λ n. is_excess false (read_peer (kinds_of er.announced) n er.side (with_unread er.peer (er.peer.unread ++ behind_type came count units))).1) c.limit_is
+      ∙ control_fits (kinds_of er.announced) limit er.side writer er.peer a came count own.goaways c.announces c.settings_taken (omega (arith, c.room)) c.goaways (nat_le (length (settings_bytes a)) came) refl c.unread in
       typed_comes count id 0 came Control units typed_control (kind_at id (kind_of_own writer)) c.control_is (c.control_waits ∙ ap (drop came) text)
-      (ap (λ (x : Found). is_excess false x.1) (control_taken e (behind_type came count units) refl)
-      ∙ peer_fits e (read_peer (limit_of er) er.side (with_unread er.peer (er.peer.unread ++ behind_type came count units))) fits refl c.limit_is refl refl)
+      (peer_fits e (read_peer (kinds_of er.announced) (limit_of er) er.side (with_unread er.peer (er.peer.unread ++ behind_type came count units))) fits refl c.limit_is refl refl)
     where
       kind_of_own : (s : Side) → kind_of (other s) (control_id s) ≡ PeerUnidirectional
       kind_of_own Client = refl
@@ -262,7 +272,7 @@ module _ (a : Announced) (limit : ℕ) (writer : Side) (own : Own) (er ew : Endp
       comes = behind_type came count (flat_map decoder_bytes is)
 
       e : EndpointHistory
-      e = record (reading count id came Decoder) { decoder_on = Some id }
+      e = record (loose (reading count id came Decoder)) { decoder_on = Some id }
 
       -- before the settings it waits
       by_settings : (b : Bool) → is_some er.peer.settings ≡ b → FoundFits (read_decoder e comes)
@@ -285,12 +295,12 @@ module _ (a : Announced) (limit : ℕ) (writer : Side) (own : Own) (er ew : Endp
   own_comes count id own_id = each_own (ComesFit count) writer id own_id (control_comes count) (encoder_comes count) (decoder_comes count)
 
   -- **What waits of any stream.**
-  pub comes_fit : (count id : ℕ) → has_outgoing ew id ≡ true → FoundFits (read_arrival (loose er) (BytesCame id (take count (bytes_waiting ew id))))
+  pub comes_fit : (count id : ℕ) → has_outgoing ew id ≡ true → FoundFits (told_arrival er (BytesCame id (take count (bytes_waiting ew id))))
   comes_fit count id has = by_own (is_own writer id) refl
     where
       by_own : (b : Bool) → is_own writer id ≡ b → ComesFit count id
       by_own true is = own_comes count id is
-      by_own false is = ap (λ k. is_excess false (bytes_at (loose er) id (take count (bytes_waiting ew id)) k).1) (kind_is er.side id (c.requests id is has))
+      by_own false is = ap (λ k. is_excess false (told_bytes er id (take count (bytes_waiting ew id)) k).1) (kind_is er.side id (c.requests id is has))
 
 -- An answer that tells of no fault of the connection.
 abbrev IsQuiet : Answer → Type 0
@@ -343,7 +353,7 @@ module _ (ends : Ends) (writer : Side) (a : Announced) (limit : ℕ) (own : Own)
   abbrev others : Ends
   others = unlimited_ends ends
 
-  comes : (arrival : Arrival) → ArrivesWithin no_limit reader.announced (arrives reader arrival) (arrives (limited_end no_limit reader) arrival) (read_arrival (loose reader) arrival)
+  comes : (arrival : Arrival) → ArrivesWithin no_limit reader.announced (arrives reader arrival) (arrives (limited_end no_limit reader) arrival) (told_arrival reader arrival)
   comes arrival = arrives_within reader arrival c.nothing_kept
 
   -- what a test of both ends gives, at the ends without limits

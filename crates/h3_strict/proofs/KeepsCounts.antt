@@ -26,6 +26,11 @@ use Rattle.h3_connection.specs.declared.event.StreamFault.TheVariants as stream_
 use Rattle.h3_headline.specs.MovesLaws.{set_at}
 use Rattle.h3_strict.specs.Plainly.{is_malformation}
 use Rattle.h3_strict.specs.Tallies.{IsFine}
+use Rattle.h3_connection.specs.StrictConnection.{kinds_of, knows_sessions}
+use Rattle.h3_messages.specs.declared.content.Content.{Content}
+use Rattle.h3_messages.specs.declared.content.Content.TheVariants.{Tunnel, Unanswered, Unsaid}
+use Rattle.h3_proto.specs.declared.stream.Side.{Side}
+use Rattle.h3_proto.specs.declared.stream.Side.TheVariants.{Client, Server}
 
 -- What is counted of a stream that is received is the same.
 pub record SameCounts (i j : Incoming) : Type 0 where
@@ -42,6 +47,25 @@ pub record IsLost (i j : Incoming) : Type 0 where
 
 abbrev pub KeepsAt : Incoming → Incoming → Type 0
 KeepsAt i j = SameCounts i j ⊎ IsLost i j
+
+-- A server that sends a response may answer a CONNECT that it read: behind that any bytes come.
+abbrev pub MayAnswer : Content → Content → Type 0
+MayAnswer before after = (after ≡ before) ⊎ ((before ≡ Unanswered) × ((after ≡ Tunnel) ⊎ (after ≡ Unsaid)))
+
+pub record HasAnswered (i j : Incoming) : Type 0 where
+  pub fault : j.fault ≡ i.fault
+  pub content : MayAnswer i.content j.content
+  pub left : j.body_left ≡ i.body_left
+  pub response : j.response ≡ i.response
+
+-- what the own head of a side leaves of what it receives, but on the stream of a request that it sends
+abbrev pub HeadKeeps : Side → Incoming → Incoming → Type 0
+HeadKeeps Client i j = SameCounts i j
+HeadKeeps Server i j = HasAnswered i j
+
+pub head_keeps : (side : Side) (i j : Incoming) → SameCounts i j → HeadKeeps side i j
+head_keeps Client i j h = h
+head_keeps Server i j h = record { fault = h.fault; content = inl h.content; left = h.left; response = h.response }
 
 pub record SendsSame (o p : Outgoing) : Type 0 where
   pub takes : takes_end p ≡ true → takes_end o ≡ true
@@ -127,7 +151,7 @@ either_same false e x y h k = k
 
 held_same : (e : EndpointHistory) → SameStreams e (read_held e).0
 held_same e =
-    let x = read_peer (limit_of e) e.side e.peer in
+    let x = read_peer (kinds_of e.announced) (limit_of e) e.side e.peer in
     either_same (lacks_settings e) e (e, Some missing_settings) (after_peer e x) (same_streams e)
     (either_same (are_refused e e.peer.settings x.0.settings) e (record e { peer = settings_alone e.peer x.0.settings }, Some settings_error) (taken_peer e x)
     (record { incoming = refl; outgoing = refl; announced = refl }) (taken_same e x))
@@ -148,7 +172,7 @@ heard_same e id (Session session) bytes = same_streams e
 heard_same e id (Untold front) bytes = same_streams e
 heard_same e id Ignored bytes = same_streams e
 
-unidirectional_same : (e : EndpointHistory) (id : ℕ) (o : Unidirectional) (x : Role × List ℕ) → SameStreams e (read_unidirectional e id o x).0
+pub unidirectional_same : (e : EndpointHistory) (id : ℕ) (o : Unidirectional) (x : Role × List ℕ) → SameStreams e (read_unidirectional e id o x).0
 unidirectional_same e id o (role, bytes) = then_same e _ _ (record { incoming = refl; outgoing = refl; announced = refl }) (heard_same _ id role bytes)
 
 -- A stream that is set.
@@ -238,7 +262,7 @@ bytes_keep : (e : EndpointHistory) (id : ℕ) (bytes : List ℕ) (k : Kind) → 
 bytes_keep e id bytes Request = comes_keep no_stream e id (kept (incoming_at e id) bytes) _ refl refl (opened_announced e id) (λ h. record { fault = refl; content = refl; left = refl; response = refl }) (λ h. absurd (cc))
 bytes_keep e id bytes ServerOpened = streams_keep no_stream e e (same_streams e)
 bytes_keep e id bytes OwnUnidirectional = streams_keep no_stream e e (same_streams e)
-bytes_keep e id bytes PeerUnidirectional = streams_keep no_stream e _ (unidirectional_same e id (unidirectional_at e id) (role_after (unidirectional_at e id).role bytes))
+bytes_keep e id bytes PeerUnidirectional = streams_keep no_stream e _ (unidirectional_same e id (unidirectional_at e id) (role_after (knows_sessions e.announced) (unidirectional_at e id).role bytes))
 
 end_keeps : (e : EndpointHistory) (id : ℕ) (k : Kind) → KeepsBut no_stream e (end_at e id k).0
 end_keeps e id Request = comes_keep no_stream e id (with_end (incoming_at e id)) _ refl refl (opened_announced e id) (λ h. record { fault = refl; content = refl; left = refl; response = refl }) (λ h. absurd (cc))

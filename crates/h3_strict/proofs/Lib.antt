@@ -1,17 +1,20 @@
 mod PlainStreams
 mod PlainPulls
+mod Verdicts
 mod PlainCalls
 mod PlainSends
 mod InstructionReading
 mod PlainReading
 mod PlainPulled
 mod PlainSteps
+mod PlainParts
 mod OneStatus
 mod StrictSections
 mod StrictStreams
 mod UnbrokenLaws
 mod SameWorlds
 mod KeepsCounts
+mod NothingCounted
 mod SentLaws
 mod StrictCodes
 mod AnnouncedEnds
@@ -28,6 +31,9 @@ mod SendEvents
 mod CallEvents
 mod QuietEvents
 mod PullEvents
+mod PullsAnyhow
+mod PullVerdicts
+mod StepsAnyhow
 mod PulledTallies
 mod PullTally
 mod NoneJudges
@@ -48,3 +54,4 @@ mod DeliveriesFit
 mod MadeLimits
 mod LimitCarries
 mod LimitEarly
+mod AnyhowMessages

@@ -7,7 +7,8 @@ use Rattle.h3_proto.specs.StreamIds.{is_request_stream}
 use Rattle.h3_proto.specs.declared.stream.Side.{Side}
 use Rattle.h3_proto.specs.declared.stream.Side.TheVariants.{Client, Server}
 use Rattle.h3_wire.specs.StreamHeaders.{control_encoding}
-use Rattle.h3_connection.specs.Endpoint.{EndpointHistory, Own, bytes_waiting, goaway_encoding, limit_of}
+use Rattle.h3_connection.specs.StrictConnection.{is_strict}
+use Rattle.h3_connection.specs.Endpoint.{EndpointHistory, Own, bytes_waiting, goaway_encoding, limit_of, first_decoder}
 use Rattle.h3_connection.specs.Listeners.{Decoding}
 use Rattle.h3_connection.specs.OwnIds.{control_id, decoder_id, encoder_id, is_own, other}
 use Rattle.h3_connection.specs.PeerReading.{Peer}
@@ -15,7 +16,7 @@ use Rattle.h3_connection.specs.Shown.{has_outgoing}
 use Rattle.h3_connection.specs.StreamSets.{stream_at}
 use Rattle.h3_connection.specs.Unidirectional.Role.{Control, Decoder, Encoder}
 use Rattle.h3_connection.specs.declared.setup.Announced.{Announced}
-use Rattle.h3_qpack.specs.DecoderState.{announcing, decoder_after_all}
+use Rattle.h3_qpack.specs.DecoderState.{decoder_after_all}
 use Rattle.h3_qpack.specs.InstructionSizes.{most_instruction}
 use Rattle.h3_qpack.specs.ShortInstructionLaws.{taken_instructions_short}
 use Rattle.h3_qpack.specs.WholeInstructions.{rest_in}
@@ -93,7 +94,7 @@ instructions_short streams X w writer made sound =
     let is = (party w writer).own.instructions in
     let most = (announced_at X (other writer)).limits.table in
     let read = instructions_read streams X w writer (length is) made (party_sound X w writer sound) (omega arith) in
-    taken_instructions_short most is read.decoder (ap (decoder_after_all (Some (announcing most))) (sym (take-length is)) ∙ read.reads)
+    taken_instructions_short (is_strict (announced_at X (other writer))) most is read.decoder (ap (decoder_after_all (Some (first_decoder (announced_at X (other writer))))) (sym (take-length is)) ∙ read.reads)
 
 -- a reader and a writer of which those stand there
 module _ (streams : StreamLaws) (setup X : Setup) (made : IsMadeSetup setup) (stated : IsMadeSetup X) (w : World) (s : Side) (er ew fr fw : EndpointHistory) (reads : SameStreams er fr) (writes : SameStreams ew fw)

@@ -11,7 +11,7 @@ use Rattle.h3_proto.specs.declared.stream.Side.TheVariants.{Client, Server}
 use Rattle.h3_qpack.specs.DecodedSection.{BadSection, DecodedSection, Fields, Missing, decode_section}
 use Rattle.h3_qpack.specs.DecoderState.{DecoderState}
 use Rattle.h3_wire.specs.ExcessiveFrames.{is_excessive}
-use Rattle.h3_wire.specs.Frames.{Front, Refused, Unfinished, Unknown, Whole, frame_at}
+use Rattle.h3_wire.specs.Frames.{Front, Refused, Unfinished, Unknown, Whole, frame_by}
 use Rattle.h3_wire.specs.declared.proto.frame.Frame.{Frame}
 use Rattle.h3_wire.specs.declared.proto.frame.Frame.TheVariants as frame
 use Rattle.h3_wire.specs.declared.proto.frame.PayloadLen.{PayloadLen}
@@ -38,6 +38,8 @@ use Rattle.h3_connection.specs.declared.place.Place.TheVariants.{AfterTrailer, B
 use Rattle.h3_connection.specs.declared.setup.Announced.{Announced}
 use Rattle.h3_strict.specs.Limits.{limited, limited_end}
 use Rattle.h3_strict.specs.Plainly.{exceeds, is_judged, judged_as, judged_at, judged_open, tells_malformed}
+use Rattle.h3_wire.specs.declared.frame.kinds.FrameKinds.{FrameKinds}
+use Rattle.h3_connection.specs.StrictConnection.{kinds_of}
 
 -- a test with the same branches
 either : (b : Bool) (x y v w : Pulled) → v ≡ x → w ≡ y → (if b then v else w) ≡ (if b then x else y)
@@ -54,17 +56,17 @@ violation_same most side own InSession fields = refl
 
 -- The receiver finds no frame too long, where it looks for one.
 abbrev pub LooksWithin : ℕ → Incoming → Type 0
-LooksWithin most i = i.fault ≡ None → i.is_over ≡ false → i.section ≡ None → nat_lt 0 i.body_left ≡ false → is_excessive most (skipped (is_body i.place) (concat i.unread)) ≡ false
+LooksWithin most i = i.fault ≡ None → i.is_over ≡ false → i.section ≡ None → nat_lt 0 i.body_left ≡ false → (kinds : FrameKinds) → is_excessive most (skipped kinds (is_body i.place) (concat i.unread)) ≡ false
 
 -- With either limit it finds one too long or not.
-abbrev pub LooksAlike : (most other : ℕ) → Incoming → Type 0
-LooksAlike most other i =
+abbrev pub LooksAlike : FrameKinds → (most other : ℕ) → Incoming → Type 0
+LooksAlike kinds most other i =
     i.fault ≡ None → i.is_over ≡ false → i.section ≡ None → nat_lt 0 i.body_left ≡ false
-    → is_excessive most (skipped (is_body i.place) (concat i.unread)) ≡ is_excessive other (skipped (is_body i.place) (concat i.unread))
+    → is_excessive most (skipped kinds (is_body i.place) (concat i.unread)) ≡ is_excessive other (skipped kinds (is_body i.place) (concat i.unread))
 
 module _ (most : ℕ) (side : Side) (own : Announced) (id : ℕ) (r : DecoderState) where
   abbrev IsAlike : Incoming → Type 0
-  IsAlike i = is_excessive most (skipped (is_body i.place) (concat i.unread)) ≡ is_excessive own.choices.unfinished_limit (skipped (is_body i.place) (concat i.unread))
+  IsAlike i = is_excessive most (skipped (kinds_of own) (is_body i.place) (concat i.unread)) ≡ is_excessive own.choices.unfinished_limit (skipped (kinds_of own) (is_body i.place) (concat i.unread))
 
   abbrev any : Announced
   any = limited most own
@@ -110,11 +112,11 @@ module _ (most : ℕ) (side : Side) (own : Announced) (id : ℕ) (r : DecoderSta
 
   next_same : (i : Incoming) (bytes : List ℕ) → next_frame side any id r i bytes ≡ next_frame side own id r i bytes
   next_same i [] = either i.ended _ _ _ _ (end_same i i.place) refl
-  next_same i (byte ∷ bytes) = framed_same i (frame_at (byte ∷ bytes))
+  next_same i (byte ∷ bytes) = framed_same i (frame_by (kinds_of own) (byte ∷ bytes))
 
   frames_same : (i : Incoming) → IsAlike i → between_frames side any id r i ≡ between_frames side own id r i
   frames_same i alike =
-      let bytes = skipped (is_body i.place) (concat i.unread) in
+      let bytes = skipped (kinds_of own) (is_body i.place) (concat i.unread) in
       ap (λ b. if b then excess id i bytes else next_frame side any id r (left_with i bytes) bytes) alike
       ∙ either (is_excessive own.choices.unfinished_limit bytes) _ _ _ _ refl (next_same (left_with i bytes) bytes)
 
@@ -134,7 +136,7 @@ module _ (most : ℕ) (side : Side) (own : Announced) (id : ℕ) (r : DecoderSta
   item_same i AfterTrailer within = message_same i i.section refl within
   item_same i InSession within = refl
 
-  pub pull_same : (i : Incoming) → LooksAlike most own.choices.unfinished_limit i → pull_stream side any id r i ≡ pull_stream side own id r i
+  pub pull_same : (i : Incoming) → LooksAlike (kinds_of own) most own.choices.unfinished_limit i → pull_stream side any id r i ≡ pull_stream side own id r i
   unfolding pull_stream
   pull_same i within = by_fault i.fault refl
     where
@@ -162,7 +164,7 @@ after_same most (pull.Waiting n) e = refl
 after_same most pull.NoMessages e = refl
 
 module _ (most : ℕ) (e : EndpointHistory) (id : ℕ) where
-  request_same : (o : Option Incoming) → ((i : Incoming) → o ≡ Some i → LooksAlike most e.announced.choices.unfinished_limit i) → pull_request (limited_end most e) id o ≡ limited_result most (pull_request e id o)
+  request_same : (o : Option Incoming) → ((i : Incoming) → o ≡ Some i → LooksAlike (kinds_of e.announced) most e.announced.choices.unfinished_limit i) → pull_request (limited_end most e) id o ≡ limited_result most (pull_request e id o)
   request_same None within = refl
   request_same (Some i) within =
       let p = pull_stream e.side e.announced id e.decoding.decoder i in
@@ -176,7 +178,7 @@ module _ (most : ℕ) (e : EndpointHistory) (id : ℕ) where
       by_told : (x : Pull × Unidirectional) → pulled_unidirectional (limited_end most e) id x ≡ limited_result most (pulled_unidirectional e id x)
       by_told (a, o) = refl
 
-  at_kind : (k : Kind) → ((i : Incoming) → stream_at e.incoming id ≡ Some i → LooksAlike most e.announced.choices.unfinished_limit i) → pull_at (limited_end most e) id k ≡ limited_result most (pull_at e id k)
+  at_kind : (k : Kind) → ((i : Incoming) → stream_at e.incoming id ≡ Some i → LooksAlike (kinds_of e.announced) most e.announced.choices.unfinished_limit i) → pull_at (limited_end most e) id k ≡ limited_result most (pull_at e id k)
   at_kind Request within = request_same (stream_at e.incoming id) within
   at_kind PeerUnidirectional within = peer_same (stream_at e.unidirectional id)
   at_kind ServerOpened within = refl
@@ -187,24 +189,24 @@ module _ (most : ℕ) (e : EndpointHistory) (id : ℕ) where
   unless_same None x y is = is
 
   -- **A pull of any stream, where nothing is kept.**
-  pub pulls_same : e.kept ≡ [] → ((i : Incoming) → stream_at e.incoming id ≡ Some i → LooksAlike most e.announced.choices.unfinished_limit i) → pulls (limited_end most e) id ≡ limited_result most (pulls e id)
+  pub pulls_same : e.kept ≡ [] → ((i : Incoming) → stream_at e.incoming id ≡ Some i → LooksAlike (kinds_of e.announced) most e.announced.choices.unfinished_limit i) → pulls (limited_end most e) id ≡ limited_result most (pulls e id)
   pulls_same none within =
       ap (λ k. pulls_behind k (limited_end most e) id) none
       ∙ unless_same e.closed (pull_at e id (kind_of e.side id)) (pull_at (limited_end most e) id (kind_of e.side id)) (at_kind (kind_of e.side id) within)
       ∙ sym (ap (λ k. limited_result most (pulls_behind k e id)) none)
 
   -- and whether it judges a message
-  judged_same : (o : Option Incoming) → ((i : Incoming) → o ≡ Some i → LooksAlike most e.announced.choices.unfinished_limit i) → judged_at (unkept (limited_end most e)) id o ≡ judged_at (unkept e) id o
+  judged_same : (o : Option Incoming) → ((i : Incoming) → o ≡ Some i → LooksAlike (kinds_of e.announced) most e.announced.choices.unfinished_limit i) → judged_at (unkept (limited_end most e)) id o ≡ judged_at (unkept e) id o
   judged_same None within = refl
   judged_same (Some i) within = ap (λ (p : Pulled). tells_malformed false p.answer) (pull_same most e.side e.announced id e.decoding.decoder i (within i refl))
 
-  kind_judged : (k : Kind) → ((i : Incoming) → stream_at e.incoming id ≡ Some i → LooksAlike most e.announced.choices.unfinished_limit i) → judged_as (unkept (limited_end most e)) id k ≡ judged_as (unkept e) id k
+  kind_judged : (k : Kind) → ((i : Incoming) → stream_at e.incoming id ≡ Some i → LooksAlike (kinds_of e.announced) most e.announced.choices.unfinished_limit i) → judged_as (unkept (limited_end most e)) id k ≡ judged_as (unkept e) id k
   kind_judged Request within = judged_same (stream_at e.incoming id) within
   kind_judged PeerUnidirectional within = refl
   kind_judged ServerOpened within = refl
   kind_judged OwnUnidirectional within = refl
 
-  open_judged : (closed : Option ℕ) → ((i : Incoming) → stream_at e.incoming id ≡ Some i → LooksAlike most e.announced.choices.unfinished_limit i) → judged_open closed (unkept (limited_end most e)) id ≡ judged_open closed (unkept e) id
+  open_judged : (closed : Option ℕ) → ((i : Incoming) → stream_at e.incoming id ≡ Some i → LooksAlike (kinds_of e.announced) most e.announced.choices.unfinished_limit i) → judged_open closed (unkept (limited_end most e)) id ≡ judged_open closed (unkept e) id
   open_judged (Some code) within = refl
   open_judged None within = kind_judged (kind_of e.side id) within
 
@@ -212,6 +214,6 @@ module _ (most : ℕ) (e : EndpointHistory) (id : ℕ) where
   abbrev judged_behind : Found → EndpointHistory → Bool
   judged_behind x f = exceeds f x.1 || judged_open f.closed x.0 id
 
-  pub judges_same : e.kept ≡ [] → ((i : Incoming) → stream_at e.incoming id ≡ Some i → LooksAlike most e.announced.choices.unfinished_limit i) → is_judged (limited_end most e) id ≡ is_judged e id
+  pub judges_same : e.kept ≡ [] → ((i : Incoming) → stream_at e.incoming id ≡ Some i → LooksAlike (kinds_of e.announced) most e.announced.choices.unfinished_limit i) → is_judged (limited_end most e) id ≡ is_judged e id
   judges_same none within =
       ap (λ k. judged_behind (read_all k (unkept (limited_end most e))) (limited_end most e)) none ∙ open_judged e.closed within ∙ sym (ap (λ k. judged_behind (read_all k (unkept e)) e) none)

@@ -14,9 +14,8 @@ use Rattle.h3_connection.specs.Keeping.{arrives, arrives_behind, read_arrival}
 use Rattle.h3_connection.specs.Listeners.{heard_more, hearing_fault, listening_fault}
 use Rattle.h3_connection.specs.PeerReading.{PeerFound, read_peer}
 use Rattle.h3_connection.specs.StreamSets.{stream_at}
-use Rattle.h3_connection.specs.StrictConnection.{is_strict}
+use Rattle.h3_connection.specs.StrictConnection.{is_strict, kinds_of, knows_sessions}
 use Rattle.h3_connection.specs.StrictConnection.{stream_fault as stream_error}
-use Rattle.h3_connection.specs.StrictConnectionLaws.{control_taken}
 use Rattle.h3_connection.specs.Unidirectional.{Role, Unidirectional, role_after, with_bytes}
 use Rattle.h3_connection.specs.Unidirectional.Role.{Control, Decoder, Encoder, Ignored, Push, Session, Untold}
 use Rattle.h3_connection.specs.declared.arrival.Arrival.{Arrival}
@@ -50,6 +49,25 @@ loosely a = record a { choices = record a.choices { extensions = record a.choice
 
 abbrev pub loose : EndpointHistory → EndpointHistory
 loose e = choosing loosely e
+
+-- What that one finds, where kinds of frames and of streams are known as at the endpoint itself.
+abbrev pub told_control : EndpointHistory → List ℕ → Found
+told_control e bytes = taken_peer (loose (holding e bytes)) (read_peer (kinds_of e.announced) (limit_of e) e.side (holding e bytes).peer)
+
+abbrev pub told_as : EndpointHistory → ℕ → Role → List ℕ → Found
+told_as e id Control bytes = unless_second (is_second e.control_on id) (loose e) (told_control (record e { control_on = Some id }) bytes)
+told_as e id role bytes = heard_as (loose e) id role bytes
+
+abbrev pub told_role : EndpointHistory → ℕ → Unidirectional → Role × List ℕ → Found
+told_role e id o (role, bytes) = told_as (with_unidirectional e id (with_bytes o (role, bytes))) id role bytes
+
+abbrev pub told_bytes : EndpointHistory → ℕ → List ℕ → Kind → Found
+told_bytes e id bytes PeerUnidirectional = told_role e id (unidirectional_at e id) (role_after (knows_sessions e.announced) (unidirectional_at e id).role bytes)
+told_bytes e id bytes kind = bytes_at (loose e) id bytes kind
+
+abbrev pub told_arrival : EndpointHistory → Arrival → Found
+told_arrival e (BytesCame id bytes) = told_bytes e id bytes (kind_of e.side id)
+told_arrival e a = read_arrival (loose e) a
 
 -- What is read is too long, as the loose endpoint tells, or it is read alike without a limit: of any stream.
 pub data ReadsWithin (own : Announced) (x y told : Found) : Type 0 where
@@ -160,24 +178,23 @@ control_found e (p, fault) y (IsLong limit is keeps) = by_refused (are_refused e
         (ap (λ o. (then_decoder before p.settings (if_learned before p.settings (record (loose e) { peer = p })) o).1) is)
 control_found e x y (ReadsSame same) = subst (λ z. ReadsWithin e.announced (after_peer e x) (after_peer (endless e) z) (taken_peer (loose e) x)) (sym same) (after_within e x)
 
-control_within : (e : EndpointHistory) (bytes : List ℕ) → ReadsWithin e.announced (read_control e bytes) (read_control (endless e) bytes) (read_control (loose e) bytes)
+control_within : (e : EndpointHistory) (bytes : List ℕ) → ReadsWithin e.announced (read_control e bytes) (read_control (endless e) bytes) (told_control e bytes)
 control_within e bytes =
     let h = holding e bytes in
-    let x = read_peer (limit_of h) h.side h.peer in
-    let y = read_peer no_limit h.side h.peer in
-    subst (ReadsWithin e.announced (read_control e bytes) (read_control (endless e) bytes)) (sym (control_taken (loose e) bytes refl))
-    (either_within e.announced (lacks_settings h) (h, Some missing_settings) (after_peer h x) (endless h, Some missing_settings) (after_peer (endless h) y) (taken_peer (loose h) x)
-    (ReadsAlike refl) (control_found h x y (peer_plain (limit_of h) h.side h.peer)))
+    let x = read_peer (kinds_of h.announced) (limit_of h) h.side h.peer in
+    let y = read_peer (kinds_of h.announced) no_limit h.side h.peer in
+    either_within e.announced (lacks_settings h) (h, Some missing_settings) (after_peer h x) (endless h, Some missing_settings) (after_peer (endless h) y) (taken_peer (loose h) x)
+    (ReadsAlike refl) (control_found h x y (peer_plain (kinds_of h.announced) (limit_of h) h.side h.peer))
 
 second_within : (own : Announced) (b : Bool) (e : EndpointHistory) (x y told : Found) → ReadsWithin own x y told → ReadsWithin own (unless_second b e x) (unless_second b (endless e) y) (unless_second b (loose e) told)
 second_within own true e x y told h = ReadsAlike refl
 second_within own false e x y told h = h
 
-heard_within : (e : EndpointHistory) (id : ℕ) (role : Role) (bytes : List ℕ) → ReadsWithin e.announced (heard_as e id role bytes) (heard_as (endless e) id role bytes) (heard_as (loose e) id role bytes)
+heard_within : (e : EndpointHistory) (id : ℕ) (role : Role) (bytes : List ℕ) → ReadsWithin e.announced (heard_as e id role bytes) (heard_as (endless e) id role bytes) (told_as e id role bytes)
 heard_within e id (Untold front) bytes = ReadsAlike refl
 heard_within e id Control bytes =
     let g : EndpointHistory = record e { control_on = Some id } in
-    second_within e.announced (is_second e.control_on id) e (read_control g bytes) (read_control (endless g) bytes) (read_control (loose g) bytes) (control_within g bytes)
+    second_within e.announced (is_second e.control_on id) e (read_control g bytes) (read_control (endless g) bytes) (told_control g bytes) (control_within g bytes)
 heard_within e id Encoder bytes =
     let g : EndpointHistory = record e { encoder_on = Some id } in
     second_within e.announced (is_second e.encoder_on id) e (read_encoder g bytes) (read_encoder (endless g) bytes) (read_encoder (loose g) bytes) (encoder_within g bytes)
@@ -188,7 +205,7 @@ heard_within e id (Session n) bytes = ReadsAlike refl
 heard_within e id (Push n) bytes = ReadsAlike refl
 heard_within e id Ignored bytes = ReadsAlike refl
 
-unidirectional_within : (e : EndpointHistory) (id : ℕ) (o : Unidirectional) (x : Role × List ℕ) → ReadsWithin e.announced (read_unidirectional e id o x) (read_unidirectional (endless e) id o x) (read_unidirectional (loose e) id o x)
+unidirectional_within : (e : EndpointHistory) (id : ℕ) (o : Unidirectional) (x : Role × List ℕ) → ReadsWithin e.announced (read_unidirectional e id o x) (read_unidirectional (endless e) id o x) (told_role e id o x)
 unidirectional_within e id o (role, bytes) = heard_within (with_unidirectional e id (with_bytes o (role, bytes))) id role bytes
 
 opens_same : (e : EndpointHistory) (id : ℕ) (o : Option Incoming) → opened_at (endless e) id o ≡ endless (opened_at e id o)
@@ -199,11 +216,11 @@ module _ (e : EndpointHistory) (id : ℕ) where
   changes : (i : Incoming) → with_incoming (opened (endless e) id) id i ≡ endless (with_incoming (opened e id) id i)
   changes i = ap (λ f. with_incoming f id i) (opens_same e id (stream_at e.incoming id))
 
-  bytes_within : (bytes : List ℕ) (k : Kind) → ReadsWithin e.announced (bytes_at e id bytes k) (bytes_at (endless e) id bytes k) (bytes_at (loose e) id bytes k)
+  bytes_within : (bytes : List ℕ) (k : Kind) → ReadsWithin e.announced (bytes_at e id bytes k) (bytes_at (endless e) id bytes k) (told_bytes e id bytes k)
   bytes_within bytes Request = ReadsAlike (ap (λ f. let x : Found = (f, None) in x) (changes (kept (incoming_at e id) bytes)))
   bytes_within bytes ServerOpened = ReadsAlike refl
   bytes_within bytes OwnUnidirectional = ReadsAlike refl
-  bytes_within bytes PeerUnidirectional = unidirectional_within e id (unidirectional_at e id) (role_after (unidirectional_at e id).role bytes)
+  bytes_within bytes PeerUnidirectional = unidirectional_within e id (unidirectional_at e id) (role_after (knows_sessions e.announced) (unidirectional_at e id).role bytes)
 
   end_same : (k : Kind) → end_at (endless e) id k ≡ endless_found (end_at e id k)
   end_same Request = ap (λ f. let x : Found = (f, None) in x) (changes (with_end (incoming_at e id)))
@@ -227,7 +244,7 @@ module _ (e : EndpointHistory) (id : ℕ) where
   refused_same : delivery_refusal (endless e) id ≡ delivery_refusal e id
   refused_same = refused_at (kind_of e.side id)
 
-arrival_within : (e : EndpointHistory) (a : Arrival) → ReadsWithin e.announced (read_arrival e a) (read_arrival (endless e) a) (read_arrival (loose e) a)
+arrival_within : (e : EndpointHistory) (a : Arrival) → ReadsWithin e.announced (read_arrival e a) (read_arrival (endless e) a) (told_arrival e a)
 arrival_within e (BytesCame id bytes) = bytes_within e id bytes (kind_of e.side id)
 arrival_within e (EndCame id) = ReadsAlike (end_same e id (kind_of e.side id))
 arrival_within e (ResetCame id code) = ReadsAlike (reset_same e id code (kind_of e.side id))
@@ -249,11 +266,11 @@ takes_within None None e (f, None) y told (IsTooLong is long) = absurd (cc)
 takes_within None None e x y told (ReadsAlike is) = Otherwise (ap closed_by is ∙ closed_same x)
 
 -- **What comes, at an end without a limit, if nothing is kept.**
-pub arrives_within : (e : EndpointHistory) (a : Arrival) → e.kept ≡ [] → ArrivesWithin no_limit e.announced (arrives e a) (arrives (endless e) a) (read_arrival (loose e) a)
+pub arrives_within : (e : EndpointHistory) (a : Arrival) → e.kept ≡ [] → ArrivesWithin no_limit e.announced (arrives e a) (arrives (endless e) a) (told_arrival e a)
 arrives_within e a none =
     let x = read_arrival e a in
     let y = read_arrival (endless e) a in
-    let told = read_arrival (loose e) a in
+    let told = told_arrival e a in
     let there : arrives (endless e) a ≡ taken e.closed (delivery_refusal e (stream_of a)) (endless e) y =
     ap (λ k. arrives_behind k (endless e) a) none ∙ ap (λ r. taken e.closed r (endless e) y) (refused_same e (stream_of a)) in
     subst (λ z. ArrivesWithin no_limit e.announced z (arrives (endless e) a) told) (sym (ap (λ k. arrives_behind k e a) none))

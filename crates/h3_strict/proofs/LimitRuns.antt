@@ -11,7 +11,7 @@ use Rattle.h3_connection.specs.Incoming.{Incoming, is_body, nothing_came}
 use Rattle.h3_connection.specs.OwnIds.{other}
 use Rattle.h3_connection.specs.Skipping.{skipped}
 use Rattle.h3_connection.specs.StreamSets.{stream_at}
-use Rattle.h3_connection.specs.StrictConnection.{is_strict}
+use Rattle.h3_connection.specs.StrictConnection.{is_strict, kinds_of}
 use Rattle.h3_connection.specs.declared.setup.Announced.{Announced}
 use Rattle.h3_world.specs.Ends.{Ends, answered, answers_of_ends, delivery, end_at, end_delivery, ends_after, new_ends, reset_delivery}
 use Rattle.h3_world.specs.Setup.{announced_at}
@@ -34,6 +34,7 @@ use Rattle.h3_strict.proofs.TakenFronts.{PartsTaken, flow_within}
 use Rattle.h3_strict.proofs.TakenWorlds.{IsTakenWorld}
 use Rattle.h3_strict.specs.PlainEnds.{NoneJudges}
 use Rattle.h3_strict.specs.Limits.{AreTaken, IsNotExcess, IsTaken, RunsUnlimited, limit_at, unlimited_ends}
+use Rattle.h3_wire.specs.declared.frame.kinds.FrameKinds.{FrameKinds}
 
 -- An end that stands in a world whose sections its limit takes: its receivers find no frame too long.
 pub looks_within : (setup X : Setup) (w : World) (side : Side) (e : EndpointHistory) (id : ℕ) (i : Incoming) → StandsAt X w side e → IsSoundWorld X w → IsTakenWorld setup w → stream_at e.incoming id ≡ Some i → LooksWithin (limit_at setup side) i
@@ -79,14 +80,14 @@ module _ (setup : Setup) where
   arrive_endless : (ends : Ends) → EndsWithin setup (unlimited_ends ends) → ArriveWithin (λ side. 2 ^ 62 - 1) ends
   arrive_endless ends within side a = arrives_within (end_at ends side) a (none_kept ends within side)
 
-  looks_alike : (most other : ℕ) (i : Incoming) → other ≡ most → LooksWithin most i → LooksAlike (2 ^ 62 - 1) other i
-  looks_alike most other i same within alive over none whole =
-      let bytes = skipped (is_body i.place) (concat i.unread) in
-      none_excessive (2 ^ 62 - 1) bytes refl ∙ sym (ap (λ n. is_excessive n bytes) same ∙ within alive over none whole)
+  looks_alike : (kinds : FrameKinds) (most other : ℕ) (i : Incoming) → other ≡ most → LooksWithin most i → LooksAlike kinds (2 ^ 62 - 1) other i
+  looks_alike kinds most other i same within alive over none whole =
+      let bytes = skipped kinds (is_body i.place) (concat i.unread) in
+      none_excessive (2 ^ 62 - 1) bytes refl ∙ sym (ap (λ n. is_excessive n bytes) same ∙ within alive over none whole kinds)
 
   pulls_alike : (ends : Ends) (side : Side) (id : ℕ) → AnnounceAs setup ends → EndsWithin setup (unlimited_ends ends) → PullsAlike (2 ^ 62 - 1) (end_at ends side) id
-  pulls_alike ends Client id own within = record { nothing_kept = (within Client).nothing_kept; looks = λ i is. looks_alike (limit_at setup Client) (limits_of ends Client) i (ap (λ (a : Announced). a.choices.unfinished_limit) (own Client)) ((within Client).looks id i is) }
-  pulls_alike ends Server id own within = record { nothing_kept = (within Server).nothing_kept; looks = λ i is. looks_alike (limit_at setup Server) (limits_of ends Server) i (ap (λ (a : Announced). a.choices.unfinished_limit) (own Server)) ((within Server).looks id i is) }
+  pulls_alike ends Client id own within = record { nothing_kept = (within Client).nothing_kept; looks = λ i is. looks_alike (kinds_of (end_at ends Client).announced) (limit_at setup Client) (limits_of ends Client) i (ap (λ (a : Announced). a.choices.unfinished_limit) (own Client)) ((within Client).looks id i is) }
+  pulls_alike ends Server id own within = record { nothing_kept = (within Server).nothing_kept; looks = λ i is. looks_alike (kinds_of (end_at ends Server).announced) (limit_at setup Server) (limits_of ends Server) i (ap (λ (a : Announced). a.choices.unfinished_limit) (own Server)) ((within Server).looks id i is) }
 
   steps_alike : (ends : Ends) (e : Event) → AnnounceAs setup ends → EndsWithin setup (unlimited_ends ends) → IsTaken setup e (answered ends e).0 → StepsAlike (λ side. 2 ^ 62 - 1) ends e
   steps_alike ends (event.Pull side id) own within taken = pulls_alike ends side id own within

@@ -1,10 +1,11 @@
 -- Setups without limits.
-use Rattle.std.proofs.Common.{◌≡◌, refl}
+use Rattle.std.proofs.Common.{◌≡◌, false, refl}
 use Rattle.h3_proto.specs.declared.stream.Side.{Side}
 use Rattle.h3_proto.specs.declared.stream.Side.TheVariants.{Client, Server}
 use Rattle.h3_connection.specs.Announcing.{section_of}
+use Rattle.h3_connection.specs.OwnIds.{other}
 use Rattle.h3_connection.specs.declared.setup.Announced.{Announced}
-use Rattle.h3_world.specs.Setup.{IsMade, IsMadeSetup, JudgesPlainly, announced_at}
+use Rattle.h3_world.specs.Setup.{IsMade, IsMadeSetup, JudgesPlainly, announced_at, refuses_sessions}
 use Rattle.h3_world.specs.declared.setup.Setup.{Setup}
 use Rattle.h3_strict.specs.Limits.{AsksForNone, AsksForStrict, unlimited, unlimited_setup}
 use Rattle.h3_strict.specs.Tallies.{JudgesStrictly}
@@ -25,8 +26,17 @@ made_unlimited a h =
       within = refl;
     }
 
+sides_unlimited : (setup : Setup) → IsMadeSetup setup → (side : Side) → IsMade (announced_at (unlimited_setup setup) side)
+sides_unlimited setup h Client = made_unlimited setup.client (h.sides Client)
+sides_unlimited setup h Server = made_unlimited setup.server (h.sides Server)
+
 pub setup_unlimited : (setup : Setup) → IsMadeSetup setup → IsMadeSetup (unlimited_setup setup)
-setup_unlimited setup h = record { client = made_unlimited setup.client h.client; server = made_unlimited setup.server h.server; takes = h.takes }
+unfolding made_unlimited sides_unlimited
+setup_unlimited setup h = record { sides = sides_unlimited setup h; take = kept }
+  where
+    kept : (side : Side) → refuses_sessions (announced_at (unlimited_setup setup) side) (sides_unlimited setup h side).settings (sides_unlimited setup h (other side)).settings ≡ false
+    kept Client = h.take Client
+    kept Server = h.take Server
 
 pub unlimited_plainly : (setup : Setup) → AsksForNone setup → JudgesPlainly (unlimited_setup setup)
 unlimited_plainly setup none Client = (none Client, refl)

@@ -12,14 +12,14 @@ use Rattle.h3_connection.specs.Control.{Found}
 use Rattle.h3_world.specs.EndLists.{fields_refusal, send_fields, send_trailer_fields, trailer_fields_refusal}
 use Rattle.h3_world.specs.Lists.{listed_pull}
 use Rattle.h3_connection.specs.Incoming.{Incoming}
-use Rattle.h3_connection.specs.Keeping.{arrives, pulls, read_arrival}
+use Rattle.h3_connection.specs.Keeping.{arrives, pulls}
 use Rattle.h3_connection.specs.Outgoing.{Outgoing}
 use Rattle.h3_connection.specs.OwnIds.{other}
 use Rattle.h3_connection.specs.Sending as sender
 use Rattle.h3_connection.specs.Sending.{does}
 use Rattle.h3_connection.specs.Shown.{has_outgoing, is_finished, is_reset, waiting}
 use Rattle.h3_connection.specs.StreamSets.{stream_at}
-use Rattle.h3_connection.specs.StrictConnection.{is_strict}
+use Rattle.h3_connection.specs.StrictConnection.{is_strict, kinds_of}
 use Rattle.h3_connection.specs.declared.arrival.Arrival.{Arrival}
 use Rattle.h3_connection.specs.declared.arrival.Arrival.TheVariants.{BytesCame, EndCame, ResetCame}
 use Rattle.h3_connection.specs.declared.event.Pull.{Pull}
@@ -34,7 +34,7 @@ use Rattle.h3_strict.specs.Limits.{limited_end, limited_ends}
 use Rattle.h3_strict.specs.PlainEnds.{judges, refused_by, was_too_long}
 use Rattle.h3_strict.specs.Plainly.{is_excess, is_judged}
 use Rattle.h3_strict.proofs.LimitPulls.{LooksAlike, judges_same, limited_result, pulls_same}
-use Rattle.h3_strict.proofs.LimitReading.{ArrivesWithin, Exceeds, Otherwise, loose}
+use Rattle.h3_strict.proofs.LimitReading.{ArrivesWithin, Exceeds, Otherwise, told_arrival}
 
 -- the same answer, and the ends after it with other limits
 abbrev pub limited_answer : (Side → ℕ) → Answer × Ends → Answer × Ends
@@ -50,7 +50,7 @@ asks_there ends reader = is_strict (end_at ends reader).announced
 
 -- what comes at either end is too long, or it is answered alike with the other limit
 abbrev pub ArriveWithin : (Side → ℕ) → Ends → Type 0
-ArriveWithin most ends = (side : Side) (a : Arrival) → ArrivesWithin (most side) (end_at ends side).announced (arrives (end_at ends side) a) (arrives (limited_end (most side) (end_at ends side)) a) (read_arrival (loose (end_at ends side)) a)
+ArriveWithin most ends = (side : Side) (a : Arrival) → ArrivesWithin (most side) (end_at ends side).announced (arrives (end_at ends side) a) (arrives (limited_end (most side) (end_at ends side)) a) (told_arrival (end_at ends side) a)
 
 -- a call by its refusal
 does_same : (most : ℕ) (r : Option Refusal) (e f : EndpointHistory) → does r (limited_end most e) (limited_end most f) ≡ limited_result most (does r e f)
@@ -191,7 +191,7 @@ module _ (most : Side → ℕ) where
 -- The end that is pulled keeps nothing, and its receiver finds a frame too long with either limit or with none.
 pub record PullsAlike (most : ℕ) (e : EndpointHistory) (id : ℕ) : Type 0 where
   pub nothing_kept : e.kept ≡ []
-  pub looks : (i : Incoming) → stream_at e.incoming id ≡ Some i → LooksAlike most e.announced.choices.unfinished_limit i
+  pub looks : (i : Incoming) → stream_at e.incoming id ≡ Some i → LooksAlike (kinds_of e.announced) most e.announced.choices.unfinished_limit i
 
 abbrev pub StepsAlike : (Side → ℕ) → Ends → Event → Type 0
 StepsAlike most ends (event.Pull side id) = PullsAlike (most side) (end_at ends side) id

@@ -46,5 +46,5 @@ module _ (own peer : Announced) (made : IsMade own) (peer_made : IsMade peer) wh
 
 -- **Those of both sides.**
 pub limits_made : (setup : Setup) → IsMadeSetup setup → LimitsTakeWhatIsSent setup
-limits_made setup made Client = takes setup.client setup.server made.client made.server
-limits_made setup made Server = takes setup.server setup.client made.server made.client
+limits_made setup made Client = takes setup.client setup.server (made.sides Client) (made.sides Server)
+limits_made setup made Server = takes setup.server setup.client (made.sides Server) (made.sides Client)

@@ -1,5 +1,5 @@
 -- What a call of an endpoint is beside that of the same endpoint without strict messages, by its refusal and what it does.
-use Rattle.std.proofs.Common.{◌≡◌, ℕ, Bool, true, false, List, ◌∷◌, refl, ap, sym, subst, Option, Some, None}
+use Rattle.std.proofs.Common.{◌≡◌, ◌⊎◌, ℕ, Bool, true, false, List, ◌∷◌, refl, ap, sym, subst, Option, Some, None}
 use Rattle.h3_connection.specs.Control.{Found}
 use Rattle.h3_connection.specs.Delivering.{closed_by, taken}
 use Rattle.h3_connection.specs.Endpoint.{EndpointHistory}
@@ -9,6 +9,7 @@ use Rattle.h3_connection.specs.StrictSending.{unless_malformed}
 use Rattle.h3_connection.specs.declared.event.Malformation.{Malformation}
 use Rattle.h3_connection.specs.declared.event.Refusal.{Refusal}
 use Rattle.h3_connection.specs.declared.event.Refusal.TheVariants as refusal
+use Rattle.h3_strict.specs.PlainAlike.{Agrees, Breaks, RulesPlainly}
 use Rattle.h3_strict.specs.Plainly.{is_malformed, plainly}
 
 -- the same answer, and the endpoint after it without strict messages
@@ -24,22 +25,22 @@ pub data CallsPlainly (e : EndpointHistory) (x y : Option Refusal × EndpointHis
   Malforms : tells x.0 ≡ true → x.1 ≡ e → CallsPlainly e x y
   Does : tells x.0 ≡ false → y ≡ plain_result x → CallsPlainly e x y
 
--- rules in order: one of strict messages refuses, or the same rule as without them
-pub data RulesPlainly (p q : Option Refusal) : Type 0 where
-  Breaks : (why : Malformation) → p ≡ Some (refusal.Malformed why) → RulesPlainly p q
-  Agrees : q ≡ p → RulesPlainly p q
+-- it accepts a call, or finds a list too large
+abbrev pub AcceptsOrLarge : Option Refusal → Type 0
+AcceptsOrLarge q = (q ≡ None) ⊎ ((size : ℕ) × (q ≡ Some (refusal.TooLarge size)))
 
+-- Rules in order: one of strict messages refuses, or the same rule as without them.
 pub behind : (b : Bool) (r : Refusal) (l m : List (Bool × Refusal)) → RulesPlainly (first_of l) (first_of m) → RulesPlainly (first_of ((b, r) ∷ l)) (first_of ((b, r) ∷ m))
 behind true r l m h = Agrees refl
 behind false r l m h = h
 
-pub if_broken : (b : Bool) (why : Malformation) (l m : List (Bool × Refusal)) → RulesPlainly (first_of l) (first_of m) → RulesPlainly (first_of ((b, refusal.Malformed why) ∷ l)) (first_of m)
-if_broken true why l m h = Breaks why refl
-if_broken false why l m h = h
+pub if_broken : (b : Bool) (why : Malformation) (l m : List (Bool × Refusal)) → AcceptsOrLarge (first_of m) → RulesPlainly (first_of l) (first_of m) → RulesPlainly (first_of ((b, refusal.Malformed why) ∷ l)) (first_of m)
+if_broken true why l m accepts h = Breaks why refl accepts
+if_broken false why l m accepts h = h
 
-pub unless_broken : (broken : Option Malformation) (l m : List (Bool × Refusal)) → RulesPlainly (first_of l) (first_of m) → RulesPlainly (first_of (unless_malformed broken l)) (first_of m)
-unless_broken (Some why) l m h = Breaks why refl
-unless_broken None l m h = h
+pub unless_broken : (broken : Option Malformation) (l m : List (Bool × Refusal)) → AcceptsOrLarge (first_of m) → RulesPlainly (first_of l) (first_of m) → RulesPlainly (first_of (unless_malformed broken l)) (first_of m)
+unless_broken (Some why) l m accepts h = Breaks why refl accepts
+unless_broken None l m accepts h = h
 
 pub if_open : (closed : Option ℕ) (p q : Option Refusal) → RulesPlainly p q → RulesPlainly (closed_or closed p) (closed_or closed q)
 if_open (Some code) p q h = Agrees refl
@@ -55,7 +56,7 @@ by_refusal (Some r) e f g is = by_rule (is_malformed r) refl
     by_rule false told = Does told refl
 
 pub does_plainly : (p q : Option Refusal) (e f g : EndpointHistory) → RulesPlainly p q → g ≡ plainly f → CallsPlainly e (does p e f) (does q (plainly e) g)
-does_plainly p q e f g (Breaks why broken) is = subst (λ o. CallsPlainly e (does o e f) (does q (plainly e) g)) (sym broken) (Malforms refl refl)
+does_plainly p q e f g (Breaks why broken accepts) is = subst (λ o. CallsPlainly e (does o e f) (does q (plainly e) g)) (sym broken) (Malforms refl refl)
 does_plainly p q e f g (Agrees same) is = subst (λ o. CallsPlainly e (does p e f) (does o (plainly e) g)) (sym same) (by_refusal p e f g is)
 
 -- what comes, by its rules and what is found

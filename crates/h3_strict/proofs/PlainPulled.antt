@@ -32,6 +32,7 @@ use Rattle.h3_strict.proofs.PlainPulls.{PullsPlainly, Judged, Same, plain_pulled
 use Rattle.h3_strict.proofs.PlainReading.{IsTooLong, ReadsAlike, ReadsPlainly, all_plain, plain_found}
 use Rattle.h3_strict.proofs.PlainStreams.{at_each, set_each, count_each, count_set, waits_at}
 use Rattle.h3_strict.proofs.StrictCodes.{any_told}
+use Rattle.h3_connection.specs.declared.setup.Announced.{Announced}
 
 -- It judges, and tells so where no more streams wait than may.
 pub data PulledPlainly (strict : Bool) (few : Type 0) (judged : Bool) (x y : Pull × EndpointHistory) : Type 0 where
@@ -76,7 +77,7 @@ module _ (e : EndpointHistory) (id : ℕ) where
       le-ltb e.announced.limits.blocked (heads_waiting e.decoding.decoder (set_stream e.incoming id p.incoming))
       (omega (arith, count_set e.decoding.decoder.table.inserted e.incoming id p.incoming less, few))
 
-  given_plain : (p : Pulled) → pulled (plainly e) id (plain_pulled p) ≡ plain_result (pulled e id p)
+  pub given_plain : (p : Pulled) → pulled (plainly e) id (plain_pulled p) ≡ plain_result (pulled e id p)
   given_plain p =
       ap (λ (s : Streams Incoming). after_answer p.answer (record (plainly (replied (with_incoming e id p.incoming) p.replies)) { incoming = s })) (set_each plain_incoming e.incoming id p.incoming)
       ∙ after_plain p.answer (replied (with_incoming e id p.incoming) p.replies)
@@ -85,7 +86,7 @@ module _ (e : EndpointHistory) (id : ℕ) where
   too_many_plain true p = refl
   too_many_plain false p = refl
 
-  limit_plain : (p : Pulled) → within_limit (plainly e) id (plain_pulled p) ≡ plain_pulled (within_limit e id p)
+  pub limit_plain : (p : Pulled) → within_limit (plainly e) id (plain_pulled p) ≡ plain_pulled (within_limit e id p)
   limit_plain p =
       let most = e.decoding.decoder.table.inserted in
       ap (λ n. if_too_many (nat_lt e.announced.limits.blocked n) (plain_pulled p))
@@ -109,7 +110,7 @@ module _ (e : EndpointHistory) (id : ℕ) where
   told_plain : (x : Pull × Unidirectional) → pulled_unidirectional (plainly e) id x ≡ plain_result (pulled_unidirectional e id x)
   told_plain (a, o) = refl
 
-  peer_plain : (o : Option Unidirectional) → pull_peer (plainly e) id o ≡ plain_result (pull_peer e id o)
+  pub peer_plain : (o : Option Unidirectional) → pull_peer (plainly e) id o ≡ plain_result (pull_peer e id o)
   peer_plain None = refl
   peer_plain (Some o) = told_plain (pull_unidirectional o o.role)
 
@@ -144,13 +145,13 @@ module _ (e : EndpointHistory) (id : ℕ) where
       let p = pull_stream e.side e.announced id e.decoding.decoder i in
       ap (λ x. pulled (plainly e) id (within_limit (plainly e) id x)) (settled_pull i is) ∙ ap (pulled (plainly e) id) (limit_plain p) ∙ given_plain (within_limit e id p)
 
-  settled_kind : (k : Kind) → settles_at e id k ≡ true → pull_at (plainly e) id k ≡ plain_result (pull_at e id k)
+  pub settled_kind : (k : Kind) → settles_at e id k ≡ true → pull_at (plainly e) id k ≡ plain_result (pull_at e id k)
   settled_kind Request is = ap (pull_request (plainly e) id) (at_each plain_incoming e.incoming id) ∙ settled_request (stream_at e.incoming id) is
   settled_kind ServerOpened is = refl
   settled_kind OwnUnidirectional is = refl
   settled_kind PeerUnidirectional is = peer_plain (stream_at e.unidirectional id)
 
-  settles_alike : (k : Kind) → settles_at (plainly e) id k ≡ settles_at e id k
+  pub settles_alike : (k : Kind) → settles_at (plainly e) id k ≡ settles_at e id k
   settles_alike Request = ap is_settled_request (at_each plain_incoming e.incoming id) ∙ of (stream_at e.incoming id)
     where
       of : (o : Option Incoming) → is_settled_request (option_map plain_incoming o) ≡ is_settled_request o
@@ -226,19 +227,19 @@ pub pulls_plainly : (e : EndpointHistory) (id : ℕ) → PulledPlainly (is_stric
 pulls_plainly e id = kept_plain e.kept e id
 
 -- The list that comes next is the same, where the answer has a header.
-section_plain : (i : Incoming) (o : Option (List ℕ)) → next_section (plain_incoming i) o ≡ next_section i o
-section_plain i None = refl
-section_plain i (Some bytes) = refl
+section_plain : (own : Announced) (i : Incoming) (o : Option (List ℕ)) → next_section own (plain_incoming i) o ≡ next_section own i o
+section_plain own i None = refl
+section_plain own i (Some bytes) = refl
 
 items_plain : (e : EndpointHistory) (id : ℕ) → fields_item (plainly e) id ≡ fields_item e id
 items_plain e id = by_kind (kind_of e.side id)
   where
-    at_stream : (o : Option Incoming) → fields_there e.decoding.decoder (option_map plain_incoming o) ≡ fields_there e.decoding.decoder o
+    at_stream : (o : Option Incoming) → fields_there e.announced e.decoding.decoder (option_map plain_incoming o) ≡ fields_there e.announced e.decoding.decoder o
     at_stream None = refl
-    at_stream (Some i) = ap (fields_in e.decoding.decoder) (section_plain i i.section)
+    at_stream (Some i) = ap (fields_in e.decoding.decoder) (section_plain e.announced i i.section)
 
     by_kind : (k : Kind) → fields_of_kind (plainly e) id k ≡ fields_of_kind e id k
-    by_kind Request = ap (fields_there e.decoding.decoder) (at_each plain_incoming e.incoming id) ∙ at_stream (stream_at e.incoming id)
+    by_kind Request = ap (fields_there e.announced e.decoding.decoder) (at_each plain_incoming e.incoming id) ∙ at_stream (stream_at e.incoming id)
     by_kind ServerOpened = refl
     by_kind OwnUnidirectional = refl
     by_kind PeerUnidirectional = refl

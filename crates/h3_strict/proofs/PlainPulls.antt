@@ -13,7 +13,7 @@ use Rattle.h3_proto.specs.declared.stream.Side.{Side}
 use Rattle.h3_proto.specs.declared.stream.Side.TheVariants.{Client, Server}
 use Rattle.h3_wire.specs.ExcessiveFrames.{begins_section, is_excessive}
 use Rattle.h3_wire.specs.ExcessiveLaws.{none_excessive}
-use Rattle.h3_wire.specs.Frames.{Front, Whole, Unknown, Refused, Unfinished, frame_at}
+use Rattle.h3_wire.specs.Frames.{Front, Whole, Unknown, Refused, Unfinished, frame_by}
 use Rattle.h3_wire.specs.Pieces.{chunk_of, first_of}
 use Rattle.h3_wire.specs.declared.proto.frame.PayloadLen.{PayloadLen}
 use Rattle.h3_wire.specs.declared.proto.frame.Frame.{Frame}
@@ -31,7 +31,7 @@ use Rattle.h3_connection.specs.declared.event.Malformation.TheVariants as malfor
 use Rattle.h3_connection.specs.declared.event.Pull.TheVariants as pull
 use Rattle.h3_connection.specs.declared.event.StreamFault.{StreamFault}
 use Rattle.h3_connection.specs.declared.place.Place.{Place}
-use Rattle.h3_connection.specs.StrictConnection.{is_no_session}
+use Rattle.h3_connection.specs.StrictConnection.{is_no_session, kinds_of}
 use Rattle.h3_connection.specs.declared.place.Place.TheVariants.{BeforeHead, InBody, AfterTrailer, InSession}
 use Rattle.h3_connection.specs.declared.setup.Announced.{Announced}
 use Rattle.h3_strict.specs.Plainly.{plain, plain_incoming, tells_malformed}
@@ -142,7 +142,7 @@ module _ (side : Side) (own : Announced) (id : ℕ) (r : DecoderState) where
 
   next_plain : (n : ℕ) (i : Incoming) (bytes : List ℕ) → i.waits_for ≤ n → PullsPlainly n (next_frame side own id r i bytes) (next_frame side (plain own) id r (plain_incoming i) bytes)
   next_plain n i [] few = either n i.ended _ _ _ _ (end_plain n i i.place) (Same refl)
-  next_plain n i (byte ∷ bytes) few = framed_plain n i (frame_at (byte ∷ bytes)) few
+  next_plain n i (byte ∷ bytes) few = framed_plain n i (frame_by (kinds_of own) (byte ∷ bytes)) few
 
   excess_told : (i : Incoming) (bytes : List ℕ) → tells_malformed false (excess id i bytes).answer ≡ true
   excess_told i bytes = by_type (begins_section bytes)
@@ -161,7 +161,7 @@ module _ (side : Side) (own : Announced) (id : ℕ) (r : DecoderState) where
   message_plain : (n : ℕ) (i : Incoming) (section : Option (List ℕ)) → i.waits_for ≤ n → PullsPlainly n (in_message side own id r i section) (in_message side (plain own) id r (plain_incoming i) section)
   message_plain n i (Some bytes) few = at_plain n i bytes
   message_plain n i None few =
-      let bytes = skipped (is_body i.place) (concat i.unread) in
+      let bytes = skipped (kinds_of own) (is_body i.place) (concat i.unread) in
       either n (nat_lt 0 i.body_left) _ _ _ _ (payload_plain n id i)
       (subst (λ b. PullsPlainly n (between_frames side own id r i) (if b then excess id (plain_incoming i) bytes else next_frame side (plain own) id r (plain_incoming (left_with i bytes)) bytes)) (sym (none_excessive (2 ^ 62 - 1) bytes refl))
       (unless n (is_excessive own.choices.unfinished_limit bytes) (excess id i bytes) _ _ (excess_told i bytes) (excess_waits n i bytes few) (next_plain n (left_with i bytes) bytes few)))

@@ -8,8 +8,8 @@ use Rattle.h3_proto.specs.declared.stream.Side.{Side}
 use Rattle.h3_proto.specs.declared.stream.Side.TheVariants.{Client, Server}
 use Rattle.h3_qpack.specs.Hearing.{Heard, Listened}
 use Rattle.h3_wire.specs.ExcessiveFrames.{is_excessive, says_too_much}
-use Rattle.h3_wire.specs.Frames.{Front, Whole, Unknown, Refused, Unfinished, frame_at}
-use Rattle.h3_wire.specs.Known.{known}
+use Rattle.h3_wire.specs.Frames.{Front, Whole, Unknown, Refused, Unfinished, frame_by}
+use Rattle.h3_wire.specs.Known.{known_by}
 use Rattle.h3_connection.specs.Arrivals.{stream_of, is_closed_in}
 use Rattle.h3_connection.specs.declared.arrival.Arrival.{Arrival}
 use Rattle.h3_connection.specs.declared.arrival.Arrival.TheVariants.{BytesCame, EndCame, ResetCame}
@@ -25,7 +25,7 @@ use Rattle.h3_connection.specs.Listeners.{after_hearing, heard_more, hearing_fau
 use Rattle.h3_connection.specs.PeerReading.{Peer, PeerFound, with_unread, read_frame, unless_fault, at_front, read_within, read_peer}
 use Rattle.h3_connection.specs.PeerReadingLaws.{stay_within}
 use Rattle.h3_connection.specs.StreamSets.{Streams, stream_at}
-use Rattle.h3_connection.specs.StrictConnection.{is_strict}
+use Rattle.h3_connection.specs.StrictConnection.{is_strict, kinds_of, knows_sessions}
 use Rattle.h3_connection.specs.StrictConnection.{stream_fault as stream_error}
 use Rattle.h3_connection.specs.Unidirectional.{Unidirectional, Role, role_after, with_bytes}
 use Rattle.h3_connection.specs.Unidirectional.Role.{Untold, Control, Encoder, Decoder, Session, Push, Ignored}
@@ -40,6 +40,7 @@ use Rattle.h3_strict.proofs.KeepsCounts.{arrival_announced, if_learned_same}
 use Rattle.h3_strict.proofs.PlainCalls.{CallsPlainly, taken_plainly}
 use Rattle.h3_strict.proofs.PlainSends.{gives_up_plainly, opens_as}
 use Rattle.h3_strict.proofs.PlainStreams.{at_each, set_each, in_at}
+use Rattle.h3_wire.specs.declared.frame.kinds.FrameKinds.{FrameKinds}
 
 -- the same fault, at the endpoint without strict messages
 abbrev pub plain_found : Found → Found
@@ -116,7 +117,7 @@ table_plain : (b : Bool) (e : EndpointHistory) (capacity blocked : ℕ) → (if 
 table_plain true e capacity blocked = refl
 table_plain false e capacity blocked = refl
 
-learned_plain : (before after : Option (List (ℕ × ℕ))) (e : EndpointHistory) → if_learned before after (plainly e) ≡ plainly (if_learned before after e)
+pub learned_plain : (before after : Option (List (ℕ × ℕ))) (e : EndpointHistory) → if_learned before after (plainly e) ≡ plainly (if_learned before after e)
 learned_plain None (Some pairs) e = table_plain _ e _ _
 learned_plain None None e = refl
 learned_plain (Some known) after e = refl
@@ -133,7 +134,7 @@ taken_plain e (p, fault) =
     (subst (λ own. ReadsPlainly own (then_decoder before p.settings g fault) (then_decoder before p.settings (plainly g) fault)) (if_learned_same before p.settings f).announced (then_plain before p.settings g fault))
 
 -- the same settings are refused
-bad_plain : (e : EndpointHistory) (before after : Option (List (ℕ × ℕ))) → are_refused (plainly e) before after ≡ are_refused e before after
+pub bad_plain : (e : EndpointHistory) (before after : Option (List (ℕ × ℕ))) → are_refused (plainly e) before after ≡ are_refused e before after
 bad_plain e None None = refl
 bad_plain e None (Some pairs) = refl
 bad_plain e (Some known) after = refl
@@ -172,15 +173,15 @@ long_or : (limit : ℕ) (large : Bool) (bytes : List ℕ) (p : Peer) (x y : Peer
 long_or limit true bytes p x y e keeps h = IsLong (and_parts (is_limit limit) (says_too_much limit (varint_at bytes)) e).0 refl keeps
 long_or limit false bytes p x y e keeps h = h
 
-within_plain : (most limit : ℕ) (side : Side) (p : Peer) → PeerPlainly limit (read_within most limit side p) (read_within most no_limit side p)
-within_plain zero limit side p = ReadsSame refl
-within_plain (suc most) limit side p =
-    long_or limit (is_excessive limit (known p.unread)) (known p.unread) p _ _ refl (λ pairs is. stay_within (suc most) no_limit side p pairs is)
-    (front_plain limit (read_within most limit side) (read_within most no_limit side) side p (known p.unread) (frame_at (known p.unread)) (λ q. within_plain most limit side q))
+within_plain : (kinds : FrameKinds) (most limit : ℕ) (side : Side) (p : Peer) → PeerPlainly limit (read_within kinds most limit side p) (read_within kinds most no_limit side p)
+within_plain kinds zero limit side p = ReadsSame refl
+within_plain kinds (suc most) limit side p =
+    long_or limit (is_excessive limit (known_by kinds p.unread)) (known_by kinds p.unread) p _ _ refl (λ pairs is. stay_within kinds (suc most) no_limit side p pairs is)
+    (front_plain limit (read_within kinds most limit side) (read_within kinds most no_limit side) side p (known_by kinds p.unread) (frame_by kinds (known_by kinds p.unread)) (λ q. within_plain kinds most limit side q))
 
-pub peer_plain : (limit : ℕ) (side : Side) (p : Peer) → PeerPlainly limit (read_peer limit side p) (read_peer no_limit side p)
+pub peer_plain : (kinds : FrameKinds) (limit : ℕ) (side : Side) (p : Peer) → PeerPlainly limit (read_peer kinds limit side p) (read_peer kinds no_limit side p)
 unfolding read_peer
-peer_plain limit side p = within_plain (length p.unread) limit side p
+peer_plain kinds limit side p = within_plain kinds (length p.unread) limit side p
 
 control_found : (e : EndpointHistory) (x y : PeerFound) → PeerPlainly (limit_of e) x y → ReadsPlainly e.announced (after_peer e x) (after_peer (plainly e) y)
 control_found e (p, fault) y (IsLong limit is keeps) = by_refused (are_refused e before p.settings) refl
@@ -210,10 +211,10 @@ control_found e x y (ReadsSame same) = subst (λ z. ReadsPlainly e.announced (af
 
 held_plain : (e : EndpointHistory) → ReadsPlainly e.announced (read_held e) (read_held (plainly e))
 held_plain e =
-    let x = read_peer (limit_of e) e.side e.peer in
-    let y = read_peer no_limit e.side e.peer in
+    let x = read_peer (kinds_of e.announced) (limit_of e) e.side e.peer in
+    let y = read_peer (kinds_of e.announced) no_limit e.side e.peer in
     either_plain e.announced (lacks_settings e) (e, Some missing_settings) (after_peer e x) (plainly e, Some missing_settings) (after_peer (plainly e) y)
-    (ReadsAlike refl) (control_found e x y (peer_plain (limit_of e) e.side e.peer))
+    (ReadsAlike refl) (control_found e x y (peer_plain (kinds_of e.announced) (limit_of e) e.side e.peer))
 
 control_plain : (e : EndpointHistory) (bytes : List ℕ) → ReadsPlainly e.announced (read_control e bytes) (read_control (plainly e) bytes)
 control_plain e bytes = held_plain (holding e bytes)
@@ -242,10 +243,10 @@ unidirectional_plain e id o (role, bytes) = heard_plain (with_unidirectional e i
 
 -- a receiver changes
 module _ (e : EndpointHistory) (id : ℕ) where
-  opened_plain : opened (plainly e) id ≡ plainly (opened e id)
+  pub opened_plain : opened (plainly e) id ≡ plainly (opened e id)
   opened_plain = ap (opened_at (plainly e) id) (at_each plain_incoming e.incoming id) ∙ opens_as e id (stream_at e.incoming id)
 
-  with_in : (f : EndpointHistory) (i : Incoming) → with_incoming (plainly f) id (plain_incoming i) ≡ plainly (with_incoming f id i)
+  pub with_in : (f : EndpointHistory) (i : Incoming) → with_incoming (plainly f) id (plain_incoming i) ≡ plainly (with_incoming f id i)
   with_in f i = ap (λ (s : Streams Incoming). record (plainly f) { incoming = s }) (set_each plain_incoming f.incoming id i)
 
   -- at the stream that is opened, where it was not there
@@ -260,7 +261,7 @@ module _ (e : EndpointHistory) (id : ℕ) where
   bytes_plain bytes Request = ReadsAlike (ap (λ f. let x : Found = (f, None) in x) (changes (λ i. kept i bytes) (λ i. refl)))
   bytes_plain bytes ServerOpened = ReadsAlike refl
   bytes_plain bytes OwnUnidirectional = ReadsAlike refl
-  bytes_plain bytes PeerUnidirectional = unidirectional_plain e id (unidirectional_at e id) (role_after (unidirectional_at e id).role bytes)
+  bytes_plain bytes PeerUnidirectional = unidirectional_plain e id (unidirectional_at e id) (role_after (knows_sessions e.announced) (unidirectional_at e id).role bytes)
 
   end_plain : (k : Kind) → end_at (plainly e) id k ≡ plain_found (end_at e id k)
   end_plain Request = ap (λ f. let x : Found = (f, None) in x) (changes with_end (λ i. refl))
@@ -291,10 +292,10 @@ module _ (e : EndpointHistory) (id : ℕ) where
   refused_at OwnUnidirectional = refl
   refused_at PeerUnidirectional = refl
 
-  refused_plain : delivery_refusal (plainly e) id ≡ delivery_refusal e id
+  pub refused_plain : delivery_refusal (plainly e) id ≡ delivery_refusal e id
   refused_plain = refused_at (kind_of e.side id)
 
-arrival_plain : (e : EndpointHistory) (a : Arrival) → ReadsPlainly e.announced (read_arrival e a) (read_arrival (plainly e) a)
+pub arrival_plain : (e : EndpointHistory) (a : Arrival) → ReadsPlainly e.announced (read_arrival e a) (read_arrival (plainly e) a)
 arrival_plain e (BytesCame id bytes) = bytes_plain e id bytes (kind_of e.side id)
 arrival_plain e (EndCame id) = ReadsAlike (end_plain e id (kind_of e.side id))
 arrival_plain e (ResetCame id code) = ReadsAlike (reset_plain e id code (kind_of e.side id))

@@ -1,24 +1,27 @@
 -- Each call of a sender, and a cancellation, beside the same without strict messages.
-use Rattle.std.proofs.Common.{◌≡◌, ℕ, ◌+◌, Bool, true, false, if◌then◌else◌, List, [], ◌∷◌, ◌++◌, length, refl, ap, sym, ◌∙◌, subst, Option, Some, None}
+use Rattle.std.proofs.Common.{◌≡◌, ℕ, ◌+◌, Bool, true, false, if◌then◌else◌, List, [], ◌∷◌, ◌++◌, length, refl, ap, sym, ◌∙◌, subst, Option, Some, None, inl, inr}
 use Rattle.std.specs.Prelude.{not, ◌||◌, is_some, option_map, unwrap_or}
 use Rattle.h3_field.specs.Field.{Field, section_size}
 use Rattle.h3_header.specs.Head.{Head, head_fields, has_pseudo}
-use Rattle.h3_messages.specs.Content.{awaited_by, may_end}
+use Rattle.h3_messages.specs.Content.{may_end}
+use Rattle.h3_messages.specs.OwnMessages.{violation_of_own_trailer}
 use Rattle.h3_messages.specs.declared.content.Content.{Content}
+use Rattle.h3_messages.specs.declared.content.Content.TheVariants.{Unsaid}
 use Rattle.h3_connection.specs.Lasts.{last_id}
 use Rattle.h3_connection.specs.OwnIds.{other}
 use Rattle.h3_connection.specs.Pulling.{is_for}
 use Rattle.h3_connection.specs.Delivering.{incoming_at, opened_at, given_up_by, give_up}
 use Rattle.h3_connection.specs.Endpoint.{EndpointHistory, is_critical_id}
-use Rattle.h3_connection.specs.Incoming.{Incoming, nothing_came, awaiting}
+use Rattle.h3_connection.specs.Incoming.{Incoming, nothing_came, having_told}
 use Rattle.h3_connection.specs.Outgoing.{Outgoing, OwnPart, nothing_sent, takes_head, takes_body, takes_end, is_sent_off, with_body, with_finish, with_reset, with_said}
 use Rattle.h3_connection.specs.Outgoing.OwnPart.{OwnTrailer}
 use Rattle.h3_connection.specs.Sections.{written_section}
 use Rattle.h3_connection.specs.Refusals.{first_of, is_too_large, unless_going}
-use Rattle.h3_connection.specs.Sending.{closed_or, open_refusal, open_request, body_refusal, finish_refusal, reset_refusal, goaway_refusal, goaway, cancel_refusal, cancel, send_head, send_body, send_trailer, finish, reset, sent_bytes, counted, encoded, appended, head_part, fields_cost, outgoing_at, asked, awaiting_at, content_of_own, known_of, remembers, saying_at, advance_at, advance, does}
+use Rattle.h3_connection.specs.Sending.{closed_or, open_refusal, open_request, body_refusal, finish_refusal, reset_refusal, goaway_refusal, goaway, cancel_refusal, cancel, send_head, send_body, send_trailer, finish, reset, sent_bytes, counted, encoded, appended, head_part, fields_cost, outgoing_at, asked, content_of_own, known_of, saying_at, advance_at, advance, does, broken_head_at, telling_at}
 use Rattle.h3_connection.specs.StreamSets.{Streams, stream_at, set_stream}
 use Rattle.h3_connection.specs.StrictConnection.{begins_none_after}
-use Rattle.h3_connection.specs.StrictSending.{broken_head, broken_protocol, broken_trailer, early_trailer, passes_content, unless_malformed}
+use Rattle.h3_connection.specs.StrictMessages.{malformation_by}
+use Rattle.h3_connection.specs.StrictSending.{broken_protocol, broken_trailer, early_trailer, passes_content, unless_malformed, violation_of_own_head}
 use Rattle.h3_connection.specs.declared.event.Malformation.{Malformation}
 use Rattle.h3_connection.specs.declared.event.Malformation.TheVariants as malformation
 use Rattle.h3_connection.specs.declared.event.Refusal.{Refusal}
@@ -34,7 +37,8 @@ use Rattle.h3_proto.specs.declared.stream.Side.{Side}
 use Rattle.h3_proto.specs.declared.stream.Side.TheVariants.{Client, Server}
 use Rattle.h3_connection.specs.declared.setup.Announced.{Announced}
 use Rattle.h3_strict.specs.Plainly.{each_stream, plain, plain_incoming, plain_outgoing, plainly}
-use Rattle.h3_strict.proofs.PlainCalls.{CallsPlainly, RulesPlainly, Agrees, behind, if_broken, unless_broken, if_open, does_plainly}
+use Rattle.h3_strict.specs.PlainAlike.{Agrees, RulesPlainly}
+use Rattle.h3_strict.proofs.PlainCalls.{AcceptsOrLarge, CallsPlainly, behind, if_broken, unless_broken, if_open, does_plainly}
 use Rattle.h3_strict.proofs.PlainStreams.{at_each, set_each, set_alike, in_at, out_at}
 
 -- one sender changes
@@ -114,6 +118,13 @@ module _ (e : EndpointHistory) (id : ℕ) where
   abbrev too_large : List Field → List (Bool × Refusal)
   too_large fields = (is_too_large e.peer.settings fields, refusal.TooLarge (section_size fields)) ∷ []
 
+  accepts_or_large : (fields : List Field) → AcceptsOrLarge (first_of (too_large fields))
+  accepts_or_large fields = by_size (is_too_large e.peer.settings fields)
+    where
+      by_size : (b : Bool) → AcceptsOrLarge (first_of ((b, refusal.TooLarge (section_size fields)) ∷ []))
+      by_size true = inr (section_size fields, refl)
+      by_size false = inl refl
+
   -- a rule that both ends ask
   both_unless : (rule : Option Malformation) (one two : List (Bool × Refusal)) → RulesPlainly (first_of one) (first_of two) → RulesPlainly (first_of (unless_malformed rule one)) (first_of (unless_malformed rule two))
   both_unless None one two h = h
@@ -133,21 +144,23 @@ module _ (e : EndpointHistory) (id : ℕ) where
       let one = unless_malformed protocol (sides ∷ judges) in
       let two = unless_malformed protocol (sides ∷ size) in
       if_open e.closed _ _ (behind (not (takes_head o)) refusal.OutOfOrder (unless_going (going_of e) one) (unless_going (going_of e) two)
-      (both_going (going_of e) one two (both_unless protocol (sides ∷ judges) (sides ∷ size) (behind sides.0 sides.1 judges size (unless_broken broken size size (Agrees refl))))))
+      (both_going (going_of e) one two (both_unless protocol (sides ∷ judges) (sides ∷ size) (behind sides.0 sides.1 judges size (unless_broken broken size size (accepts_or_large fields) (Agrees refl))))))
+
+  head_judged_plainly : (protocol : Option Malformation) (head : Head) (fields : List Field) → RulesPlainly (head_judged e id protocol head fields) (head_judged (plainly e) id protocol head fields)
+  head_judged_plainly protocol head fields =
+      let broken = broken_head_at e id fields in
+      subst (λ g. RulesPlainly (head_rules e (going_of e) sent head fields protocol broken) (head_rules e g (stream_at (plainly e).outgoing id) head fields protocol None)) (sym (going_plain e.announced e.side (last_id e.peer.goaways)))
+      (found (λ o. RulesPlainly (head_rules e (going_of e) sent head fields protocol broken) (head_rules e (going_of e) o head fields protocol None)) (head_rules_plain head fields protocol broken sent))
 
   -- a head that goes out as these fields
   head_as_plainly : (protocol : Option Malformation) (head : Head) (fields : List Field)
       → CallsPlainly e (does (head_judged e id protocol head fields) e (head_sent e id head fields)) (does (head_judged (plainly e) id protocol head fields) (plainly e) (head_sent (plainly e) id head fields))
   head_as_plainly protocol head fields =
       does_plainly (head_judged e id protocol head fields) (head_judged (plainly e) id protocol head fields) e _ _
-      (subst (λ g. RulesPlainly (head_rules e (going_of e) sent head fields protocol broken) (head_rules e g (stream_at (plainly e).outgoing id) head fields protocol None)) (sym (going_plain e.announced e.side (last_id e.peer.goaways)))
-      (found (λ o. RulesPlainly (head_rules e (going_of e) sent head fields protocol broken) (head_rules e (going_of e) o head fields protocol None)) (head_rules_plain head fields protocol broken sent)))
+      (head_judged_plainly protocol head fields)
       (ap (λ (t : Streams Outgoing). record (plainly new) { incoming = each_stream plain_incoming e.incoming; outgoing = t }) outgoing_is
       ∙ ap (λ (s : Streams Incoming). record (plainly new) { incoming = s }) (sym incoming_is))
     where
-      broken : Option Malformation
-      broken = broken_head e.side e.announced e.peer.settings fields
-
       part : OwnPart
       part = head_part head (written_section e.encoder id fields)
 
@@ -163,16 +176,16 @@ module _ (e : EndpointHistory) (id : ℕ) where
       new : EndpointHistory
       new = asked (counted (appended (encoded e id fields) id part) (fields_cost fields)) id fields
 
-      awaits : (o : Option Incoming) → stream_at e.incoming id ≡ o → each_stream plain_incoming (awaiting_at e.incoming id (awaited_by fields) o) ≡ each_stream plain_incoming e.incoming
-      awaits None is = refl
-      awaits (Some i) is = set_alike plain_incoming e.incoming id i (awaiting i (awaited_by fields)) is refl
+      tells : (o : Option Incoming) → stream_at e.incoming id ≡ o → each_stream plain_incoming (telling_at e.side e.incoming id fields o) ≡ each_stream plain_incoming e.incoming
+      tells None is = refl
+      tells (Some i) is = set_alike plain_incoming e.incoming id i (having_told e.side i fields) is refl
 
-      if_asked : (b : Bool) → each_stream plain_incoming (if b then awaiting_at e.incoming id (awaited_by fields) (stream_at e.incoming id) else e.incoming) ≡ each_stream plain_incoming e.incoming
-      if_asked true = awaits (stream_at e.incoming id) refl
+      if_asked : (b : Bool) → each_stream plain_incoming (if b then telling_at e.side e.incoming id fields (stream_at e.incoming id) else e.incoming) ≡ each_stream plain_incoming e.incoming
+      if_asked true = tells (stream_at e.incoming id) refl
       if_asked false = refl
 
       incoming_is : each_stream plain_incoming new.incoming ≡ each_stream plain_incoming e.incoming
-      incoming_is = if_asked (remembers e.side e.announced)
+      incoming_is = if_asked e.announced.choices.strict_messages
 
       says : (o : Option Outgoing) → stream_at now id ≡ o → each_stream plain_outgoing (saying_at now id said o) ≡ each_stream plain_outgoing now
       says None is = refl
@@ -185,6 +198,13 @@ module _ (e : EndpointHistory) (id : ℕ) where
       outgoing_is : set_stream (plainly e).outgoing id (with_part (outgoing_at (plainly e) id)) ≡ each_stream plain_outgoing new.outgoing
       outgoing_is = sets_out e id with_part (λ o. refl) ∙ sym (if_said e.announced.choices.strict_messages)
 
+  pub heads_alike : (head : Head) → RulesPlainly (head_judged e id (broken_protocol e.announced head) head (head_fields head)) (head_judged (plainly e) id (broken_protocol e.announced head) head (head_fields head))
+  heads_alike head = head_judged_plainly (broken_protocol e.announced head) head (head_fields head)
+
+  pub fields_alike : (fields : List Field)
+      → RulesPlainly (head_judged e id (unreadable (takes_any e.announced) fields) (head_of_fields fields) fields) (head_judged (plainly e) id (unreadable (takes_any e.announced) fields) (head_of_fields fields) fields)
+  fields_alike fields = head_judged_plainly (unreadable (takes_any e.announced) fields) (head_of_fields fields) fields
+
   pub heads_plainly : (head : Head) → CallsPlainly e (send_head e id head) (send_head (plainly e) id head)
   heads_plainly head = head_as_plainly (broken_protocol e.announced head) head (head_fields head)
 
@@ -196,7 +216,7 @@ module _ (e : EndpointHistory) (id : ℕ) where
   body_rules_plain size (Some o) =
       let passes = passes_content o.content size in
       if_open e.closed _ _ (behind (not (takes_body o)) refusal.OutOfOrder ((passes, refusal.Malformed malformation.ContentLength) ∷ []) ((false, refusal.Malformed malformation.ContentLength) ∷ [])
-      (if_broken passes malformation.ContentLength [] ((false, refusal.Malformed malformation.ContentLength) ∷ []) (Agrees refl)))
+      (if_broken passes malformation.ContentLength [] ((false, refusal.Malformed malformation.ContentLength) ∷ []) (inl refl) (Agrees refl)))
 
   body_is : (bytes : List ℕ) → counted (sent_bytes (plainly e) id bytes) (length bytes) ≡ plainly (counted (sent_bytes e id bytes) (length bytes))
   body_is [] = refl
@@ -216,17 +236,28 @@ module _ (e : EndpointHistory) (id : ℕ) where
       let pseudo : Bool × Refusal = (has_pseudo head, refusal.PseudoInTrailer) in
       if_open e.closed _ _ (behind (not (takes_body o)) refusal.OutOfOrder (unless_malformed protocol (pseudo ∷ early)) (unless_malformed protocol (pseudo ∷ size))
       (both_unless protocol (pseudo ∷ early) (pseudo ∷ size) (behind pseudo.0 pseudo.1 early size
-      (unless_broken (early_trailer o.content) judges size (unless_broken broken size size (Agrees refl))))))
+      (unless_broken (early_trailer o.content) judges size (accepts_or_large fields) (unless_broken broken size size (accepts_or_large fields) (Agrees refl))))))
+
+  trailer_judged_plainly : (protocol : Option Malformation) (head : Head) (fields : List Field) → RulesPlainly (trailer_judged e id protocol head fields) (trailer_judged (plainly e) id protocol head fields)
+  trailer_judged_plainly protocol head fields =
+      let broken = broken_trailer e.announced fields in
+      found (λ o. RulesPlainly (trailer_rules e sent head fields protocol broken) (trailer_rules e o head fields protocol None)) (trailer_rules_plain head fields protocol broken sent)
 
   trailer_as_plainly : (protocol : Option Malformation) (head : Head) (fields : List Field)
       → CallsPlainly e (does (trailer_judged e id protocol head fields) e (after_trailer_fields e id fields)) (does (trailer_judged (plainly e) id protocol head fields) (plainly e) (after_trailer_fields (plainly e) id fields))
   trailer_as_plainly protocol head fields =
-      let broken = broken_trailer e.announced fields in
       let part : OwnPart = OwnTrailer (written_section e.encoder id fields) in
       let new : EndpointHistory = counted (appended (encoded e id fields) id part) (fields_cost fields) in
       does_plainly (trailer_judged e id protocol head fields) (trailer_judged (plainly e) id protocol head fields) e _ _
-      (found (λ o. RulesPlainly (trailer_rules e sent head fields protocol broken) (trailer_rules e o head fields protocol None)) (trailer_rules_plain head fields protocol broken sent))
+      (trailer_judged_plainly protocol head fields)
       (with_out e new id (λ o. record o { parts = o.parts ++ part ∷ [] }) (λ o. refl))
+
+  pub trailers_alike : (head : Head) → RulesPlainly (trailer_judged e id (broken_protocol e.announced head) head (head_fields head)) (trailer_judged (plainly e) id (broken_protocol e.announced head) head (head_fields head))
+  trailers_alike head = trailer_judged_plainly (broken_protocol e.announced head) head (head_fields head)
+
+  pub trailer_fields_alike : (fields : List Field)
+      → RulesPlainly (trailer_judged e id (unreadable (takes_any e.announced) fields) (head_of_fields fields) fields) (trailer_judged (plainly e) id (unreadable (takes_any e.announced) fields) (head_of_fields fields) fields)
+  trailer_fields_alike fields = trailer_judged_plainly (unreadable (takes_any e.announced) fields) (head_of_fields fields) fields
 
   pub trailers_plainly : (head : Head) → CallsPlainly e (send_trailer e id head) (send_trailer (plainly e) id head)
   trailers_plainly head = trailer_as_plainly (broken_protocol e.announced head) head (head_fields head)
@@ -239,7 +270,7 @@ module _ (e : EndpointHistory) (id : ℕ) where
   finish_rules_plain (Some o) =
       let early = not (may_end o.content) in
       if_open e.closed _ _ (behind (not (takes_end o)) refusal.OutOfOrder ((early, refusal.Malformed malformation.ContentLength) ∷ []) ((false, refusal.Malformed malformation.ContentLength) ∷ [])
-      (if_broken early malformation.ContentLength [] ((false, refusal.Malformed malformation.ContentLength) ∷ []) (Agrees refl)))
+      (if_broken early malformation.ContentLength [] ((false, refusal.Malformed malformation.ContentLength) ∷ []) (inl refl) (Agrees refl)))
 
   pub ends_plainly : CallsPlainly e (finish e id) (finish (plainly e) id)
   ends_plainly =
@@ -254,6 +285,9 @@ module _ (e : EndpointHistory) (id : ℕ) where
   resets_plainly =
       does_plainly (reset_refusal e id) (reset_refusal (plainly e) id) e _ _
       (found (λ o. RulesPlainly (reset_rules e id sent) (reset_rules e id o)) (reset_rules_plain sent)) (with_out e e id with_reset (λ o. refl))
+
+  pub goaways_alike : RulesPlainly (goaway_refusal e id) (goaway_refusal (plainly e) id)
+  goaways_alike = Agrees refl
 
   pub goaways_plainly : CallsPlainly e (goaway e id) (goaway (plainly e) id)
   goaways_plainly = does_plainly (goaway_refusal e id) (goaway_refusal (plainly e) id) e _ _ (Agrees refl) refl
@@ -272,10 +306,12 @@ module _ (e : EndpointHistory) (id : ℕ) where
   cancel_rules_plain None = Agrees refl
   cancel_rules_plain (Some i) = Agrees refl
 
+  pub cancels_alike : RulesPlainly (cancel_refusal e id) (cancel_refusal (plainly e) id)
+  cancels_alike = subst (λ o. RulesPlainly (cancel_rules e id (stream_at e.incoming id)) (cancel_rules e id o)) (sym (at_each plain_incoming e.incoming id)) (cancel_rules_plain (stream_at e.incoming id))
+
   pub cancels_plainly : CallsPlainly e (cancel e id) (cancel (plainly e) id)
   cancels_plainly =
-      does_plainly (cancel_refusal e id) (cancel_refusal (plainly e) id) e _ _
-      (subst (λ o. RulesPlainly (cancel_rules e id (stream_at e.incoming id)) (cancel_rules e id o)) (sym (at_each plain_incoming e.incoming id)) (cancel_rules_plain (stream_at e.incoming id)))
+      does_plainly (cancel_refusal e id) (cancel_refusal (plainly e) id) e _ _ cancels_alike
       (ap (λ i. give_up (plainly e) id i stream_fault.Canceled) (in_at e id) ∙ gives_up_plainly (incoming_at e id) stream_fault.Canceled)
 
   -- some bytes were taken
@@ -286,12 +322,43 @@ module _ (e : EndpointHistory) (id : ℕ) where
   pub advances_plainly : (count : ℕ) → advance (plainly e) id count ≡ plainly (advance e id count)
   advances_plainly count = ap (advance_at (plainly e) id count) (at_each plain_outgoing e.outgoing id) ∙ advances_by count sent
 
+-- Where an end asks for no strict messages and counts nothing, each send is refused alike.
+module _ (e : EndpointHistory) (id : ℕ) (plain_messages : e.announced.choices.strict_messages ≡ false) (uncounted : (outgoing_at e id).content ≡ Unsaid) where
+  same_out : stream_at (plainly e).outgoing id ≡ stream_at e.outgoing id
+  same_out = at_each plain_outgoing e.outgoing id ∙ of (stream_at e.outgoing id) uncounted
+    where
+      of : (o : Option Outgoing) → (unwrap_or o nothing_sent).content ≡ Unsaid → option_map plain_outgoing o ≡ o
+      of None h = refl
+      of (Some o) h = ap (λ c. Some (record o { content = c })) (sym h)
+
+  pub heads_same : (protocol : Option Malformation) (head : Head) (fields : List Field) → head_judged (plainly e) id protocol head fields ≡ head_judged e id protocol head fields
+  heads_same protocol head fields =
+      let broken = violation_of_own_head e.side e.peer.settings (known_of (stream_at e.incoming id)) fields in
+      let none : broken_head_at e id fields ≡ None = ap (λ b. if b then option_map malformation_by broken else None) plain_messages in
+      ap (λ g. head_rules e g (stream_at (plainly e).outgoing id) head fields protocol None) (going_plain e.announced e.side (last_id e.peer.goaways))
+      ∙ ap (λ o. head_rules e (going_of e) o head fields protocol None) same_out
+      ∙ ap (head_rules e (going_of e) (stream_at e.outgoing id) head fields protocol) (sym none)
+
+  pub trailers_same : (protocol : Option Malformation) (head : Head) (fields : List Field) → trailer_judged (plainly e) id protocol head fields ≡ trailer_judged e id protocol head fields
+  trailers_same protocol head fields =
+      let none : broken_trailer e.announced fields ≡ None = ap (λ b. if b then option_map malformation_by (violation_of_own_trailer fields) else None) plain_messages in
+      ap (λ o. trailer_rules e o head fields protocol None) same_out ∙ ap (trailer_rules e (stream_at e.outgoing id) head fields protocol) (sym none)
+
+  pub bodies_same : (size : ℕ) → body_refusal (plainly e) id size ≡ body_refusal e id size
+  bodies_same size = ap (λ o. body_rules e o size) same_out
+
+  pub ends_same : finish_refusal (plainly e) id ≡ finish_refusal e id
+  ends_same = ap (finish_rules e) same_out
+
 -- a request stream of which nothing came is opened
 pub opens_as : (e : EndpointHistory) (id : ℕ) (o : Option Incoming) → opened_at (plainly e) id (option_map plain_incoming o) ≡ plainly (opened_at e id o)
 opens_as e id (Some i) = refl
 opens_as e id None =
     ap (λ (s : Streams Incoming). record (plainly e) { incoming = s; outgoing = set_stream (plainly e).outgoing id nothing_sent }) (set_each plain_incoming e.incoming id nothing_came)
     ∙ ap (λ (t : Streams Outgoing). record (plainly (opened_at e id None)) { outgoing = t }) (set_each plain_outgoing e.outgoing id nothing_sent)
+
+pub opens_alike : (e : EndpointHistory) → RulesPlainly (open_refusal e) (open_refusal (plainly e))
+opens_alike e = Agrees refl
 
 pub opens_plainly : (e : EndpointHistory) → CallsPlainly e (open_request e) (open_request (plainly e))
 opens_plainly e =

@@ -1,11 +1,12 @@
 -- New endpoints, and setups, without strict messages.
-use Rattle.std.proofs.Common.{◌≡◌, refl}
+use Rattle.std.proofs.Common.{◌≡◌, false, refl}
 use Rattle.h3_proto.specs.declared.stream.Side.{Side}
 use Rattle.h3_proto.specs.declared.stream.Side.TheVariants.{Client, Server}
 use Rattle.h3_connection.specs.Endpoint.{new_endpoint}
+use Rattle.h3_connection.specs.OwnIds.{other}
 use Rattle.h3_connection.specs.declared.setup.Announced.{Announced}
 use Rattle.h3_world.specs.Ends.{new_ends}
-use Rattle.h3_world.specs.Setup.{IsMade, IsMadeSetup, JudgesPlainly, announced_at, takes_any}
+use Rattle.h3_world.specs.Setup.{IsMade, IsMadeSetup, JudgesPlainly, announced_at, refuses_sessions, takes_any}
 use Rattle.h3_world.specs.declared.setup.Setup.{Setup}
 use Rattle.h3_strict.specs.PlainEnds.{plain_ends, plain_setup}
 use Rattle.h3_strict.specs.Plainly.{plain, plainly}
@@ -32,8 +33,17 @@ made_plainly a h =
       within = refl;
     }
 
+sides_plainly : (setup : Setup) → IsMadeSetup setup → (side : Side) → IsMade (announced_at (plain_setup setup) side)
+sides_plainly setup h Client = made_plainly setup.client (h.sides Client)
+sides_plainly setup h Server = made_plainly setup.server (h.sides Server)
+
 pub setup_plainly : (setup : Setup) → IsMadeSetup setup → IsMadeSetup (plain_setup setup)
-setup_plainly setup h = record { client = made_plainly setup.client h.client; server = made_plainly setup.server h.server; takes = h.takes }
+unfolding made_plainly sides_plainly
+setup_plainly setup h = record { sides = sides_plainly setup h; take = kept }
+  where
+    kept : (side : Side) → refuses_sessions (announced_at (plain_setup setup) side) (sides_plainly setup h side).settings (sides_plainly setup h (other side)).settings ≡ false
+    kept Client = h.take Client
+    kept Server = h.take Server
 
 -- the same protocols are taken
 pub same_protocols : (setup : Setup) (side : Side) → takes_any (announced_at (plain_setup setup) side) ≡ takes_any (announced_at setup side)

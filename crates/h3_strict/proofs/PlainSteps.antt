@@ -29,7 +29,7 @@ use Rattle.h3_world.specs.declared.event.Event.TheVariants as event
 use Rattle.h3_strict.specs.PlainEnds.{FewWaitBehind, StepsPlainly, Alike, Judges, RefusesMalformed, asks_strictly, finds_fault, is_malformed_refusal, judges, plain_ends, refused_by, was_too_long}
 use Rattle.h3_connection.specs.StrictConnection.{is_strict}
 use Rattle.h3_strict.specs.Plainly.{exceeds, is_excess, is_judged, plain_outgoing, plainly}
-use Rattle.h3_strict.proofs.PlainCalls.{CallsPlainly, Malforms, Does, tells}
+use Rattle.h3_strict.proofs.PlainCalls.{CallsPlainly, Malforms, Does, plain_result, tells}
 use Rattle.h3_strict.proofs.PlainLists.{tells_same}
 use Rattle.h3_strict.proofs.StrictCodes.{asks_at, more_excess, more_told}
 use Rattle.h3_strict.proofs.PlainPulled.{IsAlike, IsJudged, PulledPlainly, lists_plain, pulls_plainly}
@@ -84,12 +84,27 @@ module _ (ends : Ends) (side : Side) where
       (subst (λ a. Beside ends (done ends side (success (end_at ends side)) (call (end_at ends side))) (done (plain_ends ends) side a (call (plainly (end_at ends side))))) (sym same)
       (done_beside (success (end_at ends side)) _ _ plain (h (end_at ends side))))
 
+  -- a pull that is answered alike leads to the same ends
+  pub pulled_alike : (id : ℕ) (x y : Pull × EndpointHistory) → answered ends (event.Pull side id) ≡ was_pulled ends side x → answered (plain_ends ends) (event.Pull side id) ≡ was_pulled (plain_ends ends) side y
+      → y ≡ plain_result x → answered (plain_ends ends) (event.Pull side id) ≡ ((answered ends (event.Pull side id)).0, plain_ends (answered ends (event.Pull side id)).1)
+  pulled_alike id (a, e) y is plain_is same =
+      plain_is ∙ ap (was_pulled (plain_ends ends) side) same ∙ ap (λ v. let z : Answer × Ends = (answer.Pulled a, v) in z) (sets_end ends side e) ∙ sym (ap (λ z. let w : Answer × Ends = (z.0, plain_ends z.1) in w) is)
+
+  pub listed_alike : (id : ℕ) (x y : Pull × EndpointHistory) → answered ends (event.PullFields side id) ≡ was_listed ends side id x → answered (plain_ends ends) (event.PullFields side id) ≡ was_listed (plain_ends ends) side id y
+      → listed_pull (fields_behind (end_at ends side).kept (plainly (end_at ends side)) id) x.0 ≡ listed_pull (fields_behind (end_at ends side).kept (end_at ends side) id) x.0
+      → y ≡ plain_result x → answered (plain_ends ends) (event.PullFields side id) ≡ ((answered ends (event.PullFields side id)).0, plain_ends (answered ends (event.PullFields side id)).1)
+  listed_alike id (a, e) y is plain_is same_list same =
+      plain_is ∙ ap (was_listed (plain_ends ends) side id) same
+      ∙ ap (λ (f : EndpointHistory). let z : Answer × Ends = (answer.Listed (listed_pull (fields_behind f.kept f id) a), with_end (plain_ends ends) side (plainly e)) in z) (at_end ends side)
+      ∙ ap (λ l. let z : Answer × Ends = (answer.Listed l, with_end (plain_ends ends) side (plainly e)) in z) same_list
+      ∙ ap (λ v. let z : Answer × Ends = (answer.Listed (listed_pull (fields_behind (end_at ends side).kept (end_at ends side) id) a), v) in z) (sets_end ends side e)
+      ∙ sym (ap (λ z. let w : Answer × Ends = (z.0, plain_ends z.1) in w) is)
+
   pulled_steps : (id : ℕ) (x y : Pull × EndpointHistory) → answered ends (event.Pull side id) ≡ was_pulled ends side x → answered (plain_ends ends) (event.Pull side id) ≡ was_pulled (plain_ends ends) side y
       → PulledPlainly (is_strict (end_at ends side).announced) (FewWaitBehind (end_at ends side)) (is_judged (end_at ends side) id) x y → StepsPlainly ends (event.Pull side id)
   pulled_steps id x y is plain_is (IsJudged judged told) = Judges judged (λ few. ap (λ z. finds_fault (asks_strictly ends) z.0) is ∙ more_told (is_strict (end_at ends side).announced) (asks_strictly ends) x.0 (asks_at ends side) (told (few side)))
   pulled_steps id (a, e) y is plain_is (IsAlike same) =
-      Alike (ap (λ z. is_malformed_refusal z.0) is)
-      (plain_is ∙ ap (was_pulled (plain_ends ends) side) same ∙ ap (λ v. let z : Answer × Ends = (answer.Pulled a, v) in z) (sets_end ends side e) ∙ sym (ap (λ z. let w : Answer × Ends = (z.0, plain_ends z.1) in w) is))
+      Alike (ap (λ z. is_malformed_refusal z.0) is) (pulled_alike id (a, e) y is plain_is same)
 
   pull_steps : (id : ℕ) → StepsPlainly ends (event.Pull side id)
   pull_steps id =
@@ -104,12 +119,7 @@ module _ (ends : Ends) (side : Side) where
       Judges judged (λ few. ap (λ z. finds_fault (asks_strictly ends) z.0) is ∙ tells_same (asks_strictly ends) (fields_behind (end_at ends side).kept (end_at ends side) id) a
       ∙ more_told (is_strict (end_at ends side).announced) (asks_strictly ends) a (asks_at ends side) (told (few side)))
   listed_steps id (a, e) y is plain_is same_list (IsAlike same) =
-      Alike (ap (λ z. is_malformed_refusal z.0) is)
-      (plain_is ∙ ap (was_listed (plain_ends ends) side id) same
-      ∙ ap (λ (f : EndpointHistory). let z : Answer × Ends = (answer.Listed (listed_pull (fields_behind f.kept f id) a), with_end (plain_ends ends) side (plainly e)) in z) (at_end ends side)
-      ∙ ap (λ l. let z : Answer × Ends = (answer.Listed l, with_end (plain_ends ends) side (plainly e)) in z) same_list
-      ∙ ap (λ v. let z : Answer × Ends = (answer.Listed (listed_pull (fields_behind (end_at ends side).kept (end_at ends side) id) a), v) in z) (sets_end ends side e)
-      ∙ sym (ap (λ z. let w : Answer × Ends = (z.0, plain_ends z.1) in w) is))
+      Alike (ap (λ z. is_malformed_refusal z.0) is) (listed_alike id (a, e) y is plain_is same_list same)
 
   list_steps : (id : ℕ) → StepsPlainly ends (event.PullFields side id)
   list_steps id =
@@ -135,14 +145,14 @@ module _ (e : EndpointHistory) (id : ℕ) where
       same None = refl
       same (Some o) = refl
 
-  finished : is_finished (plainly e) id ≡ is_finished e id
+  pub finished : is_finished (plainly e) id ≡ is_finished e id
   finished = ap (λ o. unwrap_or (option_map (λ (x : Outgoing). x.is_finished) o) false) (at_each plain_outgoing e.outgoing id) ∙ same (stream_at e.outgoing id)
     where
       same : (o : Option Outgoing) → unwrap_or (option_map (λ (x : Outgoing). x.is_finished) (option_map plain_outgoing o)) false ≡ unwrap_or (option_map (λ (x : Outgoing). x.is_finished) o) false
       same None = refl
       same (Some o) = refl
 
-  was_reset : is_reset (plainly e) id ≡ is_reset e id
+  pub was_reset : is_reset (plainly e) id ≡ is_reset e id
   was_reset = ap (λ o. unwrap_or (option_map (λ (x : Outgoing). x.is_reset) o) false) (at_each plain_outgoing e.outgoing id) ∙ same (stream_at e.outgoing id)
     where
       same : (o : Option Outgoing) → unwrap_or (option_map (λ (x : Outgoing). x.is_reset) (option_map plain_outgoing o)) false ≡ unwrap_or (option_map (λ (x : Outgoing). x.is_reset) o) false

@@ -20,7 +20,7 @@ use Rattle.h3_connection.specs.OwnIds.{other}
 use Rattle.h3_connection.specs.Sections.{written_section}
 use Rattle.h3_connection.specs.declared.setup.Announced.{Announced}
 use Rattle.h3_connection.specs.Pulling.{is_interim}
-use Rattle.h3_connection.specs.Sending.{awaiting_at, content_of_own, content_of_response_to, known_of, outgoing_at}
+use Rattle.h3_connection.specs.Sending.{content_of_own, content_of_response_to, known_of, outgoing_at, telling_at}
 use Rattle.h3_connection.specs.StreamSets.{Streams, stream_at}
 use Rattle.h3_connection.specs.StrictMessages.{content_of_head}
 use Rattle.h3_connection.specs.declared.place.Place.TheVariants.{BeforeHead}
@@ -40,10 +40,10 @@ use Rattle.h3_headline.specs.KeepsPartsLaws.{flow_at, same_flow}
 use Rattle.h3_headline.specs.Messages.{is_on}
 use Rattle.h3_headline.specs.Standing.{ReceivesFlow, Stands, place_after}
 use Rattle.h3_headline.specs.Steps.{IsThere}
-use Rattle.h3_strict.proofs.KeepsCounts.{SameCounts, same_counts, in_set}
+use Rattle.h3_strict.proofs.KeepsCounts.{in_set, HeadKeeps}
 use Rattle.h3_strict.proofs.PlainStreams.{at_each, in_at, out_at}
 use Rattle.h3_strict.proofs.SentLaws.{TakesHead, asked_awaited, asked_first, asked_same, head_is_open, is_head_part, unbroken_other, unsent_along, unsent_no_head}
-use Rattle.h3_strict.proofs.SentTallies.{after_head, head_along, head_out, head_unbroken, known_is, parts_are, said_head, server_incoming, side_of, stands_at, client_incoming}
+use Rattle.h3_strict.proofs.SentTallies.{after_head, head_along, head_out, head_unbroken, known_is, parts_are, said_head, side_of, stands_at, client_incoming, server_in}
 use Rattle.h3_strict.proofs.TallySteps.{SendsPart, flow_grows, sends_tally}
 use Rattle.h3_strict.specs.PlainEnds.{plain_ends, plain_setup}
 use Rattle.h3_strict.specs.Plainly.{plain_incoming, plainly}
@@ -52,7 +52,7 @@ use Rattle.h3_strict.specs.Unbroken.{CountsAlong, IsAwaited, IsUnbroken, begun, 
 
 -- What the ends are after a call of one.
 pub sends_part : (w v : World) (ends : Ends) (s : Side) (i : ℕ) (part : Part) (p : Outgoing) (e : EndpointHistory) → ((writer : Side) (id : ℕ) → flow v writer id ≡ (if is_on writer id s i then appended (flow w s i) part else flow w writer id))
-    → ((id : ℕ) → outgoing_at e id ≡ (if i == id then p else outgoing_at (end_at ends s) id)) → ((id : ℕ) → SameCounts (incoming_at (end_at ends s) id) (incoming_at e id)) → e.announced ≡ (end_at ends s).announced
+    → ((id : ℕ) → outgoing_at e id ≡ (if i == id then p else outgoing_at (end_at ends s) id)) → ((id : ℕ) → HeadKeeps s (incoming_at (end_at ends s) id) (incoming_at e id)) → e.announced ≡ (end_at ends s).announced
     → SendsPart w v ends (with_end ends s e) s i part p
 sends_part w v ends Client i part p e flows out in_here announced = record { flows = flows; out = out; in_here = in_here; there = refl; announced = announced }
 sends_part w v ends Server i part p e flows out in_here announced = record { flows = flows; out = out; in_here = in_here; there = refl; announced = announced }
@@ -132,7 +132,7 @@ module _ (setup : Setup) (w : World) (ends : Ends) (known : ℕ → Bool) (i : �
       let along = head_along setup w ends Server i head fields Client (asked_in (flow w Client i).sent) h opened takes in
       part_tally setup w (with_section Interim w Server i fields) ends known Server i part p (after_head e i head fields (strict_end Server))
       (sends_part w (with_section Interim w Server i fields) ends Server i part p (after_head e i head fields (strict_end Server)) (flows_with_party w Server q i part there) (head_out e i head fields (strict_end Server))
-      (λ id. subst (λ (l : Streams Incoming). SameCounts (incoming_at e id) (unwrap_or (stream_at l id) nothing_came)) (sym (server_incoming e i head fields (strict_end Server) (side_of setup w ends Server h))) (same_counts (incoming_at e id))) refl)
+      (server_in e i head fields (strict_end Server) (side_of setup w ends Server h)) refl)
       sound.out refl
       (head_unbroken setup w ends known Server i head fields h t (strict Server) takes, subst (IsAwaited Client) (sym along) (asked_awaited (flow w Client i).sent))
       (λ ends_now. absurd (no_end_yet p (by_kind (is_interim head.status) interim) ends_now)) t
@@ -164,7 +164,7 @@ module _ (setup : Setup) (w : World) (ends : Ends) (known : ℕ → Bool) (i : �
       let flows = flows_with_party w Server q i part there in
       sends_tally setup w v ends next known Server i part p
       (sends_part w v ends Server i part p (after_head e i head fields (strict_end Server)) flows (head_out e i head fields (strict_end Server))
-      (λ id. subst (λ (l : Streams Incoming). SameCounts (incoming_at e id) (unwrap_or (stream_at l id) nothing_came)) (sym (server_incoming e i head fields (strict_end Server) (side_of setup w ends Server h))) (same_counts (incoming_at e id))) refl)
+      (server_in e i head fields (strict_end Server) (side_of setup w ends Server h)) refl)
       sound.out (λ id. ap (λ (x : Flow). asked_in x.sent) (flows Client id)) (λ id. ap (λ (x : Flow). has_head x.sent) (flows Client id))
       (λ id has. ap (λ (x : Flow). has_head x.sent) (flows Client id) ∙ asks k.has id (i == id) refl (sym (ap (λ (x : Flow). has_head x.sent) (flows Server id)) ∙ has))
       (head_unbroken setup w ends known Server i head fields h t (strict Server) takes, subst (IsAwaited Client) (sym along) (asked_awaited request))
@@ -323,7 +323,7 @@ module _ (setup : Setup) (w : World) (ends : Ends) (known : ℕ → Bool) (i : �
           → incoming_at after id ≡ (if i == id then awaiting (incoming_at ends.client i) asks_for else incoming_at ends.client id)
       by_stream None is some = absurd (let never : None ≡ _ = sym (ap (option_map plain_incoming) is) ∙ some in cc)
       by_stream (Some x) is some =
-          ap (λ (l : Streams Incoming). unwrap_or (stream_at l id) nothing_came) (client_incoming ends.client i head fields asking (side_of setup w ends Client h) ∙ ap (awaiting_at ends.client.incoming i asks_for) is)
+          ap (λ (l : Streams Incoming). unwrap_or (stream_at l id) nothing_came) (client_incoming ends.client i head fields asking (side_of setup w ends Client h) ∙ ap (telling_at Client ends.client.incoming i fields) is)
           ∙ in_set ends.client.incoming i (awaiting x asks_for) id
           ∙ ap (λ y. if i == id then awaiting y asks_for else incoming_at ends.client id) (sym (ap (λ o. unwrap_or o nothing_came) is))
 

@@ -16,8 +16,8 @@ use Rattle.h3_connection.specs.Outgoing as sent
 use Rattle.h3_connection.specs.OwnIds.{other}
 use Rattle.h3_connection.specs.Pulling.{is_for}
 use Rattle.h3_connection.specs.Refusals.{first_of, is_too_large, refusal_of_head, refusal_of_trailer, unless_going}
-use Rattle.h3_connection.specs.Sending.{body_refusal, finish_refusal, is_open, outgoing_at, sender_at, unless_closed}
-use Rattle.h3_connection.specs.StrictSending.{broken_head, broken_trailer, early_trailer, passes_content, unless_malformed}
+use Rattle.h3_connection.specs.Sending.{body_refusal, finish_refusal, is_open, outgoing_at, sender_at, unless_closed, broken_head_at}
+use Rattle.h3_connection.specs.StrictSending.{broken_trailer, early_trailer, passes_content, unless_malformed}
 use Rattle.h3_connection.specs.StrictSendingLaws.{not_closed, not_early, not_going, not_malformed, passed}
 use Rattle.h3_connection.specs.declared.event.Malformation.{Malformation}
 use Rattle.h3_connection.specs.declared.event.Malformation.TheVariants as malformation
@@ -40,18 +40,18 @@ is_true false h = absurd (cc)
 
 -- a head that goes out as these fields
 abbrev pub head_judged : EndpointHistory → ℕ → Option Malformation → Head → List Field → Option Refusal
-head_judged e id told head fields = unless_closed e (refusal_of_head (sender_at e id) told (broken_head e.side e.announced e.peer.settings fields) head fields)
+head_judged e id told head fields = unless_closed e (refusal_of_head (sender_at e id) told (broken_head_at e id fields) head fields)
 
 pub record TakesHead (e : EndpointHistory) (id : ℕ) (head : Head) (fields : List Field) : Type 0 where
   pub takes : takes_head (outgoing_at e id) ≡ true
   pub fits : is_for (other e.side) head ≡ true
-  pub rule : broken_head e.side e.announced e.peer.settings fields ≡ None
+  pub rule : broken_head_at e id fields ≡ None
   pub small : is_too_large e.peer.settings fields ≡ false
 
 pub head_rules : (e : EndpointHistory) (id : ℕ) (told : Option Malformation) (head : Head) (fields : List Field) → head_judged e id told head fields ≡ None → TakesHead e id head fields
 head_rules e id protocol head fields done =
     let large = (is_too_large e.peer.settings fields, refusal.TooLarge (section_size fields)) ∷ [] in
-    let broken = broken_head e.side e.announced e.peer.settings fields in
+    let broken = broken_head_at e id fields in
     let wrong = (not (is_for (other e.side) head), refusal.WrongSide) ∷ unless_malformed broken large in
     let going = (sender_at e id).going in
     let judged = unless_going going (unless_malformed protocol wrong) in

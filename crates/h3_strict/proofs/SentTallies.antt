@@ -1,20 +1,19 @@
 -- A send at two strict ends that is taken: the part breaks no rule of its reader, and both count on.
-use Rattle.std.proofs.Common.{◌≡◌, ℕ, Bool, true, false, List, [], ◌∷◌, ◌++◌, refl, sym, ap, ◌∙◌, subst, Option, Some, None, if◌then◌else◌}
-use Rattle.std.specs.Prelude.{◌==◌, ◌&&◌, not, flat_map, unwrap_or}
+use Rattle.std.proofs.Common.{◌≡◌, ℕ, Bool, true, false, List, [], ◌∷◌, ◌++◌, refl, sym, ap, ◌∙◌, subst, Option, Some, None, if◌then◌else◌, inl, inr}
+use Rattle.std.specs.Prelude.{◌==◌, not, flat_map, unwrap_or, codes, slice_index}
 use Rattle.h3_field.specs.Field.{Field}
 use Rattle.h3_header.specs.Head.{Head}
-use Rattle.h3_messages.specs.Content.{awaited_by}
+use Rattle.h3_messages.specs.Content.{answered_by, is_interim_status}
 use Rattle.h3_messages.specs.declared.content.Content.{Content}
 use Rattle.h3_proto.specs.declared.stream.Side.{Side}
 use Rattle.h3_proto.specs.declared.stream.Side.TheVariants.{Client, Server}
 use Rattle.h3_connection.specs.Announcing.{connects}
 use Rattle.h3_connection.specs.Endpoint.{EndpointHistory}
-use Rattle.h3_connection.specs.Incoming.{Incoming, nothing_came}
+use Rattle.h3_connection.specs.Incoming.{Incoming, nothing_came, goes_on, having_told}
 use Rattle.h3_connection.specs.Outgoing.{Outgoing, OwnPart, is_unsent, nothing_sent, with_said}
 use Rattle.h3_connection.specs.OwnIds.{other}
-use Rattle.h3_connection.specs.Pulling.{is_client}
 use Rattle.h3_connection.specs.Sections.{written_section}
-use Rattle.h3_connection.specs.Sending.{appended, asked, awaiting_at, content_of_own, counted, encoded, fields_cost, head_part, known_of, outgoing_at, saying_at}
+use Rattle.h3_connection.specs.Sending.{appended, asked, content_of_own, counted, encoded, fields_cost, head_part, known_of, outgoing_at, saying_at, telling_at}
 use Rattle.h3_connection.specs.StreamSetLaws.{set-here, set-set}
 use Rattle.h3_connection.specs.StreamSets.{Streams, set_stream, stream_at}
 use Rattle.h3_connection.specs.StrictMessages.{broken_rule}
@@ -31,13 +30,17 @@ use Rattle.h3_world.specs.World.{World, party}
 use Rattle.h3_world.specs.declared.setup.Setup.{Setup}
 use Rattle.h3_headline.specs.SettingsLaws.{value_with_meaning}
 use Rattle.h3_headline.specs.Standing.{StandsAt, Stands, are_settings_there, with_meaning}
-use Rattle.h3_strict.proofs.KeepsCounts.{out_set}
+use Rattle.h3_strict.proofs.KeepsCounts.{out_set, HasAnswered, MayAnswer, in_set}
 use Rattle.h3_strict.proofs.PlainStreams.{out_at}
 use Rattle.h3_strict.proofs.SentLaws.{TakesHead, head_is_open, unsent_along}
 use Rattle.h3_strict.specs.PlainEnds.{plain_ends, plain_setup}
 use Rattle.h3_strict.specs.Plainly.{plain_outgoing, plainly}
 use Rattle.h3_strict.specs.Tallies.{Tallies}
 use Rattle.h3_strict.specs.Unbroken.{content_along}
+use Rattle.h3_messages.specs.Messages.{value_of}
+use Rattle.h3_messages.specs.declared.content.Content.TheVariants.{Unsaid, Exactly, NoContent, Tunnel, Unanswered, Exceeded}
+use Rattle.h3_connection.specs.Delivering.{incoming_at}
+use Rattle.h3_headline.specs.FlowLaws.{same_number}
 
 -- The end of a side without strict messages stands in the world.
 pub stands_at : (setup : Setup) (w : World) (ends : Ends) (s : Side) → Stands (plain_setup setup) w (plain_ends ends) → StandsAt (plain_setup setup) w s (plainly (end_at ends s))
@@ -82,7 +85,7 @@ pub head_unbroken : (setup : Setup) (w : World) (ends : Ends) (known : ℕ → B
 head_unbroken setup w ends known s i head fields h t strict takes =
     let e = end_at ends s in
     subst (λ d. broken_rule (other d) (announced_at setup (other s)) BeforeHead fields ≡ None) (side_of setup w ends s h)
-    (head_taken e.side e.announced (announced_at setup (other s)) e.peer.settings fields (ap (λ (a : Announced). a.choices.strict_messages) (t.announced s) ∙ strict) (knows_peer setup w ends s h) takes.rule)
+    (head_taken e.side e.announced (announced_at setup (other s)) e.peer.settings (known_of (stream_at e.incoming i)) fields (ap (λ (a : Announced). a.choices.strict_messages) (t.announced s) ∙ strict) (knows_peer setup w ends s h) takes.rule)
 
 -- in front of a final head the parts are interim ones
 pub head_along : (setup : Setup) (w : World) (ends : Ends) (s : Side) (i : ℕ) (head : Head) (fields : List Field) (reader : Side) (awaited : Content) → Stands (plain_setup setup) w (plain_ends ends) → is_open w s i ≡ true → TakesHead (end_at ends s) i head fields
@@ -118,12 +121,48 @@ module _ (e : EndpointHistory) (i : ℕ) (head : Head) (fields : List Field) (st
   pub head_out : (j : ℕ) → outgoing_at after_head j ≡ (if i == j then said_head else outgoing_at e j)
   head_out j = ap (λ (s : Streams Outgoing). unwrap_or (stream_at s j) nothing_sent) head_outgoing ∙ out_set e.outgoing i said_head j
 
-  pub server_incoming : e.side ≡ Server → after_head.incoming ≡ e.incoming
-  server_incoming is =
-      ap (λ b. if b && is_client e.side then awaiting_at e.incoming i (awaited_by fields) (stream_at e.incoming i) else e.incoming) strict
-      ∙ ap (λ d. if is_client d then awaiting_at e.incoming i (awaited_by fields) (stream_at e.incoming i) else e.incoming) is
+  told_incoming : (side : Side) → e.side ≡ side → after_head.incoming ≡ telling_at side e.incoming i fields (stream_at e.incoming i)
+  told_incoming side is =
+      ap (λ b. if b then telling_at e.side e.incoming i fields (stream_at e.incoming i) else e.incoming) strict
+      ∙ ap (λ d. telling_at d e.incoming i fields (stream_at e.incoming i)) is
 
-  pub client_incoming : e.side ≡ Client → after_head.incoming ≡ awaiting_at e.incoming i (awaited_by fields) (stream_at e.incoming i)
-  client_incoming is =
-      ap (λ b. if b && is_client e.side then awaiting_at e.incoming i (awaited_by fields) (stream_at e.incoming i) else e.incoming) strict
-      ∙ ap (λ d. if is_client d then awaiting_at e.incoming i (awaited_by fields) (stream_at e.incoming i) else e.incoming) is
+  pub client_incoming : e.side ≡ Client → after_head.incoming ≡ telling_at Client e.incoming i fields (stream_at e.incoming i)
+  client_incoming is = told_incoming Client is
+
+  -- A server answers a CONNECT that it read, and nothing else that it receives is changed.
+  answers : (content : Content) → MayAnswer content (answered_by content fields)
+  answers Unanswered = by_interim (is_interim_status (value_of (codes ":status") fields))
+    where
+      by_tunnel : (b : Bool) → MayAnswer Unanswered (if b then Tunnel else Unsaid)
+      by_tunnel true = inr (refl, inl refl)
+      by_tunnel false = inr (refl, inr refl)
+
+      by_interim : (b : Bool) → MayAnswer Unanswered (if b then Unanswered else (if slice_index (value_of (codes ":status") fields) 0 == 50 then Tunnel else Unsaid))
+      by_interim true = inl refl
+      by_interim false = by_tunnel (slice_index (value_of (codes ":status") fields) 0 == 50)
+  answers Unsaid = inl refl
+  answers (Exactly size) = inl refl
+  answers NoContent = inl refl
+  answers Tunnel = inl refl
+  answers Exceeded = inl refl
+
+  told_keeps : (x : Incoming) → HasAnswered x (having_told Server x fields)
+  told_keeps x = record { fault = refl; content = by_test (goes_on x); left = refl; response = refl }
+    where
+      by_test : (b : Bool) → MayAnswer x.content (if b then answered_by x.content fields else x.content)
+      by_test true = answers x.content
+      by_test false = inl refl
+
+  same_here : (x : Incoming) → HasAnswered x x
+  same_here x = record { fault = refl; content = inl refl; left = refl; response = refl }
+
+  pub server_in : e.side ≡ Server → (id : ℕ) → HasAnswered (incoming_at e id) (incoming_at after_head id)
+  server_in is id = subst (λ (l : Streams Incoming). HasAnswered (incoming_at e id) (unwrap_or (stream_at l id) nothing_came)) (sym (told_incoming Server is)) (by_stream (stream_at e.incoming i) refl)
+    where
+      by_stream : (o : Option Incoming) → stream_at e.incoming i ≡ o → HasAnswered (incoming_at e id) (unwrap_or (stream_at (telling_at Server e.incoming i fields o) id) nothing_came)
+      by_stream None none = same_here (incoming_at e id)
+      by_stream (Some x) there = subst (HasAnswered (incoming_at e id)) (sym (in_set e.incoming i (having_told Server x fields) id)) (by_id (i == id) refl)
+        where
+          by_id : (b : Bool) → (i == id) ≡ b → HasAnswered (incoming_at e id) (if b then having_told Server x fields else incoming_at e id)
+          by_id true at = subst (λ y. HasAnswered y (having_told Server x fields)) (sym (ap (λ o. unwrap_or o nothing_came) (ap (λ n. stream_at e.incoming n) (sym (same_number i id at)) ∙ there))) (told_keeps x)
+          by_id false at = same_here (incoming_at e id)

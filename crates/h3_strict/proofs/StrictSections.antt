@@ -6,12 +6,12 @@ use Rattle.h3_field.specs.Instruction.{DecoderInstruction}
 use Rattle.h3_header.specs.Head as header
 use Rattle.h3_header.specs.HeadRead.{head_by}
 use Rattle.h3_header.specs.Reads.{AcceptsAll, head_of_fields}
-use Rattle.h3_messages.specs.Content.{asked_for, content_behind_status, content_expected, content_of_status, is_interim_status, is_without_content, may_end, said}
+use Rattle.h3_messages.specs.Content.{asked_for, content_behind_status, content_expected, content_of_status, is_interim_status, is_without_content, may_end, said, content_of_request, until_answered}
 use Rattle.h3_messages.specs.Messages.{value_of, violation_of_response}
 use Rattle.h3_messages.specs.declared.content.Asked.{Asked}
 use Rattle.h3_messages.specs.declared.content.Asked.TheVariants as asked
 use Rattle.h3_messages.specs.declared.content.Content.{Content}
-use Rattle.h3_messages.specs.declared.content.Content.TheVariants.{NoContent, Tunnel}
+use Rattle.h3_messages.specs.declared.content.Content.TheVariants.{NoContent, Tunnel, Unsaid, Exactly, Unanswered, Exceeded}
 use Rattle.h3_messages.specs.declared.violation.Violation.{Violation}
 use Rattle.h3_proto.specs.declared.stream.Side.{Side}
 use Rattle.h3_proto.specs.declared.stream.Side.TheVariants.{Client, Server}
@@ -20,7 +20,7 @@ use Rattle.h3_qpack.specs.Sizes.{last_value, told_size}
 use Rattle.h3_connection.specs.Announcing.{section_of}
 use Rattle.h3_connection.specs.Incoming.{Incoming, is_before_head}
 use Rattle.h3_connection.specs.Pulling.{Pulled, head_or_trailer, is_client, is_interim, is_interim_text, judged, malformed, past_large, read_section, with_content}
-use Rattle.h3_connection.specs.StrictMessages.{broken_rule, content_behind, content_behind_large, content_of_head, if_whole, malformation_by, response_behind, response_of_head}
+use Rattle.h3_connection.specs.StrictMessages.{broken_rule, content_behind, content_behind_large, content_of_head, if_whole, malformation_by, response_behind, response_of_head, content_read}
 use Rattle.h3_connection.specs.declared.event.Item.{Item}
 use Rattle.h3_connection.specs.declared.event.Item.TheVariants as item
 use Rattle.h3_connection.specs.declared.event.Malformation.{Malformation}
@@ -53,7 +53,7 @@ status_says status size = by_test (is_without_content status)
   where
     by_test : (b : Bool) → SaysNoMore (if b then NoContent else said []) (if b then NoContent else said size)
     by_test true = inl refl
-    by_test false = inr refl
+    by_test false = inr (inl refl)
 
 expected_says : (a : Asked) (status size : List ℕ) → SaysNoMore (content_expected a status []) (content_expected a status size)
 expected_says asked.Head status size = inl refl
@@ -70,6 +70,19 @@ behind_says content status size = by_test (is_interim_status status)
     by_test : (b : Bool) → SaysNoMore (if b then content else content_expected (asked_for content) status []) (if b then content else content_expected (asked_for content) status size)
     by_test true = inl refl
     by_test false = expected_says (asked_for content) status size
+
+-- a server that reads CONNECT has not answered it
+until_says : (content : Content) → SaysNoMore (until_answered content) content
+until_says Tunnel = inr (inr (refl, refl))
+until_says Unsaid = inl refl
+until_says (Exactly size) = inl refl
+until_says NoContent = inl refl
+until_says Unanswered = inl refl
+until_says Exceeded = inl refl
+
+read_says : (side : Side) (awaited : Content) (fields : List Field) → SaysNoMore (content_read side awaited fields) (content_of_head side awaited fields)
+read_says Client awaited fields = inl refl
+read_says Server awaited fields = until_says (content_of_request fields)
 
 -- an interim status leaves what was awaited
 interim_stays : (content : Content) (status size : List ℕ) → is_interim_status status ≡ true → content_behind_status content status size ≡ content
@@ -147,7 +160,8 @@ module _ (lists : ListsAreTheirValue) (side : Side) (own : Announced) (id : ℕ)
         rule = none_broken x.content (broken_rule side own x.place s.fields) (ap may_end same ∙ awaited_ends side said unbroken.1) (ap (λ p. broken_rule side own p s.fields) at ∙ unbroken.0);
         whole = record {
           before = λ e. in_front (sym behind ∙ e);
-          counts = inl (ap (λ p. content_behind side p x.content s.fields) at ∙ ap (λ c. content_of_head side c s.fields) same ∙ sym more);
+          counts = subst (λ c. SaysNoMore c (content_along side awaited (take (f.parts_out + 1) f.sent))) (sym (ap (λ p. content_behind side p x.content s.fields) at ∙ ap (λ c. content_read side c s.fields) same))
+              (subst (SaysNoMore (content_read side said s.fields)) (sym more) (read_says side said s.fields));
           within = next_within f.sent f.parts_out (Head s) next;
         };
         large = record {
@@ -175,7 +189,7 @@ module _ (lists : ListsAreTheirValue) (side : Side) (own : Announced) (id : ℕ)
       head_asks Server = refl
 
       large_head : (d : Side) → side ≡ d → (said : Content) → IsUnbroken d own said (Head s) → SaysNoMore (content_behind_large d BeforeHead said (last_value (codes ":status") s.fields)) (content_of_head d said s.fields)
-      large_head Server is said h = inr h.1
+      large_head Server is said h = inr (inl h.1)
       large_head Client is said h =
           subst (λ o. SaysNoMore (content_behind_status said (unwrap_or o []) []) (content_of_head Client said s.fields)) (sym (one_status s.fields (response_rules own s.fields strict h.0)))
           (behind_says said (value_of (codes ":status") s.fields) (value_of (codes "content-length") s.fields))
@@ -194,7 +208,7 @@ module _ (lists : ListsAreTheirValue) (side : Side) (own : Announced) (id : ℕ)
       let text : is_interim_text (last_value (codes ":status") s.fields) ≡ true = interim_by_last (takes_any own) s.fields readable.3 ∙ readable.2 in
       let status : is_interim_status (value_of (codes ":status") s.fields) ≡ true = sym (ap is_interim_text last) ∙ text in
       let whole_is : content_behind side x.place x.content s.fields ≡ x.content =
-      ap (λ p. content_behind side p x.content s.fields) at ∙ ap (λ d. content_of_head d x.content s.fields) is ∙ interim_stays x.content (value_of (codes ":status") s.fields) (value_of (codes "content-length") s.fields) status in
+      ap (λ p. content_behind side p x.content s.fields) at ∙ ap (λ d. content_read d x.content s.fields) is ∙ interim_stays x.content (value_of (codes ":status") s.fields) (value_of (codes "content-length") s.fields) status in
       let large_is : content_behind_large side x.place x.content (last_value (codes ":status") s.fields) ≡ x.content =
       ap (λ p. content_behind_large side p x.content (last_value (codes ":status") s.fields)) at ∙ ap (λ d. content_behind_large d BeforeHead x.content (last_value (codes ":status") s.fields)) is
       ∙ ap (λ o. content_behind_status x.content (unwrap_or o []) []) last ∙ interim_stays x.content (value_of (codes ":status") s.fields) [] status in

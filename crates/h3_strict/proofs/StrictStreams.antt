@@ -14,7 +14,7 @@ use Rattle.h3_qpack.specs.DecodedSection.{Fields, Missing, decode_section}
 use Rattle.h3_qpack.specs.DecoderState.{DecoderState}
 use Rattle.h3_wire.specs.Encoded.{frame_encoding, head_encoding}
 use Rattle.h3_wire.specs.EncodedLaws.{written_headers}
-use Rattle.h3_wire.specs.Frames.{frame_at}
+use Rattle.h3_wire.specs.Frames.{frame_by}
 use Rattle.h3_wire.specs.Pieces.{chunk_of}
 use Rattle.h3_wire.specs.declared.proto.frame.Frame.TheVariants as frame
 use Rattle.h3_connection.specs.Codes.{decompression_failed, frame_error, frame_unexpected}
@@ -49,6 +49,7 @@ use Rattle.h3_strict.proofs.UnbrokenLaws.{along_next, ends_too, left_no_more, ne
 use Rattle.h3_strict.specs.Plainly.{plain_incoming, tells_malformed}
 use Rattle.h3_strict.specs.StrictPull.{Counting, CountsFlow, PullsOn, flow_after, response_after}
 use Rattle.h3_strict.specs.Unbroken.{AreUnbroken, CountsAlong, IsUnbroken, SaysNoMore, begun, content_along}
+use Rattle.h3_connection.specs.StrictConnection.{kinds_of}
 
 in_front : {X : Type 0} → InBody ≡ BeforeHead → X
 in_front e = let k : false ≡ true = ap is_before_head e in absurd (cc)
@@ -204,14 +205,14 @@ module _ (lists : ListsAreTheirValue) (side : Side) (own : Announced) (id : ℕ)
         let front = short_front (concat i.unread) (drop f.delivered (flow_bytes f)) (frame_encoding 1 s.encoded) rest all (omega (arith, short)) in
         let missing : f.delivered < length (flow_bytes f) = omega (arith, came_is p f (plain_incoming i) h, whole_length p f part at, short, ap length bytes) in
         subst (PullsOn side awaited known f)
-        (sym (unfinished_waits side own any id r i (h.on.ended ∙ not_ended p f h.sound missing) (unfinished_section s.encoded (concat i.unread) sent.has_length short front)))
+        (sym (unfinished_waits side own any id r i (h.on.ended ∙ not_ended p f h.sound missing) (unfinished_section (kinds_of own) s.encoded (concat i.unread) sent.has_length short front)))
         (stays f pull.Pending i refl refl refl counts)
     | inr there ↦
         let rest = flat_map part_bytes (drop (f.parts_out + 1) f.sent) in
         let left = drop (length (frame_encoding 1 s.encoded)) (concat i.unread) in
         let all = h.unread ∙ at.bytes_behind ∙ ap (λ l. l ++ rest) bytes in
         let longer = long_front (concat i.unread) (drop f.delivered (flow_bytes f)) (frame_encoding 1 s.encoded) rest all there in
-        let found = ap frame_at longer.front_is ∙ written_headers s.encoded left sent.has_length in
+        let found = ap (frame_by (kinds_of own)) longer.front_is ∙ written_headers (kinds_of own) s.encoded left sent.has_length in
         let x = begun_section (left_with i left) s.encoded in
         let some : 0 < length (frame_encoding 1 s.encoded) = section_bytes s.encoded in
         subst (PullsOn side awaited known f)
@@ -246,7 +247,7 @@ module _ (lists : ListsAreTheirValue) (side : Side) (own : Announced) (id : ℕ)
         let front = short_front (concat i.unread) (drop f.delivered (flow_bytes f)) head (bytes ++ rest) all (omega (arith, short)) in
         let missing : f.delivered < length (flow_bytes f) = omega (arith, came_is p f (plain_incoming i) h, whole_length p f (Body bytes end) at, short, length-append head bytes) in
         subst (PullsOn side awaited known f)
-        (sym (unfinished_waits side own any id r i (h.on.ended ∙ not_ended p f h.sound missing) (unfinished_data (length bytes) (concat i.unread) at.sent.1 short front)))
+        (sym (unfinished_waits side own any id r i (h.on.ended ∙ not_ended p f h.sound missing) (unfinished_data (kinds_of own) (length bytes) (concat i.unread) at.sent.1 short front)))
         (stays f pull.Pending i refl refl refl counts)
     | inr there ↦
         let rest = flat_map part_bytes (drop (f.parts_out + 1) f.sent) in
@@ -254,7 +255,7 @@ module _ (lists : ListsAreTheirValue) (side : Side) (own : Announced) (id : ℕ)
         let left = drop (length head) (concat i.unread) in
         let all = h.unread ∙ at.bytes_behind ∙ append_assoc head bytes rest in
         let longer = long_front (concat i.unread) (drop f.delivered (flow_bytes f)) head (bytes ++ rest) all there in
-        let found = ap frame_at longer.front_is ∙ data_front (length bytes) left at.sent.1 in
+        let found = ap (frame_by (kinds_of own)) longer.front_is ∙ data_front (kinds_of own) (length bytes) left at.sent.1 in
         let some : 0 < length head = omega (arith, encoding_some 0 (lit< tt), length-append (encoding 0) (encoding (length bytes))) in
         let full : (length bytes == 0) ≡ false = positive (length bytes) at.sent.0 in
         let whole : drop f.body_out bytes ≡ bytes = ap (λ n. drop n bytes) h.out in

@@ -11,7 +11,7 @@ use Rattle.h3_wire.specs.Encoded.{frame_encoding, head_encoding}
 use Rattle.h3_wire.specs.EncodedLaws.{written_headers}
 use Rattle.h3_wire.specs.ExcessiveFrames.{is_excessive, is_kept_whole, is_too_long, says_too_much}
 use Rattle.h3_wire.specs.ExcessiveLaws.{none_excessive}
-use Rattle.h3_wire.specs.Frames.{frame_at}
+use Rattle.h3_wire.specs.Frames.{frame_by}
 use Rattle.h3_wire.specs.declared.proto.frame.Frame.TheVariants as frame
 use Rattle.h3_connection.specs.Incoming.{Incoming, is_body}
 use Rattle.h3_connection.specs.Skipping.{skipped}
@@ -23,6 +23,7 @@ use Rattle.h3_world.specs.World.{Party}
 use Rattle.h3_headline.specs.FrontLaws.{data_front, long_front, short_front, skipped_none, skipped_unfinished, skipped_whole, unfinished_data, unfinished_section}
 use Rattle.h3_headline.specs.Standing.{ReceivesFlow, StandsBefore, section_frame}
 use Rattle.h3_strict.proofs.LimitPulls.{LooksWithin}
+use Rattle.h3_wire.specs.declared.frame.kinds.FrameKinds.{FrameKinds}
 
 -- the part's section is no longer than its reader takes
 abbrev pub PartTaken : ℕ → Part → Type 0
@@ -76,26 +77,26 @@ head_within most kind number bytes more behind small few e within = and_right (i
         let second = one_read n number (rest ++ more) behind (sym (reads_more n mid rest more there) ∙ ap varint_at first.1 ∙ reads_shortest number behind few) in
         ap (is_too_long most k) there ∙ ap (λ x. is_kept_whole x && nat_lt most n) first.0 ∙ ap (λ x. is_kept_whole kind && nat_lt most x) second.0 ∙ within
 
-module _ (most : ℕ) (in_body : Bool) where
+module _ (kinds : FrameKinds) (most : ℕ) (in_body : Bool) where
   abbrev IsWithin : List ℕ → Type 0
-  IsWithin bytes = is_excessive most (skipped in_body bytes) ≡ false
+  IsWithin bytes = is_excessive most (skipped kinds in_body bytes) ≡ false
 
   section_within : (section behind bytes more : List ℕ) → (is_limit most ≡ true → length section ≤ most) → length section < 2 ^ 62 → bytes ++ more ≡ frame_encoding 1 section ++ behind → IsWithin bytes
   section_within section behind bytes more taken small e = by_limit (is_limit most) refl
     where
-      all : skipped in_body bytes ≡ bytes
+      all : skipped kinds in_body bytes ≡ bytes
       all = elim (cases_lt (length bytes) (length (frame_encoding 1 section))) [
         | inl less ↦
-            let front = unfinished_section section bytes small less (short_front bytes more (frame_encoding 1 section) behind e (omega (arith, less))) in
-            skipped_unfinished in_body bytes front.0 front.1
+            let front = unfinished_section kinds section bytes small less (short_front bytes more (frame_encoding 1 section) behind e (omega (arith, less))) in
+            skipped_unfinished kinds in_body bytes front.0 front.1
         | inr there ↦
             let longer = long_front bytes more (frame_encoding 1 section) behind e there in
             let rest = drop (length (frame_encoding 1 section)) bytes in
-            skipped_whole in_body bytes (frame.Headers section) rest (ap frame_at longer.front_is ∙ written_headers section rest small) refl
+            skipped_whole kinds in_body bytes (frame.Headers section) rest (ap (frame_by kinds) longer.front_is ∙ written_headers kinds section rest small) refl
       ]
 
       by_limit : (b : Bool) → is_limit most ≡ b → IsWithin bytes
-      by_limit false none = none_excessive most (skipped in_body bytes) none
+      by_limit false none = none_excessive most (skipped kinds in_body bytes) none
       by_limit true limited =
           ap (is_excessive most) all
           ∙ head_within most 1 (length section) bytes more (section ++ behind) (lit< tt) small (e ∙ append_assoc (head_encoding 1 (length section)) section behind) (le-ltb most (length section) (taken limited))
@@ -107,19 +108,19 @@ module _ (most : ℕ) (in_body : Bool) where
       parts : bytes ++ more ≡ head_encoding 0 (length body) ++ (body ++ behind)
       parts = e ∙ append_assoc (head_encoding 0 (length body)) body behind
 
-      all : skipped in_body bytes ≡ bytes
+      all : skipped kinds in_body bytes ≡ bytes
       all = elim (cases_lt (length bytes) (length (head_encoding 0 (length body)))) [
         | inl less ↦
-            let front = unfinished_data (length body) bytes small less (short_front bytes more (head_encoding 0 (length body)) (body ++ behind) parts (omega (arith, less))) in
-            skipped_unfinished in_body bytes front.0 front.1
+            let front = unfinished_data kinds (length body) bytes small less (short_front bytes more (head_encoding 0 (length body)) (body ++ behind) parts (omega (arith, less))) in
+            skipped_unfinished kinds in_body bytes front.0 front.1
         | inr there ↦
             let longer = long_front bytes more (head_encoding 0 (length body)) (body ++ behind) parts there in
             let rest = drop (length (head_encoding 0 (length body))) bytes in
-            skipped_whole in_body bytes (frame.Data (record { 0 = length body })) rest (ap frame_at longer.front_is ∙ data_front (length body) rest small) (ne_eqb (length body) 0 (λ none. omega (arith, none, some)))
+            skipped_whole kinds in_body bytes (frame.Data (record { 0 = length body })) rest (ap (frame_by kinds) longer.front_is ∙ data_front kinds (length body) rest small) (ne_eqb (length body) 0 (λ none. omega (arith, none, some)))
       ]
 
   nothing_within : (bytes more : List ℕ) → bytes ++ more ≡ [] → IsWithin bytes
-  nothing_within [] more e = ap (is_excessive most) (skipped_none in_body) ∙ and_right (is_limit most) (says_too_much most (varint_at [])) (ap (says_too_much most) none_at_end)
+  nothing_within [] more e = ap (is_excessive most) (skipped_none kinds in_body) ∙ and_right (is_limit most) (says_too_much most (varint_at [])) (ap (says_too_much most) none_at_end)
   nothing_within (byte ∷ bytes) more e = absurd (cc)
 
   front_within : (parts : List Part) (bytes more : List ℕ) → PartsTaken most parts → AllByRecursion IsFramed parts → bytes ++ more ≡ flat_map part_bytes parts → IsWithin bytes
@@ -138,11 +139,11 @@ none_left n e = elim (cases_lt 0 n) [
 
 -- **The receiver of such a flow finds no frame too long.**
 pub flow_within : (most : ℕ) (p : Party) (f : Flow) (i : Incoming) → IsSoundFlow p f → PartsTaken most f.sent → ReceivesFlow f i → LooksWithin most i
-flow_within most p f i sound taken receives alive more none whole =
+flow_within most p f i sound taken receives alive more none whole kinds =
     let reads = receives.reads (sym receives.fault ∙ alive) in
     let left = drop f.delivered (flow_bytes f) in
     let at : StandsBefore f 0 (next_part f) (concat i.unread ++ left) =
     subst (λ o. StandsBefore f 0 (next_part f) (section_frame o ++ concat i.unread ++ left)) none
     (subst (λ n. StandsBefore f n (next_part f) (section_frame i.section ++ concat i.unread ++ left)) (none_left i.body_left whole) reads.unread) in
-    front_within most (is_body i.place) (drop f.parts_out f.sent) (concat i.unread) (drop f.delivered (flow_bytes f)) (all_behind (PartTaken most) f.parts_out f.sent taken)
+    front_within kinds most (is_body i.place) (drop f.parts_out f.sent) (concat i.unread) (drop f.delivered (flow_bytes f)) (all_behind (PartTaken most) f.parts_out f.sent taken)
     (all_behind IsFramed f.parts_out f.sent (are_framed p None 0 f.sent sound.sent)) at.1

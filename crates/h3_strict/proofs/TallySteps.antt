@@ -1,9 +1,13 @@
 -- What an event leaves of what both ends count: where no part is sent or handed out, and where one is sent.
-use Rattle.std.proofs.Common.{◌≡◌, inl, inr, ℕ, zero, suc, ◌-◌, ◌≤◌, ◌<◌, Bool, true, false, List, [], ◌∷◌, ◌++◌, length, take, length-append, refl, sym, ap, ◌∙◌, subst, Some, None, nat_lt, arith, if◌then◌else◌}
-use Rattle.std.specs.Prelude.{◌==◌, ◌&&◌, slice_get}
+use Rattle.std.proofs.Common.{◌≡◌, inl, inr, ℕ, zero, suc, ◌-◌, ◌≤◌, ◌<◌, Bool, true, false, List, [], ◌∷◌, ◌++◌, length, take, length-append, refl, sym, ap, ◌∙◌, subst, Some, None, nat_lt, arith, if◌then◌else◌, nat_le}
+use Rattle.std.specs.Prelude.{◌==◌, ◌&&◌, slice_get, ◌⊎◌, codes}
 use Rattle.std.proofs.lemmas.Grind.{common_steps}
+use Rattle.h3_field.specs.Field.{Field}
+use Rattle.h3_messages.specs.Content.{content_of_request, left_behind, said}
+use Rattle.h3_messages.specs.Messages.{is_connect, is_length, number_of, value_of}
 use Rattle.h3_messages.specs.OwnMessages.{IsSentOf}
 use Rattle.h3_messages.specs.declared.content.Content.{Content}
+use Rattle.h3_messages.specs.declared.content.Content.TheVariants.{Unsaid, Exactly, NoContent, Tunnel, Unanswered, Exceeded}
 use Rattle.h3_proto.specs.declared.stream.Side.{Side}
 use Rattle.h3_proto.specs.declared.stream.Side.TheVariants.{Client, Server}
 use Rattle.h3_connection.specs.Delivering.{incoming_at}
@@ -26,11 +30,12 @@ use Rattle.h3_headline.specs.FlowLaws.{same_number}
 use Rattle.h3_headline.specs.Messages.{is_on}
 use Rattle.h3_headline.specs.SentPartLaws.{take_front}
 use Rattle.h3_headline.specs.Standing.{place_after}
-use Rattle.h3_strict.proofs.KeepsCounts.{KeepsAt, KeepsBut, SameCounts, SendsSame, same_counts, sends_same}
+use Rattle.h3_strict.proofs.KeepsCounts.{HasAnswered, HeadKeeps, KeepsAt, KeepsBut, MayAnswer, SameCounts, SendsSame, head_keeps, same_counts, sends_same}
 use Rattle.h3_strict.proofs.UnbrokenLaws.{along_more, unbroken_more}
 use Rattle.h3_strict.specs.StrictPull.{CountsFlow}
 use Rattle.h3_strict.specs.Tallies.{IsFine, KnowsResponse, Tallies, TalliesFlow, asked_in, awaited_of, has_head}
 use Rattle.h3_strict.specs.Unbroken.{AreUnbroken, CountsAlong, IsUnbroken, SaysNoMore, begun, content_along, content_behind_part}
+use Rattle.h3_world.specs.Flow.Part.{Interim, Head, Body, Trailer, End}
 
 -- the same counts of the same parts
 pub counts_same : (reader : Side) (awaited : Content) (sent more : List Part) (out out2 left left2 : ℕ) (content content2 : Content) → more ≡ sent → out2 ≡ out → left2 ≡ left → content2 ≡ content
@@ -63,6 +68,78 @@ flow_keeps reader peer awaited other_awaited f g o p i j parts same out kept h =
         counts_same reader awaited f.sent g.sent f.parts_out g.parts_out i.body_left j.body_left i.content j.content parts.sent parts.parts_out k.left k.content
         (h.receives (sym k.fault ∙ alive) (sym (over_same f g parts) ∙ more))
     by_kept (inr k) alive more = absurd (k.lost alive)
+
+-- What a request says is no answer.
+abbrev is_unanswered : Content → Bool
+is_unanswered Unanswered = true
+is_unanswered _ = false
+
+request_says : (fields : List Field) → is_unanswered (content_of_request fields) ≡ false
+request_says fields = by_method (is_connect fields)
+  where
+    by_length : (b : Bool) (size : ℕ) → is_unanswered (if b then Exactly size else Unsaid) ≡ false
+    by_length true size = refl
+    by_length false size = refl
+
+    by_method : (b : Bool) → is_unanswered (if b then Tunnel else said (value_of (codes "content-length") fields)) ≡ false
+    by_method true = refl
+    by_method false = by_length (is_length (value_of (codes "content-length") fields)) (number_of (value_of (codes "content-length") fields))
+
+left_answered : (content : Content) (size : ℕ) → is_unanswered content ≡ false → is_unanswered (left_behind content size) ≡ false
+left_answered Unsaid size h = refl
+left_answered (Exactly left) size h = by_test (nat_le size left)
+  where
+    by_test : (b : Bool) → is_unanswered (if b then Exactly (left - size) else Exceeded) ≡ false
+    by_test true = refl
+    by_test false = refl
+left_answered NoContent size h = by_test (size == 0)
+  where
+    by_test : (b : Bool) → is_unanswered (if b then NoContent else Exceeded) ≡ false
+    by_test true = refl
+    by_test false = refl
+left_answered Tunnel size h = refl
+left_answered Unanswered size h = absurd (cc)
+left_answered Exceeded size h = refl
+
+part_answered : (content : Content) (part : Part) → is_unanswered content ≡ false → is_unanswered (content_behind_part Server content part) ≡ false
+part_answered content (Interim s) h = h
+part_answered content (Head s) h = request_says s.fields
+part_answered content (Body bytes own) h = left_answered content (length bytes) h
+part_answered content (Trailer s) h = h
+part_answered content End h = h
+
+along_answered : (content : Content) (parts : List Part) → is_unanswered content ≡ false → is_unanswered (content_along Server content parts) ≡ false
+along_answered content [] h = h
+along_answered content (part ∷ parts) h = along_answered (content_behind_part Server content part) parts (part_answered content part h)
+
+none_unanswered : (parts : List Part) (content : Content) → content ≡ content_along Server Unsaid parts → content ≡ Unanswered → ⊥
+none_unanswered parts content is was = let never : true ≡ false = ap is_unanswered (sym was ∙ is) ∙ along_answered Unsaid parts refl in cc
+
+-- behind an answer no more is asked than before
+answer_says : (parts : List Part) (before after : Content) → SaysNoMore before (content_along Server Unsaid parts) → before ≡ Unanswered → (after ≡ Tunnel) ⊎ (after ≡ Unsaid) → SaysNoMore after (content_along Server Unsaid parts)
+answer_says parts before after (inl same) was now = absurd (none_unanswered parts before same was)
+answer_says parts before after (inr (inl none)) was now = absurd (let never : Unsaid ≡ Unanswered = sym none ∙ was in let wrong : false ≡ true = ap is_unanswered never in cc)
+answer_says parts before after (inr (inr waits)) was (inl tunnel) = inl (tunnel ∙ sym waits.1)
+answer_says parts before after (inr (inr waits)) was (inr any) = inr (inl any)
+
+answer_counts : (sent : List Part) (out left : ℕ) (before after : Content) → MayAnswer before after → CountsAlong Server Unsaid sent out left before → CountsAlong Server Unsaid sent out left after
+answer_counts sent out left before after (inl same) h = subst (CountsAlong Server Unsaid sent out left) (sym same) h
+answer_counts sent out left before after (inr (was, now)) h = record {
+  before = λ e. absurd (none_unanswered (take out sent) before (h.before e) was);
+  counts = answer_says (take (begun out left) sent) before after h.counts was now;
+  within = h.within;
+}
+
+-- the flow of a request whose server sends a head
+flow_answers : (peer : Announced) (f : Flow) (o p : Outgoing) (i j : Incoming) → SendsSame o p → HasAnswered i j → TalliesFlow Server peer Unsaid f o i → TalliesFlow Server peer Unsaid f p j
+flow_answers peer f o p i j out kept h = record {
+  unbroken = h.unbroken;
+  sends = λ takes. subst (λ c. IsSentOf c (content_along Server Unsaid f.sent)) (sym (out.content takes)) (h.sends (out.takes takes));
+  receives = λ alive more.
+      counts_same Server Unsaid f.sent f.sent f.parts_out f.parts_out i.body_left j.body_left j.content j.content refl refl kept.left refl
+      (answer_counts f.sent f.parts_out i.body_left i.content j.content kept.content (h.receives (sym kept.fault ∙ alive) more));
+  fine = subst IsFine (sym kept.fault) h.fine;
+}
 
 knows_keeps : (request more : List Part) (i j : Incoming) → more ≡ request → KeepsAt i j → KnowsResponse request i → KnowsResponse more j
 knows_keeps request more i j same kept h = subst (λ r. KnowsResponse r j) (sym same) (record { has = h.has; response = responds kept ∙ h.response })
@@ -142,7 +219,7 @@ is_server_on Server i = grind (arith, common_steps)
 pub record SendsPart (w v : World) (ends next : Ends) (s : Side) (i : ℕ) (part : Part) (p : Outgoing) : Type 0 where
   pub flows : (writer : Side) (id : ℕ) → flow v writer id ≡ (if is_on writer id s i then appended (flow w s i) part else flow w writer id)
   pub out : (id : ℕ) → outgoing_at (end_at next s) id ≡ (if i == id then p else outgoing_at (end_at ends s) id)
-  pub in_here : (id : ℕ) → SameCounts (incoming_at (end_at ends s) id) (incoming_at (end_at next s) id)
+  pub in_here : (id : ℕ) → HeadKeeps s (incoming_at (end_at ends s) id) (incoming_at (end_at next s) id)
   pub there : end_at next (other s) ≡ end_at ends (other s)
   pub announced : (end_at next s).announced ≡ (end_at ends s).announced
 
@@ -168,8 +245,9 @@ end_keeps e f id is = subst (λ (x : EndpointHistory). SameCounts (incoming_at e
 
 -- what both ends have of any other flow
 pub others_keep : (w v : World) (ends next : Ends) (s : Side) (i : ℕ) (part : Part) (p : Outgoing) → SendsPart w v ends next s i part p → (writer : Side) (id : ℕ) → is_on writer id s i ≡ false
-    → SendsSame (outgoing_at (end_at ends writer) id) (outgoing_at (end_at next writer) id) × SameCounts (incoming_at (end_at ends (other writer)) id) (incoming_at (end_at next (other writer)) id)
-others_keep w v ends next Client i part p m Client id off = (other_out ends.client next.client id i p (m.out id) off, end_keeps ends.server next.server id m.there)
+    → SendsSame (outgoing_at (end_at ends writer) id) (outgoing_at (end_at next writer) id) × HeadKeeps (other writer) (incoming_at (end_at ends (other writer)) id) (incoming_at (end_at next (other writer)) id)
+others_keep w v ends next Client i part p m Client id off =
+    (other_out ends.client next.client id i p (m.out id) off, head_keeps Server (incoming_at ends.server id) (incoming_at next.server id) (end_keeps ends.server next.server id m.there))
 others_keep w v ends next Server i part p m Server id off = (other_out ends.server next.server id i p (m.out id) off, end_keeps ends.client next.client id m.there)
 others_keep w v ends next Client i part p m Server id off = (end_sends ends.server next.server id m.there, m.in_here id)
 others_keep w v ends next Server i part p m Client id off = (end_sends ends.client next.client id m.there, m.in_here id)
@@ -177,8 +255,8 @@ others_keep w v ends next Server i part p m Client id off = (end_sends ends.clie
 same_parts : (f : Flow) → HasSameParts f f
 same_parts f = record { sent = refl; parts_out = refl; body_out = refl }
 
-server_same : (w v : World) (ends next : Ends) (s : Side) (i : ℕ) (part : Part) (p : Outgoing) → SendsPart w v ends next s i part p → (id : ℕ) → SameCounts (incoming_at ends.server id) (incoming_at next.server id)
-server_same w v ends next Client i part p m id = end_keeps ends.server next.server id m.there
+server_same : (w v : World) (ends next : Ends) (s : Side) (i : ℕ) (part : Part) (p : Outgoing) → SendsPart w v ends next s i part p → (id : ℕ) → HasAnswered (incoming_at ends.server id) (incoming_at next.server id)
+server_same w v ends next Client i part p m id = head_keeps Server (incoming_at ends.server id) (incoming_at next.server id) (end_keeps ends.server next.server id m.there)
 server_same w v ends next Server i part p m id = m.in_here id
 
 pub same_announced : (w v : World) (ends next : Ends) (s : Side) (i : ℕ) (part : Part) (p : Outgoing) → SendsPart w v ends next s i part p → (side : Side) → (end_at next side).announced ≡ (end_at ends side).announced
@@ -226,8 +304,11 @@ sends_tally setup w v ends next known s i part p m within asked_same has_same as
         (subst (λ (e : EndpointHistory). TalliesFlow reader peer awaited (appended (flow w s i) part) p (incoming_at e i)) (sym m.there) base))
 
     others : (writer : Side) (id : ℕ) → is_on writer id s i ≡ false → Tallied writer id (flow w writer id)
-    others writer id off =
-        let k = others_keep w v ends next s i part p m writer id off in
-        flow_keeps (other writer) (announced_at setup (other writer)) (awaited_of writer (flow w Client id).sent) (awaited_of writer (flow v Client id).sent) (flow w writer id) (flow w writer id)
-        (outgoing_at (end_at ends writer) id) (outgoing_at (end_at next writer) id) (incoming_at (end_at ends (other writer)) id) (incoming_at (end_at next (other writer)) id)
-        (same_parts (flow w writer id)) (awaited_same writer id) k.0 (inl k.1) (h.flows writer id)
+    others Client id off =
+        let k = others_keep w v ends next s i part p m Client id off in
+        flow_answers (announced_at setup Server) (flow w Client id) (outgoing_at ends.client id) (outgoing_at next.client id) (incoming_at ends.server id) (incoming_at next.server id) k.0 k.1 (h.flows Client id)
+    others Server id off =
+        let k = others_keep w v ends next s i part p m Server id off in
+        flow_keeps Client (announced_at setup Client) (awaited_of Server (flow w Client id).sent) (awaited_of Server (flow v Client id).sent) (flow w Server id) (flow w Server id)
+        (outgoing_at ends.server id) (outgoing_at next.server id) (incoming_at ends.client id) (incoming_at next.client id)
+        (same_parts (flow w Server id)) (awaited_same Server id) k.0 (inl k.1) (h.flows Server id)

@@ -11,19 +11,23 @@ use Rattle.h3_strict.specs.Unbroken.{content_behind_part, content_along, IsUnbro
 -- What is left of less, or of nothing known, passes no test that what was said does not pass.
 pub left_no_more : (kept said : Content) (size : ℕ) → SaysNoMore kept said → SaysNoMore (left_behind kept size) (left_behind said size)
 left_no_more kept said size (inl same) = inl (ap (λ c. left_behind c size) same)
-left_no_more kept said size (inr none) = inr (ap (λ c. left_behind c size) none)
+left_no_more kept said size (inr (inl none)) = inr (inl (ap (λ c. left_behind c size) none))
+left_no_more kept said size (inr (inr waits)) = inr (inr (ap (λ c. left_behind c size) waits.0, ap (λ c. left_behind c size) waits.1))
 
 pub not_exceeded : (kept said : Content) → SaysNoMore kept said → is_exceeded said ≡ false → is_exceeded kept ≡ false
 not_exceeded kept said (inl same) h = ap is_exceeded same ∙ h
-not_exceeded kept said (inr none) h = ap is_exceeded none
+not_exceeded kept said (inr (inl none)) h = ap is_exceeded none
+not_exceeded kept said (inr (inr waits)) h = ap is_exceeded waits.0
 
 pub ends_too : (kept said : Content) → SaysNoMore kept said → may_end said ≡ true → may_end kept ≡ true
 ends_too kept said (inl same) h = ap may_end same ∙ h
-ends_too kept said (inr none) h = ap may_end none
+ends_too kept said (inr (inl none)) h = ap may_end none
+ends_too kept said (inr (inr waits)) h = ap may_end waits.0
 
 pub trails_too : (kept said : Content) → SaysNoMore kept said → takes_trailer said ≡ true → takes_trailer kept ≡ true
 trails_too kept said (inl same) h = ap takes_trailer same ∙ h
-trails_too kept said (inr none) h = ap takes_trailer none
+trails_too kept said (inr (inl none)) h = ap takes_trailer none
+trails_too kept said (inr (inr waits)) h = ap takes_trailer waits.0
 
 -- The content behind one part more.
 pub along_more : (reader : Side) (awaited : Content) (parts : List Part) (part : Part) → content_along reader awaited (parts ++ part ∷ []) ≡ content_behind_part reader (content_along reader awaited parts) part

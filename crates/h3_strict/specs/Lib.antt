@@ -1,5 +1,8 @@
 pub mod Plainly
+pub mod CountsNothing
+pub mod PlainAlike
 pub mod PlainEnds
+pub mod PullPlainly
 pub mod WorkedStrict
 pub mod WorkedLimits
 pub mod ServerKnows
@@ -7,3 +10,8 @@ pub mod StrictPull
 pub mod Tallies
 pub mod Unbroken
 pub mod Limits
+pub mod GivesUp
+pub mod Accounts
+pub mod AdvanceLaws
+pub mod GivingUpLaws
+pub mod MalformedLaws

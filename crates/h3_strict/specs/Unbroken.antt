@@ -3,7 +3,7 @@
 use Rattle.std.specs.Prelude.{◌≡◌, ◌⊎◌, ℕ, zero, suc, ◌+◌, ◌≤◌, true, false, List, [], ◌∷◌, take, length, fold, None}
 use Rattle.h3_messages.specs.Content.{is_exceeded, left_behind, may_end, takes_trailer}
 use Rattle.h3_messages.specs.declared.content.Content.{Content}
-use Rattle.h3_messages.specs.declared.content.Content.TheVariants.{Unsaid}
+use Rattle.h3_messages.specs.declared.content.Content.TheVariants.{Unsaid, Tunnel, Unanswered}
 use Rattle.h3_proto.specs.declared.stream.Side.{Side}
 use Rattle.h3_proto.specs.declared.stream.Side.TheVariants.{Client, Server}
 use Rattle.h3_connection.specs.StrictMessages.{broken_rule, content_of_head}
@@ -43,9 +43,10 @@ abbrev pub AreUnbroken : Side → Announced → Content → List Part → Type 0
 AreUnbroken reader own left [] = Unit {0}
 AreUnbroken reader own left (part ∷ parts) = IsUnbroken reader own left part × AreUnbroken reader own (content_behind_part reader left part) parts
 
--- The receiver holds a message against no more than its parts say. Behind a head that was too large it may know nothing of what that said.
+-- The receiver holds a message against no more than its parts say. Behind a head that was too large it may know nothing of what that said, and a server
+-- that has not answered a CONNECT takes more than a tunnel.
 abbrev pub SaysNoMore : Content → Content → Type 0
-SaysNoMore kept said = (kept ≡ said) ⊎ (kept ≡ Unsaid)
+SaysNoMore kept said = (kept ≡ said) ⊎ ((kept ≡ Unsaid) ⊎ ((kept ≡ Unanswered) × (said ≡ Tunnel)))
 
 -- how many parts a receiver has begun to read: one more than are handed out, inside a payload
 abbrev pub begun : ℕ → ℕ → ℕ

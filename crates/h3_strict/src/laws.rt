@@ -2,13 +2,20 @@
 ghost use Rattle.std.specs.Prelude.{◌≡◌, List, false};
 ghost use Rattle.std.specs.List.{list_any};
 ghost use Rattle.h3_proto.specs.declared.stream.Side.{Side};
-ghost use Rattle.h3_connection.specs.Endpoint.{new_endpoint};
+ghost use Rattle.h3_connection.specs.Endpoint.{EndpointHistory, new_endpoint};
 ghost use Rattle.h3_connection.specs.declared.setup.Announced.{Announced};
 ghost use Rattle.h3_world.specs.Ends.{Ends, answered, answers_of_ends, new_ends};
 ghost use Rattle.h3_world.specs.Setup.{IsMadeSetup, JudgesPlainly};
 ghost use Rattle.h3_world.specs.declared.event.Event.{Event};
 ghost use Rattle.h3_world.specs.declared.setup.Setup.{Setup};
 ghost use Rattle.h3_strict.specs.PlainEnds.{AreBounded, FewWaitAt, IsFront, NoneJudges, RunsPlainly, StepsPlainly, asks_strictly, before_judged, finds_fault, plain_ends, plain_setup};
+ghost use Rattle.std.specs.Prelude.{ℕ};
+ghost use Rattle.h3_connection.specs.PartReading.{ReadsPart};
+ghost use Rattle.h3_connection.specs.Sending.{advance};
+ghost use Rattle.h3_connection.specs.declared.arrival.Arrival.{Arrival};
+ghost use Rattle.h3_world.specs.Ends.{end_at};
+ghost use Rattle.h3_strict.specs.CountsNothing.{CountsNothing, RefusesAlike};
+ghost use Rattle.h3_strict.specs.PlainAlike.{DoesPlainly};
 ghost use Rattle.h3_strict.specs.Plainly.{plain, plainly};
 
 /// Without strict messages a new endpoint, and two new ends, are those of the setup that asks for none. That setup is made if the other one
@@ -25,6 +32,22 @@ pub fn new_ends_are_plain()
 /// limit. Or the event is answered alike, and the ends after it are the same without strict messages.
 pub fn each_event_steps_plainly()
     ensures { (ends : Ends) (e : Event) → StepsPlainly ends e }
+{}
+
+/// What an end does, beside the same end that judges plainly. Each call is refused alike. Or it is refused as malformed, and the other end
+/// accepts it or finds it too large. Both have the same to send, take the same, and read what came up to the same point.
+pub fn ends_do_the_same_plainly()
+    ensures { (e : EndpointHistory) → DoesPlainly e }
+{}
+
+/// A side that asks for no strict messages counts nothing of what it sends (`CountsNothing`). It refuses each send as the same end does that
+/// judges plainly.
+pub fn sides_that_judge_plainly_count_nothing()
+    ensures first { (side : Side) (announced : Announced) → announced.choices.strict_messages ≡ false → CountsNothing (new_endpoint side announced) }
+    ensures event { (ends : Ends) (side : Side) → CountsNothing (end_at ends side) → (e : Event) → CountsNothing (end_at (answered ends e).1 side) }
+    ensures reads { (e new : EndpointHistory) (arrivals : List Arrival) → ReadsPart e arrivals new → CountsNothing e → CountsNothing new }
+    ensures advances { (e : EndpointHistory) (id count : ℕ) → CountsNothing e → CountsNothing (advance e id count) }
+    ensures sends { (e : EndpointHistory) → CountsNothing e → RefusesAlike e }
 {}
 
 /// No more streams of new ends wait for insertions than each announced, and each event keeps them so: an event that judges there tells so.
@@ -71,7 +94,7 @@ pub fn strict_endpoints_run_in_a_world()
     h3_headline::laws::two_endpoints_run_in_a_world();
 }
 
-ghost use Rattle.std.specs.Prelude.{ℕ, Bool, true};
+ghost use Rattle.std.specs.Prelude.{Bool, true};
 ghost use Rattle.h3_connection.specs.OwnIds.{other};
 ghost use Rattle.h3_world.specs.Headline.{is_connection_fault};
 ghost use Rattle.h3_headline.specs.Exactly.{IsAllOf, IsExactly, reader_at};
@@ -98,4 +121,53 @@ pub fn schedules_that_judge_nothing_find_no_fault()
 {
     h3_headline::laws::two_endpoints_run_in_a_world();
     strict_endpoints_hand_out_what_was_sent();
+}
+
+ghost use Rattle.h3_strict.specs.PullPlainly.{PullPlainly};
+
+/// A pull of any end, whatever it keeps, is answered as by the same end that judges plainly. Or it is answered by a fault of the connection. Or
+/// it finds a message malformed and gives it up, once all that is kept is read: at once, or after the section that the other end returns.
+pub fn pulls_are_plain_or_give_a_message_up()
+    ensures { (e : EndpointHistory) (id : ℕ) → PullPlainly e id }
+{}
+
+ghost use Rattle.h3_strict.specs.GivesUp.{PullsAnyhow};
+
+/// A pull at any end whose other self, without strict messages and limits, stands in a world is one of these. It is answered as by that. Or
+/// it is answered by a fault of the connection. Or it finds a message malformed, and gives it up: at once, or after the section that comes
+/// next, which it hands to nobody. Then the ends stand in the world in which that side gave the stream up.
+pub fn a_pull_gives_a_message_up()
+    ensures { (setup : Setup) (w : World) (ends : Ends) (side : Side) (id : ℕ) → IsMadeSetup setup → Stands (plain_setup setup) w (plain_ends ends) → PullsAnyhow setup w ends side id }
+{
+    h3_world::laws::a_side_gives_a_stream_up();
+    h3_headline::laws::what_is_cited_holds();
+}
+
+ghost use Rattle.h3_strict.specs.GivesUp.{RunsAnyhow};
+
+/// So two endpoints run in a world over every schedule of events that may be sent, up to a fault of the connection, whatever they judge. The
+/// answers are those of a run, in each step of which an event happens as between sides without strict messages and limits, or a send is
+/// refused as malformed and nothing changes, or a pull gives a message up. Both ends without that stand in the last world.
+pub fn any_endpoints_run_in_a_world()
+    ensures { (setup : Setup) (events : List Event) → IsMadeSetup setup → AllByRecursion (IsSendable setup) events → list_any is_connection_fault (answers_of_ends (new_ends setup) events) ≡ false →
+        RunsAnyhow setup (empty_world (plain_setup setup)) (new_ends setup) events }
+{
+    h3_headline::laws::every_event_steps_on();
+    h3_headline::laws::two_endpoints_run_in_a_world();
+    a_pull_gives_a_message_up();
+}
+
+/// By their own answers, whatever both judge: up to a fault of the connection, what a side pulled from a stream is a front of what the other side
+/// sent on it, and all of that with the end.
+pub fn any_endpoints_hand_out_what_was_sent()
+    ensures front { (setup : Setup) (events : List Event) (side : Side) (id : ℕ) → IsMadeSetup setup → AllByRecursion (IsSendable setup) events → list_any is_connection_fault (answers_of_ends (new_ends setup) events) ≡ false →
+        IsFrontOf (IsExactly (reader_at setup side)) (pulled side id events (answers_of_ends (new_ends setup) events)) (sent (other side) id events (answers_of_ends (new_ends setup) events)) }
+    ensures end { (setup : Setup) (events : List Event) (side : Side) (id : ℕ) → IsMadeSetup setup → AllByRecursion (IsSendable setup) events → list_any is_connection_fault (answers_of_ends (new_ends setup) events) ≡ false →
+        has_pulled_end side id events (answers_of_ends (new_ends setup) events) ≡ true →
+        IsAllOf (IsExactly (reader_at setup side)) (pulled side id events (answers_of_ends (new_ends setup) events)) (sent (other side) id events (answers_of_ends (new_ends setup) events))
+        × (has_finished (other side) id events (answers_of_ends (new_ends setup) events) ≡ true) }
+{
+    h3_headline::laws::every_event_steps_on();
+    h3_headline::laws::two_endpoints_run_in_a_world();
+    a_pull_gives_a_message_up();
 }

@@ -5,8 +5,8 @@ use Rattle.h3_proto.specs.declared.stream.Side.{Side}
 use Rattle.h3_proto.specs.declared.stream.Side.TheVariants.{Client, Server}
 use Rattle.h3_wire.specs.ExcessiveFrames.{is_excessive}
 use Rattle.h3_wire.specs.ExcessiveLaws.{excessive_more}
-use Rattle.h3_wire.specs.Frames.{Front, Whole, Unknown, Refused, Unfinished, frame_at}
-use Rattle.h3_wire.specs.Known.{known, Gives}
+use Rattle.h3_wire.specs.Frames.{Front, Whole, Unknown, Refused, Unfinished, frame_by}
+use Rattle.h3_wire.specs.Known.{known_by, Gives}
 use Rattle.h3_wire.specs.declared.frame.errors.FrameStreamError.{FrameStreamError}
 use Rattle.h3_wire.specs.declared.frame.errors.FrameStreamError.TheVariants as stream
 use Rattle.h3_wire.specs.KnownLaws.{known-other}
@@ -20,6 +20,7 @@ use Rattle.h3_unidirectional.proofs.PeerLaws.{peer_frame, peer_fault, peer_less}
 use Rattle.h3_unidirectional.specs.Fronts.{ReadsFront}
 use Rattle.h3_unidirectional.proofs.FrameFronts.{Precedes, followed_by, frame_front, unknown_front}
 use Rattle.h3_connection.specs.PeerReadingLaws.{frame_keeps, peer_step, step_excessive}
+use Rattle.h3_wire.specs.declared.frame.kinds.FrameKinds.{FrameKinds}
 
 -- the same finding, over other bytes
 abbrev over : PeerFound → List ℕ → PeerFound
@@ -61,15 +62,15 @@ front_over go side p a b bytes (Refused e) = refl
 front_over go side p a b bytes (Unfinished least) = refl
 
 -- unknown frames at the front do not matter
-known_alike : (limit : ℕ) (side : Side) (p : Peer) (a b : List ℕ) → known a ≡ known b → read_peer limit side (with_unread p a) ≡ read_peer limit side (with_unread p b)
-known_alike limit side p a b e =
-    peer_step limit side (with_unread p a) ∙ ap (λ l. unless_excessive limit l p (at_front (read_peer limit side) side (with_unread p a) l (frame_at l))) e
-    ∙ ap (unless_excessive limit (known b) p) (front_over (read_peer limit side) side p a b (known b) (frame_at (known b))) ∙ sym (peer_step limit side (with_unread p b))
+known_alike : (kinds : FrameKinds) (limit : ℕ) (side : Side) (p : Peer) (a b : List ℕ) → known_by kinds a ≡ known_by kinds b → read_peer kinds limit side (with_unread p a) ≡ read_peer kinds limit side (with_unread p b)
+known_alike kinds limit side p a b e =
+    peer_step kinds limit side (with_unread p a) ∙ ap (λ l. unless_excessive limit l p (at_front (read_peer kinds limit side) side (with_unread p a) l (frame_by kinds l))) e
+    ∙ ap (unless_excessive limit (known_by kinds b) p) (front_over (read_peer kinds limit side) side p a b (known_by kinds b) (frame_by kinds (known_by kinds b))) ∙ sym (peer_step kinds limit side (with_unread p b))
 
 -- a front, by what it leaves to whatever follows
-pub from_front : (limit : ℕ) (side : Side) (old new : Peer) (front : List ℕ) → old.unread ≡ front ++ new.unread
-    → ((more : List ℕ) → read_peer limit side (with_unread old (front ++ more)) ≡ read_peer limit side (with_unread new more)) → ReadsFront limit side old new
-from_front limit side old new front split goes_on =
+pub from_front : (kinds : FrameKinds) (limit : ℕ) (side : Side) (old new : Peer) (front : List ℕ) → old.unread ≡ front ++ new.unread
+    → ((more : List ℕ) → read_peer kinds limit side (with_unread old (front ++ more)) ≡ read_peer kinds limit side (with_unread new more)) → ReadsFront kinds limit side old new
+from_front kinds limit side old new front split goes_on =
     record {
       front = front;
       split = split;
@@ -77,80 +78,80 @@ from_front limit side old new front split goes_on =
     }
 
 -- nothing is read
-pub no_front : (limit : ℕ) (side : Side) (p : Peer) → ReadsFront limit side p p
-no_front limit side p = from_front limit side p p [] refl (λ more. refl)
+pub no_front : (kinds : FrameKinds) (limit : ℕ) (side : Side) (p : Peer) → ReadsFront kinds limit side p p
+no_front kinds limit side p = from_front kinds limit side p p [] refl (λ more. refl)
 
 -- unknown frames are passed
-pub unknown_passed : (limit : ℕ) (side : Side) (p : Peer) (left : List ℕ) → left ≡ known p.unread → ReadsFront limit side p (with_unread p left)
-unknown_passed limit side p left is =
-    let u = unknown_front p.unread in
-    from_front limit side p (with_unread p left) u.front (u.split ∙ ap (λ l. u.front ++ l) (sym is)) (λ more. known_alike limit side p (u.front ++ more) more (u.alike more))
+pub unknown_passed : (kinds : FrameKinds) (limit : ℕ) (side : Side) (p : Peer) (left : List ℕ) → left ≡ known_by kinds p.unread → ReadsFront kinds limit side p (with_unread p left)
+unknown_passed kinds limit side p left is =
+    let u = unknown_front kinds p.unread in
+    from_front kinds limit side p (with_unread p left) u.front (u.split ∙ ap (λ l. u.front ++ l) (sym is)) (λ more. known_alike kinds limit side p (u.front ++ more) more (u.alike more))
 
 -- the head of a whole frame says its length, whatever follows
-front_small : (limit : ℕ) (front rest more : List ℕ) (f : Frame PayloadLen) → front ++ [] ≡ front → frame_at (front ++ []) ≡ Whole f [] → is_excessive limit (front ++ rest) ≡ false → is_excessive limit (front ++ more) ≡ false
-front_small limit front rest more f same whole small =
-    let there : IsFinished (frame_at front) = subst IsFinished (sym (ap frame_at (sym same) ∙ whole)) tt in
-    excessive_more limit front more there ∙ sym (excessive_more limit front rest there) ∙ small
+front_small : (kinds : FrameKinds) (limit : ℕ) (front rest more : List ℕ) (f : Frame PayloadLen) → front ++ [] ≡ front → frame_by kinds (front ++ []) ≡ Whole f [] → is_excessive limit (front ++ rest) ≡ false → is_excessive limit (front ++ more) ≡ false
+front_small kinds limit front rest more f same whole small =
+    let there : IsFinished (frame_by kinds front) = subst IsFinished (sym (ap (frame_by kinds) (sym same) ∙ whole)) tt in
+    excessive_more kinds limit front more there ∙ sym (excessive_more kinds limit front rest there) ∙ small
 
 -- a frame is read
-pub frame_read : (limit : ℕ) (side : Side) (p new : Peer) (f : Frame PayloadLen) (rest : List ℕ) → is_excessive limit (known p.unread) ≡ false → frame_at (known p.unread) ≡ Whole f rest → read_frame side (with_unread p rest) p.settings f ≡ (new, None) → ReadsFront limit side p new
-frame_read limit side p new f rest small gives does =
-    let u = unknown_front p.unread in
-    let w = frame_front (known p.unread) rest (subst (λ x. Precedes x rest) (sym gives) refl) in
-    let whole_of : (more : List ℕ) → frame_at (w.front ++ more) ≡ Whole f more = λ more. w.alike more ∙ ap (λ x. followed_by x more) gives in
+pub frame_read : (kinds : FrameKinds) (limit : ℕ) (side : Side) (p new : Peer) (f : Frame PayloadLen) (rest : List ℕ) → is_excessive limit (known_by kinds p.unread) ≡ false → frame_by kinds (known_by kinds p.unread) ≡ Whole f rest → read_frame side (with_unread p rest) p.settings f ≡ (new, None) → ReadsFront kinds limit side p new
+frame_read kinds limit side p new f rest small gives does =
+    let u = unknown_front kinds p.unread in
+    let w = frame_front kinds (known_by kinds p.unread) rest (subst (λ x. Precedes x rest) (sym gives) refl) in
+    let whole_of : (more : List ℕ) → frame_by kinds (w.front ++ more) ≡ Whole f more = λ more. w.alike more ∙ ap (λ x. followed_by x more) gives in
     let keeps : new.unread ≡ rest = ap (λ (x : PeerFound). x.0.unread) (sym does) ∙ frame_keeps side (with_unread p rest) p.settings f in
-    from_front limit side p new (u.front ++ w.front)
+    from_front kinds limit side p new (u.front ++ w.front)
     (u.split ∙ ap (λ l. u.front ++ l) (w.split ∙ ap (λ l. w.front ++ l) (sym keeps)) ∙ sym (append_assoc u.front w.front new.unread))
     (λ more.
     let whole = whole_of more in
-    let alone : known (w.front ++ more) ≡ w.front ++ more = known-other (w.front ++ more) (subst IsKnown (sym whole) tt) in
-    let here : frame_at (known (w.front ++ more)) ≡ Whole f more = ap frame_at alone ∙ whole in
-    let short : is_excessive limit (known (w.front ++ more)) ≡ false =
-    ap (is_excessive limit) alone ∙ front_small limit w.front rest more f (append-nil w.front) (whole_of []) (ap (is_excessive limit) (sym w.split) ∙ small) in
+    let alone : known_by kinds (w.front ++ more) ≡ w.front ++ more = known-other kinds (w.front ++ more) (subst IsKnown (sym whole) tt) in
+    let here : frame_by kinds (known_by kinds (w.front ++ more)) ≡ Whole f more = ap (frame_by kinds) alone ∙ whole in
+    let short : is_excessive limit (known_by kinds (w.front ++ more)) ≡ false =
+    ap (is_excessive limit) alone ∙ front_small kinds limit w.front rest more f (append-nil w.front) (whole_of []) (ap (is_excessive limit) (sym w.split) ∙ small) in
     let again : read_frame side (with_unread p more) p.settings f ≡ (with_unread new more, None) = frame_over side (with_unread p rest) p.settings f more ∙ ap (λ x. over x more) does in
-    known_alike limit side p ((u.front ++ w.front) ++ more) (w.front ++ more) (ap known (append_assoc u.front w.front more) ∙ u.alike (w.front ++ more))
-    ∙ peer_frame limit side (with_unread p (w.front ++ more)) f more (with_unread new more, None) short here again)
+    known_alike kinds limit side p ((u.front ++ w.front) ++ more) (w.front ++ more) (ap (known_by kinds) (append_assoc u.front w.front more) ∙ u.alike (w.front ++ more))
+    ∙ peer_frame kinds limit side (with_unread p (w.front ++ more)) f more (with_unread new more, None) short here again)
 
 -- room for another GOAWAY frame changes none
 same_goaways : (side : Side) (p : Peer) (goaways rest : List ℕ) (f : Frame PayloadLen) (x : PeerFound) → goaways ≡ p.goaways → read_frame side (record p { unread = rest; goaways = goaways }) p.settings f ≡ x → read_frame side (with_unread p rest) p.settings f ≡ x
 same_goaways side p goaways rest f x same does = subst (λ g. read_frame side (record p { unread = rest; goaways = g }) p.settings f ≡ x) same does
 
 -- a frame is read, and fewer bytes are left
-pub one_read : (limit : ℕ) (side : Side) (p new : Peer) (goaways rest : List ℕ) (f : Frame PayloadLen) → is_excessive limit (known p.unread) ≡ false → goaways ≡ p.goaways → frame_at (known p.unread) ≡ Whole f rest
-    → read_frame side (record p { unread = rest; goaways = goaways }) p.settings f ≡ (new, None) → ReadsFront limit side p new × (length new.unread < length p.unread)
-one_read limit side p new goaways rest f small same gives does =
+pub one_read : (kinds : FrameKinds) (limit : ℕ) (side : Side) (p new : Peer) (goaways rest : List ℕ) (f : Frame PayloadLen) → is_excessive limit (known_by kinds p.unread) ≡ false → goaways ≡ p.goaways → frame_by kinds (known_by kinds p.unread) ≡ Whole f rest
+    → read_frame side (record p { unread = rest; goaways = goaways }) p.settings f ≡ (new, None) → ReadsFront kinds limit side p new × (length new.unread < length p.unread)
+one_read kinds limit side p new goaways rest f small same gives does =
     let here = same_goaways side p goaways rest f (new, None) same does in
-    (frame_read limit side p new f rest small gives here, peer_less side p new f rest None gives here)
+    (frame_read kinds limit side p new f rest small gives here, peer_less kinds side p new f rest None gives here)
 
 -- a frame is a fault
-pub one_fault : (limit : ℕ) (side : Side) (p new : Peer) (goaways rest : List ℕ) (f : Frame PayloadLen) (code : ℕ) → is_excessive limit (known p.unread) ≡ false → goaways ≡ p.goaways → frame_at (known p.unread) ≡ Whole f rest
-    → read_frame side (record p { unread = rest; goaways = goaways }) p.settings f ≡ (new, Some code) → read_peer limit side p ≡ (new, Some code)
-one_fault limit side p new goaways rest f code small same gives does = peer_fault limit side p new f rest code small gives (same_goaways side p goaways rest f (new, Some code) same does)
+pub one_fault : (kinds : FrameKinds) (limit : ℕ) (side : Side) (p new : Peer) (goaways rest : List ℕ) (f : Frame PayloadLen) (code : ℕ) → is_excessive limit (known_by kinds p.unread) ≡ false → goaways ≡ p.goaways → frame_by kinds (known_by kinds p.unread) ≡ Whole f rest
+    → read_frame side (record p { unread = rest; goaways = goaways }) p.settings f ≡ (new, Some code) → read_peer kinds limit side p ≡ (new, Some code)
+one_fault kinds limit side p new goaways rest f code small same gives does = peer_fault kinds limit side p new f rest code small gives (same_goaways side p goaways rest f (new, Some code) same does)
 
 -- a GOAWAY frame is read
-pub goaway_read : (limit : ℕ) (side : Side) (p : Peer) (goaways after rest : List ℕ) (id : ℕ) (f : Frame PayloadLen) → is_excessive limit (known p.unread) ≡ false → goaways ≡ p.goaways → after ≡ goaways ++ id ∷ [] → frame_at (known p.unread) ≡ Whole f rest
+pub goaway_read : (kinds : FrameKinds) (limit : ℕ) (side : Side) (p : Peer) (goaways after rest : List ℕ) (id : ℕ) (f : Frame PayloadLen) → is_excessive limit (known_by kinds p.unread) ≡ false → goaways ≡ p.goaways → after ≡ goaways ++ id ∷ [] → frame_by kinds (known_by kinds p.unread) ≡ Whole f rest
     → read_frame side (record p { unread = rest; goaways = goaways }) p.settings f ≡ (record p { unread = rest; goaways = goaways ++ id ∷ [] }, None)
-    → ReadsFront limit side p (record p { unread = rest; goaways = after }) × (length rest < length p.unread)
-goaway_read limit side p goaways after rest id f small same more gives does =
-    one_read limit side p (record p { unread = rest; goaways = after }) goaways rest f small same gives (subst (λ g. read_frame side (record p { unread = rest; goaways = goaways }) p.settings f ≡ (record p { unread = rest; goaways = g }, None)) (sym more) does)
+    → ReadsFront kinds limit side p (record p { unread = rest; goaways = after }) × (length rest < length p.unread)
+goaway_read kinds limit side p goaways after rest id f small same more gives does =
+    one_read kinds limit side p (record p { unread = rest; goaways = after }) goaways rest f small same gives (subst (λ g. read_frame side (record p { unread = rest; goaways = goaways }) p.settings f ≡ (record p { unread = rest; goaways = g }, None)) (sym more) does)
 
-left_known : (e : FrameStreamError) (old new : List ℕ) → Gives (Err e) old new → new ≡ known old
-left_known (stream.Proto e) old new h = h.0
-left_known stream.OutOfMemory old new h = h.0
-left_known (stream.Quic e) old new h = absurd h
-left_known stream.UnexpectedEnd old new h = absurd h
+left_known : (kinds : FrameKinds) (e : FrameStreamError) (old new : List ℕ) → Gives kinds (Err e) old new → new ≡ known_by kinds old
+left_known kinds (stream.Proto e) old new h = h.0
+left_known kinds stream.OutOfMemory old new h = h.0
+left_known kinds (stream.Quic e) old new h = absurd h
+left_known kinds stream.UnexpectedEnd old new h = absurd h
 
 -- a frame is too long: what came is let go
-pub one_excessive : (limit : ℕ) (side : Side) (p : Peer) (goaways left : List ℕ) → is_excessive limit (known p.unread) ≡ true → goaways ≡ p.goaways → left ≡ []
-    → read_peer limit side p ≡ (record p { unread = left; goaways = goaways }, Some excessive_load)
-one_excessive limit side p goaways left large same none =
-    step_excessive limit side p large ∙ ap (λ g. (record p { unread = []; goaways = g }, Some excessive_load)) (sym same)
+pub one_excessive : (kinds : FrameKinds) (limit : ℕ) (side : Side) (p : Peer) (goaways left : List ℕ) → is_excessive limit (known_by kinds p.unread) ≡ true → goaways ≡ p.goaways → left ≡ []
+    → read_peer kinds limit side p ≡ (record p { unread = left; goaways = goaways }, Some excessive_load)
+one_excessive kinds limit side p goaways left large same none =
+    step_excessive kinds limit side p large ∙ ap (λ g. (record p { unread = []; goaways = g }, Some excessive_load)) (sym same)
     ∙ ap (λ l. (record p { unread = l; goaways = goaways }, Some excessive_load)) (sym none)
 
 -- where memory is refused, unknown frames alone are passed
-pub refused_front : (limit : ℕ) (side : Side) (p : Peer) (goaways left : List ℕ) (e : FrameStreamError) → goaways ≡ p.goaways → Gives (Err e) p.unread left → ReadsFront limit side p (record p { unread = left; goaways = goaways })
-refused_front limit side p goaways left e same gives =
-    subst (λ g. ReadsFront limit side p (record p { unread = left; goaways = g })) (sym same) (unknown_passed limit side p left (left_known e p.unread left gives))
+pub refused_front : (kinds : FrameKinds) (limit : ℕ) (side : Side) (p : Peer) (goaways left : List ℕ) (e : FrameStreamError) → goaways ≡ p.goaways → Gives kinds (Err e) p.unread left → ReadsFront kinds limit side p (record p { unread = left; goaways = goaways })
+refused_front kinds limit side p goaways left e same gives =
+    subst (λ g. ReadsFront kinds limit side p (record p { unread = left; goaways = g })) (sym same) (unknown_passed kinds limit side p left (left_known kinds e p.unread left gives))
 
 -- more bytes are kept behind what is unread
 pub kept_more : {A E : Type 0} (r : Result A E) (stored p : Peer) (unread bytes : List ℕ) → stored ≡ p → OnOk r (unread ≡ stored.unread ++ bytes) → OnOk r (with_unread stored unread ≡ with_unread p (p.unread ++ bytes))

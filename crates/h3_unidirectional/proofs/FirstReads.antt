@@ -5,6 +5,7 @@ use Rattle.h3_proto.specs.declared.stream.Side.{Side}
 use Rattle.h3_wire.specs.declared.proto.frame.PayloadLen.{PayloadLen}
 use Rattle.h3_wire.specs.declared.proto.frame.Frame.{Frame}
 use Rattle.h3_wire.specs.declared.proto.frame.Frame.TheVariants as frame
+use Rattle.h3_wire.specs.declared.frame.kinds.FrameKinds.{FrameKinds}
 use Rattle.h3_connection.specs.Codes.{settings_error}
 use Rattle.h3_connection.specs.Control.{settings_alone}
 use Rattle.h3_connection.specs.KeptGoaways.{keeps_last, kept_peer, kept_found}
@@ -48,7 +49,7 @@ no_push_first side p None (frame.MaxPushId push) id unknown none is = let wrong 
 no_push_first side p None (frame.WebTransportStream session) id unknown none is = let wrong = ap (λ (x : PeerFound). x.1) is in absurd (cc)
 no_push_first side p None (frame.Grease kind) id unknown none is = let wrong = ap (λ (x : PeerFound). x.1) is in absurd (cc)
 
-module _ (side : Side) (own : Announced) (old : Peer) where
+module _ (kinds : FrameKinds) (side : Side) (own : Announced) (old : Peer) where
   abbrev last : Bool
   last = keeps_last own.choices
 
@@ -63,14 +64,14 @@ module _ (side : Side) (own : Announced) (old : Peer) where
   none_refused o none = ap (settings_refused side own) none
 
   -- no settings came
-  pub ended : (m new : Peer) (fault : Option ℕ) → read_peer limit side old ≡ (m, fault) → m.settings ≡ None → new ≡ kept_peer last m → kept_found last (found_first side own old (read_peer limit side old)) ≡ (new, fault)
+  pub ended : (m new : Peer) (fault : Option ℕ) → read_peer kinds limit side old ≡ (m, fault) → m.settings ≡ None → new ≡ kept_peer last m → kept_found last (found_first side own old (read_peer kinds limit side old)) ≡ (new, fault)
   ended m new fault read none kept =
       ap (λ x. kept_found last (found_first side own old x)) read ∙ ap (λ b. kept_found last (found_by b (m, fault))) (none_refused m.settings none)
       ∙ ap (λ (p : Peer). (let x : PeerFound = (p, fault) in x)) (sym kept)
 
   -- memory was refused before they came
-  pub first_part : (m new : Peer) → ReadsFront limit side old m → new ≡ kept_peer last m → KeepsPart last limit side old new
-  first_part m new front kept = let s : StopsReading last limit side old new = stops_kept last limit side old old m new (none_kept last limit side old) front kept in s.part
+  pub first_part : (m new : Peer) → ReadsFront kinds limit side old m → new ≡ kept_peer last m → KeepsPart kinds last limit side old new
+  first_part m new front kept = let s : StopsReading kinds last limit side old new = stops_kept kinds last limit side old old m new (none_kept kinds last limit side old) front kept in s.part
 
   pub first_unknown : (m new : Peer) → old.settings ≡ None → m.settings ≡ old.settings → new ≡ kept_peer last m → settings_refused side own new.settings ≡ false
   first_unknown m new none same kept = none_refused new.settings (ap (λ (p : Peer). p.settings) kept ∙ same ∙ none)
@@ -80,64 +81,64 @@ module _ (side : Side) (own : Announced) (old : Peer) where
   some_pairs None e = absurd (cc)
   some_pairs (Some pairs) e = (pairs, refl)
 
-  on_from : (m : Peer) → ReadsFront limit side old m → read_peer limit side old ≡ read_peer limit side m
-  on_from m front = ap (λ l. read_peer limit side (with_unread old l)) front.split ∙ front.goes_on m.unread
+  on_from : (m : Peer) → ReadsFront kinds limit side old m → read_peer kinds limit side old ≡ read_peer kinds limit side m
+  on_from m front = ap (λ l. read_peer kinds limit side (with_unread old l)) front.split ∙ front.goes_on m.unread
 
-  same_settings : (m : Peer) → ReadsFront limit side old m → is_some m.settings ≡ true → (read_peer limit side old).0.settings ≡ m.settings
+  same_settings : (m : Peer) → ReadsFront kinds limit side old m → is_some m.settings ≡ true → (read_peer kinds limit side old).0.settings ≡ m.settings
   same_settings m front some =
       let s = some_pairs m.settings some in
-      ap (λ (x : PeerFound). x.0.settings) (on_from m front) ∙ settings_stay limit side m s.0 s.1 ∙ sym s.1
+      ap (λ (x : PeerFound). x.0.settings) (on_from m front) ∙ settings_stay kinds limit side m s.0 s.1 ∙ sym s.1
 
   -- they came, and are refused
-  pub refused_first : (m k new : Peer) → ReadsFront limit side old m → m ≡ record old { unread = m.unread; settings = m.settings } → is_some m.settings ≡ true → k ≡ kept_peer last m → settings_refused side own k.settings ≡ true
-      → new ≡ record k { unread = [] } → kept_found last (found_first side own old (read_peer limit side old)) ≡ (new, Some settings_error)
+  pub refused_first : (m k new : Peer) → ReadsFront kinds limit side old m → m ≡ record old { unread = m.unread; settings = m.settings } → is_some m.settings ≡ true → k ≡ kept_peer last m → settings_refused side own k.settings ≡ true
+      → new ≡ record k { unread = [] } → kept_found last (found_first side own old (read_peer kinds limit side old)) ≡ (new, Some settings_error)
   refused_first m k new front earlier some kept bad is =
       let came = same_settings m front some in
-      let told : settings_refused side own (read_peer limit side old).0.settings ≡ true = ap (settings_refused side own) (came ∙ sym (ap (λ (p : Peer). p.settings) kept)) ∙ bad in
-      ap (λ b. kept_found last (found_by b (read_peer limit side old))) told
+      let told : settings_refused side own (read_peer kinds limit side old).0.settings ≡ true = ap (settings_refused side own) (came ∙ sym (ap (λ (p : Peer). p.settings) kept)) ∙ bad in
+      ap (λ b. kept_found last (found_by b (read_peer kinds limit side old))) told
       ∙ ap (λ o. kept_found last (settings_alone old o, Some settings_error)) came
       ∙ ap (λ (p : Peer). (let x : PeerFound = (p, Some settings_error) in x))
       (sym (is ∙ ap (λ (p : Peer). record p { unread = [] }) (kept ∙ ap (kept_peer last) earlier)))
 
-  taken_settings : (m k : Peer) → ReadsFront limit side old m → is_some m.settings ≡ true → k ≡ kept_peer last m → settings_refused side own k.settings ≡ false → settings_refused side own (read_peer limit side old).0.settings ≡ false
+  taken_settings : (m k : Peer) → ReadsFront kinds limit side old m → is_some m.settings ≡ true → k ≡ kept_peer last m → settings_refused side own k.settings ≡ false → settings_refused side own (read_peer kinds limit side old).0.settings ≡ false
   taken_settings m k front some kept good = ap (settings_refused side own) (same_settings m front some ∙ sym (ap (λ (p : Peer). p.settings) kept)) ∙ good
 
-  front_kept : (m k : Peer) → ReadsFront limit side old m → k ≡ kept_peer last m → KeepsFront last limit side old k
-  front_kept m k front kept = then_kept last limit side old old m k (none_kept last limit side old) front kept
+  front_kept : (m k : Peer) → ReadsFront kinds limit side old m → k ≡ kept_peer last m → KeepsFront kinds last limit side old k
+  front_kept m k front kept = then_kept kinds last limit side old old m k (none_kept kinds last limit side old) front kept
 
   -- they came, and are taken: the rest is read
-  pub read_after : (m k new : Peer) (fault : Option ℕ) → ReadsFront limit side old m → is_some m.settings ≡ true → k ≡ kept_peer last m → settings_refused side own k.settings ≡ false
-      → kept_found last (read_peer limit side k) ≡ (new, fault) → kept_found last (found_first side own old (read_peer limit side old)) ≡ (new, fault)
+  pub read_after : (m k new : Peer) (fault : Option ℕ) → ReadsFront kinds limit side old m → is_some m.settings ≡ true → k ≡ kept_peer last m → settings_refused side own k.settings ≡ false
+      → kept_found last (read_peer kinds limit side k) ≡ (new, fault) → kept_found last (found_first side own old (read_peer kinds limit side old)) ≡ (new, fault)
   read_after m k new fault front some kept good read =
       let a = front_kept m k front kept in
-      ap (λ b. kept_found last (found_by b (read_peer limit side old))) (taken_settings m k front some kept good)
-      ∙ ap (λ l. kept_found last (read_peer limit side (with_unread old l))) a.split ∙ a.goes_on k.unread ∙ read
+      ap (λ b. kept_found last (found_by b (read_peer kinds limit side old))) (taken_settings m k front some kept good)
+      ∙ ap (λ l. kept_found last (read_peer kinds limit side (with_unread old l))) a.split ∙ a.goes_on k.unread ∙ read
 
   -- and memory is refused in that
-  pub part_after : (m k new : Peer) → ReadsFront limit side old m → k ≡ kept_peer last m → KeepsOn last limit side k new → KeepsPart last limit side old new
-  part_after m k new front kept on = let s : StopsReading last limit side old new = kept_behind last limit side old k new (front_kept m k front kept) on in s.part
+  pub part_after : (m k new : Peer) → ReadsFront kinds limit side old m → k ≡ kept_peer last m → KeepsOn kinds last limit side k new → KeepsPart kinds last limit side old new
+  part_after m k new front kept on = let s : StopsReading kinds last limit side old new = kept_behind kinds last limit side old k new (front_kept m k front kept) on in s.part
 
-  pub taken_after : (m k new : Peer) → is_some m.settings ≡ true → k ≡ kept_peer last m → settings_refused side own k.settings ≡ false → KeepsOn last limit side k new → settings_refused side own new.settings ≡ false
+  pub taken_after : (m k new : Peer) → is_some m.settings ≡ true → k ≡ kept_peer last m → settings_refused side own k.settings ≡ false → KeepsOn kinds last limit side k new → settings_refused side own new.settings ≡ false
   taken_after m k new some kept good on =
       let s = some_pairs k.settings (ap (λ (p : Peer). is_some p.settings) kept ∙ some) in
       let front = on.front.front in
-      let read : kept_found last (read_peer limit side (with_unread k front)) ≡ (kept_peer last (with_unread new []), None) =
-      ap (λ l. kept_found last (read_peer limit side (with_unread k l))) (sym (append-nil front)) ∙ on.front.goes_on [] ∙ ap (kept_found last) (nothing_read_on limit side new) in
+      let read : kept_found last (read_peer kinds limit side (with_unread k front)) ≡ (kept_peer last (with_unread new []), None) =
+      ap (λ l. kept_found last (read_peer kinds limit side (with_unread k l))) (sym (append-nil front)) ∙ on.front.goes_on [] ∙ ap (kept_found last) (nothing_read_on kinds limit side new) in
       let same : new.settings ≡ k.settings =
-      sym (ap (λ (x : PeerFound). x.0.settings) read) ∙ settings_stay limit side (with_unread k front) s.0 s.1 ∙ sym s.1 in
+      sym (ap (λ (x : PeerFound). x.0.settings) read) ∙ settings_stay kinds limit side (with_unread k front) s.0 s.1 ∙ sym s.1 in
       ap (settings_refused side own) same ∙ good
 
   -- the same of what the rest was answered by
-  pub ok_after : {E : Type 0} (r : Result (Option ℕ) E) (m k new : Peer) → ReadsFront limit side old m → is_some m.settings ≡ true → k ≡ kept_peer last m → settings_refused side own k.settings ≡ false
-      → IfOk r (λ fault. kept_found last (read_peer limit side k) ≡ (new, fault)) → IfOk r (λ fault. kept_found last (found_first side own old (read_peer limit side old)) ≡ (new, fault))
+  pub ok_after : {E : Type 0} (r : Result (Option ℕ) E) (m k new : Peer) → ReadsFront kinds limit side old m → is_some m.settings ≡ true → k ≡ kept_peer last m → settings_refused side own k.settings ≡ false
+      → IfOk r (λ fault. kept_found last (read_peer kinds limit side k) ≡ (new, fault)) → IfOk r (λ fault. kept_found last (found_first side own old (read_peer kinds limit side old)) ≡ (new, fault))
   ok_after (Ok fault) m k new front some kept good read = read_after m k new fault front some kept good read
   ok_after (Err e) m k new front some kept good read = tt
 
-  pub err_after : {A E : Type 0} (r : Result A E) (m k new : Peer) → ReadsFront limit side old m → k ≡ kept_peer last m → OnErr r (KeepsOn last limit side k new) → OnErr r (KeepsPart last limit side old new)
+  pub err_after : {A E : Type 0} (r : Result A E) (m k new : Peer) → ReadsFront kinds limit side old m → k ≡ kept_peer last m → OnErr r (KeepsOn kinds last limit side k new) → OnErr r (KeepsPart kinds last limit side old new)
   err_after (Ok value) m k new front kept on = tt
   err_after (Err e) m k new front kept on = part_after m k new front kept on
 
-  pub err_taken : {A E : Type 0} (r : Result A E) (m k new : Peer) → is_some m.settings ≡ true → k ≡ kept_peer last m → settings_refused side own k.settings ≡ false → OnErr r (KeepsOn last limit side k new)
+  pub err_taken : {A E : Type 0} (r : Result A E) (m k new : Peer) → is_some m.settings ≡ true → k ≡ kept_peer last m → settings_refused side own k.settings ≡ false → OnErr r (KeepsOn kinds last limit side k new)
       → OnErr r (settings_refused side own new.settings ≡ false)
   err_taken (Ok value) m k new some kept good on = tt
   err_taken (Err e) m k new some kept good on = taken_after m k new some kept good on

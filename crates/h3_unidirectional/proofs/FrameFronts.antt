@@ -5,11 +5,12 @@ use Rattle.std.proofs.lemmas.Bool.{cases_lt, lt-ltb, le-ltb}
 use Rattle.h3_coding.specs.Varint.{varint_at}
 use Rattle.h3_coding.specs.VarintLaws.{cases_number, begins, of_front}
 use Rattle.h3_wire.specs.declared.proto.frame.Frame.TheVariants as frame
-use Rattle.h3_wire.specs.Frames.{Front, Whole, Unknown, Refused, Unfinished, frame_of, with_head, frame_at}
-use Rattle.h3_wire.specs.FrameLaws.{at_no_kind, at_no_number, at_head, frame_of-finished, frame_of-more, frame_at-nil}
+use Rattle.h3_wire.specs.Frames.{Front, Whole, Unknown, Refused, Unfinished, frame_of, with_head, frame_by, is_session}
+use Rattle.h3_wire.specs.FrameLaws.{at_no_kind, at_no_number, at_head, frame_of-finished, frame_of-more, frame_by-nil}
 use Rattle.h3_wire.specs.Fronts.{IsFinished, IsBefore, with_more, IsKnown}
-use Rattle.h3_wire.specs.Known.{known}
+use Rattle.h3_wire.specs.Known.{known_by}
 use Rattle.h3_wire.specs.KnownLaws.{cases_front, known-unknown, known-other, unknown_shorter}
+use Rattle.h3_wire.specs.declared.frame.kinds.FrameKinds.{FrameKinds}
 
 -- a whole frame, or a whole unknown one, is followed by these bytes
 abbrev pub Precedes : Front → List ℕ → Type 0
@@ -24,10 +25,10 @@ followed_by (Unknown kind rest) r = Unknown kind r
 followed_by x r = x
 
 -- The bytes are a front, read as x whatever follows, and the rest.
-pub record IsFrontOf (bytes rest : List ℕ) (x : Front) : Type 0 where
+pub record IsFrontOf (kinds : FrameKinds) (bytes rest : List ℕ) (x : Front) : Type 0 where
   pub front : List ℕ
   pub split : bytes ≡ front ++ rest
-  pub alike : (more : List ℕ) → frame_at (front ++ more) ≡ followed_by x more
+  pub alike : (more : List ℕ) → frame_by kinds (front ++ more) ≡ followed_by x more
 
 -- the bytes of a number
 pub record IsNumber (v : ℕ) (bytes rest : List ℕ) : Type 0 where
@@ -101,9 +102,9 @@ head_tail true b size kind number behind rest h = record { tail = []; split = h;
 head_tail false true size kind number behind rest h = record { tail = []; split = h; alike = λ other more. refl }
 head_tail false false size kind number behind rest h = payload_tail size kind number behind rest (short_or_whole number behind) h
 
-whole_front : (kind number : ℕ) (bytes mid behind rest : List ℕ) → IsNumber kind bytes mid → IsNumber number mid behind → IsTail (kind == 0x41) (kind == 0) (length bytes) kind number behind rest
-    → IsFrontOf bytes rest (with_head (length bytes) kind number behind)
-whole_front kind number bytes mid behind rest k n t =
+whole_front : (kinds : FrameKinds) (kind number : ℕ) (bytes mid behind rest : List ℕ) → IsNumber kind bytes mid → IsNumber number mid behind → IsTail (is_session kinds kind) (kind == 0) (length bytes) kind number behind rest
+    → IsFrontOf kinds bytes rest (with_head kinds (length bytes) kind number behind)
+whole_front kinds kind number bytes mid behind rest k n t =
     let all : (more : List ℕ) → (k.front ++ (n.front ++ t.tail)) ++ more ≡ k.front ++ (n.front ++ (t.tail ++ more)) =
     λ more. append_assoc k.front (n.front ++ t.tail) more ∙ ap (λ l. k.front ++ l) (append_assoc n.front t.tail more) in
     record {
@@ -111,49 +112,49 @@ whole_front kind number bytes mid behind rest k n t =
       split = k.split ∙ ap (λ l. k.front ++ l) (n.split ∙ ap (λ l. n.front ++ l) t.split) ∙ sym (all rest);
       alike = λ more.
           let bytes = k.front ++ (n.front ++ (t.tail ++ more)) in
-          ap frame_at (all more) ∙ at_head kind number bytes (n.front ++ (t.tail ++ more)) (t.tail ++ more) (k.alike (n.front ++ (t.tail ++ more))) (n.alike (t.tail ++ more)) ∙ t.alike (length bytes) more;
+          ap (frame_by kinds) (all more) ∙ at_head kinds kind number bytes (n.front ++ (t.tail ++ more)) (t.tail ++ more) (k.alike (n.front ++ (t.tail ++ more))) (n.alike (t.tail ++ more)) ∙ t.alike (length bytes) more;
     }
 
 -- the bytes of a frame, unknown or not
-pub frame_front : (bytes rest : List ℕ) → Precedes (frame_at bytes) rest → IsFrontOf bytes rest (frame_at bytes)
-frame_front bytes rest h = elim (cases_number bytes) [
-  | inl none ↦ absurd (subst (λ x. Precedes x rest) (at_no_kind bytes none) h)
+pub frame_front : (kinds : FrameKinds) (bytes rest : List ℕ) → Precedes (frame_by kinds bytes) rest → IsFrontOf kinds bytes rest (frame_by kinds bytes)
+frame_front kinds bytes rest h = elim (cases_number bytes) [
+  | inl none ↦ absurd (subst (λ x. Precedes x rest) (at_no_kind kinds bytes none) h)
   | inr k ↦ elim (cases_number k.1) [
-    | inl none ↦ absurd (subst (λ x. Precedes x rest) (at_no_number k.0 bytes k.1 k.2 none) h)
+    | inl none ↦ absurd (subst (λ x. Precedes x rest) (at_no_number kinds k.0 bytes k.1 k.2 none) h)
     | inr n ↦
-        let here : frame_at bytes ≡ with_head (length bytes) k.0 n.0 n.1 = at_head k.0 n.0 bytes k.1 n.1 k.2 n.2 in
-        let tail = head_tail (k.0 == 0x41) (k.0 == 0) (length bytes) k.0 n.0 n.1 rest (subst (λ x. Precedes x rest) here h) in
-        subst (IsFrontOf bytes rest) (sym here) (whole_front k.0 n.0 bytes k.1 n.1 rest (number_front k.0 bytes k.1 k.2) (number_front n.0 k.1 n.1 n.2) tail)
+        let here : frame_by kinds bytes ≡ with_head kinds (length bytes) k.0 n.0 n.1 = at_head kinds k.0 n.0 bytes k.1 n.1 k.2 n.2 in
+        let tail = head_tail (is_session kinds k.0) (k.0 == 0) (length bytes) k.0 n.0 n.1 rest (subst (λ x. Precedes x rest) here h) in
+        subst (IsFrontOf kinds bytes rest) (sym here) (whole_front kinds k.0 n.0 bytes k.1 n.1 rest (number_front k.0 bytes k.1 k.2) (number_front n.0 k.1 n.1 n.2) tail)
   ]
 ]
 
 -- The unknown frames at the front, and the bytes from the first known frame on.
-pub record IsUnknownFront (bytes : List ℕ) : Type 0 where
+pub record IsUnknownFront (kinds : FrameKinds) (bytes : List ℕ) : Type 0 where
   pub front : List ℕ
-  pub split : bytes ≡ front ++ known bytes
-  pub alike : (more : List ℕ) → known (front ++ more) ≡ known more
+  pub split : bytes ≡ front ++ known_by kinds bytes
+  pub alike : (more : List ℕ) → known_by kinds (front ++ more) ≡ known_by kinds more
 
-no_unknown : (bytes : List ℕ) → IsKnown (frame_at bytes) → IsUnknownFront bytes
-no_unknown bytes h = record { front = []; split = sym (known-other bytes h); alike = λ more. refl }
+no_unknown : (kinds : FrameKinds) (bytes : List ℕ) → IsKnown (frame_by kinds bytes) → IsUnknownFront kinds bytes
+no_unknown kinds bytes h = record { front = []; split = sym (known-other kinds bytes h); alike = λ more. refl }
 
-unknown_within : (n : ℕ) (bytes : List ℕ) → length bytes ≤ n → IsUnknownFront bytes
-unknown_within zero bytes fits = no_unknown bytes (subst IsKnown (sym (ap frame_at (nil_from_length bytes (omega (arith, fits))) ∙ frame_at-nil)) tt)
-unknown_within (suc n) bytes fits = elim (cases_front (frame_at bytes)) [
+unknown_within : (kinds : FrameKinds) (n : ℕ) (bytes : List ℕ) → length bytes ≤ n → IsUnknownFront kinds bytes
+unknown_within kinds zero bytes fits = no_unknown kinds bytes (subst IsKnown (sym (ap (frame_by kinds) (nil_from_length bytes (omega (arith, fits))) ∙ frame_by-nil kinds)) tt)
+unknown_within kinds (suc n) bytes fits = elim (cases_front (frame_by kinds bytes)) [
   | inl u ↦
       let rest = u.1 in
-      let first : IsFrontOf bytes rest (frame_at bytes) = frame_front bytes rest (subst (λ x. Precedes x rest) (sym u.2) refl) in
-      let others = unknown_within n rest (omega (arith, fits, unknown_shorter u.0 bytes rest u.2)) in
-      let same : known bytes ≡ known rest = known-unknown u.0 bytes rest u.2 in
+      let first : IsFrontOf kinds bytes rest (frame_by kinds bytes) = frame_front kinds bytes rest (subst (λ x. Precedes x rest) (sym u.2) refl) in
+      let others = unknown_within kinds n rest (omega (arith, fits, unknown_shorter kinds u.0 bytes rest u.2)) in
+      let same : known_by kinds bytes ≡ known_by kinds rest = known-unknown kinds u.0 bytes rest u.2 in
       record {
         front = first.front ++ others.front;
-        split = first.split ∙ ap (λ l. first.front ++ l) (others.split ∙ ap (λ l. others.front ++ l) (sym same)) ∙ sym (append_assoc first.front others.front (known bytes));
+        split = first.split ∙ ap (λ l. first.front ++ l) (others.split ∙ ap (λ l. others.front ++ l) (sym same)) ∙ sym (append_assoc first.front others.front (known_by kinds bytes));
         alike = λ more.
-            ap known (append_assoc first.front others.front more)
-            ∙ known-unknown u.0 (first.front ++ (others.front ++ more)) (others.front ++ more) (first.alike (others.front ++ more) ∙ ap (λ x. followed_by x (others.front ++ more)) u.2)
+            ap (known_by kinds) (append_assoc first.front others.front more)
+            ∙ known-unknown kinds u.0 (first.front ++ (others.front ++ more)) (others.front ++ more) (first.alike (others.front ++ more) ∙ ap (λ x. followed_by x (others.front ++ more)) u.2)
             ∙ others.alike more;
       }
-  | inr here ↦ no_unknown bytes here
+  | inr here ↦ no_unknown kinds bytes here
 ]
 
-pub unknown_front : (bytes : List ℕ) → IsUnknownFront bytes
-unknown_front bytes = unknown_within (length bytes) bytes (omega arith)
+pub unknown_front : (kinds : FrameKinds) (bytes : List ℕ) → IsUnknownFront kinds bytes
+unknown_front kinds bytes = unknown_within kinds (length bytes) bytes (omega arith)

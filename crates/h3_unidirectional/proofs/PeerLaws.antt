@@ -2,8 +2,8 @@
 use Rattle.std.proofs.Common.{◌≡◌, ℕ, List, Some, ap, sym, ◌∙◌, ◌<◌, length, Option, arith, true, None, false}
 use Rattle.h3_proto.specs.declared.stream.Side.{Side}
 use Rattle.h3_wire.specs.ExcessiveFrames.{is_excessive}
-use Rattle.h3_wire.specs.Frames.{Refused, frame_at, Whole}
-use Rattle.h3_wire.specs.Known.{known}
+use Rattle.h3_wire.specs.Frames.{Refused, frame_by, Whole}
+use Rattle.h3_wire.specs.Known.{known_by}
 use Rattle.h3_wire.specs.declared.proto.frame.FrameError.{FrameError}
 use Rattle.h3_connection.specs.PeerReadingLaws.{step_within, frame_keeps}
 use Rattle.h3_connection.specs.PeerReading.{Peer, with_unread, at_front, read_peer, refused_code, PeerFound, read_frame, unless_fault}
@@ -11,27 +11,28 @@ use Rattle.h3_wire.specs.declared.proto.frame.PayloadLen.{PayloadLen}
 use Rattle.h3_wire.specs.declared.proto.frame.Frame.{Frame}
 use Rattle.h3_connection.specs.SkippingLaws.{rest_shorter}
 use Rattle.std.specs.Option.{is_some}
+use Rattle.h3_wire.specs.declared.frame.kinds.FrameKinds.{FrameKinds}
 
 -- a frame is refused
-pub peer_refused : (limit : ℕ) (side : Side) (p : Peer) (left : List ℕ) (e : FrameError) → is_excessive limit (known p.unread) ≡ false → left ≡ known p.unread → frame_at left ≡ Refused e
-    → read_peer limit side p ≡ (with_unread p left, Some (refused_code p.settings e))
-peer_refused limit side p left e small is h =
-    step_within limit side p small ∙ ap (λ l. at_front (read_peer limit side) side p l (frame_at l)) (sym is) ∙ ap (λ x. at_front (read_peer limit side) side p left x) h
+pub peer_refused : (kinds : FrameKinds) (limit : ℕ) (side : Side) (p : Peer) (left : List ℕ) (e : FrameError) → is_excessive limit (known_by kinds p.unread) ≡ false → left ≡ known_by kinds p.unread → frame_by kinds left ≡ Refused e
+    → read_peer kinds limit side p ≡ (with_unread p left, Some (refused_code p.settings e))
+peer_refused kinds limit side p left e small is h =
+    step_within kinds limit side p small ∙ ap (λ l. at_front (read_peer kinds limit side) side p l (frame_by kinds l)) (sym is) ∙ ap (λ x. at_front (read_peer kinds limit side) side p left x) h
 
-pub peer_frame : (limit : ℕ) (side : Side) (p : Peer) (f : Frame PayloadLen) (rest : List ℕ) (x : PeerFound) → is_excessive limit (known p.unread) ≡ false → frame_at (known p.unread) ≡ Whole f rest
-    → read_frame side (with_unread p rest) p.settings f ≡ x → read_peer limit side p ≡ unless_fault x (read_peer limit side)
-peer_frame limit side p f rest x small h e =
-    step_within limit side p small ∙ ap (λ y. at_front (read_peer limit side) side p (known p.unread) y) h ∙ ap (λ y. unless_fault y (read_peer limit side)) e
+pub peer_frame : (kinds : FrameKinds) (limit : ℕ) (side : Side) (p : Peer) (f : Frame PayloadLen) (rest : List ℕ) (x : PeerFound) → is_excessive limit (known_by kinds p.unread) ≡ false → frame_by kinds (known_by kinds p.unread) ≡ Whole f rest
+    → read_frame side (with_unread p rest) p.settings f ≡ x → read_peer kinds limit side p ≡ unless_fault x (read_peer kinds limit side)
+peer_frame kinds limit side p f rest x small h e =
+    step_within kinds limit side p small ∙ ap (λ y. at_front (read_peer kinds limit side) side p (known_by kinds p.unread) y) h ∙ ap (λ y. unless_fault y (read_peer kinds limit side)) e
 
 -- a frame is a fault
-pub peer_fault : (limit : ℕ) (side : Side) (p new : Peer) (f : Frame PayloadLen) (rest : List ℕ) (code : ℕ) → is_excessive limit (known p.unread) ≡ false → frame_at (known p.unread) ≡ Whole f rest
-    → read_frame side (with_unread p rest) p.settings f ≡ (new, Some code) → read_peer limit side p ≡ (new, Some code)
-peer_fault limit side p new f rest code small h e = peer_frame limit side p f rest (new, Some code) small h e
+pub peer_fault : (kinds : FrameKinds) (limit : ℕ) (side : Side) (p new : Peer) (f : Frame PayloadLen) (rest : List ℕ) (code : ℕ) → is_excessive limit (known_by kinds p.unread) ≡ false → frame_by kinds (known_by kinds p.unread) ≡ Whole f rest
+    → read_frame side (with_unread p rest) p.settings f ≡ (new, Some code) → read_peer kinds limit side p ≡ (new, Some code)
+peer_fault kinds limit side p new f rest code small h e = peer_frame kinds limit side p f rest (new, Some code) small h e
 
 -- fewer bytes are left then
-pub peer_less : (side : Side) (p new : Peer) (f : Frame PayloadLen) (rest : List ℕ) (fault : Option ℕ) → frame_at (known p.unread) ≡ Whole f rest → read_frame side (with_unread p rest) p.settings f ≡ (new, fault) → length new.unread < length p.unread
-peer_less side p new f rest fault h e =
-    let less = rest_shorter p.unread rest f h in
+pub peer_less : (kinds : FrameKinds) (side : Side) (p new : Peer) (f : Frame PayloadLen) (rest : List ℕ) (fault : Option ℕ) → frame_by kinds (known_by kinds p.unread) ≡ Whole f rest → read_frame side (with_unread p rest) p.settings f ≡ (new, fault) → length new.unread < length p.unread
+peer_less kinds side p new f rest fault h e =
+    let less = rest_shorter kinds p.unread rest f h in
     let same : new.unread ≡ rest = ap (λ (x : PeerFound). x.0.unread) (sym e) ∙ frame_keeps side (with_unread p rest) p.settings f in
     omega (arith, less, ap length same)
 

@@ -1,6 +1,7 @@
 -- What a reading leaves that was refused memory: whole frames or instructions at the front were read, and the rest is as it was.
 use Rattle.std.specs.Prelude.{◌≡◌, ℕ, Bool, false, List, [], ◌++◌, Some, if◌then◌else◌}
 use Rattle.h3_proto.specs.declared.stream.Side.{Side}
+use Rattle.h3_wire.specs.declared.frame.kinds.FrameKinds.{FrameKinds}
 use Rattle.h3_qpack.specs.EncoderHistory.{EncoderHistory}
 use Rattle.h3_qpack.specs.EncoderState.{encoder_state}
 use Rattle.h3_qpack.specs.Hearing.{heard, listened}
@@ -15,20 +16,20 @@ use Rattle.h3_connection.specs.StrictConnection.{settings_refused}
 use Rattle.h3_connection.specs.declared.setup.Announced.{Announced}
 
 -- The peer's control stream, where frames are taken up to this limit: whatever follows the front, it is read on from there.
-pub record ReadsFront (limit : ℕ) (side : Side) (old new : Peer) : Type 0 where
+pub record ReadsFront (kinds : FrameKinds) (limit : ℕ) (side : Side) (old new : Peer) : Type 0 where
   pub front : List ℕ
   pub split : old.unread ≡ front ++ new.unread
-  pub goes_on : (more : List ℕ) → read_peer limit side (with_unread old (front ++ more)) ≡ read_peer limit side (with_unread new more)
+  pub goes_on : (more : List ℕ) → read_peer kinds limit side (with_unread old (front ++ more)) ≡ read_peer kinds limit side (with_unread new more)
 
 -- The same up to what is kept of the ids of GOAWAY frames: all, or the last one alone.
-pub record KeepsFront (last : Bool) (limit : ℕ) (side : Side) (old new : Peer) : Type 0 where
+pub record KeepsFront (kinds : FrameKinds) (last : Bool) (limit : ℕ) (side : Side) (old new : Peer) : Type 0 where
   pub front : List ℕ
   pub split : old.unread ≡ front ++ new.unread
-  pub goes_on : (more : List ℕ) → kept_found last (read_peer limit side (with_unread old (front ++ more))) ≡ kept_found last (read_peer limit side (with_unread new more))
+  pub goes_on : (more : List ℕ) → kept_found last (read_peer kinds limit side (with_unread old (front ++ more))) ≡ kept_found last (read_peer kinds limit side (with_unread new more))
 
 -- And what is stored is what is kept.
-pub record KeepsOn (last : Bool) (limit : ℕ) (side : Side) (old new : Peer) : Type 0 where
-  pub front : KeepsFront last limit side old new
+pub record KeepsOn (kinds : FrameKinds) (last : Bool) (limit : ℕ) (side : Side) (old new : Peer) : Type 0 where
+  pub front : KeepsFront kinds last limit side old new
   pub kept : new ≡ kept_peer last new
 
 -- What is found where the settings are due: of settings that are refused nothing else is kept.
@@ -36,19 +37,19 @@ abbrev pub found_first : Side → Announced → Peer → PeerFound → PeerFound
 found_first side own old found = if settings_refused side own found.0.settings then (settings_alone old found.0.settings, Some settings_error) else found
 
 -- A front of this peer's stream was read, without a fault, and this is kept.
-pub record IsPart (last : Bool) (limit : ℕ) (side : Side) (p new : Peer) : Type 0 where
+pub record IsPart (kinds : FrameKinds) (last : Bool) (limit : ℕ) (side : Side) (p new : Peer) : Type 0 where
   pub after : Peer
-  pub part : PeerReadsPart limit side p after
+  pub part : PeerReadsPart kinds limit side p after
   pub kept : new ≡ kept_peer last after
 
 -- So it is of each peer of which the old one is kept.
-pub record KeepsPart (last : Bool) (limit : ℕ) (side : Side) (old new : Peer) : Type 0 where
-  pub each : (p : Peer) → old ≡ kept_peer last p → IsPart last limit side p new
+pub record KeepsPart (kinds : FrameKinds) (last : Bool) (limit : ℕ) (side : Side) (old new : Peer) : Type 0 where
+  pub each : (p : Peer) → old ≡ kept_peer last p → IsPart kinds last limit side p new
 
 -- And a later reading gives what one of the whole would have given, whatever comes behind.
-pub record StopsReading (last : Bool) (limit : ℕ) (side : Side) (old new : Peer) : Type 0 where
-  pub part : KeepsPart last limit side old new
-  pub resumes : (more : List ℕ) → kept_found last (read_peer limit side (with_unread new (new.unread ++ more))) ≡ kept_found last (read_peer limit side (with_unread old (old.unread ++ more)))
+pub record StopsReading (kinds : FrameKinds) (last : Bool) (limit : ℕ) (side : Side) (old new : Peer) : Type 0 where
+  pub part : KeepsPart kinds last limit side old new
+  pub resumes : (more : List ℕ) → kept_found last (read_peer kinds limit side (with_unread new (new.unread ++ more))) ≡ kept_found last (read_peer kinds limit side (with_unread old (old.unread ++ more)))
 
 -- The same of the peer's encoder stream, where instructions are taken up to this limit.
 pub record HearsFront (most : ℕ) (old new : Decoding) : Type 0 where

@@ -1,6 +1,7 @@
 -- What a frame of the peer's control stream does.
 use Rattle.std.specs.Prelude.{◌≡◌, ℕ, ◌<◌, true, [], ◌∷◌, ◌++◌, length, Some, None, is_some}
 use Rattle.h3_proto.specs.declared.stream.Side.{Side}
+use Rattle.h3_wire.specs.declared.frame.kinds.FrameKinds.{FrameKinds}
 use Rattle.h3_connection.specs.PeerReading.{Peer, PeerFound, read_peer}
 use Rattle.h3_unidirectional.specs.Fronts.{ReadsFront}
 use Rattle.h3_unidirectional.specs.declared.control.Judged.{Judged}
@@ -20,6 +21,6 @@ done p (MaxPushId id) = (record p { most_pushes = Some id }, None)
 done p (Fault code) = (p, Some code)
 
 -- a frame was read, and fewer bytes are left; or all was read
-abbrev pub ReadsOne : ℕ → Side → Peer → Peer → Progress → Type 0
-ReadsOne limit side old new GoesOn = ReadsFront limit side old new × (length new.unread < length old.unread)
-ReadsOne limit side old new (Ends fault) = read_peer limit side old ≡ (new, fault)
+abbrev pub ReadsOne : FrameKinds → ℕ → Side → Peer → Peer → Progress → Type 0
+ReadsOne kinds limit side old new GoesOn = ReadsFront kinds limit side old new × (length new.unread < length old.unread)
+ReadsOne kinds limit side old new (Ends fault) = read_peer kinds limit side old ≡ (new, fault)

@@ -32,19 +32,19 @@ code_of true code = Some code
 code_of false _ = None
 
 -- what some bytes make of a stream, and the bytes behind that
-abbrev pub head_of : List ℕ → Role × List ℕ
-head_of bytes = of_kind bytes (varint_at bytes)
+abbrev pub head_of : Bool → List ℕ → Role × List ℕ
+head_of sessions bytes = of_kind sessions bytes (varint_at bytes)
 
--- the first bytes do not tell it yet
+-- the first bytes do not tell it yet, whether sessions are known or not
 abbrev pub IsUnfinished : Kind → List ℕ → Type 0
-IsUnfinished kind.Untold front = head_of front ≡ (Untold front, [])
+IsUnfinished kind.Untold front = (sessions : Bool) → head_of sessions front ≡ (Untold front, [])
 IsUnfinished _ front = Unit {0}
 
 -- they tell this kind, and others are left, or it is not told yet
-abbrev pub Tells : List ℕ → List ℕ → Option Kind → Type 0
-Tells bytes left None = head_of bytes ≡ (Untold bytes, [])
-Tells bytes left (Some kind.Untold) = ⊥
-Tells bytes left (Some k) = head_of bytes ≡ (role_of k [], left)
+abbrev pub Tells : Bool → List ℕ → List ℕ → Option Kind → Type 0
+Tells sessions bytes left None = (other : Bool) → head_of other bytes ≡ (Untold bytes, [])
+Tells sessions bytes left (Some kind.Untold) = ⊥
+Tells sessions bytes left (Some k) = head_of sessions bytes ≡ (role_of k [], left)
 
 -- the bytes that are for a role are for this reader
 abbrev pub received_by : Role × List ℕ → Received
@@ -64,7 +64,7 @@ is_untold (Untold front) = true
 is_untold _ = false
 
 -- What tells a role stands in front of the bytes that are for it.
-pub record TellsFirst (before : Role) (bytes : List ℕ) (r : Role) (rest : List ℕ) : Type 0 where
+pub record TellsFirst (sessions : Bool) (before : Role) (bytes : List ℕ) (r : Role) (rest : List ℕ) : Type 0 where
   pub front : List ℕ
   pub cut : bytes ≡ front ++ rest
-  pub tells : role_after before front ≡ (r, [])
+  pub tells : role_after sessions before front ≡ (r, [])

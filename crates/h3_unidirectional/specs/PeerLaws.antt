@@ -2,17 +2,18 @@
 use Rattle.std.proofs.Common.{◌≡◌, ℕ, false, List, None, refl, ap, sym, ◌∙◌}
 use Rattle.h3_proto.specs.declared.stream.Side.{Side}
 use Rattle.h3_wire.specs.ExcessiveFrames.{is_excessive}
-use Rattle.h3_wire.specs.Frames.{Front, Whole, Unknown, Refused, Unfinished, frame_at}
-use Rattle.h3_wire.specs.Known.{known, IsWaiting}
+use Rattle.h3_wire.specs.Frames.{Front, Whole, Unknown, Refused, Unfinished, frame_by}
+use Rattle.h3_wire.specs.Known.{known_by, IsWaiting}
 use Rattle.h3_connection.specs.PeerReadingLaws.{step_within}
 use Rattle.h3_connection.specs.PeerReading.{Peer, with_unread, at_front, read_peer}
+use Rattle.h3_wire.specs.declared.frame.kinds.FrameKinds.{FrameKinds}
 
 -- the bytes end before a frame
-pub peer_waits : (limit : ℕ) (side : Side) (p : Peer) (left : List ℕ) → is_excessive limit (known p.unread) ≡ false → left ≡ known p.unread → IsWaiting (frame_at left) → read_peer limit side p ≡ (with_unread p left, None)
-peer_waits limit side p left small is h =
-    step_within limit side p small ∙ ap (λ l. at_front (read_peer limit side) side p l (frame_at l)) (sym is) ∙ waits (frame_at left) h
+pub peer_waits : (kinds : FrameKinds) (limit : ℕ) (side : Side) (p : Peer) (left : List ℕ) → is_excessive limit (known_by kinds p.unread) ≡ false → left ≡ known_by kinds p.unread → IsWaiting (frame_by kinds left) → read_peer kinds limit side p ≡ (with_unread p left, None)
+peer_waits kinds limit side p left small is h =
+    step_within kinds limit side p small ∙ ap (λ l. at_front (read_peer kinds limit side) side p l (frame_by kinds l)) (sym is) ∙ waits (frame_by kinds left) h
   where
-    waits : (x : Front) → IsWaiting x → at_front (read_peer limit side) side p left x ≡ (with_unread p left, None)
+    waits : (x : Front) → IsWaiting x → at_front (read_peer kinds limit side) side p left x ≡ (with_unread p left, None)
     waits (Unfinished least) h = refl
     waits (Whole f rest) h = absurd h
     waits (Unknown kind rest) h = absurd h

@@ -22,7 +22,7 @@ use h3_proto::error::Code;
 use h3_proto::frame::{Settings, SettingsError};
 use h3_proto::push::PushId;
 use h3_proto::stream::Side;
-use h3_wire::frame::{FrameBuffer, FrameProtocolError, FrameStreamError};
+use h3_wire::frame::{FrameBuffer, FrameKinds, FrameProtocolError, FrameStreamError};
 use h3_wire::proto::frame::{Frame, PayloadLen};
 use std::alloc::{AllocError, Global};
 use std::marker::Model;
@@ -155,10 +155,10 @@ impl PeerControl {
 
     /// How many of them are held: none while an unknown frame is under way at the front. If an allocation failed, the next reading frees
     /// its bytes.
-    pub fn held(&self) -> usize
-        ensures { result ≡ held_length self.now.unread }
+    pub fn held(&self, kinds: FrameKinds) -> usize
+        ensures { result ≡ held_length kinds self.now.unread }
     {
-        self.unread.held()
+        self.unread.held(kinds)
     }
 
     /// The bytes that are not read. Its `tries` say how often the frame under way was tried, or else the last frame that was read, an
@@ -256,18 +256,28 @@ impl PeerControl {
     /// Reads the next frame, unless it says a length above `most`: then it frees what came. If an allocation fails, it skips only unknown
     /// frames.
     #[tactic(auto, using(crate::specs::PeerLaws::peer_waits, crate::proofs::ControlFronts::no_front, crate::proofs::ControlFronts::unknown_passed))]
-    fn read_one(&mut self, alloc: Global, side: Side, most: u64) -> Result<Progress, AllocError>
-        ensures ok { IfOk result (λ progress. ReadsOne most side self.old self.new progress) }
-        ensures refused { OnErr result (ReadsFront most side self.old self.new) }
+    fn read_one(
+        &mut self,
+        alloc: Global,
+        side: Side,
+        most: u64,
+        kinds: FrameKinds,
+    ) -> Result<Progress, AllocError>
+        ensures ok { IfOk result (λ progress. ReadsOne kinds most side self.old self.new progress) }
+        ensures refused { OnErr result (ReadsFront kinds most side self.old self.new) }
         ensures first { self.old.settings ≡ None → IfOk result (λ progress. KeepsEarlier self.old self.new progress) }
         ensures unknown { OnErr result (self.new.settings ≡ self.old.settings) }
     {
-        if self.unread.is_excessive(most) {
+        // (not reached: what is announced stays)
+        if !self.unread.suits(kinds) {
+            return Err(AllocError);
+        }
+        if self.unread.is_excessive(most, kinds) {
             self.unread = FrameBuffer::new(alloc);
             return Ok(Progress::Ends(Some(Code::H3_EXCESSIVE_LOAD)));
         }
         self.goaways.reserve(1)?;
-        match self.unread.next_frame(alloc) {
+        match self.unread.next_frame(alloc, kinds) {
             Ok(None) => Ok(Progress::Ends(None)),
             Ok(Some(frame)) => match self.judge(side, frame) {
                 Judged::Settings(settings) => {
@@ -314,14 +324,15 @@ impl PeerControl {
         alloc: Global,
         side: Side,
         choices: Choices,
+        kinds: FrameKinds,
     ) -> Result<Option<Code>, AllocError>
-        ensures ok { IfOk result (λ fault. kept_found (keeps_last choices) (read_peer choices.unfinished_limit side self.old) ≡ (self.new, fault)) }
-        ensures refused { OnErr result (StopsReading (keeps_last choices) choices.unfinished_limit side self.old self.new) }
-        ensures front { OnErr result (KeepsOn (keeps_last choices) choices.unfinished_limit side self.old self.new) }
+        ensures ok { IfOk result (λ fault. kept_found (keeps_last choices) (read_peer kinds choices.unfinished_limit side self.old) ≡ (self.new, fault)) }
+        ensures refused { OnErr result (StopsReading kinds (keeps_last choices) choices.unfinished_limit side self.old self.new) }
+        ensures front { OnErr result (KeepsOn kinds (keeps_last choices) choices.unfinished_limit side self.old self.new) }
     {
         // (the label names the loop in its proof)
         'frames: loop {
-            let progress = self.read_one(alloc, side, choices.unfinished_limit);
+            let progress = self.read_one(alloc, side, choices.unfinished_limit, kinds);
             self.keep_goaways(keeps_last(choices));
             match progress {
                 Ok(Progress::Ends(fault)) => return Ok(fault),
@@ -348,13 +359,14 @@ impl PeerControl {
         alloc: Global,
         side: Side,
         own: &Announced,
+        kinds: FrameKinds,
     ) -> Result<Option<Code>, AllocError>
         requires { self.old.settings ≡ None }
-        ensures ok { IfOk result (λ fault. kept_found (keeps_last own.now.choices) (found_first side own.now self.old (read_peer own.now.choices.unfinished_limit side self.old)) ≡ (self.new, fault)) }
-        ensures refused { OnErr result (KeepsPart (keeps_last own.now.choices) own.now.choices.unfinished_limit side self.old self.new) }
+        ensures ok { IfOk result (λ fault. kept_found (keeps_last own.now.choices) (found_first side own.now self.old (read_peer kinds own.now.choices.unfinished_limit side self.old)) ≡ (self.new, fault)) }
+        ensures refused { OnErr result (KeepsPart kinds (keeps_last own.now.choices) own.now.choices.unfinished_limit side self.old self.new) }
         ensures taken { OnErr result (settings_refused side own.now self.new.settings ≡ false) }
     {
-        let progress = self.read_one(alloc, side, own.choices.unfinished_limit);
+        let progress = self.read_one(alloc, side, own.choices.unfinished_limit, kinds);
         self.keep_goaways(keeps_last(own.choices));
         match progress {
             Ok(Progress::Ends(fault)) => return Ok(fault),
@@ -365,6 +377,6 @@ impl PeerControl {
             self.unread = FrameBuffer::new(alloc);
             return Ok(Some(Code::H3_SETTINGS_ERROR));
         }
-        self.read(alloc, side, own.choices)
+        self.read(alloc, side, own.choices, kinds)
     }
 }

@@ -3,7 +3,7 @@ ghost use Rattle.std.specs.Prelude.{length, ◌≡◌, ◌-◌, ◌<◌, ◌^◌
 ghost use Rattle.h3_field.specs.Waiting.{goes_on, encoder_wait};
 ghost use Rattle.h3_qpack.specs.Hearing.{heard};
 ghost use Rattle.h3_qpack.specs.Increments.{increment_for};
-ghost use Rattle.h3_qpack.specs.DecoderState.{announcing};
+ghost use Rattle.h3_qpack.specs.DecoderState.{announcing, checking};
 ghost use Rattle.h3_qpack.specs.SectionAnswers.{IsReasonFor};
 ghost use Rattle.h3_connection.specs.Codes.{encoder_stream_error, excessive_load};
 ghost use Rattle.h3_connection.specs.ExcessiveInstructions.{hear_up_to};
@@ -45,13 +45,13 @@ impl Model for Decoding {
 }
 
 impl Decoding {
-    /// A decoder that announced this capacity, in bytes.
-    pub fn new(alloc: Global, capacity: usize) -> Decoding
+    /// A decoder that announced this capacity, in bytes, and holds sections to their required insert counts, or does not.
+    pub fn new(alloc: Global, capacity: usize, checks_counts: bool) -> Decoding
         requires { capacity < 2 ^ 30 }
-        ensures { result ≡ record { decoder = announcing capacity; unread = [] } }
+        ensures { result ≡ record { decoder = checking checks_counts (announcing capacity); unread = [] } }
     {
         Decoding {
-            decoder: Decoder::announced(alloc, capacity),
+            decoder: Decoder::announced(alloc, capacity).checking_counts(checks_counts),
             unread: Vec::new(alloc),
             wait: Wait::Bytes(1),
         }

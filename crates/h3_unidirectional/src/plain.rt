@@ -1,5 +1,6 @@
 //! Roles that the type of a stream alone tells (RFC 9114, section 6.2): of such a stream nothing is kept but its role.
 ghost use Rattle.std.specs.Prelude.{◌≡◌, ◌≤◌, ℕ, List, [], false, length, drop, IfSome};
+ghost use Rattle.h3_connection.specs.StrictConnection.{knows_sessions};
 ghost use Rattle.h3_connection.specs.Unidirectional.{Role, is_critical, role_after};
 ghost use Rattle.h3_connection.specs.Unidirectional.Role.{Untold};
 ghost use Rattle.h3_unidirectional.specs.Kinds.{role_of, plain, is_untold, TellsFirst, received_by};
@@ -7,6 +8,7 @@ ghost use Rattle.h3_unidirectional.specs.Told.{kind_in};
 
 use crate::stream::{Kind, Received, read_kind};
 use bytes::Bytes;
+use h3_connection::setup::Announced;
 
 /// A role that the type alone tells.
 #[derive(Clone, Copy)]
@@ -75,13 +77,13 @@ impl PlainRole {
 }
 
 /// What the first bytes of a stream tell if its type alone tells its role: the role, and how many of them the type takes.
-pub fn first_role(bytes: &[u8]) -> Option<(PlainRole, usize)>
-    ensures told { IfSome result (λ first. role_after (Untold []) bytes.now ≡ (plain first.0, drop first.1 bytes.now)) }
+pub fn first_role(bytes: &[u8], own: &Announced) -> Option<(PlainRole, usize)>
+    ensures told { IfSome result (λ first. role_after (knows_sessions own.now) (Untold []) bytes.now ≡ (plain first.0, drop first.1 bytes.now)) }
     ensures within { IfSome result (λ first. first.1 ≤ length bytes.now) }
-    ensures front { (r : Role) (rest : List ℕ) → is_untold r ≡ false → role_after (Untold []) bytes.now ≡ (r, rest) → TellsFirst (Untold []) bytes.now r rest }
+    ensures front { (r : Role) (rest : List ℕ) → is_untold r ≡ false → role_after (knows_sessions own.now) (Untold []) bytes.now ≡ (r, rest) → TellsFirst (knows_sessions own.now) (Untold []) bytes.now r rest }
 {
     let mut ahead = bytes;
-    let Some(kind) = read_kind(&mut ahead) else {
+    let Some(kind) = read_kind(&mut ahead, own) else {
         return None;
     };
     let Some(role) = PlainRole::of(kind) else {

@@ -3,6 +3,7 @@ ghost use Rattle.std.specs.Prelude.{◌≡◌, ◌+◌, ◌-◌, ◌<◌, ◌≤
 ghost use Rattle.std.specs.List.{concat};
 ghost use Rattle.h3_coding.specs.Varint.{varint_at};
 ghost use Rattle.h3_connection.specs.Keeping.{is_settled_session};
+ghost use Rattle.h3_connection.specs.StrictConnection.{knows_sessions};
 ghost use Rattle.h3_connection.specs.Unidirectional.{Role, untold, is_closed, is_critical, role_after, with_bytes, may_be_session, untold_pull, raw, if_over, pull_unidirectional};
 ghost use Rattle.h3_connection.specs.Unidirectional.Role.{Untold, Session};
 ghost use Rattle.h3_unidirectional.specs.Kinds.{role_of, is_told_kind, is_untold, Tells, TellsFirst, received_by};
@@ -11,6 +12,7 @@ ghost use Rattle.h3_unidirectional.specs.Told.{kind_in};
 use bytes::{Buf, Bytes};
 use h3_coding::coding::BufExt;
 use h3_connection::event::{Fault, Item, Pull, StreamFault};
+use h3_connection::setup::Announced;
 use h3_proto::stream::StreamType;
 use h3_proto::webtransport::SessionId;
 use h3_wire::buf::BufList;
@@ -84,9 +86,9 @@ impl Model for UnidirectionalStream {
 
 // RFC 9114 6.2: type of a unidirectional stream
 /// Reads what a stream begins with: its type, and the id after it if it is a push stream (RFC 9114, section 4.6) or one of a
-/// WebTransport session. `None` if that is not whole.
-pub(crate) fn read_kind<B: Buf>(buf: &mut B) -> Option<Kind>
-    ensures { Tells (B.unread buf.old) (B.unread buf.new) result }
+/// WebTransport session. `None` if that is not whole. If sessions are not known theirs is a type without a meaning (RFC 9114, section 9).
+pub(crate) fn read_kind<B: Buf>(buf: &mut B, own: &Announced) -> Option<Kind>
+    ensures { Tells (knows_sessions own.now) (B.unread buf.old) (B.unread buf.new) result }
 {
     let Ok(number) = buf.get_var() else {
         return None;
@@ -108,6 +110,9 @@ pub(crate) fn read_kind<B: Buf>(buf: &mut B) -> Option<Kind>
             let Ok(session) = SessionId::try_from(id) else {
                 return None;
             };
+            if !own.knows_sessions() {
+                return Some(Kind::Ignored);
+            }
             Some(Kind::Session(session))
         }
         _ => Some(Kind::Ignored),
@@ -267,14 +272,14 @@ impl UnidirectionalStream {
     }
 
     /// The role is not known: the first bytes, with these after them, tell it.
-    fn tell(&mut self, bytes: Bytes) -> Result<Received, Bytes>
+    fn tell(&mut self, own: &Announced, bytes: Bytes) -> Result<Received, Bytes>
         requires untold { is_untold self.old.role ≡ true }
         requires fits { length (concat self.old.unread) + length bytes < 2 ^ 64 }
-        ensures ok { IfOk result (λ received. (self.new ≡ with_bytes self.old (role_after self.old.role bytes)) × (received ≡ received_by (role_after self.old.role bytes))) }
+        ensures ok { IfOk result (λ received. (self.new ≡ with_bytes self.old (role_after (knows_sessions own.now) self.old.role bytes)) × (received ≡ received_by (role_after (knows_sessions own.now) self.old.role bytes))) }
         ensures err { IfErr result (λ back. (back ≡ bytes) × (self.new ≡ self.old)) }
     {
         let mut both = self.front.as_slice().chain(bytes.as_slice());
-        let kind = read_kind(&mut both);
+        let kind = read_kind(&mut both, own);
         let left = both.remaining();
         match kind {
             Some(kind) => {
@@ -293,15 +298,15 @@ impl UnidirectionalStream {
     /// Bytes come: they tell the role, or are for it. What a session got is stored as it is, with no copy but of small pieces. An `Err`
     /// changes nothing, and returns the bytes. What tells a role stands in front of the bytes that are for it.
     #[tactic(auto, using(crate::proofs::Heads::tells_first))]
-    pub fn receive(&mut self, bytes: Bytes) -> Result<Received, Bytes>
+    pub fn receive(&mut self, own: &Announced, bytes: Bytes) -> Result<Received, Bytes>
         requires { length (concat self.old.unread) + length bytes < 2 ^ 64 }
-        ensures front { (r : Role) (rest : List ℕ) → is_untold r ≡ false → role_after self.old.role bytes ≡ (r, rest) → TellsFirst self.old.role bytes r rest }
-        ensures ok { IfOk result (λ received. (self.new ≡ with_bytes self.old (role_after self.old.role bytes)) × (received ≡ received_by (role_after self.old.role bytes))) }
+        ensures front { (r : Role) (rest : List ℕ) → is_untold r ≡ false → role_after (knows_sessions own.now) self.old.role bytes ≡ (r, rest) → TellsFirst (knows_sessions own.now) self.old.role bytes r rest }
+        ensures ok { IfOk result (λ received. (self.new ≡ with_bytes self.old (role_after (knows_sessions own.now) self.old.role bytes)) × (received ≡ received_by (role_after (knows_sessions own.now) self.old.role bytes))) }
         ensures err { IfErr result (λ back. (back ≡ bytes) × (self.new ≡ self.old)) }
     {
         let kind = self.kind;
         match kind {
-            Kind::Untold => self.tell(bytes),
+            Kind::Untold => self.tell(own, bytes),
             Kind::Control => self.take(Kind::Control, bytes, 0),
             Kind::Encoder => self.take(Kind::Encoder, bytes, 0),
             Kind::Decoder => self.take(Kind::Decoder, bytes, 0),

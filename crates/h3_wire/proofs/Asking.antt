@@ -16,7 +16,7 @@ use Rattle.h3_wire.specs.declared.frame.payload_left.PayloadLeft.{PayloadLeft}
 use Rattle.h3_wire.specs.declared.stream.Received.{Received}
 use Rattle.h3_wire.specs.Source.{Answer, Asked, done, more}
 use Rattle.h3_wire.specs.Buffering.{AnswersFrom, buffered, ended, asked, ends}
-use Rattle.h3_wire.specs.Frames.{Front, Whole, Unknown, Refused, Unfinished, frame_at}
+use Rattle.h3_wire.specs.Frames.{Front, Whole, Unknown, Refused, Unfinished, frame_at, plain_frames}
 use Rattle.h3_wire.specs.Given.{piece_in}
 use Rattle.h3_wire.specs.Known.{known, refusal, IsWaiting, Gives}
 use Rattle.h3_wire.specs.Pieces.{ending}
@@ -113,7 +113,7 @@ waiting_is (Whole f rest) bytes h = absurd h
 waiting_is (Unknown kind rest) bytes h = absurd h
 waiting_is (Refused e) bytes h = absurd h
 
-given_is : (found : Result (Option (Frame PayloadLen)) FrameStreamError) (old new : List ℕ) → Gives found old new
+given_is : (found : Result (Option (Frame PayloadLen)) FrameStreamError) (old new : List ℕ) → Gives plain_frames found old new
     → (found ≡ Err stream.OutOfMemory) ⊎ ((found ≡ found_at (frame_at (known old))) × (new ≡ left_at (frame_at (known old)) (known old)))
 given_is (Ok (Some f)) old new h = inr (sym (ap found_at h), sym (ap (λ x. left_at x (known old)) h))
 given_is (Ok None) old new h =
@@ -127,7 +127,7 @@ given_is (Err (stream.Quic e)) old new h = absurd h
 given_is (Err stream.UnexpectedEnd) old new h = absurd h
 
 -- A decoder gives what the bytes say.
-pub same_gives : (found found' : Result (Option (Frame PayloadLen)) FrameStreamError) (old new new' : List ℕ) → Gives found old new → Gives found' old new'
+pub same_gives : (found found' : Result (Option (Frame PayloadLen)) FrameStreamError) (old new new' : List ℕ) → Gives plain_frames found old new → Gives plain_frames found' old new'
     → (found ≡ Err stream.OutOfMemory) ⊎ ((found' ≡ Err stream.OutOfMemory) ⊎ ((found ≡ found') × (new ≡ new')))
 same_gives found found' old new new' g h = elim (given_is found old new g) [
   | inl m ↦ inl m

@@ -6,10 +6,11 @@ use Rattle.std.proofs.lemmas.List.{drop-append-le}
 use Rattle.h3_coding.specs.Varint.{varint_at}
 use Rattle.h3_coding.specs.VarintLaws.{of_front, reads_more}
 use Rattle.h3_wire.specs.declared.proto.frame.Frame.TheVariants as frame
-use Rattle.h3_wire.specs.Frames.{Whole, BeginsWithHead, IsHeadersFrame, frame_at}
+use Rattle.h3_wire.specs.Frames.{Whole, BeginsWithHead, IsHeadersFrame, frame_by}
 use Rattle.h3_wire.specs.FrameLaws.{at_head}
 use Rattle.h3_wire.proofs.Chunks.{first_within}
 use Rattle.h3_wire.specs.Pieces.{first_bytes, first_size}
+use Rattle.h3_wire.specs.declared.frame.kinds.FrameKinds.{FrameKinds}
 
 -- a form of one byte
 pub one_byte : (n : ℕ) (bytes : List ℕ) → 0 < length bytes → n ≡ slice_index bytes 0 → n < 64 → varint_at bytes ≡ Some (n, drop 1 bytes)
@@ -46,8 +47,8 @@ first_length [] = refl
 first_length (p ∷ pieces) = refl
 
 -- the head of a DATA frame
-pub data_at : (number : ℕ) (bytes behind : List ℕ) → BeginsWithHead 0 number bytes behind → frame_at bytes ≡ Whole (frame.Data (record { 0 = number })) behind
-data_at number bytes behind h = at_head 0 number bytes h.0 behind h.1 h.2
+pub data_at : (kinds : FrameKinds) (number : ℕ) (bytes behind : List ℕ) → BeginsWithHead 0 number bytes behind → frame_by kinds bytes ≡ Whole (frame.Data (record { 0 = number })) behind
+data_at kinds number bytes behind h = at_head kinds 0 number bytes h.0 behind h.1 h.2
 
 -- a HEADERS frame that lies in the first piece
 pub headers_in_first : (number size : ℕ) (pieces : List (List ℕ)) (bytes : List ℕ) → bytes ≡ first_bytes pieces → size ≤ length bytes → number ≤ length bytes - size → BeginsWithHead 1 number bytes (drop size bytes)

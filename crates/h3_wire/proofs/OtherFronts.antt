@@ -1,5 +1,5 @@
 -- Whether bytes begin with a frame that is not SETTINGS, by the numbers that are read of them.
-use Rattle.std.proofs.Common.{◌≡◌, ℕ, ◌<◌, Bool, true, false, not, ◌&&◌, ◌==◌, List, ◌++◌, Option, Some, None, refl, sym, ap, ◌∙◌, subst}
+use Rattle.std.proofs.Common.{◌≡◌, ℕ, ◌<◌, Bool, true, false, not, ◌&&◌, ◌==◌, List, ◌++◌, Some, None, refl, sym, ap, ◌∙◌}
 use Rattle.std.specs.Prelude.{is_some}
 use Rattle.std.specs.List.{concat}
 use Rattle.h3_coding.specs.Varint.{varint_at}
@@ -7,6 +7,7 @@ use Rattle.h3_wire.specs.FirstFrames.{begins_other, is_other}
 use Rattle.h3_wire.specs.UnknownSize.{AreLetGo, unknown_size}
 use Rattle.h3_wire.proofs.LettingGo.{tests, unknown_head}
 use Rattle.h3_wire.proofs.SparedPieces.{none_in_front, size_with_more}
+use Rattle.h3_wire.specs.declared.frame.kinds.FrameKinds.{FrameKinds}
 
 and_right : (b : Bool) → (b && false) ≡ false
 and_right true = refl
@@ -26,15 +27,15 @@ pub head_begins : (kind number : ℕ) (bytes mid behind : List ℕ) → varint_a
 head_begins kind number bytes mid behind is there = sym (ap is_other is ∙ ap (λ o. not (kind == 4) && is_some o) there ∙ and_true (not (kind == 4)))
 
 -- an unknown frame is none
-unknown_begins : (bytes : List ℕ) (size : ℕ) → unknown_size bytes ≡ Some size → true ≡ begins_other bytes
-unknown_begins bytes size is =
-    let h = unknown_head bytes size is in
-    let t = tests h.kind h.unknown in
+unknown_begins : (kinds : FrameKinds) (bytes : List ℕ) (size : ℕ) → unknown_size kinds bytes ≡ Some size → true ≡ begins_other bytes
+unknown_begins kinds bytes size is =
+    let h = unknown_head kinds bytes size is in
+    let t = tests kinds h.kind h.unknown in
     sym (ap not t.settings) ∙ head_begins h.kind h.number bytes h.mid h.behind h.kind_at h.number_at
 
 -- so where some of one were let go
-pub spared_begins : (front kept : List (List ℕ)) (size gone : ℕ) → AreLetGo size gone front → 0 < size → true ≡ begins_other (concat (front ++ kept))
-spared_begins front kept size gone h some = unknown_begins (concat (front ++ kept)) size (size_with_more front kept size (h.unknown some))
+pub spared_begins : (session : Bool) (front kept : List (List ℕ)) (size gone : ℕ) → AreLetGo session size gone front → 0 < size → true ≡ begins_other (concat (front ++ kept))
+spared_begins session front kept size gone h some = unknown_begins _ (concat (front ++ kept)) size (size_with_more _ front kept size (h.unknown some))
 
-pub kept_begins : (front kept : List (List ℕ)) (size gone : ℕ) → AreLetGo size gone front → size ≡ 0 → begins_other (concat kept) ≡ begins_other (concat (front ++ kept))
-kept_begins front kept size gone h none = ap begins_other (none_in_front size gone front kept h none)
+pub kept_begins : (session : Bool) (front kept : List (List ℕ)) (size gone : ℕ) → AreLetGo session size gone front → size ≡ 0 → begins_other (concat kept) ≡ begins_other (concat (front ++ kept))
+kept_begins session front kept size gone h none = ap begins_other (none_in_front session size gone front kept h none)

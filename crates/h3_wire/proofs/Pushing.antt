@@ -4,9 +4,10 @@ use Rattle.std.specs.Prelude.{Result, Ok, Err, OnOk, OnErr}
 use Rattle.std.specs.List.{concat}
 use Rattle.h3_wire.specs.Tries.{Decoding, Expects}
 use Rattle.h3_wire.specs.TryLaws.{Awaits-more}
+use Rattle.h3_wire.specs.declared.frame.kinds.FrameKinds.{FrameKinds}
 
 -- Where they are kept, and where they are not, a decoder may count on what it did.
-pub expects_pushed : {A E : Type 0} (r : Result A E) (d : Decoding) (old new : List (List ℕ)) (bytes : List ℕ) → Expects d (concat old) → OnOk r (concat new ≡ concat old ++ bytes) → OnErr r (new ≡ old)
-    → Expects d (concat new)
-expects_pushed (Ok value) d old new bytes h more same = subst (λ l. Expects d l) (sym more) (Awaits-more d.expected d.tries (concat old) bytes h)
-expects_pushed (Err e) d old new bytes h more same = subst (λ l. Expects d l) (ap concat (sym same)) h
+pub expects_pushed : (kinds : FrameKinds) {A E : Type 0} (r : Result A E) (d : Decoding) (old new : List (List ℕ)) (bytes : List ℕ) → Expects kinds d (concat old) → OnOk r (concat new ≡ concat old ++ bytes) → OnErr r (new ≡ old)
+    → Expects kinds d (concat new)
+expects_pushed kinds (Ok value) d old new bytes h more same = subst (λ l. Expects kinds d l) (sym more) (Awaits-more kinds d.expected d.tries (concat old) bytes h)
+expects_pushed kinds (Err e) d old new bytes h more same = subst (λ l. Expects kinds d l) (ap concat (sym same)) h

@@ -8,8 +8,8 @@ use Rattle.h3_wire.specs.declared.proto.frame.Frame.TheVariants as frame
 use Rattle.h3_wire.specs.declared.proto.frame.FrameError.{FrameError}
 use Rattle.h3_wire.specs.declared.frame.payload_left.PayloadLeft.{PayloadLeft}
 use Rattle.h3_wire.specs.declared.frame.payload_left.PayloadLeft.TheVariants as payload
-use Rattle.h3_wire.specs.Frames.{Front, Whole, Unknown, Refused, Unfinished, frame_at}
-use Rattle.h3_wire.specs.FrameLaws.{frame_at-more, frame_at-shorter, frame_at-nil}
+use Rattle.h3_wire.specs.Frames.{Front, Whole, Unknown, Refused, Unfinished, frame_at, plain_frames}
+use Rattle.h3_wire.specs.FrameLaws.{frame_by-more, frame_by-shorter, frame_by-nil}
 use Rattle.h3_wire.specs.Fronts.{IsFinished, IsShorter, with_more, IsKnown}
 use Rattle.h3_wire.specs.Encoded.{frame_encoding}
 use Rattle.h3_wire.specs.EncodedLaws.{written_headers}
@@ -28,7 +28,7 @@ front_same (Unfinished k) size bytes go to h same = refl
 
 none_left : (n : ℕ) (p : PayloadLeft) → reads_within n p [] ≡ Leaves [] p
 none_left zero p = refl
-none_left (suc n) (payload.Bytes zero) = ap (λ x. read_front x [] (reads_within n)) frame_at-nil
+none_left (suc n) (payload.Bytes zero) = ap (λ x. read_front x [] (reads_within n)) (frame_by-nil plain_frames)
 none_left (suc n) (payload.Bytes (suc k)) = refl
 none_left (suc n) payload.ToEnd = refl
 
@@ -37,7 +37,7 @@ within_same : (n m : ℕ) (p : PayloadLeft) (bytes : List ℕ) → length bytes 
 within_same zero m p bytes h k = let nil = nil_from_length bytes (omega arith) in ap (reads_within 0 p) nil ∙ sym (ap (reads_within m p) nil ∙ none_left m p)
 within_same (suc n) zero p bytes h k = let nil = nil_from_length bytes (omega arith) in ap (reads_within (suc n) p) nil ∙ none_left (suc n) p ∙ sym (ap (reads_within 0 p) nil)
 within_same (suc n) (suc m) (payload.Bytes zero) bytes h k =
-    front_same (frame_at bytes) (length bytes) bytes (reads_within n) (reads_within m) (frame_at-shorter bytes) (λ p rest less. within_same n m p rest (omega (arith, less)) (omega (arith, less)))
+    front_same (frame_at bytes) (length bytes) bytes (reads_within n) (reads_within m) (frame_by-shorter plain_frames bytes) (λ p rest less. within_same n m p rest (omega (arith, less)) (omega (arith, less)))
 within_same (suc n) (suc m) (payload.Bytes (suc c)) [] h k = refl
 within_same (suc n) (suc m) (payload.Bytes (suc c)) (b ∷ bytes) h k = ap (Byte b) (within_same n m (payload.Bytes c) bytes (omega arith) (omega arith))
 within_same (suc n) (suc m) payload.ToEnd [] h k = refl
@@ -50,9 +50,9 @@ reads-nil p = refl
 front_step : (n : ℕ) (bytes : List ℕ) → length bytes ≡ n → reads_within n (payload.Bytes 0) bytes ≡ read_front (frame_at bytes) bytes (λ p rest. reads_within (length rest) p rest)
 front_step zero bytes h =
     let nil = nil_from_length bytes h in
-    ap (reads_within 0 (payload.Bytes 0)) nil ∙ sym (ap (λ l. read_front (frame_at l) l (λ p rest. reads_within (length rest) p rest)) nil ∙ ap (λ x. read_front x [] (λ p rest. reads_within (length rest) p rest)) frame_at-nil)
+    ap (reads_within 0 (payload.Bytes 0)) nil ∙ sym (ap (λ l. read_front (frame_at l) l (λ p rest. reads_within (length rest) p rest)) nil ∙ ap (λ x. read_front x [] (λ p rest. reads_within (length rest) p rest)) (frame_by-nil plain_frames))
 front_step (suc n) bytes h =
-    front_same (frame_at bytes) (length bytes) bytes (reads_within n) (λ p rest. reads_within (length rest) p rest) (frame_at-shorter bytes) (λ p rest less. within_same n (length rest) p rest (omega (arith, less)) (omega arith))
+    front_same (frame_at bytes) (length bytes) bytes (reads_within n) (λ p rest. reads_within (length rest) p rest) (frame_by-shorter plain_frames bytes) (λ p rest less. within_same n (length rest) p rest (omega (arith, less)) (omega arith))
 
 -- the next frame, outside a payload
 pub reads-front : (bytes : List ℕ) → reads (payload.Bytes 0) bytes ≡ read_front (frame_at bytes) bytes reads
@@ -83,10 +83,10 @@ reads-unfinished k bytes e = reads-front bytes ∙ ap (λ x. read_front x bytes 
 reads_known_within : (n : ℕ) (bytes : List ℕ) → length bytes ≤ n → reads (payload.Bytes 0) (known bytes) ≡ reads (payload.Bytes 0) bytes
 reads_known_within zero bytes h =
     let nil = nil_from_length bytes (omega arith) in
-    ap (reads (payload.Bytes 0)) (known-other bytes (subst IsKnown (sym (ap frame_at nil ∙ frame_at-nil)) tt))
+    ap (reads (payload.Bytes 0)) (known-other plain_frames bytes (subst IsKnown (sym (ap frame_at nil ∙ frame_by-nil plain_frames)) tt))
 reads_known_within (suc n) bytes h = elim (cases_front (frame_at bytes)) [
-  | inl u ↦ ap (reads (payload.Bytes 0)) (known-unknown u.0 bytes u.1 u.2) ∙ reads_known_within n u.1 (omega (arith, unknown_shorter u.0 bytes u.1 u.2)) ∙ sym (reads-unknown u.0 bytes u.1 u.2)
-  | inr here ↦ ap (reads (payload.Bytes 0)) (known-other bytes here)
+  | inl u ↦ ap (reads (payload.Bytes 0)) (known-unknown plain_frames u.0 bytes u.1 u.2) ∙ reads_known_within n u.1 (omega (arith, unknown_shorter plain_frames u.0 bytes u.1 u.2)) ∙ sym (reads-unknown u.0 bytes u.1 u.2)
+  | inr here ↦ ap (reads (payload.Bytes 0)) (known-other plain_frames bytes here)
 ]
 
 pub reads-known : (bytes : List ℕ) → reads (payload.Bytes 0) (known bytes) ≡ reads (payload.Bytes 0) bytes
@@ -103,15 +103,15 @@ reads-bytes (b ∷ bytes) payload.ToEnd q rest h = reads-to_end b (bytes ++ rest
 
 front_more : (x : Front) (bytes more : List ℕ) → frame_at bytes ≡ x → ((p : PayloadLeft) (rest : List ℕ) → length rest < length bytes → reads p (rest ++ more) ≡ then_more (reads p rest) more) → reads (payload.Bytes 0) (bytes ++ more) ≡ then_more (reads (payload.Bytes 0) bytes) more
 front_more (Whole f rest) bytes more e same =
-    let there = frame_at-more bytes more (subst IsFinished (sym e) tt) ∙ ap (λ x. with_more x more) e in
-    let less : length rest < length bytes = subst (IsShorter (length bytes)) e (frame_at-shorter bytes) in
+    let there = frame_by-more plain_frames bytes more (subst IsFinished (sym e) tt) ∙ ap (λ x. with_more x more) e in
+    let less : length rest < length bytes = subst (IsShorter (length bytes)) e (frame_by-shorter plain_frames bytes) in
     reads-whole f (bytes ++ more) (rest ++ more) there ∙ ap (Framed f) (same (payload_behind f) rest less) ∙ sym (ap (λ r. then_more r more) (reads-whole f bytes rest e))
 front_more (Unknown kind rest) bytes more e same =
-    let there = frame_at-more bytes more (subst IsFinished (sym e) tt) ∙ ap (λ x. with_more x more) e in
-    let less : length rest < length bytes = subst (IsShorter (length bytes)) e (frame_at-shorter bytes) in
+    let there = frame_by-more plain_frames bytes more (subst IsFinished (sym e) tt) ∙ ap (λ x. with_more x more) e in
+    let less : length rest < length bytes = subst (IsShorter (length bytes)) e (frame_by-shorter plain_frames bytes) in
     reads-unknown kind (bytes ++ more) (rest ++ more) there ∙ same (payload.Bytes 0) rest less ∙ sym (ap (λ r. then_more r more) (reads-unknown kind bytes rest e))
 front_more (Refused e') bytes more e same =
-    let there = frame_at-more bytes more (subst IsFinished (sym e) tt) ∙ ap (λ x. with_more x more) e in
+    let there = frame_by-more plain_frames bytes more (subst IsFinished (sym e) tt) ∙ ap (λ x. with_more x more) e in
     reads-refused e' (bytes ++ more) there ∙ sym (ap (λ r. then_more r more) (reads-refused e' bytes e))
 front_more (Unfinished k) bytes more e same = sym (ap (λ r. then_more r more) (reads-unfinished k bytes e))
 
@@ -131,12 +131,12 @@ reads-more p bytes more = reads_more_within (length bytes) p bytes more (omega a
 
 -- a HEADERS frame as it is written
 pub reads_headers : (section rest : List ℕ) → length section < 2 ^ 62 → reads (payload.Bytes 0) (frame_encoding 1 section ++ rest) ≡ Framed (frame.Headers section) (reads (payload.Bytes 0) rest)
-reads_headers section rest h = reads-whole _ _ rest (written_headers section rest h)
+reads_headers section rest h = reads-whole _ _ rest (written_headers plain_frames section rest h)
 
 -- a DATA frame as it is written
 pub reads_data : (bytes rest : List ℕ) → length bytes < 2 ^ 62 → reads (payload.Bytes 0) (frame_encoding 0 bytes ++ rest) ≡ Framed (frame.Data (record { 0 = length bytes })) (bytes_then bytes (reads (payload.Bytes 0) rest))
 reads_data bytes rest h =
-    reads-whole _ _ (bytes ++ rest) (written_data bytes rest h)
+    reads-whole _ _ (bytes ++ rest) (written_data plain_frames bytes rest h)
     ∙ ap (Framed (frame.Data (record { 0 = length bytes }))) (reads-bytes bytes (payload.Bytes (length bytes)) (payload.Bytes 0) rest (omega arith, ap payload.Bytes (omega arith)))
 
 -- no payload is under way

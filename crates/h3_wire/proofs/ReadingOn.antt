@@ -15,11 +15,12 @@ use Rattle.h3_wire.specs.Reads.{Framed, reads}
 use Rattle.h3_wire.proofs.ReadAlike.{closed_is, reads-known, reads-whole, reads-refused, reads-bytes}
 use Rattle.h3_wire.specs.ReadsOn.{reads_on, ReadsFrame, ReadsData}
 use Rattle.h3_wire.proofs.Gives.{whole_behind, refused_behind}
+use Rattle.h3_wire.specs.Frames.{plain_frames}
 
 -- bytes with the same known part read alike, whatever follows
 alike : (a b more : List ℕ) → known a ≡ known b → reads (payload.Bytes 0) (a ++ more) ≡ reads (payload.Bytes 0) (b ++ more)
 alike a b more e =
-    sym (reads-known (a ++ more)) ∙ ap (reads (payload.Bytes 0)) (known-more a more ∙ ap (λ l. known (l ++ more)) e ∙ sym (known-more b more)) ∙ reads-known (b ++ more)
+    sym (reads-known (a ++ more)) ∙ ap (reads (payload.Bytes 0)) (known-more plain_frames a more ∙ ap (λ l. known (l ++ more)) e ∙ sym (known-more plain_frames b more)) ∙ reads-known (b ++ more)
 
 same_part : {S : Type 0} (rest : S → List ℕ) (old new : Framing S) (more : List ℕ) → is_open old.payload ≡ false → known (left rest new) ≡ known (left rest old) → new.payload ≡ old.payload → reads_on rest old more ≡ reads_on rest new more
 same_part rest old new more h k p =
@@ -29,15 +30,15 @@ same_part rest old new more h k p =
 pub polls_read : {S : Type 0} (rest : S → List ℕ) (answers : S → Answer → S → Type 0) (r : Poll (Result (Option (Frame PayloadLen)) FrameStreamError)) (old new : Framing S) → is_open old.payload ≡ false → PollsFrame rest answers r old new → (more : List ℕ) → ReadsFrame rest r old new more
 polls_read rest answers (Ready (Ok (Some f))) old new h p more =
     ap (λ x. reads x (left rest old ++ more)) (closed_is old.payload h) ∙ sym (reads-known (left rest old ++ more))
-    ∙ reads-whole f (known (left rest old ++ more)) (left rest new ++ more) (whole_behind f (left rest old) (left rest new) more p.0)
+    ∙ reads-whole f (known (left rest old ++ more)) (left rest new ++ more) (whole_behind plain_frames f (left rest old) (left rest new) more p.0)
     ∙ ap (λ x. Framed f (reads x (left rest new ++ more))) (sym p.1)
-polls_read rest answers (Ready (Ok None)) old new h p more = same_part rest old new more h (ap known p.1 ∙ ap known (sym p.0) ∙ known_known (left rest old)) p.3
+polls_read rest answers (Ready (Ok None)) old new h p more = same_part rest old new more h (ap known p.1 ∙ ap known (sym p.0) ∙ known_known plain_frames (left rest old)) p.3
 polls_read rest answers (Ready (Err (stream.Proto e))) old new h p more =
-    let r = refused_behind (refusal e) (left rest old) (left rest new) more p.0 p.1 in
+    let r = refused_behind plain_frames (refusal e) (left rest old) (left rest new) more p.0 p.1 in
     ap (λ x. reads x (left rest old ++ more)) (closed_is old.payload h) ∙ sym (reads-known (left rest old ++ more))
     ∙ ap (reads (payload.Bytes 0)) (sym r.0) ∙ reads-refused (refusal e) (left rest new ++ more) r.1
 polls_read rest answers (Ready (Err (stream.Quic e))) old new h p more = same_part rest old new more h p.0 p.2
-polls_read rest answers (Ready (Err stream.UnexpectedEnd)) old new h p more = same_part rest old new more h (ap known p.0 ∙ known_known (left rest old)) p.4
+polls_read rest answers (Ready (Err stream.UnexpectedEnd)) old new h p more = same_part rest old new more h (ap known p.0 ∙ known_known plain_frames (left rest old)) p.4
 polls_read rest answers (Ready (Err stream.OutOfMemory)) old new h p more = same_part rest old new more h p.0 p.1
 polls_read rest answers Pending old new h p more = same_part rest old new more h p.0 p.3
 

@@ -8,50 +8,53 @@ use Rattle.h3_coding.specs.VarintLaws.{none_at_end}
 use Rattle.h3_proto.specs.Config.{is_limit}
 use Rattle.h3_wire.specs.ExcessiveFrames.{begins_section, is_excessive, is_kept_whole, says_too_much}
 use Rattle.h3_wire.specs.ExcessiveLaws.{none_left, unknown_begins, unknown_says}
-use Rattle.h3_wire.specs.Known.{known}
+use Rattle.h3_wire.specs.Frames.{is_session}
+use Rattle.h3_wire.specs.Known.{known_by}
 use Rattle.h3_wire.specs.KnownLaws.{known-unknown}
-use Rattle.h3_wire.specs.UnknownSize.{AreLetGo, is_known_type, unknown_size}
+use Rattle.h3_wire.specs.UnknownSize.{AreLetGo, is_known_type, suits, unknown_size}
 use Rattle.h3_wire.proofs.SparedPieces.{none_in_front, size_with_more}
+use Rattle.h3_wire.proofs.SuitingKinds.{unknown_suits}
 use Rattle.h3_wire.proofs.LettingGo.{inside, tests, unknown_head, unknown_whole}
+use Rattle.h3_wire.specs.declared.frame.kinds.FrameKinds.{FrameKinds}
 
 none_of : (b : Bool) → false ≡ (b && false)
 none_of true = refl
 none_of false = refl
 
 -- With nothing there, nothing is too long.
-pub nothing_is_long : (most : ℕ) (bytes : List ℕ) → length bytes ≡ 0 → false ≡ is_excessive most (known bytes)
-unfolding known
-nothing_is_long most [] e = none_of (is_limit most) ∙ ap (λ o. is_limit most && says_too_much most o) (sym none_at_end)
-nothing_is_long most (byte ∷ bytes) e = absurd (omega (arith, e))
+pub nothing_is_long : (kinds : FrameKinds) (most : ℕ) (bytes : List ℕ) → length bytes ≡ 0 → false ≡ is_excessive most (known_by kinds bytes)
+unfolding known_by
+nothing_is_long kinds most [] e = none_of (is_limit most) ∙ ap (λ o. is_limit most && says_too_much most o) (sym none_at_end)
+nothing_is_long kinds most (byte ∷ bytes) e = absurd (omega (arith, e))
 
-none_kept : (kind : ℕ) → is_known_type kind ≡ false → is_kept_whole kind ≡ false
-none_kept kind unknown = by_test (is_kept_whole kind) refl
+pub none_kept : (kinds : FrameKinds) (kind : ℕ) → is_known_type kinds kind ≡ false → is_kept_whole kind ≡ false
+none_kept kinds kind unknown = by_test (is_kept_whole kind) refl
   where
     by_test : (b : Bool) → is_kept_whole kind ≡ b → b ≡ false
     by_test false e = refl
     by_test true e =
-        let t = tests kind unknown in
+        let t = tests kinds kind unknown in
         absurd (none_left kind e t.headers t.cancel t.settings t.promise t.goaway t.most t.http2)
 
-none_handed : (kind : ℕ) → is_known_type kind ≡ false → ((kind == 0) || (kind == 0x41)) ≡ false
-none_handed kind unknown = let t = tests kind unknown in rw (t.plain, t.session) refl
+none_handed : (kinds : FrameKinds) (kind : ℕ) → is_known_type kinds kind ≡ false → ((kind == 0) || is_session kinds kind) ≡ false
+none_handed kinds kind unknown = let t = tests kinds kind unknown in rw (t.plain, t.session) refl
 
 -- While it is under way no frame is told as too long.
-pub none_under_way : (most : ℕ) (bytes : List ℕ) (size : ℕ) → unknown_size bytes ≡ Some size → length bytes < size → is_excessive most (known bytes) ≡ false
-none_under_way most bytes size is few =
-    let h = unknown_head bytes size is in
-    let short : length h.behind < h.number = omega (arith, h.size_is, few, inside bytes size h) in
-    unknown_says most h.kind h.number bytes h.mid h.behind (none_kept h.kind h.unknown) (none_handed h.kind h.unknown) h.kind_at h.number_at short
+pub none_under_way : (kinds : FrameKinds) (most : ℕ) (bytes : List ℕ) (size : ℕ) → unknown_size kinds bytes ≡ Some size → length bytes < size → is_excessive most (known_by kinds bytes) ≡ false
+none_under_way kinds most bytes size is few =
+    let h = unknown_head kinds bytes size is in
+    let short : length h.behind < h.number = omega (arith, h.size_is, few, inside _ bytes size h) in
+    unknown_says kinds most h.kind h.number bytes h.mid h.behind (none_kept kinds h.kind h.unknown) (none_handed kinds h.kind h.unknown) h.kind_at h.number_at short
 
-pub none_begins : (bytes : List ℕ) (size : ℕ) → unknown_size bytes ≡ Some size → length bytes < size → begins_section (known bytes) ≡ false
-none_begins bytes size is few =
-    let h = unknown_head bytes size is in
-    let short : length h.behind < h.number = omega (arith, h.size_is, few, inside bytes size h) in
-    unknown_begins h.kind h.number bytes h.mid h.behind (none_kept h.kind h.unknown) (none_handed h.kind h.unknown) h.kind_at h.number_at short
+pub none_begins : (kinds : FrameKinds) (bytes : List ℕ) (size : ℕ) → unknown_size kinds bytes ≡ Some size → length bytes < size → begins_section (known_by kinds bytes) ≡ false
+none_begins kinds bytes size is few =
+    let h = unknown_head kinds bytes size is in
+    let short : length h.behind < h.number = omega (arith, h.size_is, few, inside _ bytes size h) in
+    unknown_begins kinds h.kind h.number bytes h.mid h.behind (none_kept kinds h.kind h.unknown) (none_handed kinds h.kind h.unknown) h.kind_at h.number_at short
 
 -- Once it is whole, what stands behind it tells.
-known_behind : (bytes : List ℕ) (size : ℕ) → unknown_size bytes ≡ Some size → size ≤ length bytes → known bytes ≡ known (drop size bytes)
-known_behind bytes size is all = let w = unknown_whole bytes size is all in known-unknown w.0 bytes (drop size bytes) w.1
+known_behind : (kinds : FrameKinds) (bytes : List ℕ) (size : ℕ) → unknown_size kinds bytes ≡ Some size → size ≤ length bytes → known_by kinds bytes ≡ known_by kinds (drop size bytes)
+known_behind kinds bytes size is all = let w = unknown_whole kinds bytes size is all in known-unknown kinds w.0 bytes (drop size bytes) w.1
 
 -- what is kept behind the frame is what is behind it of all
 behind_both : (front kept : List (List ℕ)) (size gone : ℕ) → gone ≡ length (concat front) → gone < size → drop (size - gone) (concat kept) ≡ drop size (concat (front ++ kept))
@@ -60,12 +63,12 @@ behind_both front kept size gone is less =
     sym (ap (drop size) (concat-append front kept) ∙ ap (λ n. drop n (concat front ++ concat kept)) sum ∙ drop-append-add (concat front) (concat kept) (size - gone))
 
 -- So the first frame that is not unknown is found behind what was let go, also where that is nothing.
-pub left_behind : (front kept : List (List ℕ)) (size gone : ℕ) → AreLetGo size gone front → size ≤ length (concat (front ++ kept)) → known (drop (size - gone) (concat kept)) ≡ known (concat (front ++ kept))
-left_behind front kept size gone h all = elim (cases_lt 0 size) [
+pub left_behind : (kinds : FrameKinds) (session : Bool) (front kept : List (List ℕ)) (size gone : ℕ) → suits session kinds ≡ true → AreLetGo session size gone front → size ≤ length (concat (front ++ kept)) → known_by kinds (drop (size - gone) (concat kept)) ≡ known_by kinds (concat (front ++ kept))
+left_behind kinds session front kept size gone fits h all = elim (cases_lt 0 size) [
   | inl some ↦
-      ap known (behind_both front kept size gone h.gone_is (h.under_way some)) ∙ sym (known_behind (concat (front ++ kept)) size (size_with_more front kept size (h.unknown some)) all)
+      ap (known_by kinds) (behind_both front kept size gone h.gone_is (h.under_way some)) ∙ sym (known_behind kinds (concat (front ++ kept)) size (unknown_suits session kinds (concat (front ++ kept)) size fits (size_with_more _ front kept size (h.unknown some))) all)
   | inr few ↦
       let zero : size ≡ 0 = omega (arith, few) in
       let none : size - gone ≡ 0 = omega (arith, zero) in
-      ap (λ n. known (drop n (concat kept))) none ∙ ap known (none_in_front size gone front kept h zero)
+      ap (λ n. known_by kinds (drop n (concat kept))) none ∙ ap (known_by kinds) (none_in_front session size gone front kept h zero)
 ]

@@ -1,6 +1,7 @@
 -- Pieces in front of a buffer that were let go.
 use Rattle.std.proofs.Common.{◌≡◌, true, false, ℕ, zero, suc, ◌+◌, ◌-◌, ◌<◌, ◌≤◌, List, [], ◌∷◌, ◌++◌, length, drop, arith, refl, sym, subst, ◌∙◌, ap, length-append, append_assoc, append-nil, if◌then◌else◌, OnOk, OnErr, Option, Some, None, Result, Ok, Err}
 use Rattle.std.specs.List.{concat}
+use Rattle.std.specs.Prelude.{Bool, is_none}
 use Rattle.std.proofs.lemmas.Bool.{le-ltb}
 use Rattle.std.proofs.lemmas.List.{length-drop}
 use Rattle.std.proofs.lemmas.List.Folds.{concat-append}
@@ -10,8 +11,8 @@ use Rattle.h3_wire.specs.declared.proto.frame.Frame.{Frame}
 use Rattle.h3_wire.specs.declared.frame.errors.FrameStreamError.{FrameStreamError}
 use Rattle.h3_wire.specs.declared.frame.errors.FrameStreamError.TheVariants as stream
 use Rattle.h3_wire.proofs.FrameRows.{truth_apart}
-use Rattle.h3_wire.specs.Frames.{Unknown, frame_at}
-use Rattle.h3_wire.specs.Known.{known, Gives, IsWaiting}
+use Rattle.h3_wire.specs.Frames.{Unknown, frame_by, plain_frames}
+use Rattle.h3_wire.specs.Known.{known_by, Gives, IsWaiting}
 use Rattle.h3_wire.proofs.Gives.{gives_fewer}
 use Rattle.h3_wire.specs.KnownLaws.{known-other, known-unknown}
 use Rattle.h3_wire.specs.Fronts.{IsKnown}
@@ -19,9 +20,11 @@ use Rattle.h3_wire.specs.PieceLaws.{concat-without, rest_is, rest_same, rest_the
 use Rattle.h3_wire.specs.Pieces.{without, with_piece, first_of, IsRest, ending}
 use Rattle.h3_wire.specs.Tries.{Decoding, Counts, Expects, no_try, finds_less, passes, needed, counted}
 use Rattle.h3_wire.proofs.Tries.{too_few, expects_next}
-use Rattle.h3_wire.specs.UnknownSize.{unknown_size, size_by, Sparing, AreLetGo, IsSpared, is_longer, is_under_way}
+use Rattle.h3_wire.specs.UnknownSize.{unknown_size, size_by, Sparing, AreLetGo, IsPassing, IsSpared, is_longer, is_under_way, let_go_by, suits}
 use Rattle.h3_wire.specs.UnreadFrames.{UnreadFrames, IsStillUnderWay, IsPassed}
 use Rattle.h3_wire.proofs.LettingGo.{unknown_more, unknown_waits, unknown_whole, unknown_has_head}
+use Rattle.h3_wire.proofs.SuitingKinds.{known_more, let_go, none_is, unknown_suits}
+use Rattle.h3_wire.specs.declared.frame.kinds.FrameKinds.{FrameKinds}
 
 abbrev first_in : Option (List ℕ) × List (List ℕ) → Option (List ℕ)
 first_in x = x.0
@@ -65,84 +68,103 @@ passed_bytes front pieces new size gone is less all e =
     ap concat (e ∙ sym (without_front front pieces (size - gone) (omega (arith, less))) ∙ ap (λ k. without k (front ++ pieces)) sum) ∙ concat-without size (front ++ pieces)
 
 -- a frame that is under way has its size, whatever is behind it
-pub size_with_more : (front pieces : List (List ℕ)) (size : ℕ) → unknown_size (concat front) ≡ Some size → unknown_size (concat (front ++ pieces)) ≡ Some size
-size_with_more front pieces size is = ap unknown_size (concat-append front pieces) ∙ unknown_more (concat front) (concat pieces) size is
+pub size_with_more : (kinds : FrameKinds) (front pieces : List (List ℕ)) (size : ℕ) → unknown_size kinds (concat front) ≡ Some size → unknown_size kinds (concat (front ++ pieces)) ≡ Some size
+size_with_more kinds front pieces size is = ap (unknown_size kinds) (concat-append front pieces) ∙ unknown_more kinds (concat front) (concat pieces) size is
+
+-- and one that is known stays known
+known_with_more : (front pieces : List (List ℕ)) (size : ℕ) (session : Bool) → unknown_size (let_go_by session) (concat front) ≡ Some size → unknown_size plain_frames (concat front) ≡ None → unknown_size plain_frames (concat (front ++ pieces)) ≡ None
+known_with_more front pieces size session is none = ap (unknown_size plain_frames) (concat-append front pieces) ∙ known_more (let_go_by session) (concat front) (concat pieces) size is none
+
+-- What the frame under way says of all pieces.
+pub is_passing : (session : Bool) (passing gone : ℕ) (front pieces : List (List ℕ)) → AreLetGo session passing gone front → IsPassing (record { pieces = front ++ pieces; passing = passing; session = session })
+is_passing session passing gone front pieces h = record {
+  plain = h.plain;
+  unknown = λ some. size_with_more _ front pieces passing (h.unknown some);
+  known = λ some is. known_with_more front pieces passing session (h.unknown some) (h.known some is);
+}
+
+pub passing_by : (kinds : FrameKinds) (s : Sparing) (size : ℕ) → IsPassing s → 0 < size → size ≡ s.passing → suits s.session kinds ≡ true → unknown_size kinds (concat s.pieces) ≡ Some size
+passing_by kinds s size is some e fits = unknown_suits s.session kinds (concat s.pieces) size fits (is.unknown (omega (arith, some, e)) ∙ ap Some (sym e))
 
 -- more of the frame is let go
-pub more_let_go : (passing gone : ℕ) (front pieces : List (List ℕ)) → AreLetGo passing gone front → gone + length (concat pieces) < passing → AreLetGo passing (gone + length (concat pieces)) (front ++ pieces)
-more_let_go passing gone front pieces h few = record {
+pub more_let_go : (session : Bool) (passing gone : ℕ) (front pieces : List (List ℕ)) → AreLetGo session passing gone front → gone + length (concat pieces) < passing → AreLetGo session passing (gone + length (concat pieces)) (front ++ pieces)
+more_let_go session passing gone front pieces h few = record {
   gone_is = omega (arith, h.gone_is, size_of_both front pieces);
   none = λ e. absurd (omega (arith, e, few));
-  unknown = λ some. size_with_more front pieces passing (h.unknown some);
+  plain = h.plain;
+  unknown = λ some. size_with_more _ front pieces passing (h.unknown some);
+  known = λ some is. known_with_more front pieces passing session (h.unknown some) (h.known some is);
   under_way = λ some. few;
 }
 
 -- and the first of it
-pub first_let_go : (size : ℕ) (pieces : List (List ℕ)) → unknown_size (concat pieces) ≡ Some size → length (concat pieces) < size → AreLetGo size (length (concat pieces)) pieces
-first_let_go size pieces is few = record {
+pub first_let_go : (kinds : FrameKinds) (size : ℕ) (session : Bool) (pieces : List (List ℕ)) → unknown_size kinds (concat pieces) ≡ Some size → session ≡ is_none (unknown_size plain_frames (concat pieces)) → length (concat pieces) < size → AreLetGo session size (length (concat pieces)) pieces
+first_let_go kinds size session pieces is told few = record {
   gone_is = refl;
   none = λ e. absurd (omega (arith, e, few));
-  unknown = λ some. is;
+  plain = λ e. absurd (omega (arith, e, few));
+  unknown = λ some. subst (λ b. unknown_size (let_go_by b) (concat pieces) ≡ Some size) (sym told) (let_go kinds (concat pieces) size (unknown_size plain_frames (concat pieces)) is refl);
+  known = λ some true_is. none_is (unknown_size plain_frames (concat pieces)) (sym told ∙ true_is);
   under_way = λ some. few;
 }
 
 -- nothing
-pub none_let_go : AreLetGo 0 0 []
-none_let_go = record { gone_is = refl; none = λ e. refl; unknown = λ some. absurd (omega (arith, some)); under_way = λ some. absurd (omega (arith, some)) }
+pub none_let_go : AreLetGo false 0 0 []
+none_let_go = record { gone_is = refl; none = λ e. refl; plain = λ e. refl; unknown = λ some. absurd (omega (arith, some)); known = λ some is. absurd (omega (arith, some)); under_way = λ some. absurd (omega (arith, some)) }
 
-pub gone_and_kept : (passing gone kept : ℕ) (front pieces : List (List ℕ)) → AreLetGo passing gone front → kept ≡ length (concat pieces) → gone + kept ≡ length (concat (front ++ pieces))
-gone_and_kept passing gone kept front pieces h is = omega (arith, h.gone_is, is, size_of_both front pieces)
+pub gone_and_kept : (session : Bool) (passing gone kept : ℕ) (front pieces : List (List ℕ)) → AreLetGo session passing gone front → kept ≡ length (concat pieces) → gone + kept ≡ length (concat (front ++ pieces))
+gone_and_kept session passing gone kept front pieces h is = omega (arith, h.gone_is, is, size_of_both front pieces)
 
 -- whether it goes on behind what came
-pub longer_of : (bytes : List ℕ) (len : ℕ) (size : Option ℕ) → len ≡ length bytes → unknown_size bytes ≡ size → is_longer len size ≡ is_under_way bytes
-longer_of bytes len size e is = ap (λ n. is_longer n size) e ∙ ap (is_longer (length bytes)) (sym is)
+pub longer_of : (kinds : FrameKinds) (bytes : List ℕ) (len : ℕ) (size : Option ℕ) → len ≡ length bytes → unknown_size kinds bytes ≡ size → is_longer len size ≡ is_under_way kinds bytes
+longer_of kinds bytes len size e is = ap (λ n. is_longer n size) e ∙ ap (is_longer (length bytes)) (sym is)
 
 -- Fewer bytes are there than a try needs.
-pub still_untried : (old new : UnreadFrames) → Expects old.decoder (concat old.pieces) → length (concat old.pieces) < needed old.decoder → new.pieces ≡ old.pieces → 0 < new.passing → new.decoder ≡ old.decoder → IsStillUnderWay old new
-still_untried old new h few same passing decoder =
-    let waits = too_few old.decoder.expected old.decoder.tries (concat old.pieces) h few in
+pub still_untried : (kinds : FrameKinds) (old new : UnreadFrames) → Expects kinds old.decoder (concat old.pieces) → length (concat old.pieces) < needed old.decoder → new.pieces ≡ old.pieces → 0 < new.passing → new.decoder ≡ old.decoder → IsStillUnderWay kinds old new
+still_untried kinds old new h few same passing decoder =
+    let waits = too_few kinds old.decoder.expected old.decoder.tries (concat old.pieces) h few in
     record { pieces = same; passing = passing; gives = (sym waits.0, waits.1); counts = no_try old.decoder new.decoder (concat old.pieces) few decoder }
 
 -- A try finds less than the frame.
-pub still_tried : (old new : UnreadFrames) (size : ℕ) → needed old.decoder ≤ length (concat old.pieces) → unknown_size (concat old.pieces) ≡ Some size → length (concat old.pieces) < size → new.pieces ≡ old.pieces
-    → 0 < new.passing → new.decoder ≡ counted old.decoder (Some size) → IsStillUnderWay old new
-still_tried old new size enough is few same passing decoder =
-    let here = unknown_waits (concat old.pieces) size is few in
+pub still_tried : (kinds : FrameKinds) (old new : UnreadFrames) (size : ℕ) → needed old.decoder ≤ length (concat old.pieces) → unknown_size kinds (concat old.pieces) ≡ Some size → length (concat old.pieces) < size → new.pieces ≡ old.pieces
+    → 0 < new.passing → new.decoder ≡ counted old.decoder (Some size) → IsStillUnderWay kinds old new
+still_tried kinds old new size enough is few same passing decoder =
+    let here = unknown_waits kinds (concat old.pieces) size is few in
     record {
       pieces = same;
       passing = passing;
-      gives = (sym (known-other (concat old.pieces) (subst IsKnown (sym here) tt)), subst IsWaiting (sym here) tt);
+      gives = (sym (known-other kinds (concat old.pieces) (subst IsKnown (sym here) tt)), subst IsWaiting (sym here) tt);
       counts = finds_less old.decoder new.decoder (concat old.pieces) size enough here decoder;
     }
 
-pub still_expects : (old new : Decoding) (size : ℕ) (bytes : List ℕ) → Expects old bytes → needed old ≤ length bytes → unknown_size bytes ≡ Some size → length bytes < size → new ≡ counted old (Some size) → Expects new bytes
-still_expects old new size bytes h enough is few decoder =
-    expects_next old new size bytes bytes h enough (unknown_waits bytes size is few) (λ none. absurd (truth_apart (sym (unknown_has_head bytes size is) ∙ none))) refl decoder
+pub still_expects : (kinds : FrameKinds) (old new : Decoding) (size : ℕ) (bytes : List ℕ) → Expects kinds old bytes → needed old ≤ length bytes → unknown_size kinds bytes ≡ Some size → length bytes < size → new ≡ counted old (Some size) → Expects kinds new bytes
+still_expects kinds old new size bytes h enough is few decoder =
+    expects_next kinds old new size bytes bytes h enough (unknown_waits kinds bytes size is few) (λ none. absurd (truth_apart (sym (unknown_has_head kinds bytes size is) ∙ none))) refl decoder
 
 -- The frame is whole.
-pub is_passed : (old new : UnreadFrames) (size : ℕ) → needed old.decoder ≤ length (concat old.pieces) → unknown_size (concat old.pieces) ≡ Some size → size ≤ length (concat old.pieces)
-    → concat new.pieces ≡ drop size (concat old.pieces) → IsRest old.pieces new.pieces → new.passing ≡ 0 → new.decoder ≡ counted old.decoder None → IsPassed old new
-is_passed old new size enough is all left rest none decoder =
-    let whole = unknown_whole (concat old.pieces) size is all in
-    record { kind = whole.0; enough = enough; unknown = whole.1 ∙ ap (Unknown whole.0) (sym left); rest = rest; none = none; decoder = decoder }
+pub is_passed : (kinds : FrameKinds) (old new : UnreadFrames) (size : ℕ) → needed old.decoder ≤ length (concat old.pieces) → unknown_size kinds (concat old.pieces) ≡ Some size → size ≤ length (concat old.pieces)
+    → concat new.pieces ≡ drop size (concat old.pieces) → IsRest old.pieces new.pieces → new.passing ≡ 0 → new.session ≡ false → new.decoder ≡ counted old.decoder None → IsPassed kinds old new
+is_passed kinds old new size enough is all left rest none plain decoder =
+    let whole = unknown_whole kinds (concat old.pieces) size is all in
+    record { kind = whole.0; enough = enough; unknown = whole.1 ∙ ap (Unknown whole.0) (sym left); rest = rest; none = none; plain = plain; decoder = decoder }
 
-past_known : (r : Result (Option (Frame PayloadLen)) FrameStreamError) (old mid new : List ℕ) → known old ≡ known mid → Gives r mid new → Gives r old new
-past_known (Ok (Some f)) old mid new k g = ap frame_at k ∙ g
-past_known (Ok None) old mid new k g = (g.0 ∙ sym k, g.1)
-past_known (Err (stream.Proto e)) old mid new k g = (g.0 ∙ sym k, g.1)
-past_known (Err stream.OutOfMemory) old mid new k g = (g.0 ∙ sym k, g.1)
-past_known (Err (stream.Quic e)) old mid new k g = absurd g
-past_known (Err stream.UnexpectedEnd) old mid new k g = absurd g
+past_known : (kinds : FrameKinds) (r : Result (Option (Frame PayloadLen)) FrameStreamError) (old mid new : List ℕ) → known_by kinds old ≡ known_by kinds mid → Gives kinds r mid new → Gives kinds r old new
+past_known kinds (Ok (Some f)) old mid new k g = ap (frame_by kinds) k ∙ g
+past_known kinds (Ok None) old mid new k g = (g.0 ∙ sym k, g.1)
+past_known kinds (Err (stream.Proto e)) old mid new k g = (g.0 ∙ sym k, g.1)
+past_known kinds (Err stream.OutOfMemory) old mid new k g = (g.0 ∙ sym k, g.1)
+past_known kinds (Err (stream.Quic e)) old mid new k g = absurd g
+past_known kinds (Err stream.UnexpectedEnd) old mid new k g = absurd g
 
 -- What is given behind it is given.
-pub gives_past : (r : Result (Option (Frame PayloadLen)) FrameStreamError) (old mid : UnreadFrames) (new : List ℕ) → IsPassed old mid → Gives r (concat mid.pieces) new → Gives r (concat old.pieces) new
-gives_past r old mid new p g = past_known r (concat old.pieces) (concat mid.pieces) new (known-unknown p.kind (concat old.pieces) (concat mid.pieces) p.unknown) g
+pub gives_past : (kinds : FrameKinds) (r : Result (Option (Frame PayloadLen)) FrameStreamError) (old mid : UnreadFrames) (new : List ℕ) → IsPassed kinds old mid → Gives kinds r (concat mid.pieces) new → Gives kinds r (concat old.pieces) new
+gives_past kinds r old mid new p g = past_known kinds r (concat old.pieces) (concat mid.pieces) new (known-unknown kinds p.kind (concat old.pieces) (concat mid.pieces) p.unknown) g
 
-pub counts_past : (r : Result (Option (Frame PayloadLen)) FrameStreamError) (old mid : UnreadFrames) (new : Decoding) → IsPassed old mid → Counts mid.decoder (concat mid.pieces) r new → Counts old.decoder (concat old.pieces) r new
-counts_past r old mid new p c = passes old.decoder new (concat old.pieces) (concat mid.pieces) p.kind r p.enough p.unknown (subst (λ (d : Decoding). Counts d (concat mid.pieces) r new) p.decoder c)
+pub counts_past : (kinds : FrameKinds) (r : Result (Option (Frame PayloadLen)) FrameStreamError) (old mid : UnreadFrames) (new : Decoding) → IsPassed kinds old mid → Counts kinds mid.decoder (concat mid.pieces) r new → Counts kinds old.decoder (concat old.pieces) r new
+counts_past kinds r old mid new p c = passes old.decoder new (concat old.pieces) (concat mid.pieces) p.kind r p.enough p.unknown (subst (λ (d : Decoding). Counts kinds d (concat mid.pieces) r new) p.decoder c)
 
-pub pieces_past : (old mid : UnreadFrames) (new : List (List ℕ)) → IsPassed old mid → new ≡ ending (length (concat new)) mid.pieces → new ≡ ending (length (concat new)) old.pieces
-pieces_past old mid new p e = rest_is (length (concat new)) old.pieces new refl (rest_then old.pieces mid.pieces new p.rest (ending_rest (length (concat new)) mid.pieces new e))
+pub pieces_past : (kinds : FrameKinds) (old mid : UnreadFrames) (new : List (List ℕ)) → IsPassed kinds old mid → new ≡ ending (length (concat new)) mid.pieces → new ≡ ending (length (concat new)) old.pieces
+pieces_past kinds old mid new p e = rest_is (length (concat new)) old.pieces new refl (rest_then old.pieces mid.pieces new p.rest (ending_rest (length (concat new)) mid.pieces new e))
 
 -- a first piece, and none
 pub some_first : (piece : List ℕ) (rest pieces : List (List ℕ)) → (Some piece, rest) ≡ first_of pieces → pieces ≡ piece ∷ rest
@@ -157,8 +179,8 @@ none_first rest [] e = (refl, ap others_in e)
 none_first rest (p ∷ pieces) e = let wrong : None ≡ Some p = ap first_in e in absurd (cc)
 
 -- what is decoded makes the bytes fewer
-pub decoded_fits : (r : Result (Option (Frame PayloadLen)) FrameStreamError) (front old new : List (List ℕ)) (most : ℕ) → Gives r (concat old) (concat new) → length (concat (front ++ old)) < most → length (concat (front ++ new)) < most
-decoded_fits r front old new most g fits = omega (arith, gives_fewer r (concat old) (concat new) g, size_of_both front old, size_of_both front new, fits)
+pub decoded_fits : (kinds : FrameKinds) (r : Result (Option (Frame PayloadLen)) FrameStreamError) (front old new : List (List ℕ)) (most : ℕ) → Gives kinds r (concat old) (concat new) → length (concat (front ++ old)) < most → length (concat (front ++ new)) < most
+decoded_fits kinds r front old new most g fits = omega (arith, gives_fewer kinds r (concat old) (concat new) g, size_of_both front old, size_of_both front new, fits)
 
 -- and so does any rest of them
 pub rest_fits : (front old new : List (List ℕ)) (most : ℕ) → IsRest old new → length (concat (front ++ old)) < most → length (concat (front ++ new)) < most
@@ -170,16 +192,16 @@ rest_fits front old new most r fits =
 pub none_spared : (passing gone : ℕ) (kept : List (List ℕ)) → passing ≡ 0 → IsSpared passing gone kept
 none_spared passing gone kept e some = absurd (omega (arith, e, some))
 
-pub not_empty : (bytes : List ℕ) → length bytes ≡ 0 → is_under_way bytes ≡ true → ⊥
+pub not_empty : (kinds : FrameKinds) (bytes : List ℕ) → length bytes ≡ 0 → is_under_way kinds bytes ≡ true → ⊥
 unfolding unknown_size
-not_empty [] e h = let wrong : false ≡ true = sym (ap (λ o. is_longer 0 (size_by 0 o)) none_at_end) ∙ h in cc
-not_empty (b ∷ bytes) e h = omega (arith, e)
+not_empty kinds [] e h = let wrong : false ≡ true = sym (ap (λ o. is_longer 0 (size_by kinds 0 o)) none_at_end) ∙ h in cc
+not_empty kinds (b ∷ bytes) e h = omega (arith, e)
 
-pub none_gone : (passing gone : ℕ) (front : List (List ℕ)) → AreLetGo passing gone front → passing ≡ 0 → gone ≡ 0
-none_gone passing gone front h e = h.gone_is ∙ ap (λ f. length (concat f)) (h.none e)
+pub none_gone : (session : Bool) (passing gone : ℕ) (front : List (List ℕ)) → AreLetGo session passing gone front → passing ≡ 0 → gone ≡ 0
+none_gone session passing gone front h e = h.gone_is ∙ ap (λ f. length (concat f)) (h.none e)
 
-pub none_in_front : (passing gone : ℕ) (front pieces : List (List ℕ)) → AreLetGo passing gone front → passing ≡ 0 → concat pieces ≡ concat (front ++ pieces)
-none_in_front passing gone front pieces h e = ap (λ f. concat (f ++ pieces)) (sym (h.none e))
+pub none_in_front : (session : Bool) (passing gone : ℕ) (front pieces : List (List ℕ)) → AreLetGo session passing gone front → passing ≡ 0 → concat pieces ≡ concat (front ++ pieces)
+none_in_front session passing gone front pieces h e = ap (λ f. concat (f ++ pieces)) (sym (h.none e))
 
 concat_with_piece : (pieces : List (List ℕ)) (bytes : List ℕ) → concat (with_piece pieces bytes) ≡ concat pieces ++ bytes
 concat_with_piece pieces [] = sym (append-nil (concat pieces))
@@ -193,6 +215,10 @@ pushed_bytes (Err why) old new bytes e = tt
 pub pushed_same : {A E : Type 0} (r : Result A E) (old new : Sparing) → OnErr r (new ≡ old) → OnErr r (new.pieces ≡ old.pieces)
 pushed_same (Ok value) old new e = tt
 pushed_same (Err why) old new e = ap (λ (s : Sparing). s.pieces) e
+
+pub pushed_session : {A E : Type 0} (r : Result A E) (old new : Sparing) (bytes : List ℕ) → OnOk r (new ≡ record old { pieces = with_piece old.pieces bytes }) → OnErr r (new ≡ old) → new.session ≡ old.session
+pushed_session (Ok value) old new bytes e same = ap (λ (s : Sparing). s.session) e
+pushed_session (Err why) old new bytes e same = ap (λ (s : Sparing). s.session) same
 
 -- all that is kept was let go
 pub all_let_go : (front pieces gone kept : List (List ℕ)) → gone ≡ front ++ pieces → kept ≡ [] → gone ++ kept ≡ front ++ pieces

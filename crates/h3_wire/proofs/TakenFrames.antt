@@ -8,7 +8,7 @@ use Rattle.h3_wire.specs.declared.proto.frame.Frame.{Frame}
 use Rattle.h3_wire.specs.declared.frame.errors.FrameStreamError.{FrameStreamError}
 use Rattle.h3_wire.specs.declared.frame.errors.FrameStreamError.TheVariants as stream
 use Rattle.h3_wire.specs.Source.{Answer, coming}
-use Rattle.h3_wire.specs.Frames.{Whole, frame_at}
+use Rattle.h3_wire.specs.Frames.{Whole, frame_at, plain_frames}
 use Rattle.h3_wire.proofs.Gives.{whole_behind, refused_behind, same_behind, gives_fewer}
 use Rattle.h3_wire.specs.Known.{known, Gives, IsWaiting, refusal}
 use Rattle.h3_wire.specs.Streams.{Buffered, Framing, left, Tells, PollsFrame}
@@ -18,29 +18,29 @@ pub record Taken {S : Type 0} (rest : S → List ℕ) (old new : Framing S) (rea
   pub before : left rest old ≡ read ++ behind
   pub after : left rest new ≡ concat new.pieces ++ behind
 
-pub taken_fewer : {S : Type 0} (rest : S → List ℕ) (old new : Framing S) (read behind : List ℕ) (r : Result (Option (Frame PayloadLen)) FrameStreamError) → Taken rest old new read behind → Gives r read (concat new.pieces) → length (left rest new) ≤ length (left rest old)
+pub taken_fewer : {S : Type 0} (rest : S → List ℕ) (old new : Framing S) (read behind : List ℕ) (r : Result (Option (Frame PayloadLen)) FrameStreamError) → Taken rest old new read behind → Gives plain_frames r read (concat new.pieces) → length (left rest new) ≤ length (left rest old)
 taken_fewer rest old new read behind r t g =
-    omega (arith, ap length t.before, ap length t.after, length-append read behind, length-append (concat new.pieces) behind, gives_fewer r read (concat new.pieces) g)
+    omega (arith, ap length t.before, ap length t.after, length-append read behind, length-append (concat new.pieces) behind, gives_fewer plain_frames r read (concat new.pieces) g)
 
-pub polls_error : {S : Type 0} (rest : S → List ℕ) (answers : S → Answer → S → Type 0) (old new : Framing S) (read behind : List ℕ) (e : FrameStreamError) → Taken rest old new read behind → Gives (Err e) read (concat new.pieces) → new.payload ≡ old.payload
+pub polls_error : {S : Type 0} (rest : S → List ℕ) (answers : S → Answer → S → Type 0) (old new : Framing S) (read behind : List ℕ) (e : FrameStreamError) → Taken rest old new read behind → Gives plain_frames (Err e) read (concat new.pieces) → new.payload ≡ old.payload
     → PollsFrame rest answers (Ready (Err e)) old new
 polls_error rest answers old new read behind (stream.Proto e) t g p =
-    let r = refused_behind (refusal e) read (concat new.pieces) behind g.0 g.1 in
+    let r = refused_behind plain_frames (refusal e) read (concat new.pieces) behind g.0 g.1 in
     (t.after ∙ r.0 ∙ ap known (sym t.before), ap frame_at t.after ∙ r.1, p)
-polls_error rest answers old new read behind stream.OutOfMemory t g p = (ap known t.after ∙ same_behind read (concat new.pieces) behind g.0 ∙ ap known (sym t.before), p)
+polls_error rest answers old new read behind stream.OutOfMemory t g p = (ap known t.after ∙ same_behind plain_frames read (concat new.pieces) behind g.0 ∙ ap known (sym t.before), p)
 polls_error rest answers old new read behind (stream.Quic e) t g p = absurd g
 polls_error rest answers old new read behind stream.UnexpectedEnd t g p = absurd g
 
-pub polls_frame : {S : Type 0} (rest : S → List ℕ) (old new : Framing S) (read behind : List ℕ) (f : Frame PayloadLen) → Taken rest old new read behind → Gives (Ok (Some f)) read (concat new.pieces)
+pub polls_frame : {S : Type 0} (rest : S → List ℕ) (old new : Framing S) (read behind : List ℕ) (f : Frame PayloadLen) → Taken rest old new read behind → Gives plain_frames (Ok (Some f)) read (concat new.pieces)
     → frame_at (known (left rest old)) ≡ Whole f (left rest new)
 polls_frame rest old new read behind f t g =
-    ap (λ l. frame_at (known l)) t.before ∙ whole_behind f read (concat new.pieces) behind g ∙ ap (Whole f) (sym t.after)
+    ap (λ l. frame_at (known l)) t.before ∙ whole_behind plain_frames f read (concat new.pieces) behind g ∙ ap (Whole f) (sym t.after)
 
-pub polls_same : {S : Type 0} (rest : S → List ℕ) (old new : Framing S) (read behind : List ℕ) → Taken rest old new read behind → Gives (Ok None) read (concat new.pieces) → known (left rest new) ≡ known (left rest old)
-polls_same rest old new read behind t g = ap known t.after ∙ same_behind read (concat new.pieces) behind g.0 ∙ ap known (sym t.before)
+pub polls_same : {S : Type 0} (rest : S → List ℕ) (old new : Framing S) (read behind : List ℕ) → Taken rest old new read behind → Gives plain_frames (Ok None) read (concat new.pieces) → known (left rest new) ≡ known (left rest old)
+polls_same rest old new read behind t g = ap known t.after ∙ same_behind plain_frames read (concat new.pieces) behind g.0 ∙ ap known (sym t.before)
 
 -- at the end nothing comes behind
-pub polls_end : {S : Type 0} (rest : S → List ℕ) (old new : Framing S) (read behind : List ℕ) → Taken rest old new read behind → Gives (Ok None) read (concat new.pieces) → behind ≡ []
+pub polls_end : {S : Type 0} (rest : S → List ℕ) (old new : Framing S) (read behind : List ℕ) → Taken rest old new read behind → Gives plain_frames (Ok None) read (concat new.pieces) → behind ≡ []
     → (left rest new ≡ known (left rest old)) × IsWaiting (frame_at (left rest new)) × (left rest new ≡ concat new.pieces)
 polls_end rest old new read behind t g none =
     let after : left rest new ≡ concat new.pieces = t.after ∙ ap (λ l. concat new.pieces ++ l) none ∙ append-nil (concat new.pieces) in

@@ -1,16 +1,17 @@
 -- Each frame that was written is read as it was.
-use Rattle.std.proofs.Common.{◌≡◌, ◌≢◌, ℕ, ◌<◌, ◌≤◌, ◌^◌, List, ◌++◌, length, codes, arith, lit<, sym, subst, ◌∙◌, ap, refl, zero, suc, append_assoc, length-append}
+use Rattle.std.proofs.Common.{◌≡◌, ◌≢◌, ◌&&◌, false, ℕ, ◌<◌, ◌≤◌, ◌^◌, List, ◌++◌, length, codes, arith, lit<, sym, subst, ◌∙◌, ap, refl, zero, suc, append_assoc, length-append}
 use Rattle.std.proofs.lemmas.Bool.{ne_eqb}
 use Rattle.h3_coding.specs.Encodings.{encoding}
 use Rattle.h3_coding.specs.VarintLaws.{reads_shortest}
 use Rattle.h3_proto.specs.Ids.{reserved}
 use Rattle.h3_wire.specs.Promise.{Promise}
 use Rattle.h3_wire.specs.Encoded.{head_encoding, frame_encoding, promise_payload, encoding_of, HasLength, HasNumbers, IsReserved}
-use Rattle.h3_wire.specs.Frames.{Whole, Unknown, one_number, promise_frame, frame_of, frame_at}
+use Rattle.h3_wire.specs.Frames.{Whole, Unknown, one_number, promise_frame, frame_of, frame_by, frame_at, is_session, plain_frames}
 use Rattle.h3_wire.specs.declared.proto.frame.Frame.{Frame}
 use Rattle.h3_wire.specs.declared.proto.frame.Frame.TheVariants as frame
 use Rattle.h3_wire.specs.ReadBack.{read_back}
 use Rattle.h3_wire.specs.EncodedLaws.{length-encoding, written_head, written_frame, written_headers, alone_number, written_number, written_goaway, written_settings}
+use Rattle.h3_wire.specs.declared.frame.kinds.FrameKinds.{FrameKinds}
 
 -- a type and a number
 pub length-head : (kind number : ℕ) → kind < 2 ^ 62 → number < 2 ^ 62 → length (head_encoding kind number) ≤ 16
@@ -18,28 +19,31 @@ length-head kind number h k = omega (arith, length-append (encoding kind) (encod
 
 -- a session has no length
 pub written_session : (id : ℕ) (rest : List ℕ) → id < 2 ^ 62 → frame_at (head_encoding 0x41 id ++ rest) ≡ Whole (frame.WebTransportStream id) rest
-written_session id rest h = written_head 0x41 id rest (lit< tt) h
+written_session id rest h = written_head plain_frames 0x41 id rest (lit< tt) h
 
-pub written_data : (bytes rest : List ℕ) → length bytes < 2 ^ 62 → frame_at (frame_encoding 0 bytes ++ rest) ≡ Whole (frame.Data (record { 0 = length bytes })) (bytes ++ rest)
-written_data bytes rest h = ap frame_at (append_assoc (head_encoding 0 (length bytes)) bytes rest) ∙ written_head 0 (length bytes) (bytes ++ rest) (lit< tt) h
+pub written_data : (kinds : FrameKinds) (bytes rest : List ℕ) → length bytes < 2 ^ 62 → frame_by kinds (frame_encoding 0 bytes ++ rest) ≡ Whole (frame.Data (record { 0 = length bytes })) (bytes ++ rest)
+written_data kinds bytes rest h = ap (frame_by kinds) (append_assoc (head_encoding 0 (length bytes)) bytes rest) ∙ written_head kinds 0 (length bytes) (bytes ++ rest) (lit< tt) h
 
-pub written_cancel_push : (id : ℕ) (rest : List ℕ) → id < 2 ^ 62 → frame_at (frame_encoding 3 (encoding id) ++ rest) ≡ Whole (frame.CancelPush id) rest
+pub written_cancel_push : (kinds : FrameKinds) (id : ℕ) (rest : List ℕ) → id < 2 ^ 62 → frame_by kinds (frame_encoding 3 (encoding id) ++ rest) ≡ Whole (frame.CancelPush id) rest
 unfolding frame_of
-written_cancel_push id rest h = written_number 3 id rest (lit< tt) h refl refl ∙ ap (λ o. one_number o (λ n. frame.CancelPush n) rest) (alone_number id h)
+written_cancel_push kinds id rest h = written_number kinds 3 id rest (lit< tt) h refl refl ∙ ap (λ o. one_number o (λ n. frame.CancelPush n) rest) (alone_number id h)
 
-pub written_max_push_id : (id : ℕ) (rest : List ℕ) → id < 2 ^ 62 → frame_at (frame_encoding 13 (encoding id) ++ rest) ≡ Whole (frame.MaxPushId id) rest
+pub written_max_push_id : (kinds : FrameKinds) (id : ℕ) (rest : List ℕ) → id < 2 ^ 62 → frame_by kinds (frame_encoding 13 (encoding id) ++ rest) ≡ Whole (frame.MaxPushId id) rest
 unfolding frame_of
-written_max_push_id id rest h = written_number 13 id rest (lit< tt) h refl refl ∙ ap (λ o. one_number o (λ n. frame.MaxPushId n) rest) (alone_number id h)
+written_max_push_id kinds id rest h = written_number kinds 13 id rest (lit< tt) h refl refl ∙ ap (λ o. one_number o (λ n. frame.MaxPushId n) rest) (alone_number id h)
 
-pub written_promise : (p : Promise) (rest : List ℕ) → p.id < 2 ^ 62 → length (promise_payload p) < 2 ^ 62 → frame_at (frame_encoding 5 (promise_payload p) ++ rest) ≡ Whole (frame.PushPromise p) rest
+pub written_promise : (kinds : FrameKinds) (p : Promise) (rest : List ℕ) → p.id < 2 ^ 62 → length (promise_payload p) < 2 ^ 62 → frame_by kinds (frame_encoding 5 (promise_payload p) ++ rest) ≡ Whole (frame.PushPromise p) rest
 unfolding frame_of
-written_promise p rest h k = written_frame 5 (promise_payload p) rest (lit< tt) k refl refl ∙ ap (λ o. promise_frame o rest) (reads_shortest p.id p.section h)
+written_promise kinds p rest h k = written_frame kinds 5 (promise_payload p) rest (lit< tt) k refl refl ∙ ap (λ o. promise_frame o rest) (reads_shortest p.id p.section h)
 
 -- a reserved type is none that is known
 pub not_session : (n : ℕ) → reserved n ≢ 0x41
 not_session zero e = omega arith
 not_session (suc zero) e = omega arith
 not_session (suc (suc n)) e = omega arith
+
+pub none_reserved : (kinds : FrameKinds) (n : ℕ) → is_session kinds (reserved n) ≡ false
+none_reserved kinds n = ap (λ b. b && kinds.sessions) (ne_eqb (reserved n) 0x41 (not_session n))
 
 reserved_of : (n : ℕ) (payload rest : List ℕ) → frame_of (reserved n) payload rest ≡ Unknown (reserved n) rest
 unfolding frame_of
@@ -58,20 +62,20 @@ reserved_of n payload rest =
       ne_eqb 9 k (omega arith),
     ) refl
 
-pub written_reserved : (n : ℕ) (payload rest : List ℕ) → reserved n < 2 ^ 62 → length payload < 2 ^ 62 → frame_at (frame_encoding (reserved n) payload ++ rest) ≡ Unknown (reserved n) rest
-written_reserved n payload rest h k =
-    written_frame (reserved n) payload rest h k (ne_eqb (reserved n) 0x41 (not_session n)) (ne_eqb (reserved n) 0 (omega arith)) ∙ reserved_of n payload rest
+pub written_reserved : (kinds : FrameKinds) (n : ℕ) (payload rest : List ℕ) → reserved n < 2 ^ 62 → length payload < 2 ^ 62 → frame_by kinds (frame_encoding (reserved n) payload ++ rest) ≡ Unknown (reserved n) rest
+written_reserved kinds n payload rest h k =
+    written_frame kinds (reserved n) payload rest h k (none_reserved kinds n) (ne_eqb (reserved n) 0 (omega arith)) ∙ reserved_of n payload rest
 
 -- **A frame that was written is read as it was, whatever follows it.**
 pub written_is_read : {B : Type 0} (unread : B → List ℕ) (f : Frame B) (rest : List ℕ) → HasLength unread f → HasNumbers f → IsReserved f → frame_at (encoding_of unread f ++ rest) ≡ read_back unread f rest
-written_is_read unread (frame.Data b) rest h n r = written_data (unread b) rest h
-written_is_read unread (frame.Headers section) rest h n r = written_headers section rest h
-written_is_read unread (frame.CancelPush id) rest h n r = written_cancel_push id rest n
-written_is_read unread (frame.Settings pairs) rest h n r = written_settings pairs rest n
-written_is_read unread (frame.PushPromise p) rest h n r = written_promise p rest n h
-written_is_read unread (frame.Goaway id) rest h n r = written_goaway id rest n
-written_is_read unread (frame.MaxPushId id) rest h n r = written_max_push_id id rest n
+written_is_read unread (frame.Data b) rest h n r = written_data plain_frames (unread b) rest h
+written_is_read unread (frame.Headers section) rest h n r = written_headers plain_frames section rest h
+written_is_read unread (frame.CancelPush id) rest h n r = written_cancel_push plain_frames id rest n
+written_is_read unread (frame.Settings pairs) rest h n r = written_settings plain_frames pairs rest n
+written_is_read unread (frame.PushPromise p) rest h n r = written_promise plain_frames p rest n h
+written_is_read unread (frame.Goaway id) rest h n r = written_goaway plain_frames id rest n
+written_is_read unread (frame.MaxPushId id) rest h n r = written_max_push_id plain_frames id rest n
 written_is_read unread (frame.WebTransportStream id) rest h n r = written_session id rest n
 written_is_read unread (frame.Grease kind) rest h n r =
     let k : kind ≡ reserved r.0 = r.1 in
-    ap (λ x. frame_at (frame_encoding x (codes "grease") ++ rest)) k ∙ written_reserved r.0 (codes "grease") rest (subst (λ x. x < 2 ^ 62) k n) (lit< tt) ∙ ap (λ x. Unknown x rest) (sym k)
+    ap (λ x. frame_at (frame_encoding x (codes "grease") ++ rest)) k ∙ written_reserved plain_frames r.0 (codes "grease") rest (subst (λ x. x < 2 ^ 62) k n) (lit< tt) ∙ ap (λ x. Unknown x rest) (sym k)

@@ -19,6 +19,7 @@ use Rattle.h3_wire.specs.Pieces.{ending}
 use Rattle.h3_wire.specs.Cut.{cut, is_cut_short}
 use Rattle.h3_wire.specs.Tries.{Decoding, Counts}
 use Rattle.h3_wire.specs.Streams.{Buffered, Framing, stream_part, payload_behind, stream_error, is_open}
+use Rattle.h3_wire.specs.Frames.{plain_frames}
 
 -- an answer of the source as a read tells it
 abbrev pub told_by : Answer → Result Received FrameStreamError
@@ -36,8 +37,8 @@ pub data Asks {S : Type 0} (answers : S → Answer → S → Type 0) (old : Buff
 
 -- A look at what was read: the next known frame is taken, and the tries are counted.
 pub record Looks {S : Type 0} (old : Buffered S) (before : Decoding) (found : Result (Option (Frame PayloadLen)) FrameStreamError) (new : Buffered S) (after : Decoding) : Type 0 where
-  pub gives : Gives found (concat old.pieces) (concat new.pieces)
-  pub counts : Counts before (concat old.pieces) found after
+  pub gives : Gives plain_frames found (concat old.pieces) (concat new.pieces)
+  pub counts : Counts plain_frames before (concat old.pieces) found after
   pub pieces : new.pieces ≡ ending (length (concat new.pieces)) old.pieces
   pub source : new.source ≡ old.source
   pub is_eos : new.is_eos ≡ old.is_eos

@@ -9,9 +9,10 @@ use Rattle.h3_coding.specs.VarintLaws.{reads_shortest}
 use Rattle.h3_proto.specs.Pairs.{payload_of}
 use Rattle.h3_proto.specs.Settings.{settings_of}
 use Rattle.h3_wire.specs.Encoded.{head_encoding, frame_encoding}
-use Rattle.h3_wire.specs.Frames.{Whole, one_number, settings_frame, frame_of, with_head, frame_at}
+use Rattle.h3_wire.specs.Frames.{Whole, one_number, settings_frame, frame_of, with_head, frame_by, is_session}
 use Rattle.h3_wire.specs.FrameLaws.{at_head}
 use Rattle.h3_wire.specs.declared.proto.frame.Frame.TheVariants as frame
+use Rattle.h3_wire.specs.declared.frame.kinds.FrameKinds.{FrameKinds}
 
 of_any : (v : ℕ) (bytes : List ℕ) → IsEncoding v bytes → length bytes ≤ 8
 of_any v bytes (one f) = omega (arith, f.count)
@@ -23,36 +24,36 @@ of_any v bytes (eight f) = omega (arith, f.count)
 pub length-encoding : (v : ℕ) → v < 2 ^ 62 → length (encoding v) ≤ 8
 length-encoding v h = of_any v (encoding v) (encoding_is_valid v h)
 
-pub written_head : (kind number : ℕ) (behind : List ℕ) → kind < 2 ^ 62 → number < 2 ^ 62
-    → frame_at (head_encoding kind number ++ behind) ≡ with_head (length (head_encoding kind number ++ behind)) kind number behind
-written_head kind number behind h k =
+pub written_head : (kinds : FrameKinds) (kind number : ℕ) (behind : List ℕ) → kind < 2 ^ 62 → number < 2 ^ 62
+    → frame_by kinds (head_encoding kind number ++ behind) ≡ with_head kinds (length (head_encoding kind number ++ behind)) kind number behind
+written_head kinds kind number behind h k =
     let parts = append_assoc (encoding kind) (encoding number) behind in
-    at_head kind number (head_encoding kind number ++ behind) (encoding number ++ behind) behind (ap varint_at parts ∙ reads_shortest kind (encoding number ++ behind) h) (reads_shortest number behind k)
+    at_head kinds kind number (head_encoding kind number ++ behind) (encoding number ++ behind) behind (ap varint_at parts ∙ reads_shortest kind (encoding number ++ behind) h) (reads_shortest number behind k)
 
 -- any other frame is that of its type and payload
-pub written_frame : (kind : ℕ) (payload rest : List ℕ) → kind < 2 ^ 62 → length payload < 2 ^ 62 → (kind == 0x41) ≡ false → (kind == 0) ≡ false
-    → frame_at (frame_encoding kind payload ++ rest) ≡ frame_of kind payload rest
-written_frame kind payload rest h k session plain =
+pub written_frame : (kinds : FrameKinds) (kind : ℕ) (payload rest : List ℕ) → kind < 2 ^ 62 → length payload < 2 ^ 62 → is_session kinds kind ≡ false → (kind == 0) ≡ false
+    → frame_by kinds (frame_encoding kind payload ++ rest) ≡ frame_of kind payload rest
+written_frame kinds kind payload rest h k session plain =
     let all : length payload ≤ length (payload ++ rest) = omega (arith, length-append payload rest) in
-    ap frame_at (append_assoc (head_encoding kind (length payload)) payload rest) ∙ written_head kind (length payload) (payload ++ rest) h k
+    ap (frame_by kinds) (append_assoc (head_encoding kind (length payload)) payload rest) ∙ written_head kinds kind (length payload) (payload ++ rest) h k
     ∙ rw (session, plain, le-ltb (length (payload ++ rest)) (length payload) all, take_at payload rest (length payload) refl, drop_at payload rest (length payload) refl) refl
 
-pub written_headers : (section rest : List ℕ) → length section < 2 ^ 62 → frame_at (frame_encoding 1 section ++ rest) ≡ Whole (frame.Headers section) rest
+pub written_headers : (kinds : FrameKinds) (section rest : List ℕ) → length section < 2 ^ 62 → frame_by kinds (frame_encoding 1 section ++ rest) ≡ Whole (frame.Headers section) rest
 unfolding frame_of
-written_headers section rest h = written_frame 1 section rest (lit< tt) h refl refl
+written_headers kinds section rest h = written_frame kinds 1 section rest (lit< tt) h refl refl
 
 pub alone_number : (id : ℕ) → id < 2 ^ 62 → varint_at (encoding id) ≡ Some (id, [])
 alone_number id h = ap varint_at (sym (append-nil (encoding id))) ∙ reads_shortest id [] h
 
 -- a frame whose payload is one number
-pub written_number : (kind id : ℕ) (rest : List ℕ) → kind < 2 ^ 62 → id < 2 ^ 62 → (kind == 0x41) ≡ false → (kind == 0) ≡ false
-    → frame_at (frame_encoding kind (encoding id) ++ rest) ≡ frame_of kind (encoding id) rest
-written_number kind id rest h k session plain = written_frame kind (encoding id) rest h (omega (arith, length-encoding id k)) session plain
+pub written_number : (kinds : FrameKinds) (kind id : ℕ) (rest : List ℕ) → kind < 2 ^ 62 → id < 2 ^ 62 → is_session kinds kind ≡ false → (kind == 0) ≡ false
+    → frame_by kinds (frame_encoding kind (encoding id) ++ rest) ≡ frame_of kind (encoding id) rest
+written_number kinds kind id rest h k session plain = written_frame kinds kind (encoding id) rest h (omega (arith, length-encoding id k)) session plain
 
-pub written_goaway : (id : ℕ) (rest : List ℕ) → id < 2 ^ 62 → frame_at (frame_encoding 7 (encoding id) ++ rest) ≡ Whole (frame.Goaway id) rest
+pub written_goaway : (kinds : FrameKinds) (id : ℕ) (rest : List ℕ) → id < 2 ^ 62 → frame_by kinds (frame_encoding 7 (encoding id) ++ rest) ≡ Whole (frame.Goaway id) rest
 unfolding frame_of
-written_goaway id rest h = written_number 7 id rest (lit< tt) h refl refl ∙ ap (λ o. one_number o (λ n. frame.Goaway n) rest) (alone_number id h)
+written_goaway kinds id rest h = written_number kinds 7 id rest (lit< tt) h refl refl ∙ ap (λ o. one_number o (λ n. frame.Goaway n) rest) (alone_number id h)
 
-pub written_settings : (pairs : List (ℕ × ℕ)) (rest : List ℕ) → length (payload_of pairs) < 2 ^ 62 → frame_at (frame_encoding 4 (payload_of pairs) ++ rest) ≡ settings_frame (settings_of (payload_of pairs)) rest
+pub written_settings : (kinds : FrameKinds) (pairs : List (ℕ × ℕ)) (rest : List ℕ) → length (payload_of pairs) < 2 ^ 62 → frame_by kinds (frame_encoding 4 (payload_of pairs) ++ rest) ≡ settings_frame (settings_of (payload_of pairs)) rest
 unfolding frame_of
-written_settings pairs rest h = written_frame 4 (payload_of pairs) rest (lit< tt) h refl refl
+written_settings kinds pairs rest h = written_frame kinds 4 (payload_of pairs) rest (lit< tt) h refl refl

@@ -9,12 +9,13 @@ use Rattle.h3_proto.specs.declared.frame.SettingsError.{SettingsError}
 use Rattle.h3_wire.specs.ExcessiveFrames.{begins_section, head_said, is_kept_whole, is_of_type, is_too_long, length_said, says_too_much, is_excessive, tells_too_much, tells_type}
 use Rattle.h3_wire.specs.FrameLaws.{at_no_kind, at_no_number, at_head}
 use Rattle.h3_wire.specs.Fronts.{IsFinished, IsKept, IsKnown}
-use Rattle.h3_wire.specs.Frames.{Front, Whole, Unknown, Refused, Unfinished, alone, one_number, settings_frame, promise_frame, is_http2, frame_of, with_head, frame_at}
-use Rattle.h3_wire.specs.Known.{known}
+use Rattle.h3_wire.specs.Frames.{Front, Whole, Unknown, Refused, Unfinished, alone, one_number, settings_frame, promise_frame, is_http2, frame_of, with_head, frame_by, is_session}
+use Rattle.h3_wire.specs.Known.{known_by}
 use Rattle.h3_wire.specs.KnownLaws.{known-other, known-unknown}
 use Rattle.h3_wire.specs.declared.proto.frame.PayloadLen.{PayloadLen}
 use Rattle.h3_wire.specs.declared.proto.frame.Frame.{Frame}
 use Rattle.h3_wire.specs.declared.proto.frame.Frame.TheVariants as frame
+use Rattle.h3_wire.specs.declared.frame.kinds.FrameKinds.{FrameKinds}
 
 -- **With no limit nothing is too long.**
 pub none_excessive : (most : ℕ) (bytes : List ℕ) → is_limit most ≡ false → is_excessive most bytes ≡ false
@@ -94,17 +95,17 @@ no_zero : (kind : ℕ) → is_kept_whole kind ≡ true → (kind == 0) ≡ true 
 no_zero kind kept e = omega (arith, (kept_within kind kept).0, eqb-true kind 0 e)
 
 -- What is kept whole is.
-head_kept : (size kind number : ℕ) (behind : List ℕ) → is_kept_whole kind ≡ true → IsKept (with_head size kind number behind)
-head_kept size kind number behind kept =
-    test (kind == 0x41) _ _ (λ t. tt) (λ session. test (kind == 0) _ _ (λ t. absurd (no_zero kind kept t)) (λ other.
+head_kept : (kinds : FrameKinds) (size kind number : ℕ) (behind : List ℕ) → is_kept_whole kind ≡ true → IsKept (with_head kinds size kind number behind)
+head_kept kinds size kind number behind kept =
+    test (is_session kinds kind) _ _ (λ t. tt) (λ session. test (kind == 0) _ _ (λ t. absurd (no_zero kind kept t)) (λ other.
     test (nat_lt (length behind) number) _ _ (λ t. tt) (λ there. frame_kept kind (take number behind) (drop number behind) kept)))
 
-head_known : (size kind number : ℕ) (behind : List ℕ) → is_kept_whole kind ≡ true → IsKnown (with_head size kind number behind)
-head_known size kind number behind kept = kept_known (with_head size kind number behind) (head_kept size kind number behind kept)
+head_known : (kinds : FrameKinds) (size kind number : ℕ) (behind : List ℕ) → is_kept_whole kind ≡ true → IsKnown (with_head kinds size kind number behind)
+head_known kinds size kind number behind kept = kept_known (with_head kinds size kind number behind) (head_kept kinds size kind number behind kept)
 
 -- DATA and streams of WebTransport are known too,
-handed_known : (size kind number : ℕ) (behind : List ℕ) → ((kind == 0) || (kind == 0x41)) ≡ true → IsKnown (with_head size kind number behind)
-handed_known size kind number behind handed = by_test (kind == 0x41) (kind == 0) handed
+handed_known : (kinds : FrameKinds) (size kind number : ℕ) (behind : List ℕ) → ((kind == 0) || is_session kinds kind) ≡ true → IsKnown (with_head kinds size kind number behind)
+handed_known kinds size kind number behind handed = by_test (is_session kinds kind) (kind == 0) handed
   where
     by_test : (a b : Bool) → (b || a) ≡ true
         → IsKnown (if a then Whole (frame.WebTransportStream number) behind
@@ -138,79 +139,79 @@ frame_unknown kind payload rest none other =
     some (suc n) e = omega arith
 
 -- **No frame in front of these is passed.** A head that is not whole,
-stays_none : (bytes : List ℕ) → varint_at bytes ≡ None → known bytes ≡ bytes
-stays_none bytes e = known-other bytes (subst IsKnown (sym (at_no_kind bytes e)) tt)
+stays_none : (kinds : FrameKinds) (bytes : List ℕ) → varint_at bytes ≡ None → known_by kinds bytes ≡ bytes
+stays_none kinds bytes e = known-other kinds bytes (subst IsKnown (sym (at_no_kind kinds bytes e)) tt)
 
-stays_begun : (kind : ℕ) (bytes mid : List ℕ) → varint_at bytes ≡ Some (kind, mid) → varint_at mid ≡ None → known bytes ≡ bytes
-stays_begun kind bytes mid e k = known-other bytes (subst IsKnown (sym (at_no_number kind bytes mid e k)) tt)
+stays_begun : (kinds : FrameKinds) (kind : ℕ) (bytes mid : List ℕ) → varint_at bytes ≡ Some (kind, mid) → varint_at mid ≡ None → known_by kinds bytes ≡ bytes
+stays_begun kinds kind bytes mid e k = known-other kinds bytes (subst IsKnown (sym (at_no_number kinds kind bytes mid e k)) tt)
 
 -- one of a frame whose payload is kept, or is handed out as it comes,
-stays_kept : (kind number : ℕ) (bytes mid behind : List ℕ) → is_kept_whole kind ≡ true → varint_at bytes ≡ Some (kind, mid) → varint_at mid ≡ Some (number, behind) → known bytes ≡ bytes
-stays_kept kind number bytes mid behind kept e k = known-other bytes (subst IsKnown (sym (at_head kind number bytes mid behind e k)) (head_known (length bytes) kind number behind kept))
+stays_kept : (kinds : FrameKinds) (kind number : ℕ) (bytes mid behind : List ℕ) → is_kept_whole kind ≡ true → varint_at bytes ≡ Some (kind, mid) → varint_at mid ≡ Some (number, behind) → known_by kinds bytes ≡ bytes
+stays_kept kinds kind number bytes mid behind kept e k = known-other kinds bytes (subst IsKnown (sym (at_head kinds kind number bytes mid behind e k)) (head_known kinds (length bytes) kind number behind kept))
 
-stays_handed : (kind number : ℕ) (bytes mid behind : List ℕ) → ((kind == 0) || (kind == 0x41)) ≡ true → varint_at bytes ≡ Some (kind, mid) → varint_at mid ≡ Some (number, behind) → known bytes ≡ bytes
-stays_handed kind number bytes mid behind handed e k = known-other bytes (subst IsKnown (sym (at_head kind number bytes mid behind e k)) (handed_known (length bytes) kind number behind handed))
+pub stays_handed : (kinds : FrameKinds) (kind number : ℕ) (bytes mid behind : List ℕ) → ((kind == 0) || is_session kinds kind) ≡ true → varint_at bytes ≡ Some (kind, mid) → varint_at mid ≡ Some (number, behind) → known_by kinds bytes ≡ bytes
+stays_handed kinds kind number bytes mid behind handed e k = known-other kinds bytes (subst IsKnown (sym (at_head kinds kind number bytes mid behind e k)) (handed_known kinds (length bytes) kind number behind handed))
 
 -- and one of an unknown frame that is not whole. One that is whole is left out.
-unknown_head : (size kind number : ℕ) (behind : List ℕ) → is_kept_whole kind ≡ false → ((kind == 0) || (kind == 0x41)) ≡ false
-    → with_head size kind number behind ≡ (if nat_lt (length behind) number then Unfinished (size - length behind + number) else Unknown kind (drop number behind))
-unknown_head size kind number behind none other =
-    let parts = or_parts (kind == 0) (kind == 0x41) other in
+unknown_head : (kinds : FrameKinds) (size kind number : ℕ) (behind : List ℕ) → is_kept_whole kind ≡ false → ((kind == 0) || is_session kinds kind) ≡ false
+    → with_head kinds size kind number behind ≡ (if nat_lt (length behind) number then Unfinished (size - length behind + number) else Unknown kind (drop number behind))
+unknown_head kinds size kind number behind none other =
+    let parts = or_parts (kind == 0) (is_session kinds kind) other in
     rw (parts.1, parts.0, frame_unknown kind (take number behind) (drop number behind) none parts.0) refl
 
-stays_unknown : (kind number : ℕ) (bytes mid behind : List ℕ) → is_kept_whole kind ≡ false → ((kind == 0) || (kind == 0x41)) ≡ false → varint_at bytes ≡ Some (kind, mid) → varint_at mid ≡ Some (number, behind)
-    → length behind < number → known bytes ≡ bytes
-stays_unknown kind number bytes mid behind none other e k short =
-    let front = at_head kind number bytes mid behind e k ∙ unknown_head (length bytes) kind number behind none other in
-    let waits : frame_at bytes ≡ Unfinished (length bytes - length behind + number) =
+stays_unknown : (kinds : FrameKinds) (kind number : ℕ) (bytes mid behind : List ℕ) → is_kept_whole kind ≡ false → ((kind == 0) || is_session kinds kind) ≡ false → varint_at bytes ≡ Some (kind, mid) → varint_at mid ≡ Some (number, behind)
+    → length behind < number → known_by kinds bytes ≡ bytes
+stays_unknown kinds kind number bytes mid behind none other e k short =
+    let front = at_head kinds kind number bytes mid behind e k ∙ unknown_head kinds (length bytes) kind number behind none other in
+    let waits : frame_by kinds bytes ≡ Unfinished (length bytes - length behind + number) =
     front ∙ ap (λ b. if b then Unfinished (length bytes - length behind + number) else Unknown kind (drop number behind)) (lt-ltb (length behind) number short) in
-    known-other bytes (subst IsKnown (sym waits) tt)
+    known-other kinds bytes (subst IsKnown (sym waits) tt)
 
-pub unknown_passed : (kind number : ℕ) (bytes mid behind : List ℕ) → is_kept_whole kind ≡ false → ((kind == 0) || (kind == 0x41)) ≡ false → varint_at bytes ≡ Some (kind, mid) → varint_at mid ≡ Some (number, behind)
-    → number ≤ length behind → known bytes ≡ known (drop number behind)
-unknown_passed kind number bytes mid behind none other e k there =
-    let front = at_head kind number bytes mid behind e k ∙ unknown_head (length bytes) kind number behind none other in
-    let whole : frame_at bytes ≡ Unknown kind (drop number behind) =
+pub unknown_passed : (kinds : FrameKinds) (kind number : ℕ) (bytes mid behind : List ℕ) → is_kept_whole kind ≡ false → ((kind == 0) || is_session kinds kind) ≡ false → varint_at bytes ≡ Some (kind, mid) → varint_at mid ≡ Some (number, behind)
+    → number ≤ length behind → known_by kinds bytes ≡ known_by kinds (drop number behind)
+unknown_passed kinds kind number bytes mid behind none other e k there =
+    let front = at_head kinds kind number bytes mid behind e k ∙ unknown_head kinds (length bytes) kind number behind none other in
+    let whole : frame_by kinds bytes ≡ Unknown kind (drop number behind) =
     front ∙ ap (λ b. if b then Unfinished (length bytes - length behind + number) else Unknown kind (drop number behind)) (le-ltb (length behind) number there) in
-    known-unknown kind bytes (drop number behind) whole
+    known-unknown kinds kind bytes (drop number behind) whole
 
 -- **So the head says what the first frame that is not passed says.**
-says : (bytes : List ℕ) (o : Option (ℕ × List ℕ)) → known bytes ≡ bytes → varint_at bytes ≡ o → head_said o ≡ head_said (varint_at (known bytes))
-says bytes o stays e = sym (ap (λ b. head_said (varint_at b)) stays ∙ ap head_said e)
+says : (kinds : FrameKinds) (bytes : List ℕ) (o : Option (ℕ × List ℕ)) → known_by kinds bytes ≡ bytes → varint_at bytes ≡ o → head_said o ≡ head_said (varint_at (known_by kinds bytes))
+says kinds bytes o stays e = sym (ap (λ b. head_said (varint_at b)) stays ∙ ap head_said e)
 
-pub none_says : (bytes : List ℕ) → varint_at bytes ≡ None → None ≡ head_said (varint_at (known bytes))
-none_says bytes e = says bytes None (stays_none bytes e) e
+pub none_says : (kinds : FrameKinds) (bytes : List ℕ) → varint_at bytes ≡ None → None ≡ head_said (varint_at (known_by kinds bytes))
+none_says kinds bytes e = says kinds bytes None (stays_none kinds bytes e) e
 
 with_length : (kind : ℕ) (mid : List ℕ) (o : Option (ℕ × List ℕ)) → varint_at mid ≡ o → Some (kind, length_said o) ≡ head_said (Some (kind, mid))
 with_length kind mid o k = ap (λ n. Some (kind, length_said n)) (sym k)
 
-pub begun_says : (kind : ℕ) (bytes mid : List ℕ) → varint_at bytes ≡ Some (kind, mid) → varint_at mid ≡ None → Some (kind, 0) ≡ head_said (varint_at (known bytes))
-begun_says kind bytes mid e k = with_length kind mid None k ∙ says bytes (Some (kind, mid)) (stays_begun kind bytes mid e k) e
+pub begun_says : (kinds : FrameKinds) (kind : ℕ) (bytes mid : List ℕ) → varint_at bytes ≡ Some (kind, mid) → varint_at mid ≡ None → Some (kind, 0) ≡ head_said (varint_at (known_by kinds bytes))
+begun_says kinds kind bytes mid e k = with_length kind mid None k ∙ says kinds bytes (Some (kind, mid)) (stays_begun kinds kind bytes mid e k) e
 
-whole_says : (kind number : ℕ) (bytes mid behind : List ℕ) → known bytes ≡ bytes → varint_at bytes ≡ Some (kind, mid) → varint_at mid ≡ Some (number, behind) → Some (kind, number) ≡ head_said (varint_at (known bytes))
-whole_says kind number bytes mid behind stays e k = with_length kind mid (Some (number, behind)) k ∙ says bytes (Some (kind, mid)) stays e
+whole_says : (kinds : FrameKinds) (kind number : ℕ) (bytes mid behind : List ℕ) → known_by kinds bytes ≡ bytes → varint_at bytes ≡ Some (kind, mid) → varint_at mid ≡ Some (number, behind) → Some (kind, number) ≡ head_said (varint_at (known_by kinds bytes))
+whole_says kinds kind number bytes mid behind stays e k = with_length kind mid (Some (number, behind)) k ∙ says kinds bytes (Some (kind, mid)) stays e
 
-pub kept_is_known : (kind : ℕ) → is_kept_whole kind ≡ true → (is_kept_whole kind || ((kind == 0) || (kind == 0x41))) ≡ true
-kept_is_known kind kept = ap (λ b. b || ((kind == 0) || (kind == 0x41))) kept
+pub kept_is_known : (kinds : FrameKinds) (kind : ℕ) → is_kept_whole kind ≡ true → (is_kept_whole kind || ((kind == 0) || is_session kinds kind)) ≡ true
+kept_is_known kinds kind kept = ap (λ b. b || ((kind == 0) || is_session kinds kind)) kept
 
-pub handed_is_known : (kind : ℕ) → ((kind == 0) || (kind == 0x41)) ≡ true → (is_kept_whole kind || ((kind == 0) || (kind == 0x41))) ≡ true
-handed_is_known kind handed = by_test (is_kept_whole kind)
+pub handed_is_known : (kinds : FrameKinds) (kind : ℕ) → ((kind == 0) || is_session kinds kind) ≡ true → (is_kept_whole kind || ((kind == 0) || is_session kinds kind)) ≡ true
+handed_is_known kinds kind handed = by_test (is_kept_whole kind)
   where
-    by_test : (b : Bool) → (b || ((kind == 0) || (kind == 0x41))) ≡ true
+    by_test : (b : Bool) → (b || ((kind == 0) || is_session kinds kind)) ≡ true
     by_test true = refl
     by_test false = handed
 
-pub known_says : (kind number : ℕ) (bytes mid behind : List ℕ) → (is_kept_whole kind || ((kind == 0) || (kind == 0x41))) ≡ true → varint_at bytes ≡ Some (kind, mid) → varint_at mid ≡ Some (number, behind)
-    → Some (kind, number) ≡ head_said (varint_at (known bytes))
-known_says kind number bytes mid behind known_type e k = whole_says kind number bytes mid behind (by_test (is_kept_whole kind) refl known_type) e k
+pub known_says : (kinds : FrameKinds) (kind number : ℕ) (bytes mid behind : List ℕ) → (is_kept_whole kind || ((kind == 0) || is_session kinds kind)) ≡ true → varint_at bytes ≡ Some (kind, mid) → varint_at mid ≡ Some (number, behind)
+    → Some (kind, number) ≡ head_said (varint_at (known_by kinds bytes))
+known_says kinds kind number bytes mid behind known_type e k = whole_says kinds kind number bytes mid behind (by_test (is_kept_whole kind) refl known_type) e k
   where
-    by_test : (b : Bool) → is_kept_whole kind ≡ b → (b || ((kind == 0) || (kind == 0x41))) ≡ true → known bytes ≡ bytes
-    by_test true kept h = stays_kept kind number bytes mid behind kept e k
-    by_test false none h = stays_handed kind number bytes mid behind h e k
+    by_test : (b : Bool) → is_kept_whole kind ≡ b → (b || ((kind == 0) || is_session kinds kind)) ≡ true → known_by kinds bytes ≡ bytes
+    by_test true kept h = stays_kept kinds kind number bytes mid behind kept e k
+    by_test false none h = stays_handed kinds kind number bytes mid behind h e k
 
-pub waiting_says : (kind number : ℕ) (bytes mid behind : List ℕ) → is_kept_whole kind ≡ false → ((kind == 0) || (kind == 0x41)) ≡ false → varint_at bytes ≡ Some (kind, mid) → varint_at mid ≡ Some (number, behind)
-    → length behind < number → Some (kind, number) ≡ head_said (varint_at (known bytes))
-waiting_says kind number bytes mid behind none other e k short = whole_says kind number bytes mid behind (stays_unknown kind number bytes mid behind none other e k short) e k
+pub waiting_says : (kinds : FrameKinds) (kind number : ℕ) (bytes mid behind : List ℕ) → is_kept_whole kind ≡ false → ((kind == 0) || is_session kinds kind) ≡ false → varint_at bytes ≡ Some (kind, mid) → varint_at mid ≡ Some (number, behind)
+    → length behind < number → Some (kind, number) ≡ head_said (varint_at (known_by kinds bytes))
+waiting_says kinds kind number bytes mid behind none other e k short = whole_says kinds kind number bytes mid behind (stays_unknown kinds kind number bytes mid behind none other e k short) e k
 
 -- **What is too long, and what is a field section, is told by it.**
 pub excess_told : (most : ℕ) (bytes : List ℕ) (o : Option (ℕ × ℕ)) → is_limit most ≡ true → o ≡ head_said (varint_at bytes) → tells_too_much most o ≡ is_excessive most bytes
@@ -232,35 +233,39 @@ section_told bytes o e = ap (tells_type 1) e ∙ by_kind (varint_at bytes)
     by_kind (Some p) = refl
 
 -- A head that is not there is of no frame that is too long,
-pub no_kind : (most : ℕ) (bytes : List ℕ) → varint_at bytes ≡ None → is_excessive most (known bytes) ≡ false
-no_kind most bytes e = ap (is_excessive most) (stays_none bytes e) ∙ and_right (is_limit most) (says_too_much most (varint_at bytes)) (ap (says_too_much most) e)
+pub no_kind : (kinds : FrameKinds) (most : ℕ) (bytes : List ℕ) → varint_at bytes ≡ None → is_excessive most (known_by kinds bytes) ≡ false
+no_kind kinds most bytes e = ap (is_excessive most) (stays_none kinds bytes e) ∙ and_right (is_limit most) (says_too_much most (varint_at bytes)) (ap (says_too_much most) e)
 
 -- one whose payload is kept tells,
-pub kept_says : (most kind number : ℕ) (bytes mid behind : List ℕ) → is_limit most ≡ true → is_kept_whole kind ≡ true → varint_at bytes ≡ Some (kind, mid) → varint_at mid ≡ Some (number, behind)
-    → is_excessive most (known bytes) ≡ nat_lt most number
-kept_says most kind number bytes mid behind limit kept e k =
-    ap (is_excessive most) (stays_kept kind number bytes mid behind kept e k)
+pub kept_says : (kinds : FrameKinds) (most kind number : ℕ) (bytes mid behind : List ℕ) → is_limit most ≡ true → is_kept_whole kind ≡ true → varint_at bytes ≡ Some (kind, mid) → varint_at mid ≡ Some (number, behind)
+    → is_excessive most (known_by kinds bytes) ≡ nat_lt most number
+kept_says kinds most kind number bytes mid behind limit kept e k =
+    ap (is_excessive most) (stays_kept kinds kind number bytes mid behind kept e k)
     ∙ ap (λ b. b && says_too_much most (varint_at bytes)) limit ∙ ap (says_too_much most) e ∙ ap (is_too_long most kind) k ∙ ap (λ b. b && nat_lt most number) kept
 
 -- and no other is too long.
-not_kept : (most kind number : ℕ) (bytes mid behind : List ℕ) → is_kept_whole kind ≡ false → varint_at bytes ≡ Some (kind, mid) → varint_at mid ≡ Some (number, behind) → known bytes ≡ bytes
-    → is_excessive most (known bytes) ≡ false
-not_kept most kind number bytes mid behind none e k stays =
+not_kept : (kinds : FrameKinds) (most kind number : ℕ) (bytes mid behind : List ℕ) → is_kept_whole kind ≡ false → varint_at bytes ≡ Some (kind, mid) → varint_at mid ≡ Some (number, behind) → known_by kinds bytes ≡ bytes
+    → is_excessive most (known_by kinds bytes) ≡ false
+not_kept kinds most kind number bytes mid behind none e k stays =
     ap (is_excessive most) stays
     ∙ and_right (is_limit most) (says_too_much most (varint_at bytes)) (ap (says_too_much most) e ∙ ap (is_too_long most kind) k ∙ ap (λ b. b && nat_lt most number) none)
 
-pub handed_says : (most kind number : ℕ) (bytes mid behind : List ℕ) → is_kept_whole kind ≡ false → ((kind == 0) || (kind == 0x41)) ≡ true → varint_at bytes ≡ Some (kind, mid) → varint_at mid ≡ Some (number, behind)
-    → is_excessive most (known bytes) ≡ false
-handed_says most kind number bytes mid behind none handed e k = not_kept most kind number bytes mid behind none e k (stays_handed kind number bytes mid behind handed e k)
+pub handed_says : (kinds : FrameKinds) (most kind number : ℕ) (bytes mid behind : List ℕ) → is_kept_whole kind ≡ false → ((kind == 0) || is_session kinds kind) ≡ true → varint_at bytes ≡ Some (kind, mid) → varint_at mid ≡ Some (number, behind)
+    → is_excessive most (known_by kinds bytes) ≡ false
+handed_says kinds most kind number bytes mid behind none handed e k = not_kept kinds most kind number bytes mid behind none e k (stays_handed kinds kind number bytes mid behind handed e k)
 
-pub unknown_says : (most kind number : ℕ) (bytes mid behind : List ℕ) → is_kept_whole kind ≡ false → ((kind == 0) || (kind == 0x41)) ≡ false → varint_at bytes ≡ Some (kind, mid) → varint_at mid ≡ Some (number, behind)
-    → length behind < number → is_excessive most (known bytes) ≡ false
-unknown_says most kind number bytes mid behind none other e k short = not_kept most kind number bytes mid behind none e k (stays_unknown kind number bytes mid behind none other e k short)
+pub data_says : (kinds : FrameKinds) (most kind number : ℕ) (bytes mid behind : List ℕ) → is_kept_whole kind ≡ false → kind ≡ 0 → varint_at bytes ≡ Some (kind, mid) → varint_at mid ≡ Some (number, behind)
+    → is_excessive most (known_by kinds bytes) ≡ false
+data_says kinds most kind number bytes mid behind none is e k = handed_says kinds most kind number bytes mid behind none (subst (λ n. ((n == 0) || is_session kinds n) ≡ true) (sym is) refl) e k
 
-pub unknown_begins : (kind number : ℕ) (bytes mid behind : List ℕ) → is_kept_whole kind ≡ false → ((kind == 0) || (kind == 0x41)) ≡ false → varint_at bytes ≡ Some (kind, mid) → varint_at mid ≡ Some (number, behind)
-    → length behind < number → begins_section (known bytes) ≡ false
-unknown_begins kind number bytes mid behind none other e k short =
-    ap begins_section (stays_unknown kind number bytes mid behind none other e k short) ∙ ap (is_of_type 1) e ∙ ne_eqb kind 1 (λ is. absurd (no_section kind none is))
+pub unknown_says : (kinds : FrameKinds) (most kind number : ℕ) (bytes mid behind : List ℕ) → is_kept_whole kind ≡ false → ((kind == 0) || is_session kinds kind) ≡ false → varint_at bytes ≡ Some (kind, mid) → varint_at mid ≡ Some (number, behind)
+    → length behind < number → is_excessive most (known_by kinds bytes) ≡ false
+unknown_says kinds most kind number bytes mid behind none other e k short = not_kept kinds most kind number bytes mid behind none e k (stays_unknown kinds kind number bytes mid behind none other e k short)
+
+pub unknown_begins : (kinds : FrameKinds) (kind number : ℕ) (bytes mid behind : List ℕ) → is_kept_whole kind ≡ false → ((kind == 0) || is_session kinds kind) ≡ false → varint_at bytes ≡ Some (kind, mid) → varint_at mid ≡ Some (number, behind)
+    → length behind < number → begins_section (known_by kinds bytes) ≡ false
+unknown_begins kinds kind number bytes mid behind none other e k short =
+    ap begins_section (stays_unknown kinds kind number bytes mid behind none other e k short) ∙ ap (is_of_type 1) e ∙ ne_eqb kind 1 (λ is. absurd (no_section kind none is))
   where
     no_section : (n : ℕ) → is_kept_whole n ≡ false → n ≡ 1 → ⊥
     no_section n h is = let wrong : true ≡ false = ap is_kept_whole (sym is) ∙ h in cc
@@ -270,15 +275,15 @@ said_of : (most kind number : ℕ) (bytes mid behind : List ℕ) → varint_at b
     → is_excessive most bytes ≡ (is_limit most && (is_kept_whole kind && nat_lt most number))
 said_of most kind number bytes mid behind e k = ap (λ b. is_limit most && b) (ap (says_too_much most) e ∙ ap (is_too_long most kind) k)
 
-pub excessive_more : (most : ℕ) (bytes more : List ℕ) → IsFinished (frame_at bytes) → is_excessive most (bytes ++ more) ≡ is_excessive most bytes
-excessive_more most bytes more there = elim (cases_number bytes) [
-  | inl none ↦ absurd (subst IsFinished (at_no_kind bytes none) there)
+pub excessive_more : (kinds : FrameKinds) (most : ℕ) (bytes more : List ℕ) → IsFinished (frame_by kinds bytes) → is_excessive most (bytes ++ more) ≡ is_excessive most bytes
+excessive_more kinds most bytes more there = elim (cases_number bytes) [
+  | inl none ↦ absurd (subst IsFinished (at_no_kind kinds bytes none) there)
   | inr (kind, mid, e) ↦ by_number kind mid e (cases_number mid)
 ]
   where
     by_number : (kind : ℕ) (mid : List ℕ) → varint_at bytes ≡ Some (kind, mid) → (varint_at mid ≡ None) ⊎ ((v : ℕ) × (rest : List ℕ) × (varint_at mid ≡ Some (v, rest)))
         → is_excessive most (bytes ++ more) ≡ is_excessive most bytes
-    by_number kind mid e (inl none) = absurd (subst IsFinished (at_no_number kind bytes mid e none) there)
+    by_number kind mid e (inl none) = absurd (subst IsFinished (at_no_number kinds kind bytes mid e none) there)
     by_number kind mid e (inr (number, behind, k)) =
         said_of most kind number (bytes ++ more) (mid ++ more) (behind ++ more) (reads_more kind bytes mid more e) (reads_more number mid behind more k)
         ∙ sym (said_of most kind number bytes mid behind e k)
@@ -293,15 +298,15 @@ section_more most bytes more e = elim (cases_number bytes) [
 ]
 
 -- DATA is never too long.
-pub no_data : (most : ℕ) (bytes rest : List ℕ) (len : PayloadLen) → frame_at bytes ≡ Whole (frame.Data len) rest → is_excessive most bytes ≡ true → ⊥
-no_data most bytes rest len there excessive = elim (cases_number bytes) [
-  | inl none ↦ let wrong : Unfinished (length bytes + 1) ≡ Whole (frame.Data len) rest = sym (at_no_kind bytes none) ∙ there in cc
+pub no_data : (kinds : FrameKinds) (most : ℕ) (bytes rest : List ℕ) (len : PayloadLen) → frame_by kinds bytes ≡ Whole (frame.Data len) rest → is_excessive most bytes ≡ true → ⊥
+no_data kinds most bytes rest len there excessive = elim (cases_number bytes) [
+  | inl none ↦ let wrong : Unfinished (length bytes + 1) ≡ Whole (frame.Data len) rest = sym (at_no_kind kinds bytes none) ∙ there in cc
   | inr (kind, mid, e) ↦ by_number kind mid e (cases_number mid)
 ]
   where
     by_number : (kind : ℕ) (mid : List ℕ) → varint_at bytes ≡ Some (kind, mid) → (varint_at mid ≡ None) ⊎ ((v : ℕ) × (left : List ℕ) × (varint_at mid ≡ Some (v, left))) → ⊥
-    by_number kind mid e (inl none) = let wrong : Unfinished (length bytes + 1) ≡ Whole (frame.Data len) rest = sym (at_no_number kind bytes mid e none) ∙ there in cc
+    by_number kind mid e (inl none) = let wrong : Unfinished (length bytes + 1) ≡ Whole (frame.Data len) rest = sym (at_no_number kinds kind bytes mid e none) ∙ there in cc
     by_number kind mid e (inr (number, behind, k)) =
         let said : (is_limit most && (is_kept_whole kind && nat_lt most number)) ≡ true = sym (said_of most kind number bytes mid behind e k) ∙ excessive in
         let kept = (and_parts (is_kept_whole kind) (nat_lt most number) (and_parts (is_limit most) (is_kept_whole kind && nat_lt most number) said).1).0 in
-        subst IsKept (sym (at_head kind number bytes mid behind e k) ∙ there) (head_kept (length bytes) kind number behind kept)
+        subst IsKept (sym (at_head kinds kind number bytes mid behind e k) ∙ there) (head_kept kinds (length bytes) kind number behind kept)

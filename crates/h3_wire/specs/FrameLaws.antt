@@ -9,21 +9,22 @@ use Rattle.h3_proto.specs.declared.frame.SettingsError.{SettingsError}
 use Rattle.h3_wire.specs.declared.proto.frame.PayloadLen.{PayloadLen}
 use Rattle.h3_wire.specs.declared.proto.frame.Frame.{Frame}
 use Rattle.h3_wire.specs.declared.proto.frame.Frame.TheVariants as frame
-use Rattle.h3_wire.specs.Frames.{Front, Whole, Unknown, Refused, Unfinished, alone, one_number, settings_frame, promise_frame, is_http2, frame_of, with_head, with_number, with_kind, frame_at}
+use Rattle.h3_wire.specs.Frames.{Front, Whole, Unknown, Refused, Unfinished, alone, one_number, settings_frame, promise_frame, is_http2, frame_of, with_head, with_number, with_kind, frame_by, is_session}
 use Rattle.h3_wire.specs.Fronts.{IsFinished, with_more, IsBefore, tested, IsShorter}
+use Rattle.h3_wire.specs.declared.frame.kinds.FrameKinds.{FrameKinds}
 
 -- the three ways in which a front is read
-pub at_no_kind : (bytes : List ℕ) → varint_at bytes ≡ None → frame_at bytes ≡ Unfinished (length bytes + 1)
-unfolding frame_at
-at_no_kind bytes e = ap (with_kind (length bytes)) e
+pub at_no_kind : (kinds : FrameKinds) (bytes : List ℕ) → varint_at bytes ≡ None → frame_by kinds bytes ≡ Unfinished (length bytes + 1)
+unfolding frame_by
+at_no_kind kinds bytes e = ap (with_kind kinds (length bytes)) e
 
-pub at_no_number : (kind : ℕ) (bytes mid : List ℕ) → varint_at bytes ≡ Some (kind, mid) → varint_at mid ≡ None → frame_at bytes ≡ Unfinished (length bytes + 1)
-unfolding frame_at
-at_no_number kind bytes mid e k = ap (with_kind (length bytes)) e ∙ ap (with_number (length bytes) kind) k
+pub at_no_number : (kinds : FrameKinds) (kind : ℕ) (bytes mid : List ℕ) → varint_at bytes ≡ Some (kind, mid) → varint_at mid ≡ None → frame_by kinds bytes ≡ Unfinished (length bytes + 1)
+unfolding frame_by
+at_no_number kinds kind bytes mid e k = ap (with_kind kinds (length bytes)) e ∙ ap (with_number kinds (length bytes) kind) k
 
-pub at_head : (kind number : ℕ) (bytes mid behind : List ℕ) → varint_at bytes ≡ Some (kind, mid) → varint_at mid ≡ Some (number, behind) → frame_at bytes ≡ with_head (length bytes) kind number behind
-unfolding frame_at
-at_head kind number bytes mid behind e k = ap (with_kind (length bytes)) e ∙ ap (with_number (length bytes) kind) k
+pub at_head : (kinds : FrameKinds) (kind number : ℕ) (bytes mid behind : List ℕ) → varint_at bytes ≡ Some (kind, mid) → varint_at mid ≡ Some (number, behind) → frame_by kinds bytes ≡ with_head kinds (length bytes) kind number behind
+unfolding frame_by
+at_head kinds kind number bytes mid behind e k = ap (with_kind kinds (length bytes)) e ∙ ap (with_number kinds (length bytes) kind) k
 
 -- a fact that holds in both branches
 either : (P : Front → Type 0) (b : Bool) (x y : Front) → P x → P y → P (if b then x else y)
@@ -110,19 +111,19 @@ past_session false true size size' kind number behind more h = refl
 past_session false false size size' kind number behind more h = past_payload size size' kind number behind more (short_or_whole number behind) h
 
 -- a head is read alike, whatever follows
-past_head : (size size' kind number : ℕ) (behind more : List ℕ) → IsFinished (with_head size kind number behind) → with_head size' kind number (behind ++ more) ≡ with_more (with_head size kind number behind) more
-past_head size size' kind number behind more = past_session (kind == 0x41) (kind == 0) size size' kind number behind more
+past_head : (kinds : FrameKinds) (size size' kind number : ℕ) (behind more : List ℕ) → IsFinished (with_head kinds size kind number behind) → with_head kinds size' kind number (behind ++ more) ≡ with_more (with_head kinds size kind number behind) more
+past_head kinds size size' kind number behind more = past_session (is_session kinds kind) (kind == 0) size size' kind number behind more
 
 -- what is read at the front is read there, whatever follows
-pub frame_at-more : (bytes more : List ℕ) → IsFinished (frame_at bytes) → frame_at (bytes ++ more) ≡ with_more (frame_at bytes) more
-frame_at-more bytes more h = elim (cases_number bytes) [
-  | inl none ↦ absurd (subst IsFinished (at_no_kind bytes none) h)
+pub frame_by-more : (kinds : FrameKinds) (bytes more : List ℕ) → IsFinished (frame_by kinds bytes) → frame_by kinds (bytes ++ more) ≡ with_more (frame_by kinds bytes) more
+frame_by-more kinds bytes more h = elim (cases_number bytes) [
+  | inl none ↦ absurd (subst IsFinished (at_no_kind kinds bytes none) h)
   | inr k ↦ elim (cases_number k.1) [
-    | inl none ↦ absurd (subst IsFinished (at_no_number k.0 bytes k.1 k.2 none) h)
+    | inl none ↦ absurd (subst IsFinished (at_no_number kinds k.0 bytes k.1 k.2 none) h)
     | inr n ↦
-        let here = at_head k.0 n.0 bytes k.1 n.1 k.2 n.2 in
-        let there = at_head k.0 n.0 (bytes ++ more) (k.1 ++ more) (n.1 ++ more) (reads_more k.0 bytes k.1 more k.2) (reads_more n.0 k.1 n.1 more n.2) in
-        there ∙ past_head (length bytes) (length (bytes ++ more)) k.0 n.0 n.1 more (subst IsFinished here h) ∙ ap (λ x. with_more x more) (sym here)
+        let here = at_head kinds k.0 n.0 bytes k.1 n.1 k.2 n.2 in
+        let there = at_head kinds k.0 n.0 (bytes ++ more) (k.1 ++ more) (n.1 ++ more) (reads_more k.0 bytes k.1 more k.2) (reads_more n.0 k.1 n.1 more n.2) in
+        there ∙ past_head kinds (length bytes) (length (bytes ++ more)) k.0 n.0 n.1 more (subst IsFinished here h) ∙ ap (λ x. with_more x more) (sym here)
   ]
 ]
 
@@ -132,22 +133,22 @@ before_shorter n r (Unknown kind rest) e h = rw e h
 before_shorter n r (Refused e') e h = tt
 before_shorter n r (Unfinished k) e h = tt
 
-head_shorter : (n size kind number : ℕ) (behind : List ℕ) → length behind < n → IsShorter n (with_head size kind number behind)
-head_shorter n size kind number behind h =
+head_shorter : (kinds : FrameKinds) (n size kind number : ℕ) (behind : List ℕ) → length behind < n → IsShorter n (with_head kinds size kind number behind)
+head_shorter kinds n size kind number behind h =
     let P = IsShorter n in
-    either P (kind == 0x41) _ _ h (either P (kind == 0) _ _ h (either P (nat_lt (length behind) number) _ _ tt
+    either P (is_session kinds kind) _ _ h (either P (kind == 0) _ _ h (either P (nat_lt (length behind) number) _ _ tt
     (before_shorter n (drop number behind) _ (frame_of-finished kind (take number behind) (drop number behind)).1 (omega (arith, length-drop number behind, h)))))
 
-pub frame_at-shorter : (bytes : List ℕ) → IsShorter (length bytes) (frame_at bytes)
-frame_at-shorter bytes = elim (cases_number bytes) [
-  | inl none ↦ subst (IsShorter (length bytes)) (sym (at_no_kind bytes none)) tt
+pub frame_by-shorter : (kinds : FrameKinds) (bytes : List ℕ) → IsShorter (length bytes) (frame_by kinds bytes)
+frame_by-shorter kinds bytes = elim (cases_number bytes) [
+  | inl none ↦ subst (IsShorter (length bytes)) (sym (at_no_kind kinds bytes none)) tt
   | inr k ↦ elim (cases_number k.1) [
-    | inl none ↦ subst (IsShorter (length bytes)) (sym (at_no_number k.0 bytes k.1 k.2 none)) tt
-    | inr n ↦ subst (IsShorter (length bytes)) (sym (at_head k.0 n.0 bytes k.1 n.1 k.2 n.2))
-        (head_shorter (length bytes) (length bytes) k.0 n.0 n.1 (omega (arith, shorter k.0 bytes k.1 k.2, shorter n.0 k.1 n.1 n.2)))
+    | inl none ↦ subst (IsShorter (length bytes)) (sym (at_no_number kinds k.0 bytes k.1 k.2 none)) tt
+    | inr n ↦ subst (IsShorter (length bytes)) (sym (at_head kinds k.0 n.0 bytes k.1 n.1 k.2 n.2))
+        (head_shorter kinds (length bytes) (length bytes) k.0 n.0 n.1 (omega (arith, shorter k.0 bytes k.1 k.2, shorter n.0 k.1 n.1 n.2)))
   ]
 ]
 
 -- no bytes are the front of a frame
-pub frame_at-nil : frame_at [] ≡ Unfinished 1
-frame_at-nil = at_no_kind [] none_at_end
+pub frame_by-nil : (kinds : FrameKinds) → frame_by kinds [] ≡ Unfinished 1
+frame_by-nil kinds = at_no_kind kinds [] none_at_end

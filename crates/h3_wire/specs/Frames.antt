@@ -1,10 +1,11 @@
 -- What bytes begin with, as frames (RFC 9114, section 7.1).
-use Rattle.std.specs.Prelude.{◌≡◌, ℕ, ◌<◌, ◌≤◌, ◌+◌, ◌-◌, ◌==◌, Bool, false, List, [], ◌∷◌, ◌++◌, length, take, drop, nat_lt, if◌then◌else◌, Option, Some, None, Result, Ok, Err}
+use Rattle.std.specs.Prelude.{◌≡◌, ℕ, ◌<◌, ◌≤◌, ◌+◌, ◌-◌, ◌==◌, ◌&&◌, Bool, true, false, List, [], ◌∷◌, ◌++◌, length, take, drop, nat_lt, if◌then◌else◌, Option, Some, None, Result, Ok, Err}
 use Rattle.std.specs.List.{list_any}
 use Rattle.std.specs.Option.{is_some}
 use Rattle.h3_coding.specs.Varint.{varint_at}
 use Rattle.h3_proto.specs.Settings.{settings_of}
 use Rattle.h3_proto.specs.declared.frame.SettingsError.{SettingsError}
+use Rattle.h3_wire.specs.declared.frame.kinds.FrameKinds.{FrameKinds}
 use Rattle.h3_wire.specs.declared.proto.frame.PayloadLen.{PayloadLen}
 use Rattle.h3_wire.specs.declared.proto.frame.Frame.{Frame}
 use Rattle.h3_wire.specs.declared.proto.frame.Frame.TheVariants as frame
@@ -47,6 +48,14 @@ promise_frame (Some p) rest = Whole (frame.PushPromise (record { id = p.0; secti
 abbrev pub is_http2 : ℕ → Bool
 is_http2 kind = list_any (λ k. k == kind) (2 ∷ 6 ∷ 8 ∷ 9 ∷ [])
 
+-- all types that are read here have a meaning
+abbrev pub plain_frames : FrameKinds
+plain_frames = record { sessions = true }
+
+-- 0x41 begins a session of WebTransport where those are known. Else it is the type of an unknown frame
+abbrev pub is_session : FrameKinds → ℕ → Bool
+is_session kinds kind = (kind == 0x41) && kinds.sessions
+
 -- the frame of a type and a whole payload (RFC 9114, section 7.2): | type (i) | length (i) | payload |, with the types HEADERS 1,
 -- CANCEL_PUSH 3, SETTINGS 4, PUSH_PROMISE 5, GOAWAY 7 and MAX_PUSH_ID 13; DATA, 0, is in `with_head`, as its payload is not waited for
 unfoldable pub frame_of : ℕ → List ℕ → List ℕ → Front
@@ -61,24 +70,28 @@ frame_of kind payload rest =
     else Unknown kind rest))))))
 
 -- a frame whose head is whole; size is the count of all bytes, the head's among them
-abbrev pub with_head : ℕ → ℕ → ℕ → List ℕ → Front
-with_head size kind number behind =
-    if kind == 0x41 then Whole (frame.WebTransportStream number) behind
+abbrev pub with_head : FrameKinds → ℕ → ℕ → ℕ → List ℕ → Front
+with_head kinds size kind number behind =
+    if is_session kinds kind then Whole (frame.WebTransportStream number) behind
     else (if kind == 0 then Whole (frame.Data (record { 0 = number })) behind
     else (if nat_lt (length behind) number then Unfinished (size - length behind + number)
     else frame_of kind (take number behind) (drop number behind)))
 
-abbrev pub with_number : ℕ → ℕ → Option (ℕ × List ℕ) → Front
-with_number size kind None = Unfinished (size + 1)
-with_number size kind (Some p) = with_head size kind p.0 p.1
+abbrev pub with_number : FrameKinds → ℕ → ℕ → Option (ℕ × List ℕ) → Front
+with_number kinds size kind None = Unfinished (size + 1)
+with_number kinds size kind (Some p) = with_head kinds size kind p.0 p.1
 
-abbrev pub with_kind : ℕ → Option (ℕ × List ℕ) → Front
-with_kind size None = Unfinished (size + 1)
-with_kind size (Some p) = with_number size p.0 (varint_at p.1)
+abbrev pub with_kind : FrameKinds → ℕ → Option (ℕ × List ℕ) → Front
+with_kind kinds size None = Unfinished (size + 1)
+with_kind kinds size (Some p) = with_number kinds size p.0 (varint_at p.1)
 
--- what the bytes begin with
-unfoldable pub frame_at : List ℕ → Front
-frame_at bytes = with_kind (length bytes) (varint_at bytes)
+-- what the bytes begin with, where frames of these kinds are known
+unfoldable pub frame_by : FrameKinds → List ℕ → Front
+frame_by kinds bytes = with_kind kinds (length bytes) (varint_at bytes)
+
+-- the same where all are
+abbrev pub frame_at : List ℕ → Front
+frame_at = frame_by plain_frames
 
 -- behind the type there is a whole number
 abbrev pub is_followed : Option (ℕ × List ℕ) → Bool

@@ -1,7 +1,8 @@
 -- What is said of the front of bytes: whether it still waits, and what stands behind it.
 use Rattle.std.specs.Prelude.{◌≡◌, ℕ, ◌+◌, ◌-◌, ◌<◌, Bool, List, ◌++◌, length, take, drop, nat_lt, if◌then◌else◌, [], Option, Some, None}
 use Rattle.h3_wire.specs.declared.proto.frame.Frame.TheVariants as frame
-use Rattle.h3_wire.specs.Frames.{Front, Whole, Unknown, Refused, Unfinished, frame_of, frame_at}
+use Rattle.h3_wire.specs.declared.frame.kinds.FrameKinds.{FrameKinds}
+use Rattle.h3_wire.specs.Frames.{Front, Whole, Unknown, Refused, Unfinished, frame_of, frame_by}
 
 -- a front that is no longer waiting
 abbrev pub IsFinished : Front → Type 0
@@ -41,8 +42,8 @@ IsKnown (Unknown kind rest) = ⊥
 IsKnown _ = Unit {0}
 
 -- the bytes begin a frame, and another try needs so many
-abbrev pub IsUnfinishedFront : List ℕ → Type 0
-IsUnfinishedFront bytes = (least : ℕ) × (frame_at bytes ≡ Unfinished least)
+abbrev pub IsUnfinishedFront : FrameKinds → List ℕ → Type 0
+IsUnfinishedFront kinds bytes = (least : ℕ) × (frame_by kinds bytes ≡ Unfinished least)
 
 abbrev pub behind_number : Option (ℕ × List ℕ) → List ℕ
 behind_number None = []

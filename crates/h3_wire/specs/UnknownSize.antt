@@ -1,49 +1,69 @@
 -- Frames of unknown types at the front of bytes (RFC 9114, section 9), told by their heads alone: how long they are, also while they are under way.
-use Rattle.std.specs.Prelude.{◌≡◌, ℕ, ◌+◌, ◌-◌, ◌<◌, Bool, false, ◌||◌, ◌==◌, List, [], length, nat_lt, if◌then◌else◌, Option, Some, None}
+use Rattle.std.specs.Prelude.{◌≡◌, ℕ, ◌+◌, ◌-◌, ◌<◌, Bool, true, false, not, ◌&&◌, ◌||◌, ◌==◌, List, [], length, nat_lt, if◌then◌else◌, Option, Some, None}
 use Rattle.std.specs.List.{concat}
 use Rattle.h3_coding.specs.Varint.{varint_at}
-use Rattle.h3_wire.specs.Frames.{is_http2}
+use Rattle.h3_wire.specs.Frames.{is_http2, is_session, plain_frames}
+use Rattle.h3_wire.specs.declared.frame.kinds.FrameKinds.{FrameKinds}
 
--- the types that have a meaning (RFC 9114, section 7.2; 0x41 begins a WebTransport session), and those of HTTP/2, which are refused
-abbrev pub is_known_type : ℕ → Bool
-is_known_type kind =
-    (kind == 0x41) || ((kind == 0) || ((kind == 1) || ((kind == 3) || ((kind == 4) || ((kind == 5) || ((kind == 7) || ((kind == 13) || is_http2 kind)))))))
+-- the types that have a meaning (RFC 9114, section 7.2; 0x41 where sessions of WebTransport are known), and those of HTTP/2, which are refused
+abbrev pub is_known_type : FrameKinds → ℕ → Bool
+is_known_type kinds kind =
+    is_session kinds kind || ((kind == 0) || ((kind == 1) || ((kind == 3) || ((kind == 4) || ((kind == 5) || ((kind == 7) || ((kind == 13) || is_http2 kind)))))))
 
 abbrev pub size_with : ℕ → Option (ℕ × List ℕ) → Option ℕ
 size_with all None = None
 size_with all (Some p) = Some (all - length p.1 + p.0)
 
-abbrev pub size_by : ℕ → Option (ℕ × List ℕ) → Option ℕ
-size_by all None = None
-size_by all (Some p) = if is_known_type p.0 then None else size_with all (varint_at p.1)
+abbrev pub size_by : FrameKinds → ℕ → Option (ℕ × List ℕ) → Option ℕ
+size_by kinds all None = None
+size_by kinds all (Some p) = if is_known_type kinds p.0 then None else size_with all (varint_at p.1)
 
 -- How many bytes the frame at the front has, head and payload, where its head is whole and its type is unknown.
-unfoldable pub unknown_size : List ℕ → Option ℕ
-unknown_size bytes = size_by (length bytes) (varint_at bytes)
+unfoldable pub unknown_size : FrameKinds → List ℕ → Option ℕ
+unknown_size kinds bytes = size_by kinds (length bytes) (varint_at bytes)
 
 abbrev pub is_longer : ℕ → Option ℕ → Bool
 is_longer all None = false
 is_longer all (Some size) = nat_lt all size
 
 -- an unknown frame is under way at the front: all that came is of it
-abbrev pub is_under_way : List ℕ → Bool
-is_under_way bytes = is_longer (length bytes) (unknown_size bytes)
+abbrev pub is_under_way : FrameKinds → List ℕ → Bool
+is_under_way kinds bytes = is_longer (length bytes) (unknown_size kinds bytes)
 
 -- how many of the bytes that were not read are held: none while an unknown frame is under way at the front
-abbrev pub held_length : List ℕ → ℕ
-held_length bytes = if is_under_way bytes then 0 else length bytes
+abbrev pub held_length : FrameKinds → List ℕ → ℕ
+held_length kinds bytes = if is_under_way kinds bytes then 0 else length bytes
 
 -- The bytes of a stream of frames: their pieces, and how many bytes the unknown frame at the front has, where some of it were let go; else 0.
+-- Then whether that is one of type 0x41, which is unknown to those alone who know no sessions.
 pub record Sparing : Type 0 where
   pub pieces : List (List ℕ)
   pub passing : ℕ
+  pub session : Bool
 
--- These pieces were let go: none; or such that an unknown frame of so many bytes begins with them, and is longer.
-pub record AreLetGo (passing gone : ℕ) (front : List (List ℕ)) : Type 0 where
+-- the most kinds by which that frame is unknown
+abbrev pub let_go_by : Bool → FrameKinds
+let_go_by session = record { sessions = not session }
+
+-- by these it is, too
+abbrev pub suits : Bool → FrameKinds → Bool
+suits session kinds = not (session && kinds.sessions)
+
+-- These pieces were let go: none; or such that an unknown frame of so many bytes begins with them, and is longer. One of type 0x41 is known where
+-- sessions are.
+pub record AreLetGo (session : Bool) (passing gone : ℕ) (front : List (List ℕ)) : Type 0 where
   pub gone_is : gone ≡ length (concat front)
   pub none : passing ≡ 0 → front ≡ []
-  pub unknown : 0 < passing → unknown_size (concat front) ≡ Some passing
+  pub plain : passing ≡ 0 → session ≡ false
+  pub unknown : 0 < passing → unknown_size (let_go_by session) (concat front) ≡ Some passing
+  pub known : 0 < passing → session ≡ true → unknown_size plain_frames (concat front) ≡ None
   pub under_way : 0 < passing → gone < passing
+
+-- What that says of all pieces.
+pub record IsPassing (s : Sparing) : Type 0 where
+  pub plain : s.passing ≡ 0 → s.session ≡ false
+  pub unknown : 0 < s.passing → unknown_size (let_go_by s.session) (concat s.pieces) ≡ Some s.passing
+  pub known : 0 < s.passing → s.session ≡ true → unknown_size plain_frames (concat s.pieces) ≡ None
 
 -- While it is under way none of its bytes are kept.
 abbrev pub IsSpared : ℕ → ℕ → List (List ℕ) → Type 0

@@ -26,6 +26,7 @@ mod decoder;
 mod errors;
 mod excess;
 mod first;
+mod kinds;
 mod let_go;
 mod payload_left;
 mod sparing;
@@ -33,6 +34,7 @@ mod sparing;
 pub use buffer::FrameBuffer;
 pub use decoder::{FrameDecoder, MessageFrame};
 pub use errors::{FrameProtocolError, FrameStreamError};
+pub use kinds::FrameKinds;
 pub use payload_left::PayloadLeft;
 
 /// Reads frames, and the payloads of DATA and of WebTransport in pieces.
@@ -47,6 +49,7 @@ pub struct FrameStream<S> {
 impl<S> Model for FrameStream<S> {
     ghost use Rattle.std.specs.Prelude.{◌≡◌, true, None};
     ghost use Rattle.std.specs.List.{concat};
+    ghost use Rattle.h3_wire.specs.Frames.{plain_frames};
     ghost use Rattle.h3_wire.specs.Tries.{Expects};
     ghost use Rattle.h3_wire.specs.Streams.{Framing, is_open};
 
@@ -54,7 +57,7 @@ impl<S> Model for FrameStream<S> {
 
     ghost view = { λ s. record { pieces = s.stream.pieces; source = s.stream.source; is_eos = s.stream.is_eos; payload = s.payload; decoder = s.decoder } };
 
-    ghost invariant = { λ s. Expects s.decoder (concat s.stream.pieces) × (is_open s.payload ≡ true → s.decoder.expected ≡ None) };
+    ghost invariant = { λ s. Expects plain_frames s.decoder (concat s.stream.pieces) × (is_open s.payload ≡ true → s.decoder.expected ≡ None) };
 }
 
 // The payload that is under way after a frame.

@@ -5,6 +5,7 @@ ghost use Rattle.h3_wire.specs.OneAnswer.{IsFunction, OneAnswer, OneStart};
 ghost use Rattle.h3_wire.specs.Buffering.{AnswersFrom};
 ghost use Rattle.h3_wire.specs.Encoded.{encoding_of, needed_of, HasLength, IsReserved};
 ghost use Rattle.h3_wire.specs.ReadBack.{read_back};
+ghost use Rattle.h3_wire.specs.declared.frame.kinds.FrameKinds.{FrameKinds};
 ghost use Rattle.h3_wire.specs.Frames.{frame_at};
 ghost use Rattle.h3_wire.specs.Known.{Gives};
 ghost use Rattle.h3_wire.specs.Starting.{StartRounds};
@@ -40,7 +41,7 @@ pub fn cuts_do_not_matter()
 pub fn less_than_a_frame_is_unfinished<B: Buf>(frame: &Frame<B>)
     requires length { HasLength B.unread frame.now }
     requires reserved { IsReserved frame.now }
-    ensures { (count : ℕ) → count < length (needed_of B.unread frame.now) → IsUnfinishedFront (take count (needed_of B.unread frame.now)) }
+    ensures { (kinds : FrameKinds) (count : ℕ) → count < length (needed_of B.unread frame.now) → IsUnfinishedFront kinds (take count (needed_of B.unread frame.now)) }
 {
     // (for the proof: its numbers have encodings)
     frame.known();
@@ -48,7 +49,7 @@ pub fn less_than_a_frame_is_unfinished<B: Buf>(frame: &Frame<B>)
 
 /// A refused frame is refused again, whatever follows it, and nothing of it is taken.
 pub fn refused_stays_refused()
-    ensures { (e : FrameProtocolError) (old new more : List ℕ) → Gives (Err (stream.Proto e)) old new → Gives (Err (stream.Proto e)) (new ++ more) (new ++ more) }
+    ensures { (kinds : FrameKinds) (e : FrameProtocolError) (old new more : List ℕ) → Gives kinds (Err (stream.Proto e)) old new → Gives kinds (Err (stream.Proto e)) (new ++ more) (new ++ more) }
 {}
 
 /// What a stream of frames, a stream whose type is read, or a buffered stream answers and leaves

@@ -7,6 +7,7 @@ ghost use Rattle.h3_wire.specs.Accepting.{TakesNumber};
 ghost use Rattle.h3_wire.specs.Asking.{Asks};
 ghost use Rattle.h3_wire.specs.Buffering.{left_behind, AnswersFrom};
 ghost use Rattle.h3_wire.specs.BufferingLaws.{polls_behind, same_behind};
+ghost use Rattle.h3_wire.specs.Frames.{plain_frames};
 ghost use Rattle.h3_wire.specs.Known.{Gives};
 ghost use Rattle.h3_wire.specs.Cut.{TellsEnd};
 ghost use Rattle.h3_wire.specs.Given.{AddsPieces};
@@ -209,10 +210,10 @@ impl<S: RecvStream> BufRecvStream<S> {
         alloc: Global,
         decoder: &mut FrameDecoder,
     ) -> Result<Option<Frame<PayloadLen>>, FrameStreamError>
-        requires expects { Expects decoder.old (concat self.old.pieces) }
-        ensures gives { Gives result (concat self.old.pieces) (concat self.new.pieces) }
-        ensures expects { Expects decoder.new (concat self.new.pieces) }
-        ensures counts { Counts decoder.old (concat self.old.pieces) result decoder.new }
+        requires expects { Expects plain_frames decoder.old (concat self.old.pieces) }
+        ensures gives { Gives plain_frames result (concat self.old.pieces) (concat self.new.pieces) }
+        ensures expects { Expects plain_frames decoder.new (concat self.new.pieces) }
+        ensures counts { Counts plain_frames decoder.old (concat self.old.pieces) result decoder.new }
         ensures fresh { IfOk result (λ o. IfSome o (λ f. decoder.new.expected ≡ None)) }
         ensures pieces { self.new.pieces ≡ ending (length (concat self.new.pieces)) self.old.pieces }
         ensures source { self.new.source ≡ self.old.source }

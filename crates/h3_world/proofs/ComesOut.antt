@@ -1,5 +1,5 @@
 -- With everything delivered, a pull pauses only at the end of what was sent.
-use Rattle.std.proofs.Common.{◌≡◌, ◌⊎◌, inl, inr, ℕ, zero, suc, ◌+◌, ◌<◌, ◌≤◌, true, false, List, [], ◌∷◌, length, sym, arith, Option, Some, None, length-append, ap, subst, ◌∙◌, unwrap_or}
+use Rattle.std.proofs.Common.{◌≡◌, ◌⊎◌, inl, inr, ℕ, zero, suc, ◌+◌, ◌<◌, ◌≤◌, true, false, List, [], ◌∷◌, length, refl, sym, arith, Option, Some, None, length-append, ap, subst, ◌∙◌, unwrap_or}
 use Rattle.std.specs.List.{flat_map}
 use Rattle.std.specs.Prelude.{slice_get}
 use Rattle.std.proofs.lemmas.Grind.{common_steps}
@@ -52,11 +52,10 @@ end_is_last p before start (q ∷ []) (suc n) h e = cc
 end_is_last p before start (q ∷ r ∷ rs) zero h e = absurd (none_follows r (subst (λ x. MayFollow (Some x) r) (same q End e) h.2.0))
 end_is_last p before start (q ∷ r ∷ rs) (suc n) h e = end_is_last p (Some q) (start + length (part_bytes q)) (r ∷ rs) n h.2 e
 
--- Where all of a stream and of its encoder stream was delivered, and its end if it was finished, there is no pause before a part.
-pub all_there : (p : Party) (f : Flow) (part : Part) → IsSoundFlow p f → next_part f ≡ Some part
-    → length (flow_bytes f) ≤ f.delivered → length (encoder_stream p) ≤ p.own.encoder_taken → (is_end (last_part f.sent) ≡ true → f.ended ≡ true)
-    → PauseAllowed f p.own.encoder_taken (Some part) → ⊥
-all_there p f part sound next own encoder ended pause = at part next (each_ends p None 0 f.sent f.parts_out part sound.sent next) pause
+-- Where all of a stream and of its encoder stream was delivered, there is a pause before the end alone.
+pub end_missing : (p : Party) (f : Flow) (part : Part) → IsSoundFlow p f → next_part f ≡ Some part
+    → length (flow_bytes f) ≤ f.delivered → length (encoder_stream p) ≤ p.own.encoder_taken → PauseAllowed f p.own.encoder_taken (Some part) → part ≡ End
+end_missing p f part sound next own encoder pause = at part next (each_ends p None 0 f.sent f.parts_out part sound.sent next) pause
   where
     missing : (s : Section) → (f.delivered < s.own_length) ⊎ (p.own.encoder_taken < s.encoder_length) → IsSentSection p s → s.own_length ≤ length (flow_bytes f) → ⊥
     missing s (inl h) sent within = omega (arith, h, own, within)
@@ -66,10 +65,21 @@ all_there p f part sound next own encoder ended pause = at part next (each_ends 
     out bytes end next some (inl h) = omega (arith, h, some)
     out bytes end next some (inr h) = (subst (λ o. OutOfNext f o) next h).0
 
-    at : (part : Part) → next_part f ≡ Some part → EndsWithin p (0 + length (flow_bytes f)) part → PauseAllowed f p.own.encoder_taken (Some part) → ⊥
-    at (Interim s) next e h = missing s h e.sent.0 (omega (arith, e.within, e.sent.1))
-    at (Head s) next e h = missing s h e.sent.0 (omega (arith, e.within, e.sent.1))
-    at (Trailer s) next e h = missing s h e.sent.0 (omega (arith, e.within, e.sent.1))
-    at (Body bytes end) next e h =
+    none_there : (bytes : List ℕ) (end : ℕ) → next_part f ≡ Some (Body bytes end) → EndsWithin p (0 + length (flow_bytes f)) (Body bytes end) → PauseAllowed f p.own.encoder_taken (Some (Body bytes end)) → ⊥
+    none_there bytes end next e h =
         omega (arith, h, own, e.within, e.whole, e.sent.0, e.sent.2, length-append (head_encoding 0 (length bytes)) bytes, out bytes end next e.sent.0 sound.body_out)
-    at End next e h = no (sym h ∙ ended (end_is_last p None 0 f.sent f.parts_out sound.sent next))
+
+    at : (part : Part) → next_part f ≡ Some part → EndsWithin p (0 + length (flow_bytes f)) part → PauseAllowed f p.own.encoder_taken (Some part) → part ≡ End
+    at (Interim s) next e h = absurd (missing s h e.sent.0 (omega (arith, e.within, e.sent.1)))
+    at (Head s) next e h = absurd (missing s h e.sent.0 (omega (arith, e.within, e.sent.1)))
+    at (Trailer s) next e h = absurd (missing s h e.sent.0 (omega (arith, e.within, e.sent.1)))
+    at (Body bytes end) next e h = absurd (none_there bytes end next e h)
+    at End next e h = refl
+
+-- And its end too, if it was finished: there is none.
+pub all_there : (p : Party) (f : Flow) (part : Part) → IsSoundFlow p f → next_part f ≡ Some part
+    → length (flow_bytes f) ≤ f.delivered → length (encoder_stream p) ≤ p.own.encoder_taken → (is_end (last_part f.sent) ≡ true → f.ended ≡ true)
+    → PauseAllowed f p.own.encoder_taken (Some part) → ⊥
+all_there p f part sound next own encoder ended pause =
+    let end = end_missing p f part sound next own encoder pause in
+    no (sym (subst (λ q. PauseAllowed f p.own.encoder_taken (Some q)) end pause) ∙ ended (end_is_last p None 0 f.sent f.parts_out sound.sent (next ∙ ap (λ q. Some q) end)))

@@ -1,5 +1,5 @@
 -- All that is said of a step holds of every exact step between sound worlds.
-use Rattle.std.proofs.Common.{◌≡◌, ℕ, ◌-◌, ◌≤◌, Bool, true, false, not, ◌&&◌, [], ◌∷◌, length, refl, sym, ap, ◌∙◌, subst, arith, if◌then◌else◌, Option, Some, None, nat_lt, nat_le}
+use Rattle.std.proofs.Common.{◌≡◌, ◌⊎◌, inl, inr, ℕ, ◌-◌, ◌≤◌, Bool, true, false, not, ◌&&◌, [], ◌∷◌, length, refl, sym, ap, ◌∙◌, subst, arith, if◌then◌else◌, Option, Some, None, nat_lt, nat_le}
 use Rattle.std.specs.Prelude.{MatchOption, is_none, is_some, ◌^◌, ◌==◌, ◌||◌, ◌%◌}
 use Rattle.std.proofs.lemmas.Grind.{common_steps}
 use Rattle.h3_proto.specs.StreamIds.{is_request_stream}
@@ -31,6 +31,7 @@ use Rattle.h3_world.specs.Setup.{announced_at, takes_any}
 use Rattle.h3_world.specs.ListLaws.{fault_listed}
 use Rattle.h3_world.specs.Lists.{pull_of, unreadable}
 use Rattle.h3_world.specs.Flow.{Flow, Part, flow_bytes, bytes_waiting}
+use Rattle.h3_world.specs.Flow.Part.{End}
 use Rattle.h3_world.specs.World.{World, Party, party}
 use Rattle.h3_world.specs.OwnStreams.{encoder_stream}
 use Rattle.h3_world.specs.Streams.{flow, waiting, is_open, has_outgoing}
@@ -42,7 +43,7 @@ use Rattle.h3_world.specs.Pulling.{own_delivered, fault_or, settled, PullsNext, 
 use Rattle.h3_world.specs.Step.{Does, Step, IsExact}
 use Rattle.h3_world.specs.Headline.{IsDelivered, ComesOut, is_connection_fault, Happens}
 use Rattle.h3_world.specs.Sound.{IsSoundFlow, IsSoundWorld}
-use Rattle.h3_world.proofs.ComesOut.{all_there}
+use Rattle.h3_world.proofs.ComesOut.{all_there, end_missing}
 use Rattle.h3_world.proofs.ExactPauses.{pause_allowed}
 use Rattle.h3_world.proofs.Grown.{session_is_sound}
 use Rattle.h3_world.proofs.QpackLaws.{QpackLaws}
@@ -80,39 +81,54 @@ finished_as f r e = ap (λ b. not b && is_end (last_part f.sent)) r ∙ e
 none_left : (n m : ℕ) → n - m ≡ 0 → n ≤ m
 none_left n m h = omega (arith, h)
 
+-- with nothing left to deliver, a pause is at the end
+module _ (setup : Setup) (w : World) (side : Side) (id : ℕ) (p : Pull) (h : IsSoundWorld setup w) (exact : PausesExactly w side id p) (live : (flow w (other side) id).is_reset ≡ false) (message : waiting setup w (other side) id ≡ 0)
+    (encodes : waiting setup w (other side) (encoder_id (other side)) ≡ 0) (e : settled w side id ≡ None) (pauses : is_none (pause_of p) ≡ false) where
+  abbrev f : Flow
+  f = flow w (other side) id
+
+  abbrev sender : Party
+  sender = party w (other side)
+
+  sound : IsSoundFlow sender f
+  sound = flow_sound w (other side) id h.exchanges
+
+  allowed : PauseAllowed f sender.own.encoder_taken (next_part f)
+  allowed = pause_allowed setup w side id p h e exact pauses
+
+  request : is_request_stream id ≡ true
+  request = is_request_of w side id (unsettled w side id e).0
+
+  waits : bytes_waiting f ≡ 0
+  waits = sym (waits_message setup w (other side) id (request_not_own (other side) id request)) ∙ message
+
+  whole : length (flow_bytes f) ≤ f.delivered
+  whole = none_left (length (flow_bytes f)) f.delivered (sym (ap (λ b. if b then 0 else length (flow_bytes f) - f.delivered) live) ∙ waits)
+
+  encoder : length (encoder_stream sender) ≤ sender.own.encoder_taken
+  encoder = none_left (length (encoder_stream sender)) sender.own.encoder_taken (sym (encoder_waits setup w (other side)) ∙ encodes)
+
+  pub pauses_at_end : (next_part f ≡ None) ⊎ (next_part f ≡ Some End)
+  pauses_at_end = by_part (next_part f) refl
+    where
+      by_part : (o : Option Part) → next_part f ≡ o → (next_part f ≡ None) ⊎ (next_part f ≡ Some End)
+      by_part None k = inl k
+      by_part (Some part) k =
+          inr (k ∙ ap (λ q. Some q) (end_missing sender f part sound k whole encoder (subst (PauseAllowed f sender.own.encoder_taken) k allowed)))
+
+  -- and behind it, once that came
+  comes_at_end : (is_finished f ≡ true → f.ended ≡ true) → next_part f ≡ None
+  comes_at_end ended = by_part (next_part f) refl
+    where
+      by_part : (o : Option Part) → next_part f ≡ o → next_part f ≡ None
+      by_part None k = k
+      by_part (Some part) k =
+          absurd (all_there sender f part sound k whole encoder (λ end. ended (finished_as f live end)) (subst (PauseAllowed f sender.own.encoder_taken) k allowed))
+
 -- with everything delivered, a pause is at the end
 pull_comes_out : (setup : Setup) (w : World) (side : Side) (id : ℕ) (p : Pull) → IsSoundWorld setup w → PausesExactly w side id p → IsDelivered setup w (other side) id → settled w side id ≡ None
     → is_none (pause_of p) ≡ false → next_part (flow w (other side) id) ≡ None
-pull_comes_out setup w side id p h exact given e pauses = by_part (next_part f) refl
-  where
-    f : Flow
-    f = flow w (other side) id
-
-    sender : Party
-    sender = party w (other side)
-
-    sound : IsSoundFlow sender f
-    sound = flow_sound w (other side) id h.exchanges
-
-    allowed : PauseAllowed f sender.own.encoder_taken (next_part f)
-    allowed = pause_allowed setup w side id p h e exact pauses
-
-    request : is_request_stream id ≡ true
-    request = is_request_of w side id (unsettled w side id e).0
-
-    waits : bytes_waiting f ≡ 0
-    waits = sym (waits_message setup w (other side) id (request_not_own (other side) id request)) ∙ given.message
-
-    whole : length (flow_bytes f) ≤ f.delivered
-    whole = none_left (length (flow_bytes f)) f.delivered (sym (ap (λ b. if b then 0 else length (flow_bytes f) - f.delivered) given.whole) ∙ waits)
-
-    encoder : length (encoder_stream sender) ≤ sender.own.encoder_taken
-    encoder = none_left (length (encoder_stream sender)) sender.own.encoder_taken (sym (encoder_waits setup w (other side)) ∙ given.encoder)
-
-    by_part : (o : Option Part) → next_part f ≡ o → next_part f ≡ None
-    by_part None k = k
-    by_part (Some part) k =
-        absurd (all_there sender f part sound k whole encoder (λ end. given.ended (finished_as f given.whole end)) (subst (PauseAllowed f sender.own.encoder_taken) k allowed))
+pull_comes_out setup w side id p h exact given e pauses = comes_at_end setup w side id p h exact given.whole given.message given.encoder e pauses given.ended
 
 pub comes_out : (setup : Setup) (w : World) (e : Event) (a : Answer) → IsSoundWorld setup w → IsExact w e a → ComesOut setup w e a
 comes_out setup w (event.Pull side id) (answer.Pulled p) h exact = λ given settled_is pauses. pull_comes_out setup w side id p h exact given settled_is pauses

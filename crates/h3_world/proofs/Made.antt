@@ -11,6 +11,7 @@ use Rattle.h3_world.specs.declared.setup.Setup.{Setup}
 use Rattle.h3_connection.specs.declared.setup.NewError.TheVariants.{Settings}
 use Rattle.h3_proto.specs.declared.frame.SettingsError.TheVariants.{InvalidSettingValue}
 use Rattle.h3_world.specs.MadeLaws.{is_made}
+use Rattle.h3_world.specs.TakesLaws.{setup_made}
 use Rattle.h3_world.specs.Setup.{both, takes_settings, IsMadeSetup}
 
 same_setup : (x y : Setup) → ◌≡◌ {A = Result Setup NewError} (Ok x) (Ok y) → x ≡ y
@@ -38,4 +39,4 @@ pub setup_is_made : (client server : Config) (client_limits server_limits : Limi
     → both (announced_by (announced client client_grease) client_limits client.choices) (announced_by (announced server server_grease) server_limits server.choices) ≡ Ok setup → IsMadeSetup setup
 setup_is_made client server client_limits server_limits client_grease server_grease setup small_client small_server e =
     let b = both_made (announced_by (announced client client_grease) client_limits client.choices) (announced_by (announced server server_grease) server_limits server.choices) setup e in
-    record { client = is_made client client_limits client_grease setup.client small_client b.client_is; server = is_made server server_limits server_grease setup.server small_server b.server_is; takes = b.takes }
+    setup_made setup (is_made client client_limits client_grease setup.client small_client b.client_is) (is_made server server_limits server_grease setup.server small_server b.server_is) b.takes

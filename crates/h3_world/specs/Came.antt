@@ -3,9 +3,9 @@
 use Rattle.std.specs.Prelude.{ℕ, ◌-◌, Bool, List, [], length, take, nat_le, if◌then◌else◌, Option, Some, None}
 use Rattle.h3_field.specs.Instruction.{EncoderInstruction, DecoderInstruction, encoder_bytes}
 use Rattle.h3_qpack.specs.WholeInstructions.{whole_in, insertions_in, decoder_instructions_in}
-use Rattle.h3_qpack.specs.DecoderState.{DecoderState, announcing, decoder_after_all}
+use Rattle.h3_qpack.specs.DecoderState.{DecoderState, decoder_after_all}
 use Rattle.h3_proto.specs.declared.stream.Side.{Side}
-use Rattle.h3_connection.specs.Endpoint.{goaway_encoding}
+use Rattle.h3_connection.specs.Endpoint.{goaway_encoding, first_decoder}
 use Rattle.h3_connection.specs.OwnIds.{other}
 use Rattle.h3_world.specs.declared.setup.Setup.{Setup}
 use Rattle.h3_world.specs.Setup.{announced_at}
@@ -42,4 +42,4 @@ replies_read setup w side =
 -- the side's decoder, as the instructions that came leave it
 abbrev pub decoder_at : Setup → World → Side → Option DecoderState
 decoder_at setup w side =
-    decoder_after_all (Some (announcing (announced_at setup side).limits.table)) (instructions_came (party w (other side)))
+    decoder_after_all (Some (first_decoder (announced_at setup side))) (instructions_came (party w (other side)))

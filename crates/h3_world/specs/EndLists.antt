@@ -6,8 +6,8 @@ use Rattle.h3_connection.specs.Endpoint.{EndpointHistory}
 use Rattle.h3_connection.specs.Outgoing.OwnPart.{OwnTrailer}
 use Rattle.h3_connection.specs.Refusals.{refusal_of_head, refusal_of_trailer}
 use Rattle.h3_connection.specs.Sections.{written_section}
-use Rattle.h3_connection.specs.Sending.{does, unless_closed, outgoing_at, sender_at, appended, asked, counted, encoded, fields_cost, head_part}
-use Rattle.h3_connection.specs.StrictSending.{broken_head, broken_trailer, early_trailer}
+use Rattle.h3_connection.specs.Sending.{does, unless_closed, outgoing_at, sender_at, appended, asked, counted, encoded, fields_cost, head_part, broken_head_at}
+use Rattle.h3_connection.specs.StrictSending.{broken_trailer, early_trailer}
 use Rattle.h3_connection.specs.declared.event.Refusal.{Refusal}
 use Rattle.h3_world.specs.Lists.{unreadable}
 use Rattle.h3_world.specs.Setup.{takes_any}
@@ -16,7 +16,7 @@ use Rattle.h3_world.specs.Setup.{takes_any}
 abbrev pub fields_refusal : EndpointHistory → ℕ → List Field → Option Refusal
 fields_refusal e id fields =
     unless_closed e
-    (refusal_of_head (sender_at e id) (unreadable (takes_any e.announced) fields) (broken_head e.side e.announced e.peer.settings fields) (head_of_fields fields) fields)
+    (refusal_of_head (sender_at e id) (unreadable (takes_any e.announced) fields) (broken_head_at e id fields) (head_of_fields fields) fields)
 
 abbrev pub after_fields : EndpointHistory → ℕ → List Field → EndpointHistory
 after_fields e id fields =

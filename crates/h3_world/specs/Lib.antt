@@ -25,6 +25,7 @@ pub mod Sendable
 pub mod Few
 pub mod ListLaws
 pub mod MadeLaws
+pub mod TakesLaws
 pub mod Ends
 pub mod WorkedHeads
 pub mod WorkedResponses

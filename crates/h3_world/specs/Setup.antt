@@ -1,11 +1,12 @@
 -- What a client and a server announce (RFC 9114, section 7.2.4, and RFC 9204, section 5).
-use Rattle.std.specs.Prelude.{◌≡◌, ℕ, ◌<◌, ◌^◌, Bool, true, false, not, ◌&&◌, ◌||◌, if◌then◌else◌, [], ◌∷◌, ◌++◌, Result, Ok, Err}
+use Rattle.std.specs.Prelude.{◌≡◌, ℕ, ◌<◌, ◌^◌, Bool, false, not, ◌&&◌, ◌||◌, if◌then◌else◌, [], ◌∷◌, ◌++◌, Result, Ok, Err}
 use Rattle.h3_proto.specs.declared.config.Settings.{Settings}
 use Rattle.h3_proto.specs.Config.{grease_pairs, is_limit, own_pairs}
 use Rattle.h3_proto.specs.declared.stream.Side.{Side}
 use Rattle.h3_proto.specs.declared.stream.Side.TheVariants.{Client, Server}
 use Rattle.h3_connection.specs.Announcing.{is_below_announced}
 use Rattle.h3_connection.specs.Control.{is_table_usable}
+use Rattle.h3_connection.specs.OwnIds.{other}
 use Rattle.h3_connection.specs.declared.setup.Announced.{Announced}
 use Rattle.h3_connection.specs.declared.setup.Limits.{Limits}
 use Rattle.h3_connection.specs.declared.setup.NewError.{NewError}
@@ -74,8 +75,10 @@ pub record IsMade (a : Announced) : Type 0 where
   pub blocked : a.limits.blocked < 2 ^ 16
   pub within : is_below_announced a ≡ false
 
--- what `Setup::new` makes
+abbrev pub refuses_sessions : Announced → Settings → Settings → Bool
+refuses_sessions a own peer = a.choices.extensions.strict_connection && own.enable_webtransport && peer.enable_webtransport && not peer.enable_datagram
+
+-- What `Setup::new` makes: if a side asks for a strict connection, WebTransport on both sides wants datagrams of the other one (its drafts)
 pub record IsMadeSetup (setup : Setup) : Type 0 where
-  pub client : IsMade setup.client
-  pub server : IsMade setup.server
-  pub takes : takes_settings setup ≡ true
+  pub sides : (side : Side) → IsMade (announced_at setup side)
+  pub take : (side : Side) → refuses_sessions (announced_at setup side) (sides side).settings (sides (other side)).settings ≡ false

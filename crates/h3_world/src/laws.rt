@@ -29,6 +29,19 @@ pub fn pauses_wait_for_bytes()
         PauseAllowed (flow w (other side) id) (party w (other side)).own.encoder_taken (next_part (flow w (other side) id)) }
 {}
 
+ghost use Rattle.std.specs.Prelude.{◌⊎◌, Some};
+ghost use Rattle.h3_connection.specs.OwnIds.{encoder_id};
+ghost use Rattle.h3_world.specs.Flow.Part.{End};
+ghost use Rattle.h3_world.specs.Streams.{waiting};
+
+/// With nothing left to deliver of a stream, which was not reset, and of its sender's encoder stream, an exact pause is after all parts, or
+/// before the end alone.
+pub fn with_all_delivered_pauses_are_at_the_end()
+    ensures { (setup : Setup) (w : World) (side : Side) (id : ℕ) (p : Pull) → IsSoundWorld setup w → PausesExactly w side id p → (flow w (other side) id).is_reset ≡ false →
+        waiting setup w (other side) id ≡ 0 → waiting setup w (other side) (encoder_id (other side)) ≡ 0 → settled w side id ≡ None → is_none (pause_of p) ≡ false →
+        (next_part (flow w (other side) id) ≡ None) ⊎ (next_part (flow w (other side) id) ≡ Some End) }
+{}
+
 ghost use Rattle.h3_world.specs.World.{empty_world};
 ghost use Rattle.h3_world.specs.Headline.{Happens};
 ghost use Rattle.h3_world.specs.Sendable.{IsSendable};
@@ -110,3 +123,13 @@ pub fn what_refused_memory_leaves_is_sound()
     h3_qpack::laws::every_session_is_sound();
     h3_qpack::laws::encoders_without_insertions_use_no_table();
 }
+
+ghost use Rattle.std.specs.Prelude.{None};
+ghost use Rattle.h3_connection.specs.OwnIds.{other};
+ghost use Rattle.h3_connection.specs.declared.event.StreamFault.{StreamFault};
+ghost use Rattle.h3_world.specs.Sending.{given_up};
+
+/// A sound world is sound once a side gave up what comes on a stream, for whatever fault, that it had not given up.
+pub fn a_side_gives_a_stream_up()
+    ensures { (setup : Setup) (w : World) (receiver : Side) (id : ℕ) (fault : StreamFault) → IsSoundWorld setup w → is_open w receiver id ≡ true → (flow w (other receiver) id).fault ≡ None → IsSoundWorld setup (given_up w receiver id fault) }
+{}

@@ -1,7 +1,7 @@
 //! A frame at its place in a message (RFC 9114, sections 4.1 and 7.2).
 ghost use Rattle.std.specs.Prelude.{◌≡◌, true, false, [], None};
 ghost use Rattle.std.specs.List.{concat};
-ghost use Rattle.h3_wire.specs.Frames.{frame_at};
+ghost use Rattle.h3_wire.specs.Frames.{frame_by};
 ghost use Rattle.h3_wire.specs.Known.{IsWaiting, refusal};
 ghost use Rattle.h3_qpack.specs.DecoderState.{DecoderState};
 ghost use Rattle.h3_connection.specs.Codes.{excessive_load, refusal_code};
@@ -10,6 +10,7 @@ ghost use Rattle.h3_connection.specs.declared.event.Pull.TheVariants as pull;
 ghost use Rattle.h3_connection.specs.Pulling.{at_session, is_memory, just, next_frame, between_frames};
 ghost use Rattle.h3_incoming.specs.Answering.{Lists};
 ghost use Rattle.h3_connection.specs.Coming.{fields_next};
+ghost use Rattle.h3_connection.specs.StrictConnection.{kinds_of};
 ghost use Rattle.h3_connection.specs.Incoming.{Incoming};
 ghost use Rattle.h3_incoming.specs.Gives.{Gives};
 ghost use Rattle.h3_incoming.specs.Resuming.{Resumes};
@@ -70,16 +71,15 @@ impl IncomingStream {
         ensures answer { is_memory (O.told out.new) ≡ false
             → Gives (between_frames side announced.now id decoder.now self.old) (O.told out.new) self.new replies.old.items replies.new.items }
         ensures memory { is_memory (O.told out.new) ≡ true → Resumes announced.now self.old self.new × (replies.new.items ≡ replies.old.items) }
-        ensures list { Lists (O.listed out.new) (fields_next decoder.now self.old) }
+        ensures list { Lists (O.listed out.new) (fields_next announced.now decoder.now self.old) }
     {
-        let most = announced.choices.unfinished_limit;
         match front(
             &mut self.unread,
             alloc,
             side,
             self.place,
             self.content,
-            most,
+            announced,
         ) {
             Err(_) => fail(out, Fault::Memory),
             Ok(Found::Unfinished) => self.pull_end(alloc, id, replies, out),
@@ -123,7 +123,7 @@ impl IncomingStream {
         fail(out, Fault::Connection(Code::H3_EXCESSIVE_LOAD))
     }
 
-    // No frame is whole.
+    // No frame is whole, for what the endpoint announced.
     fn pull_end<O: Answer>(
         &mut self,
         alloc: Global,
@@ -131,8 +131,7 @@ impl IncomingStream {
         replies: &mut Vec<u8>,
         out: &mut O,
     )
-        requires { IsWaiting (frame_at (concat self.old.unread)) }
-        ensures answer { (side : Side) (own : Announced) (r : DecoderState) → is_memory (O.told out.new) ≡ false
+        ensures answer { (side : Side) (own : Announced) (r : DecoderState) → IsWaiting (frame_by (kinds_of own) (concat self.old.unread)) → is_memory (O.told out.new) ≡ false
             → Gives (next_frame side own id r self.old (concat self.old.unread)) (O.told out.new) self.new replies.old.items replies.new.items }
         ensures memory { is_memory (O.told out.new) ≡ true → (self.new ≡ self.old) × (replies.new.items ≡ replies.old.items) }
         ensures none { O.listed out.new ≡ None }

@@ -3,11 +3,16 @@ ghost use Rattle.std.specs.Prelude.{◌≡◌, ◌<◌, length, Ok, OnErr, IfOk,
 ghost use Rattle.std.specs.List.{concat};
 ghost use Rattle.h3_wire.specs.Pieces.{IsRest, ending};
 ghost use Rattle.h3_wire.specs.UnreadFrames.{AreBetween};
+ghost use Rattle.h3_wire.specs.declared.frame.kinds.FrameKinds.{FrameKinds};
+ghost use Rattle.h3_wire.specs.ExcessiveFrames.{is_excessive};
+ghost use Rattle.h3_wire.specs.Known.{known_by};
 ghost use Rattle.h3_connection.specs.Incoming.{is_body};
+ghost use Rattle.h3_connection.specs.StrictConnection.{kinds_of};
 ghost use Rattle.h3_incoming.specs.Finding.{Finds, GivesBegun, IsWithin, LeavesBetween, PassesFrames};
 
 use super::begun::{Begun, begun_by, begun_by_message, is_empty};
 use h3_connection::place::Place;
+use h3_connection::setup::Announced;
 use h3_messages::Content;
 use h3_proto::stream::Side;
 use h3_wire::frame::{FrameBuffer, FrameProtocolError, FrameStreamError};
@@ -37,16 +42,16 @@ pub(super) fn front(
     side: Side,
     place: Place,
     content: Content,
-    most: u64,
+    announced: &Announced,
 ) -> Result<Found, AllocError>
-    ensures finds { IfOk result (λ f. Finds side place content f (concat unread.old.pieces) (concat unread.new.pieces)) }
-    ensures within { IfOk result (λ f. IsWithin most (is_body place) f (concat unread.old.pieces)) }
+    ensures finds { IfOk result (λ f. Finds (kinds_of announced.now) side place content f (concat unread.old.pieces) (concat unread.new.pieces)) }
+    ensures within { IfOk result (λ f. IsWithin (kinds_of announced.now) announced.now.choices.unfinished_limit (is_body place) f (concat unread.old.pieces)) }
     ensures between { IfOk result (λ f. LeavesBetween f unread.new) }
-    ensures err { OnErr result (PassesFrames (is_body place) (concat unread.old.pieces) (concat unread.new.pieces)) }
+    ensures err { OnErr result (PassesFrames (kinds_of announced.now) (is_body place) (concat unread.old.pieces) (concat unread.new.pieces)) }
     ensures rest { IsRest unread.old.pieces unread.new.pieces }
 {
     loop {
-        match front_one(unread, alloc, side, place, content, most) {
+        match front_one(unread, alloc, side, place, content, announced) {
             Ok(Some(found)) => return Ok(found),
             Ok(None) => {}
             Err(e) => return Err(e),
@@ -64,23 +69,23 @@ fn front_one(
     side: Side,
     place: Place,
     content: Content,
-    most: u64,
+    announced: &Announced,
 ) -> Result<Option<Found>, AllocError>
-    ensures finds { IfOk result (λ o. IfSome o (λ f. Finds side place content f (concat unread.old.pieces) (concat unread.new.pieces))) }
-    ensures within { IfOk result (λ o. IfSome o (λ f. IsWithin most (is_body place) f (concat unread.old.pieces))) }
+    ensures finds { IfOk result (λ o. IfSome o (λ f. Finds (kinds_of announced.now) side place content f (concat unread.old.pieces) (concat unread.new.pieces))) }
+    ensures within { IfOk result (λ o. IfSome o (λ f. IsWithin (kinds_of announced.now) announced.now.choices.unfinished_limit (is_body place) f (concat unread.old.pieces))) }
     ensures between { IfOk result (λ o. IfSome o (λ f. LeavesBetween f unread.new)) }
-    ensures on { IfOk result (λ o. IfNone o (PassesFrames (is_body place) (concat unread.old.pieces) (concat unread.new.pieces))) }
+    ensures on { IfOk result (λ o. IfNone o (PassesFrames (kinds_of announced.now) (is_body place) (concat unread.old.pieces) (concat unread.new.pieces))) }
     ensures less { IfOk result (λ o. IfNone o (length (concat unread.new.pieces) < length (concat unread.old.pieces))) }
-    ensures err { OnErr result (PassesFrames (is_body place) (concat unread.old.pieces) (concat unread.new.pieces)) }
+    ensures err { OnErr result (PassesFrames (kinds_of announced.now) (is_body place) (concat unread.old.pieces) (concat unread.new.pieces)) }
     ensures rest { IsRest unread.old.pieces unread.new.pieces }
 {
-    if unread.is_excessive(most) {
-        if unread.begins_section() {
+    if is_excessive(unread, announced) {
+        if unread.begins_section(announced.kinds()) {
             return Ok(Some(Found::LongSection));
         }
         return Ok(Some(Found::Excessive));
     }
-    match next_begun(unread, alloc, side, place, content) {
+    match next_begun(unread, alloc, side, place, content, announced) {
         Ok(None) => Ok(Some(Found::Unfinished)),
         Ok(Some(begun)) => {
             if is_empty(&begun) {
@@ -93,6 +98,19 @@ fn front_one(
     }
 }
 
+// Whether the first frame that is no whole unknown one says a length above the limit. Which kinds are known is asked only if the type
+// and length in the first piece do not tell it.
+#[inline(always)]
+fn is_excessive(unread: &FrameBuffer, announced: &Announced) -> bool
+    ensures { result ≡ is_excessive announced.now.choices.unfinished_limit (known_by (kinds_of announced.now) (concat unread.now.pieces)) }
+{
+    let most = announced.choices.unfinished_limit;
+    match unread.is_first_excessive(most) {
+        Some(is_excessive) => is_excessive,
+        None => unread.is_excessive(most, announced.kinds()),
+    }
+}
+
 // Takes the next frame, as `FrameBuffer::next_frame` does, and returns what it begins.
 #[inline(always)]
 fn next_begun(
@@ -101,21 +119,22 @@ fn next_begun(
     side: Side,
     place: Place,
     content: Content,
+    announced: &Announced,
 ) -> Result<Option<Begun>, FrameStreamError>
-    ensures gives { GivesBegun side place content result (concat unread.old.pieces) (concat unread.new.pieces) }
+    ensures gives { GivesBegun (kinds_of announced.now) side place content result (concat unread.old.pieces) (concat unread.new.pieces) }
     ensures between { IfOk result (λ o. IfSome o (λ b. AreBetween unread.new)) }
     ensures pieces { unread.new.pieces ≡ ending (length (concat unread.new.pieces)) unread.old.pieces }
 {
     match first_begun(unread, place, content) {
         Some(begun) => Ok(begun),
-        None => begun_anywhere(unread, alloc, side, place, content),
+        None => begun_anywhere(unread, alloc, side, place, content, announced),
     }
 }
 
 // The same, if `FrameBuffer::next_first` reads it. `None` changes nothing.
 #[inline(always)]
 fn first_begun(unread: &mut FrameBuffer, place: Place, content: Content) -> Option<Option<Begun>>
-    ensures gives { (side : Side) → IfSome result (λ o. GivesBegun side place content (Ok o) (concat unread.old.pieces) (concat unread.new.pieces)) }
+    ensures gives { (kinds : FrameKinds) (side : Side) → IfSome result (λ o. GivesBegun kinds side place content (Ok o) (concat unread.old.pieces) (concat unread.new.pieces)) }
     ensures between { IfSome result (λ o. IfSome o (λ b. AreBetween unread.new)) }
     ensures same { IsNone result → unread.new ≡ unread.old }
     ensures pieces { unread.new.pieces ≡ ending (length (concat unread.new.pieces)) unread.old.pieces }
@@ -135,12 +154,18 @@ fn begun_anywhere(
     side: Side,
     place: Place,
     content: Content,
+    announced: &Announced,
 ) -> Result<Option<Begun>, FrameStreamError>
-    ensures gives { GivesBegun side place content result (concat unread.old.pieces) (concat unread.new.pieces) }
+    ensures gives { GivesBegun (kinds_of announced.now) side place content result (concat unread.old.pieces) (concat unread.new.pieces) }
     ensures between { IfOk result (λ o. IfSome o (λ b. AreBetween unread.new)) }
     ensures pieces { unread.new.pieces ≡ ending (length (concat unread.new.pieces)) unread.old.pieces }
 {
-    match unread.next_frame(alloc) {
+    let kinds = announced.kinds();
+    // (not reached: what is announced stays)
+    if !unread.suits(kinds) {
+        return Err(FrameStreamError::OutOfMemory);
+    }
+    match unread.next_frame(alloc, kinds) {
         Ok(Some(frame)) => Ok(Some(begun_by(side, place, content, frame))),
         Ok(None) => Ok(None),
         Err(e) => Err(e),

@@ -35,10 +35,10 @@ impl IncomingStream {
         ensures answer { is_memory (O.told out.new) ≡ false
             → Gives (pull_stream side announced.now id decoder.now self.old) (O.told out.new) self.new replies.old.items replies.new.items }
         ensures memory { is_memory (O.told out.new) ≡ true → Resumes announced.now self.old self.new × (replies.new.items ≡ replies.old.items) }
-        ensures list { Lists (O.listed out.new) (fields_next decoder.now self.old) }
+        ensures list { Lists (O.listed out.new) (fields_next announced.now decoder.now self.old) }
     {
         self.pull_item(alloc, side, announced, id, decoder, replies, out);
-        self.spare();
+        self.spare(announced);
     }
 
     // The same, with what is left of an unknown frame still held.
@@ -55,7 +55,7 @@ impl IncomingStream {
         ensures answer { is_memory (O.told out.new) ≡ false
             → Gives (pull_stream side announced.now id decoder.now self.old) (O.told out.new) self.new replies.old.items replies.new.items }
         ensures memory { is_memory (O.told out.new) ≡ true → Resumes announced.now self.old self.new × (replies.new.items ≡ replies.old.items) }
-        ensures list { Lists (O.listed out.new) (fields_next decoder.now self.old) }
+        ensures list { Lists (O.listed out.new) (fields_next announced.now decoder.now self.old) }
     {
         if let Some(fault) = self.fault() {
             fail(out, Fault::Stream(fault));

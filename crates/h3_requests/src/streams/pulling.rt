@@ -74,7 +74,7 @@ impl RequestStreams {
         ensures memory { is_memory (O.told out.new) ≡ true → IfSome (kept_at self.old id) (λ before. IfSome (kept_at self.new id) (λ after.
             ResumesThere announced.now self.old self.new id before after)) × (replies.new.items ≡ replies.old.items) }
         ensures settled { IfSome (kept_at self.old id) (λ before. is_settled_request (Some before.incoming) ≡ true → is_memory (O.told out.new) ≡ false) }
-        ensures list { Lists (O.listed out.new) (fields_at decoder.now (kept_at self.old id)) }
+        ensures list { Lists (O.listed out.new) (fields_at announced.now decoder.now (kept_at self.old id)) }
     {
         let limit = announced.limits.blocked;
         let inserted = decoder.inserted();

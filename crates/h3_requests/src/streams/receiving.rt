@@ -13,6 +13,7 @@ ghost use Rattle.h3_requests.specs.Changing.{opened_at, Receives, receiver_refus
 use super::RequestStreams;
 use bytes::Bytes;
 use h3_connection::event::{DeliverError, Refusal};
+use h3_connection::setup::Announced;
 use h3_messages::Content;
 use h3_proto::stream::{Side, StreamId};
 use std::alloc::{AllocError, Global};
@@ -20,15 +21,21 @@ use std::alloc::{AllocError, Global};
 impl RequestStreams {
     /// More bytes came. They are kept as they are, with no copy but of small pieces. Those of a stream that was given up are thrown away. A
     /// stream that is not there is opened. An `Err` changes nothing, and returns the bytes: it is out of memory.
-    pub fn deliver(&mut self, alloc: Global, id: StreamId, bytes: Bytes) -> Result<(), Bytes>
+    pub fn deliver(
+        &mut self,
+        alloc: Global,
+        announced: &Announced,
+        id: StreamId,
+        bytes: Bytes,
+    ) -> Result<(), Bytes>
         ensures ok { OnOk result (Receives self.old self.new id (λ i. kept i bytes)) }
         ensures back { IfErr result (λ b. b ≡ bytes) }
         ensures err { OnErr result (AllSame self.old self.new) }
     {
         let Some(stream) = self.streams.get_mut(id) else {
-            return self.deliver_absent(alloc, id, bytes);
+            return self.deliver_absent(alloc, announced, id, bytes);
         };
-        stream.deliver(bytes)
+        stream.deliver(announced, bytes)
     }
 
     /// The same, but bytes are refused that the peer does not send. These are bytes on a stream of a client that is not open (`NotOpen`),
@@ -37,6 +44,7 @@ impl RequestStreams {
         &mut self,
         alloc: Global,
         side: Side,
+        announced: &Announced,
         id: StreamId,
         bytes: Bytes,
     ) -> Result<(), DeliverError>
@@ -49,12 +57,12 @@ impl RequestStreams {
             if self.streams.is_over(id) {
                 return Err(DeliverError::Refused(Refusal::AfterEnd));
             }
-            return self.open_or_refuse(alloc, side, id, bytes);
+            return self.open_or_refuse(alloc, side, announced, id, bytes);
         };
         if stream.has_ended() {
             return Err(DeliverError::Refused(Refusal::AfterEnd));
         }
-        match stream.deliver(bytes) {
+        match stream.deliver(announced, bytes) {
             Ok(()) => Ok(()),
             Err(bytes) => Err(DeliverError::OutOfMemory(bytes)),
         }
@@ -65,6 +73,7 @@ impl RequestStreams {
         &mut self,
         alloc: Global,
         side: Side,
+        announced: &Announced,
         id: StreamId,
         bytes: Bytes,
     ) -> Result<(), DeliverError>
@@ -76,7 +85,7 @@ impl RequestStreams {
     {
         match side {
             Side::Client => Err(DeliverError::Refused(Refusal::NotOpen)),
-            Side::Server => match self.open_with(alloc, id, bytes) {
+            Side::Server => match self.open_with(alloc, announced, id, bytes) {
                 Ok(()) => Ok(()),
                 Err(bytes) => Err(DeliverError::OutOfMemory(bytes)),
             },
@@ -84,7 +93,13 @@ impl RequestStreams {
     }
 
     // The first bytes of a stream, which open it.
-    fn open_with(&mut self, alloc: Global, id: StreamId, bytes: Bytes) -> Result<(), Bytes>
+    fn open_with(
+        &mut self,
+        alloc: Global,
+        announced: &Announced,
+        id: StreamId,
+        bytes: Bytes,
+    ) -> Result<(), Bytes>
         requires { kept_at self.old id ≡ None }
         ensures ok { OnOk result (Receives self.old self.new id (λ i. kept i bytes)) }
         ensures back { IfErr result (λ b. b ≡ bytes) }
@@ -93,7 +108,7 @@ impl RequestStreams {
         let Ok(()) = self.open_new(alloc, id) else {
             return Err(bytes);
         };
-        let Err(bytes) = self.deliver_there(id, bytes) else {
+        let Err(bytes) = self.deliver_there(announced, id, bytes) else {
             return Ok(());
         };
         self.undo_open(id);
@@ -101,7 +116,13 @@ impl RequestStreams {
     }
 
     // Bytes of a stream that is not under way.
-    fn deliver_absent(&mut self, alloc: Global, id: StreamId, bytes: Bytes) -> Result<(), Bytes>
+    fn deliver_absent(
+        &mut self,
+        alloc: Global,
+        announced: &Announced,
+        id: StreamId,
+        bytes: Bytes,
+    ) -> Result<(), Bytes>
         ensures ok { OnOk result (Receives self.old self.new id (λ i. kept i bytes)) }
         ensures back { IfErr result (λ b. b ≡ bytes) }
         ensures err { OnErr result (AllSame self.old self.new) }
@@ -109,7 +130,7 @@ impl RequestStreams {
         let Ok(was_there) = self.open_absent(alloc, id) else {
             return Err(bytes);
         };
-        match self.deliver_there(id, bytes) {
+        match self.deliver_there(announced, id, bytes) {
             Ok(()) => Ok(()),
             Err(bytes) => {
                 self.close_again(id, was_there);
@@ -215,7 +236,12 @@ impl RequestStreams {
         self.undo_open(id);
     }
 
-    fn deliver_there(&mut self, id: StreamId, bytes: Bytes) -> Result<(), Bytes>
+    fn deliver_there(
+        &mut self,
+        announced: &Announced,
+        id: StreamId,
+        bytes: Bytes,
+    ) -> Result<(), Bytes>
         ensures ok { OnOk result (IfSome (kept_at self.old id) (λ r. Sets self.old self.new id (record r { incoming = kept r.incoming bytes }))) }
         ensures back { IfErr result (λ b. b ≡ bytes) }
         ensures err { OnErr result (AllSame self.old self.new) }
@@ -223,7 +249,7 @@ impl RequestStreams {
         let Some(stream) = self.streams.get_mut(id) else {
             return Err(bytes);
         };
-        stream.deliver(bytes)
+        stream.deliver(announced, bytes)
     }
 
     // An `Err`: the stream is not under way.

@@ -2,11 +2,14 @@
 ghost use Rattle.std.specs.Prelude.{◌≡◌, ◌≤◌, Some, is_some, option_copied, option_map, unwrap_or};
 ghost use Rattle.h3_connection.specs.Keeping.{is_settled_request};
 ghost use Rattle.h3_connection.specs.State.{kept_at};
+ghost use Rattle.h3_messages.specs.OwnMessages.{awaits_tunnel};
 ghost use Rattle.h3_requests.specs.Changing.{receiver_refusal};
+ghost use Rattle.h3_requests.specs.Refused.{known_in};
 
 use super::RequestStreams;
 use h3_connection::event::Refusal;
 use h3_incoming::IncomingStream;
+use h3_messages::Content;
 use h3_outgoing::OutgoingStream;
 use h3_proto::stream::{Side, StreamId};
 use h3_wire::frame::FrameBuffer;
@@ -60,6 +63,17 @@ impl RequestStreams {
         }
     }
 
+    /// Whether a tunnel is awaited after the response on a stream: the header section of a CONNECT request was read there, and the endpoint
+    /// asks for strict messages.
+    pub fn awaits_tunnel(&self, id: StreamId) -> bool
+        ensures { result ≡ awaits_tunnel (known_in (kept_at self.now id)) }
+    {
+        match self.streams.get_alike(id) {
+            Some(stream) => is_tunnel(stream.incoming().response()),
+            None => false,
+        }
+    }
+
     /// Why what comes on a stream is refused: its end or reset came, or it is not there and the peer does not open it.
     pub fn delivery_refusal(&self, side: Side, id: StreamId) -> Option<Refusal>
         ensures { result ≡ receiver_refusal side (kept_at self.now id) }
@@ -84,4 +98,14 @@ fn is_settled(stream: &IncomingStream) -> bool
     ensures { result ≡ is_settled_request (Some stream.now) }
 {
     stream.fault().is_some() || stream.is_over()
+}
+
+// Whether this is known, and is a tunnel.
+fn is_tunnel(known: Option<Content>) -> bool
+    ensures { result ≡ awaits_tunnel known }
+{
+    match known {
+        Some(content) => matches!(content, Content::Tunnel),
+        None => false,
+    }
 }

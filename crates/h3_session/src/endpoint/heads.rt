@@ -149,11 +149,11 @@ impl Endpoint {
         requires { IfSome known (IsReadOf self.old.side self.old.peer.settings fields.now) }
         ensures { place ≢ TrailerSent → SendsFields (asking room fields.now) self.old self.new room fields.now place (call_refused result) }
     {
-        let said = match self.read_sent(fields, place, known) {
+        let id = room.id();
+        let said = match self.read_sent(id, fields, place, known) {
             Ok(said) => said,
             Err(why) => return Err(Refusal::Malformed(why)),
         };
-        let id = room.id();
         match self.send_section(room, fields, place) {
             Ok(()) => {
                 self.await_response(id, said);
@@ -183,7 +183,7 @@ impl Endpoint {
     ) -> Result<(), Refusal>
         ensures { SendsFields (λ e. e) self.old self.new room fields.now TrailerSent (call_refused result) }
     {
-        match self.read_sent(fields, SendPlace::TrailerSent, None) {
+        match self.read_sent(room.id(), fields, SendPlace::TrailerSent, None) {
             Ok(_) => self.send_section(room, fields, SendPlace::TrailerSent),
             Err(why) => Err(Refusal::Malformed(why)),
         }
@@ -196,7 +196,7 @@ impl Endpoint {
         fields: &[HeaderField],
         place: SendPlace,
     ) -> Result<(), Refusal>
-        requires { broken_behind place self.old fields.now ≡ None }
+        requires { broken_behind place self.old room fields.now ≡ None }
         ensures { SendsFields (λ e. e) self.old self.new room fields.now place (call_refused result) }
     {
         let sum = match self.judge_size(fields) {
@@ -213,17 +213,18 @@ impl Endpoint {
     // Why a list is refused for itself: it breaks a rule that is asked, or the peer does not allow its size.
     pub(super) fn judge_list(
         &self,
+        id: StreamId,
         fields: &[HeaderField],
         place: SendPlace,
         known: Option<SentRead>,
     ) -> Result<(), Refusal>
         requires { IfSome known (IsReadOf self.now.side self.now.peer.settings fields.now) }
-        ensures fits { OnOk result (refused_behind self.now place fields.now ≡ None) }
-        ensures kept { OnOk result (broken_behind place self.now fields.now ≡ None) }
-        ensures unbroken { IfErr result (λ refusal. refusal ≡ Refusal.OutOfMemory → broken_behind place self.now fields.now ≡ None) }
-        ensures err { IfErr result (λ refusal. refusal ≢ Refusal.OutOfMemory → refused_behind self.now place fields.now ≡ Some refusal) }
+        ensures fits { OnOk result (refused_behind self.now id place fields.now ≡ None) }
+        ensures kept { OnOk result (broken_behind place self.now id fields.now ≡ None) }
+        ensures unbroken { IfErr result (λ refusal. refusal ≡ Refusal.OutOfMemory → broken_behind place self.now id fields.now ≡ None) }
+        ensures err { IfErr result (λ refusal. refusal ≢ Refusal.OutOfMemory → refused_behind self.now id place fields.now ≡ Some refusal) }
     {
-        if let Err(why) = self.read_sent(fields, place, known) {
+        if let Err(why) = self.read_sent(id, fields, place, known) {
             return Err(Refusal::Malformed(why));
         }
         match self.judge_size(fields) {

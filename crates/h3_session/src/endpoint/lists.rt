@@ -172,7 +172,7 @@ impl Endpoint {
     {
         let room = match self.reserve_head(id, None) {
             Ok(room) => room,
-            Err(refusal) => return Err(self.judged_or(refusal, fields, place, read)),
+            Err(refusal) => return Err(self.judged_or(id, refusal, fields, place, read)),
         };
         self.send_head_section(room, fields, place, read)
     }
@@ -186,7 +186,7 @@ impl Endpoint {
         let room = match self.reserve_trailer(id, None) {
             Ok(room) => room,
             Err(refusal) => {
-                return Err(self.judged_or(refusal, fields, SendPlace::TrailerSent, None));
+                return Err(self.judged_or(id, refusal, fields, SendPlace::TrailerSent, None));
             }
         };
         self.send_trailer_section(room, fields)
@@ -195,18 +195,19 @@ impl Endpoint {
     // Why a list is not sent for which no room was made: it is at hand, so its own refusal comes before out of memory.
     fn judged_or(
         &self,
+        id: StreamId,
         refusal: Refusal,
         fields: &[HeaderField],
         place: SendPlace,
         known: Option<SentRead>,
     ) -> Refusal
         requires { IfSome known (IsReadOf self.now.side self.now.peer.settings fields.now) }
-        ensures { IsJudgedOr self.now place fields.now refusal result }
+        ensures { IsJudgedOr self.now id place fields.now refusal result }
     {
         if refusal != Refusal::OutOfMemory {
             return refusal;
         }
-        match self.judge_list(fields, place, known) {
+        match self.judge_list(id, fields, place, known) {
             Ok(_) => Refusal::OutOfMemory,
             Err(why) => why,
         }

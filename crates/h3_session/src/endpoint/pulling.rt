@@ -73,7 +73,7 @@ fn pull_stream<O: Answer>(
         ResumesThere announced.now requests.old requests.new id before after)) × (streams.new.own.decoder ≡ streams.old.own.decoder) }
     ensures rest { streams.new ≡ record streams.old { own = record streams.old.own { decoder = streams.new.own.decoder } } }
     ensures settled { IfSome (kept_at requests.old id) (λ before. is_settled_request (Some before.incoming) ≡ true → is_memory (O.told out.new) ≡ false) }
-    ensures list { Lists (O.listed out.new) (fields_at streams.old.decoding.decoder (kept_at requests.old id)) }
+    ensures list { Lists (O.listed out.new) (fields_at announced.now streams.old.decoding.decoder (kept_at requests.old id)) }
 {
     let replies = &mut streams.own.decoder;
     let decoding = &streams.decoding;
@@ -252,7 +252,7 @@ impl Endpoint {
         ensures memory { is_memory (O.told out.new) ≡ true → IfSome (kept_at self.old.requests id) (λ before. IfSome (kept_at self.new.requests id) (λ after.
             ResumesThere self.old.announced self.old.requests self.new.requests id before after)) × (self.new.own.decoder ≡ self.old.own.decoder) }
         ensures settled { IfSome (kept_at self.old.requests id) (λ before. is_settled_request (Some before.incoming) ≡ true → is_memory (O.told out.new) ≡ false) }
-        ensures list { Lists (O.listed out.new) (fields_at self.old.decoding.decoder (kept_at self.old.requests id)) }
+        ensures list { Lists (O.listed out.new) (fields_at self.old.announced self.old.decoding.decoder (kept_at self.old.requests id)) }
     {
         let alloc = self.alloc;
         let side = self.side;

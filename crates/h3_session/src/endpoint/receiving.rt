@@ -19,6 +19,7 @@ use super::Endpoint;
 use bytes::Bytes;
 use h3_connection::arrival::Arrival;
 use h3_connection::event::{DeliverError, Refusal};
+use h3_connection::setup::Announced;
 use h3_proto::stream::{Side, StreamId};
 use h3_requests::RequestStreams;
 use h3_streams::ids::StreamKind;
@@ -119,6 +120,7 @@ fn server_opened_refusal(side: Side) -> Option<Refusal>
 fn receive_arrival(
     requests: &mut RequestStreams,
     alloc: Global,
+    announced: &Announced,
     replies: &mut WaitingBytes,
     arrival: Arrival,
 ) -> Result<(), Arrival>
@@ -127,7 +129,7 @@ fn receive_arrival(
     ensures err { OnErr result (AllSame requests.old requests.new × (replies.new ≡ replies.old)) }
 {
     match arrival {
-        Arrival::BytesCame(id, bytes) => match requests.deliver(alloc, id, bytes) {
+        Arrival::BytesCame(id, bytes) => match requests.deliver(alloc, announced, id, bytes) {
             Ok(()) => Ok(()),
             Err(bytes) => Err(Arrival::BytesCame(id, bytes)),
         },
@@ -194,7 +196,7 @@ impl Endpoint {
         ensures err { OnErr result (AllSame self.old.requests self.new.requests) }
     {
         self.requests
-            .deliver_or_refuse(self.alloc, self.side, id, bytes)
+            .deliver_or_refuse(self.alloc, self.side, &self.announced, id, bytes)
     }
 
     // What comes is read after all that is kept. With nothing kept, what comes on a request stream is its receiver's at once.
@@ -351,6 +353,12 @@ impl Endpoint {
         ensures err { OnErr result (AllSame self.old.requests self.new.requests × (self.new.own.decoder ≡ self.old.own.decoder)) }
     {
         let replies = &mut self.streams.own.decoder;
-        receive_arrival(&mut self.requests, self.alloc, replies, arrival)
+        receive_arrival(
+            &mut self.requests,
+            self.alloc,
+            &self.announced,
+            replies,
+            arrival,
+        )
     }
 }

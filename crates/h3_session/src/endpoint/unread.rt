@@ -79,15 +79,15 @@ impl Endpoint {
 
     #[tactic(auto, using(crate::proofs::Held::held_request))]
     fn held_of_request(&self, id: StreamId) -> usize
-        ensures { (e : EndpointHistory) → StandsFor self.now e → result ≡ counted (held_of_request (incoming_at e id)) }
+        ensures { (e : EndpointHistory) → StandsFor self.now e → result ≡ counted (held_of_request e.announced (incoming_at e id)) }
     {
-        self.requests.held(id)
+        self.requests.held(&self.announced, id)
     }
 
     fn held_of_peer(&self, id: StreamId) -> usize
         ensures { (e : EndpointHistory) → StandsFor self.now e → result ≡ counted (held_of_peer e id) }
     {
-        self.streams.held(id)
+        self.streams.held(&self.announced, id)
     }
 
     // What is kept of the stream because an allocation failed.

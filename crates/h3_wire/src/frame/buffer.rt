@@ -1,17 +1,19 @@
 //! The bytes of a stream of frames that came and were not read.
 ghost use Rattle.std.specs.Prelude.{◌≡◌, ◌+◌, ◌^◌, ◌<◌, ◌≤◌, ◌++◌, [], None, Ok, false, true, length, IfOk, IfErr, IfSome, IfNone, IsNone, OnOk, OnErr};
 ghost use Rattle.std.specs.List.{concat};
+ghost use Rattle.h3_wire.specs.declared.frame.kinds.FrameKinds.{FrameKinds};
 ghost use Rattle.h3_wire.specs.ExcessiveFrames.{begins_section, is_excessive};
 ghost use Rattle.h3_wire.specs.FirstFrames.{begins_other};
-ghost use Rattle.h3_wire.specs.Known.{Gives, known};
+ghost use Rattle.h3_wire.specs.Known.{Gives, known_by};
 ghost use Rattle.h3_wire.specs.MessageFrames.{any_frame};
 ghost use Rattle.h3_wire.specs.Pieces.{chunk_of, ending, first_of, with_piece};
 ghost use Rattle.h3_wire.specs.Tries.{Counts};
-ghost use Rattle.h3_wire.specs.UnknownSize.{held_length};
-ghost use Rattle.h3_wire.specs.UnreadFrames.{none_unread, AreBetween, AreSpared, IsStillUnderWay, IsPassed};
+ghost use Rattle.h3_wire.specs.UnknownSize.{held_length, suits};
+ghost use Rattle.h3_wire.specs.UnreadFrames.{gives_none, none_unread, AreBetween, AreSpared, IsStillUnderWay, IsPassed};
 
 use super::decoder::{FrameDecoder, MessageFrame};
 use super::errors::FrameStreamError;
+use super::kinds::FrameKinds;
 use super::sparing::FrameBytes;
 use crate::proto::frame::{Frame, PayloadLen};
 use bytes::Bytes;
@@ -30,13 +32,14 @@ pub struct FrameBuffer {
 impl Model for FrameBuffer {
     ghost use Rattle.std.specs.List.{concat};
     ghost use Rattle.h3_wire.specs.Tries.{Expects};
+    ghost use Rattle.h3_wire.specs.UnknownSize.{let_go_by};
     ghost use Rattle.h3_wire.specs.UnreadFrames.{UnreadFrames};
 
     ghost Value = { UnreadFrames };
 
-    ghost view = { λ b. record { pieces = b.unread.pieces; passing = b.unread.passing; decoder = b.decoder } };
+    ghost view = { λ b. record { pieces = b.unread.pieces; passing = b.unread.passing; session = b.unread.session; decoder = b.decoder } };
 
-    ghost invariant = { λ b. Expects b.decoder (concat b.unread.pieces) };
+    ghost invariant = { λ b. Expects (let_go_by b.unread.session) b.decoder (concat b.unread.pieces) };
 }
 
 impl FrameBuffer {
@@ -63,21 +66,24 @@ impl FrameBuffer {
         self.unread.push(bytes)
     }
 
-    /// Takes the next known frame, of DATA its type and length alone, and the unknown ones before it. Without a whole frame, and at an
+    /// Takes the next known frame, of DATA its type and length alone, and the unknown ones before it. What is known is to be as at the call
+    /// that freed bytes of an unknown frame (`suits`). Without a whole frame, and at an
     /// error, only unknown frames are taken, and the bytes of an unknown one under way are freed. Fewer bytes than the frame at the front
     /// is known to need are not tried.
     pub fn next_frame(
         &mut self,
         alloc: Global,
+        kinds: FrameKinds,
     ) -> Result<Option<Frame<PayloadLen>>, FrameStreamError>
-        ensures gives { Gives result (concat self.old.pieces) (concat self.new.pieces) }
+        requires suits { suits self.old.session kinds ≡ true }
+        ensures gives { Gives kinds result (concat self.old.pieces) (concat self.new.pieces) }
         ensures between { IfOk result (λ o. IfSome o (λ f. AreBetween self.new)) }
-        ensures spared { IfOk result (λ o. IfNone o (AreSpared self.new)) }
-        ensures counts { Counts self.old.decoder (concat self.old.pieces) result self.new.decoder }
+        ensures spared { IfOk result (λ o. IfNone o (AreSpared kinds self.new)) }
+        ensures counts { Counts kinds self.old.decoder (concat self.old.pieces) result self.new.decoder }
         ensures pieces { self.new.pieces ≡ ending (length (concat self.new.pieces)) self.old.pieces }
     {
         if self.is_at_frame() {
-            return self.decode(alloc);
+            return self.decode(alloc, kinds);
         }
         Ok(None)
     }
@@ -86,9 +92,9 @@ impl FrameBuffer {
     /// the frame at the front is known to need. Otherwise `None`, which changes nothing.
     #[inline(always)]
     pub fn next_first(&mut self) -> Option<Option<MessageFrame>>
-        ensures gives { IfSome result (λ o. Gives (Ok (any_frame o)) (concat self.old.pieces) (concat self.new.pieces)) }
+        ensures gives { (kinds : FrameKinds) → IfSome result (λ o. Gives kinds (Ok (any_frame o)) (concat self.old.pieces) (concat self.new.pieces)) }
         ensures between { IfSome result (λ o. IfSome o (λ f. AreBetween self.new)) }
-        ensures counts { IfSome result (λ o. Counts self.old.decoder (concat self.old.pieces) (Ok (any_frame o)) self.new.decoder) }
+        ensures counts { (kinds : FrameKinds) → IfSome result (λ o. Counts kinds self.old.decoder (concat self.old.pieces) (Ok (any_frame o)) self.new.decoder) }
         ensures same { IsNone result → self.new ≡ self.old }
         ensures pieces { self.new.pieces ≡ ending (length (concat self.new.pieces)) self.old.pieces }
     {
@@ -101,8 +107,8 @@ impl FrameBuffer {
     // Whether a frame begins at the front: none is under way there, or the unknown one that was is whole, and is passed.
     fn is_at_frame(&mut self) -> bool
         ensures same { self.old.passing ≡ 0 → (result ≡ true) × (self.new ≡ self.old) }
-        ensures waits { result ≡ false → IsStillUnderWay self.old self.new }
-        ensures passed { 0 < self.old.passing → result ≡ true → IsPassed self.old self.new }
+        ensures waits { (kinds : FrameKinds) → suits self.old.session kinds ≡ true → result ≡ false → IsStillUnderWay kinds self.old self.new }
+        ensures passed { (kinds : FrameKinds) → suits self.old.session kinds ≡ true → 0 < self.old.passing → result ≡ true → IsPassed kinds self.old self.new }
     {
         if self.unread.passing() == 0 {
             return true;
@@ -113,8 +119,8 @@ impl FrameBuffer {
     // An unknown frame is under way, of which some bytes were freed. If it is whole it is passed.
     fn pass_unknown(&mut self) -> bool
         requires under_way { 0 < self.old.passing }
-        ensures waits { result ≡ false → IsStillUnderWay self.old self.new }
-        ensures passed { result ≡ true → IsPassed self.old self.new }
+        ensures waits { (kinds : FrameKinds) → suits self.old.session kinds ≡ true → result ≡ false → IsStillUnderWay kinds self.old self.new }
+        ensures passed { (kinds : FrameKinds) → suits self.old.session kinds ≡ true → result ≡ true → IsPassed kinds self.old self.new }
     {
         let len = self.unread.len();
         if len < self.decoder.needed() {
@@ -131,46 +137,73 @@ impl FrameBuffer {
     }
 
     // The same if none is under way.
-    fn decode(&mut self, alloc: Global) -> Result<Option<Frame<PayloadLen>>, FrameStreamError>
+    fn decode(
+        &mut self,
+        alloc: Global,
+        kinds: FrameKinds,
+    ) -> Result<Option<Frame<PayloadLen>>, FrameStreamError>
         requires none { self.old.passing ≡ 0 }
-        ensures gives { Gives result (concat self.old.pieces) (concat self.new.pieces) }
+        ensures gives { Gives kinds result (concat self.old.pieces) (concat self.new.pieces) }
         ensures between { IfOk result (λ o. IfSome o (λ f. AreBetween self.new)) }
-        ensures spared { IfOk result (λ o. IfNone o (AreSpared self.new)) }
-        ensures counts { Counts self.old.decoder (concat self.old.pieces) result self.new.decoder }
+        ensures spared { IfOk result (λ o. IfNone o (AreSpared kinds self.new)) }
+        ensures counts { Counts kinds self.old.decoder (concat self.old.pieces) result self.new.decoder }
         ensures pieces { self.new.pieces ≡ ending (length (concat self.new.pieces)) self.old.pieces }
     {
-        let decoded = self.unread.decode(alloc, &mut self.decoder);
-        if let Ok(None) = &decoded {
-            self.unread.spare();
+        let decoded = self.unread.decode(alloc, kinds, &mut self.decoder);
+        if is_waiting(&decoded) {
+            self.unread.spare(kinds);
         }
         decoded
     }
 
     /// If the front is an unknown frame under way, its bytes are freed, as far as they came, and from then on as they come. It is to be
     /// called when a frame may begin there. All that a contract sees of the bytes stays.
-    pub fn spare(&mut self)
+    pub fn spare(&mut self, kinds: FrameKinds)
         ensures pieces { self.new.pieces ≡ self.old.pieces }
         ensures decoder { self.new.decoder ≡ self.old.decoder }
-        ensures spared { AreSpared self.new }
+        ensures spared { AreSpared kinds self.new }
     {
-        self.unread.spare();
+        self.unread.spare(kinds);
+    }
+
+    /// Whether these kinds are as at the call that freed bytes of the unknown frame under way, as far as that matters.
+    pub fn suits(&self, kinds: FrameKinds) -> bool
+        ensures { result ≡ suits self.now.session kinds }
+    {
+        self.unread.suits(kinds)
+    }
+
+    /// Whether the first piece begins with the type and length of a frame whose type has a meaning, whichever kinds are known. Then `spare`
+    /// frees nothing.
+    pub fn begins_known(&self) -> bool {
+        self.unread.begins_known()
     }
 
     /// Whether there is a limit, and the first frame that is no whole unknown one says a length above it (RFC 9114, section 10.5). It has
     /// to be one whose payload is kept until it is whole. The payload need not be there. Nothing is taken. 2^62 - 1 or more: no limit.
-    pub fn is_excessive(&self, most: u64) -> bool
-        ensures { result ≡ is_excessive most (known (concat self.now.pieces)) }
+    pub fn is_excessive(&self, most: u64, kinds: FrameKinds) -> bool
+        ensures { result ≡ is_excessive most (known_by kinds (concat self.now.pieces)) }
     {
-        most < VarInt::MAX.into_inner() && self.unread.is_excessive(most)
+        most < VarInt::MAX.into_inner() && self.unread.is_excessive(most, kinds)
+    }
+
+    /// The same, if the type and length in the first piece tell it, whichever kinds are known.
+    pub fn is_first_excessive(&self, most: u64) -> Option<bool>
+        ensures { (kinds : FrameKinds) → IfSome result (λ is. is ≡ is_excessive most (known_by kinds (concat self.now.pieces))) }
+    {
+        if most < VarInt::MAX.into_inner() {
+            return self.unread.is_first_excessive(most);
+        }
+        Some(false)
     }
 
     /// Whether the first frame that is no whole unknown one is HEADERS (RFC 9114, section 7.2.2), as far as its type came. Nothing is
     /// taken. It stays apart, so that a reader that finds no frame too long is as short as it was.
     #[inline(never)]
-    pub fn begins_section(&self) -> bool
-        ensures { result ≡ begins_section (known (concat self.now.pieces)) }
+    pub fn begins_section(&self, kinds: FrameKinds) -> bool
+        ensures { result ≡ begins_section (known_by kinds (concat self.now.pieces)) }
     {
-        self.unread.begins_section()
+        self.unread.begins_section(kinds)
     }
 
     /// Whether the bytes begin with the type and the length of a frame that is not SETTINGS (RFC 9114, section 7.2.4). Its payload need
@@ -218,10 +251,10 @@ impl FrameBuffer {
     }
 
     /// How many of them are held: none while an unknown frame is under way at the front. It is to be asked when a frame may begin there.
-    pub fn held(&self) -> usize
-        ensures { result ≡ held_length (concat self.now.pieces) }
+    pub fn held(&self, kinds: FrameKinds) -> usize
+        ensures { result ≡ held_length kinds (concat self.now.pieces) }
     {
-        if self.unread.is_under_way() {
+        if self.unread.is_under_way(kinds) {
             return 0;
         }
         self.unread.len()
@@ -235,4 +268,12 @@ impl FrameBuffer {
     {
         self.decoder.tries()
     }
+}
+
+// Whether less than a frame was found.
+#[inline(always)]
+fn is_waiting(decoded: &Result<Option<Frame<PayloadLen>>, FrameStreamError>) -> bool
+    ensures { result ≡ gives_none decoded.now }
+{
+    matches!(decoded, Ok(None))
 }

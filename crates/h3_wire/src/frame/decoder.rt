@@ -1,14 +1,18 @@
 //! Reading the frames of a buffer, one after another.
-ghost use Rattle.std.specs.Prelude.{◌≡◌, ◌+◌, ◌^◌, ◌<◌, ◌≤◌, None, Ok, false, true, length, IfOk, IfSome, IsNone};
+ghost use Rattle.std.specs.Prelude.{◌≡◌, ◌+◌, ◌<◌, ◌≤◌, ◌^◌, None, Some, Ok, false, true, length, IfOk, IfSome, IsNone, OnErr};
 ghost use Rattle.std.specs.List.{concat};
 ghost use Rattle.h3_wire.specs.declared.proto.frame.Frame.TheVariants as frame;
-ghost use Rattle.h3_wire.specs.Frames.{Whole, frame_at, has_head, IsHeadersFrame};
+ghost use Rattle.h3_wire.specs.declared.frame.kinds.FrameKinds.{FrameKinds};
+ghost use Rattle.h3_wire.specs.Frames.{Whole, frame_by, has_head, plain_frames, IsHeadersFrame};
 ghost use Rattle.h3_wire.specs.Known.{Gives, Tries};
 ghost use Rattle.h3_wire.specs.MessageFrames.{any_frame, as_frame};
 ghost use Rattle.h3_wire.specs.Pieces.{IsRest, ending, first_size};
 ghost use Rattle.h3_wire.specs.Tries.{Counts, Expects, counted, needed, one_more};
+ghost use Rattle.h3_wire.specs.UnknownSize.{unknown_size};
 
 use super::errors::{FrameProtocolError, FrameStreamError};
+use super::kinds::FrameKinds;
+use super::sparing::unknown_size;
 use crate::buf::BufList;
 use crate::proto::frame::{Frame, FrameError, FrameHead, PayloadLen};
 use bytes::{Buf, Bytes};
@@ -106,18 +110,36 @@ impl FrameDecoder {
         alloc: Global,
         src: &mut BufList<Bytes>,
     ) -> Result<Option<Frame<PayloadLen>>, FrameStreamError>
-        requires expects { Expects self.old (concat src.old.pieces) }
-        ensures gives { Gives result (concat src.old.pieces) (concat src.new.pieces) }
-        ensures expects { Expects self.new (concat src.new.pieces) }
+        requires expects { Expects plain_frames self.old (concat src.old.pieces) }
+        ensures gives { Gives plain_frames result (concat src.old.pieces) (concat src.new.pieces) }
+        ensures expects { Expects plain_frames self.new (concat src.new.pieces) }
         ensures fresh { IfOk result (λ o. IfSome o (λ f. self.new.expected ≡ None)) }
-        ensures counts { Counts self.old (concat src.old.pieces) result self.new }
+        ensures counts { Counts plain_frames self.old (concat src.old.pieces) result self.new }
+        ensures pieces { src.new.pieces ≡ ending (length (concat src.new.pieces)) src.old.pieces }
+    {
+        self.decode_by(alloc, FrameKinds::PLAIN, src)
+    }
+
+    /// The same if frames of these kinds are known. What is expected of the front has to be expected of it whichever are known.
+    pub(super) fn decode_by(
+        &mut self,
+        alloc: Global,
+        kinds: FrameKinds,
+        src: &mut BufList<Bytes>,
+    ) -> Result<Option<Frame<PayloadLen>>, FrameStreamError>
+        requires expects { Expects plain_frames self.old (concat src.old.pieces) }
+        ensures gives { Gives kinds result (concat src.old.pieces) (concat src.new.pieces) }
+        ensures expects { Expects kinds self.new (concat src.new.pieces) }
+        ensures plain { OnErr result (Expects plain_frames self.new (concat src.new.pieces)) }
+        ensures fresh { IfOk result (λ o. IfSome o (λ f. self.new.expected ≡ None)) }
+        ensures counts { Counts kinds self.old (concat src.old.pieces) result self.new }
         ensures pieces { src.new.pieces ≡ ending (length (concat src.new.pieces)) src.old.pieces }
     {
         loop {
             if let Some(answer) = self.decode_first(src) {
                 return Ok(any_frame(answer));
             }
-            match decode_frame(alloc, src) {
+            match decode_frame(alloc, kinds, src) {
                 Tried::Frame(frame) => {
                     self.count(None);
                     return Ok(Some(frame));
@@ -137,11 +159,11 @@ impl FrameDecoder {
     /// than the next try needs. Otherwise `None`, which changes nothing.
     #[inline(always)]
     pub(super) fn decode_first(&mut self, src: &mut BufList<Bytes>) -> Option<Option<MessageFrame>>
-        requires expects { Expects self.old (concat src.old.pieces) }
-        ensures gives { IfSome result (λ o. Gives (Ok (any_frame o)) (concat src.old.pieces) (concat src.new.pieces)) }
-        ensures expects { Expects self.new (concat src.new.pieces) }
+        requires expects { Expects plain_frames self.old (concat src.old.pieces) }
+        ensures gives { (kinds : FrameKinds) → IfSome result (λ o. Gives kinds (Ok (any_frame o)) (concat src.old.pieces) (concat src.new.pieces)) }
+        ensures expects { Expects plain_frames self.new (concat src.new.pieces) }
         ensures fresh { IfSome result (λ o. IfSome o (λ f. self.new.expected ≡ None)) }
-        ensures counts { IfSome result (λ o. Counts self.old (concat src.old.pieces) (Ok (any_frame o)) self.new) }
+        ensures counts { (kinds : FrameKinds) → IfSome result (λ o. Counts kinds self.old (concat src.old.pieces) (Ok (any_frame o)) self.new) }
         ensures none { IsNone result → (self.new ≡ self.old) × (src.new.pieces ≡ src.old.pieces) }
         ensures enough { IsNone result → needed self.old ≤ length (concat src.old.pieces) }
         ensures rest { IsRest src.old.pieces src.new.pieces }
@@ -171,7 +193,7 @@ fn any_frame(answer: Option<MessageFrame>) -> Option<Frame<PayloadLen>>
 // one is cut from the piece. `None` takes nothing.
 #[inline(always)]
 fn take_first(src: &mut BufList<Bytes>) -> Option<MessageFrame>
-    ensures some { IfSome result (λ f. frame_at (concat src.old.pieces) ≡ Whole (as_frame f) (concat src.new.pieces)) }
+    ensures some { (kinds : FrameKinds) → IfSome result (λ f. frame_by kinds (concat src.old.pieces) ≡ Whole (as_frame f) (concat src.new.pieces)) }
     ensures whole { IfSome result (λ f. has_head (concat src.old.pieces) ≡ true) }
     ensures none { IsNone result → src.new.pieces ≡ src.old.pieces }
     ensures rest { IsRest src.old.pieces src.new.pieces }
@@ -199,7 +221,7 @@ fn cut_section(src: &mut BufList<Bytes>, head: usize, size: usize) -> Option<Byt
     requires is { IsHeadersFrame (concat src.old.pieces) head size }
     requires inside { head + size ≤ first_size src.old.pieces }
     requires fits { head + size < 2 ^ 64 }
-    ensures some { IfSome result (λ s. frame_at (concat src.old.pieces) ≡ Whole (frame.Headers s) (concat src.new.pieces)) }
+    ensures some { (kinds : FrameKinds) → IfSome result (λ s. frame_by kinds (concat src.old.pieces) ≡ Whole (frame.Headers s) (concat src.new.pieces)) }
     ensures none { IsNone result → src.new.pieces ≡ src.old.pieces }
     ensures rest { IsRest src.old.pieces src.new.pieces }
 {
@@ -214,9 +236,46 @@ fn cut_section(src: &mut BufList<Bytes>, head: usize, size: usize) -> Option<Byt
 }
 
 // Takes the frame at the front, an unknown one too. Anything else takes nothing.
+fn decode_frame(alloc: Global, kinds: FrameKinds, src: &mut BufList<Bytes>) -> Tried
+    ensures tries { Tries result (frame_by kinds (concat src.old.pieces)) (concat src.old.pieces) (concat src.new.pieces) }
+    ensures few { has_head (concat src.old.pieces) ≡ false → length (concat src.old.pieces) < 16 }
+    ensures rest { IsRest src.old.pieces src.new.pieces }
+{
+    match passed_size(src, kinds) {
+        Some(size) => pass_unknown(src, size),
+        None => decode_plain(alloc, src),
+    }
+}
+
+// If sessions are not known: how many bytes the unknown frame at the front has, one of type 0x41 among them, if its type and length came.
+fn passed_size(src: &BufList<Bytes>, kinds: FrameKinds) -> Option<usize>
+    ensures some { IfSome result (λ size. unknown_size kinds (concat src.now.pieces) ≡ Some size) }
+    ensures none { IsNone result → frame_by kinds (concat src.now.pieces) ≡ frame_by plain_frames (concat src.now.pieces) }
+{
+    if kinds.sessions {
+        return None;
+    }
+    unknown_size(src, kinds)
+}
+
+// RFC 9114 9: unknown frames skipped
+// Takes the unknown frame at the front, which has so many bytes. One that is not whole is not taken.
+fn pass_unknown(src: &mut BufList<Bytes>, size: usize) -> Tried
+    ensures tries { (kinds : FrameKinds) → unknown_size kinds (concat src.old.pieces) ≡ Some size
+        → Tries result (frame_by kinds (concat src.old.pieces)) (concat src.old.pieces) (concat src.new.pieces) }
+    ensures rest { IsRest src.old.pieces src.new.pieces }
+{
+    if src.remaining() < size {
+        return Tried::Waits(size);
+    }
+    src.advance(size);
+    Tried::Unknown
+}
+
+// The same as `decode_frame` if sessions are known.
 #[tactic(auto, using(crate::specs::PieceLaws::rest_same))]
-fn decode_frame(alloc: Global, src: &mut BufList<Bytes>) -> Tried
-    ensures tries { Tries result (frame_at (concat src.old.pieces)) (concat src.old.pieces) (concat src.new.pieces) }
+fn decode_plain(alloc: Global, src: &mut BufList<Bytes>) -> Tried
+    ensures tries { Tries result (frame_by plain_frames (concat src.old.pieces)) (concat src.old.pieces) (concat src.new.pieces) }
     ensures few { has_head (concat src.old.pieces) ≡ false → length (concat src.old.pieces) < 16 }
     ensures rest { IsRest src.old.pieces src.new.pieces }
 {

@@ -1,17 +1,20 @@
 //! The bytes of a stream of frames, of which those of an unknown frame that is under way are not kept.
-ghost use Rattle.std.specs.Prelude.{◌≡◌, ◌+◌, ◌^◌, ◌<◌, ◌≤◌, ◌++◌, [], None, Ok, true, length, drop, IfOk, IfErr, IfSome, OnOk, OnErr, IsNone};
+ghost use Rattle.std.specs.Prelude.{◌≡◌, ◌+◌, ◌^◌, ◌<◌, ◌≤◌, ◌++◌, Bool, [], None, Ok, true, false, length, drop, is_none, IfOk, IfErr, IfSome, OnOk, OnErr, IsNone};
 ghost use Rattle.std.specs.List.{concat};
 ghost use Rattle.h3_proto.specs.Config.{is_limit};
+ghost use Rattle.h3_wire.specs.declared.frame.kinds.FrameKinds.{FrameKinds};
+ghost use Rattle.h3_wire.specs.Frames.{plain_frames};
 ghost use Rattle.h3_wire.specs.ExcessiveFrames.{begins_section, is_excessive};
 ghost use Rattle.h3_wire.specs.FirstFrames.{begins_other};
-ghost use Rattle.h3_wire.specs.Known.{Gives, known};
+ghost use Rattle.h3_wire.specs.Known.{Gives, known_by};
 ghost use Rattle.h3_wire.specs.MessageFrames.{any_frame};
 ghost use Rattle.h3_wire.specs.Pieces.{IsRest, chunk_of, ending, first_of, with_piece};
 ghost use Rattle.h3_wire.specs.Tries.{Counts, Expects};
-ghost use Rattle.h3_wire.specs.UnknownSize.{AreLetGo, IsSpared, is_known_type, is_longer, is_under_way, unknown_size};
+ghost use Rattle.h3_wire.specs.UnknownSize.{AreLetGo, IsPassing, IsSpared, is_known_type, is_longer, is_under_way, let_go_by, suits, unknown_size};
 
 use super::decoder::{FrameDecoder, MessageFrame};
 use super::errors::FrameStreamError;
+use super::kinds::FrameKinds;
 use super::let_go::LetGo;
 use super::{excess, first};
 use crate::buf::BufList;
@@ -31,6 +34,8 @@ pub(super) struct FrameBytes {
     gone: usize,
     // how many bytes the unknown frame has of which they are, or 0
     passing: usize,
+    // whether that is one of type 0x41, which is unknown to those alone who know no sessions
+    session: bool,
 }
 
 impl Model for FrameBytes {
@@ -40,9 +45,9 @@ impl Model for FrameBytes {
 
     ghost Value = { Sparing };
 
-    ghost view = { λ b. record { pieces = b.let_go.pieces ++ b.kept.pieces; passing = b.passing } };
+    ghost view = { λ b. record { pieces = b.let_go.pieces ++ b.kept.pieces; passing = b.passing; session = b.session } };
 
-    ghost invariant = { λ b. AreLetGo b.passing b.gone b.let_go.pieces
+    ghost invariant = { λ b. AreLetGo b.session b.passing b.gone b.let_go.pieces
         × (length (concat (b.let_go.pieces ++ b.kept.pieces)) < 2 ^ 64)
         × IsSpared b.passing b.gone b.kept.pieces };
 }
@@ -50,13 +55,14 @@ impl Model for FrameBytes {
 impl FrameBytes {
     /// Those of a stream of which nothing came.
     pub(super) fn new(alloc: Global) -> FrameBytes
-        ensures { result ≡ record { pieces = []; passing = 0 } }
+        ensures { result ≡ record { pieces = []; passing = 0; session = false } }
     {
         FrameBytes {
             kept: BufList::new(alloc),
             let_go: LetGo::new(),
             gone: 0,
             passing: 0,
+            session: false,
         }
     }
 
@@ -82,16 +88,21 @@ impl FrameBytes {
     }
 
     /// If the front is an unknown frame under way, its bytes are freed. A frame has to begin there.
-    pub(super) fn spare(&mut self)
+    pub(super) fn spare(&mut self, kinds: FrameKinds)
         ensures pieces { self.new.pieces ≡ self.old.pieces }
-        ensures spared { is_under_way (concat self.new.pieces) ≡ true → 0 < self.new.passing }
+        ensures same { 0 < self.old.passing → self.new ≡ self.old }
+        ensures plain { self.old.passing ≡ 0 → self.old.session ≡ false }
+        ensures by { self.old.passing ≡ 0 → self.new.session ≡ true → kinds.sessions ≡ false }
+        ensures is { IsPassing self.new }
+        ensures spared { is_under_way kinds (concat self.new.pieces) ≡ true → 0 < self.new.passing }
     {
         let len = self.kept.remaining();
         if self.passing > 0 || len == 0 {
             return;
         }
-        match unknown_size(&self.kept) {
+        match unknown_size(&self.kept, kinds) {
             Some(size) if len < size => {
+                self.session = is_session(&self.kept);
                 let_all_go(&mut self.kept, &mut self.let_go);
                 self.gone = len;
                 self.passing = size;
@@ -100,10 +111,25 @@ impl FrameBytes {
         }
     }
 
+    /// Whether the unknown frame of which bytes were freed is unknown by these kinds too.
+    pub(super) fn suits(&self, kinds: FrameKinds) -> bool
+        ensures { result ≡ suits self.now.session kinds }
+    {
+        !(self.session && kinds.sessions)
+    }
+
+    /// Whether the first piece begins with the type and length of a frame whose type has a meaning, whichever kinds are known.
+    pub(super) fn begins_known(&self) -> bool {
+        match FrameHead::at_front(self.kept.first_bytes()) {
+            Some(head) => is_known_type(head.kind, FrameKinds { sessions: false }),
+            None => false,
+        }
+    }
+
     /// How many bytes the unknown frame under way has, its type and length among them, if some of them were freed; else 0.
     pub(super) fn passing(&self) -> usize
         ensures value { result ≡ self.now.passing }
-        ensures unknown { 0 < result → unknown_size (concat self.now.pieces) ≡ Some result }
+        ensures is { IsPassing self.now }
     {
         self.passing
     }
@@ -116,29 +142,34 @@ impl FrameBytes {
         ensures bytes { concat self.new.pieces ≡ drop self.old.passing (concat self.old.pieces) }
         ensures rest { IsRest self.old.pieces self.new.pieces }
         ensures none { self.new.passing ≡ 0 }
+        ensures plain { self.new.session ≡ false }
     {
         self.kept.advance(self.passing - self.gone);
         self.let_go = LetGo::new();
         self.gone = 0;
         self.passing = 0;
+        self.session = false;
     }
 
-    /// `FrameDecoder::decode`, when no unknown frame is under way.
+    /// `FrameDecoder::decode_by`, when no unknown frame is under way.
     pub(super) fn decode(
         &mut self,
         alloc: Global,
+        kinds: FrameKinds,
         decoder: &mut FrameDecoder,
     ) -> Result<Option<Frame<PayloadLen>>, FrameStreamError>
         requires none { self.old.passing ≡ 0 }
-        requires expects { Expects decoder.old (concat self.old.pieces) }
-        ensures gives { Gives result (concat self.old.pieces) (concat self.new.pieces) }
-        ensures expects { Expects decoder.new (concat self.new.pieces) }
+        requires expects { Expects (let_go_by self.old.session) decoder.old (concat self.old.pieces) }
+        ensures gives { Gives kinds result (concat self.old.pieces) (concat self.new.pieces) }
+        ensures expects { Expects kinds decoder.new (concat self.new.pieces) }
+        ensures plain { OnErr result (Expects plain_frames decoder.new (concat self.new.pieces)) }
         ensures fresh { IfOk result (λ o. IfSome o (λ f. decoder.new.expected ≡ None)) }
-        ensures counts { Counts decoder.old (concat self.old.pieces) result decoder.new }
+        ensures counts { Counts kinds decoder.old (concat self.old.pieces) result decoder.new }
         ensures pieces { self.new.pieces ≡ ending (length (concat self.new.pieces)) self.old.pieces }
         ensures none { self.new.passing ≡ 0 }
+        ensures session { self.new.session ≡ false }
     {
-        decoder.decode(alloc, &mut self.kept)
+        decoder.decode_by(alloc, kinds, &mut self.kept)
     }
 
     /// `FrameDecoder::decode_first`, when no unknown frame is under way.
@@ -148,15 +179,16 @@ impl FrameBytes {
         decoder: &mut FrameDecoder,
     ) -> Option<Option<MessageFrame>>
         requires none { self.old.passing ≡ 0 }
-        requires expects { Expects decoder.old (concat self.old.pieces) }
-        ensures gives { IfSome result (λ o. Gives (Ok (any_frame o)) (concat self.old.pieces) (concat self.new.pieces)) }
-        ensures expects { Expects decoder.new (concat self.new.pieces) }
+        requires expects { Expects (let_go_by self.old.session) decoder.old (concat self.old.pieces) }
+        ensures gives { (kinds : FrameKinds) → IfSome result (λ o. Gives kinds (Ok (any_frame o)) (concat self.old.pieces) (concat self.new.pieces)) }
+        ensures expects { Expects (let_go_by self.new.session) decoder.new (concat self.new.pieces) }
         ensures fresh { IfSome result (λ o. IfSome o (λ f. decoder.new.expected ≡ None)) }
-        ensures counts { IfSome result (λ o. Counts decoder.old (concat self.old.pieces) (Ok (any_frame o)) decoder.new) }
+        ensures counts { (kinds : FrameKinds) → IfSome result (λ o. Counts kinds decoder.old (concat self.old.pieces) (Ok (any_frame o)) decoder.new) }
         ensures decoder { IsNone result → decoder.new ≡ decoder.old }
         ensures same { IsNone result → self.new.pieces ≡ self.old.pieces }
         ensures rest { IsRest self.old.pieces self.new.pieces }
         ensures none { self.new.passing ≡ 0 }
+        ensures session { self.new.session ≡ self.old.session }
     {
         decoder.decode_first(&mut self.kept)
     }
@@ -167,6 +199,7 @@ impl FrameBytes {
         ensures ok { IfOk result (λ o. (o, self.new.pieces) ≡ chunk_of max self.old.pieces) }
         ensures err { OnErr result (self.new.pieces ≡ self.old.pieces) }
         ensures none { self.new.passing ≡ 0 }
+        ensures session { self.new.session ≡ self.old.session }
     {
         self.kept.take_chunk(max)
     }
@@ -176,6 +209,7 @@ impl FrameBytes {
         requires none { self.old.passing ≡ 0 }
         ensures pieces { (result, self.new.pieces) ≡ first_of self.old.pieces }
         ensures none { self.new.passing ≡ 0 }
+        ensures session { self.new.session ≡ self.old.session }
     {
         self.kept.take_first_chunk()
     }
@@ -196,27 +230,44 @@ impl FrameBytes {
 
     /// Whether the first frame that is no whole unknown one says a length above this limit, and is one whose payload is kept until it is
     /// whole. Nothing is taken.
-    pub(super) fn is_excessive(&self, most: u64) -> bool
+    pub(super) fn is_excessive(&self, most: u64, kinds: FrameKinds) -> bool
         requires { is_limit most ≡ true }
-        ensures { result ≡ is_excessive most (known (concat self.now.pieces)) }
+        ensures { result ≡ is_excessive most (known_by kinds (concat self.now.pieces)) }
     {
-        if self.passing == 0 {
-            return excess::is_excessive(&self.kept, most);
+        if let Some(is_excessive) = self.is_first_excessive(most) {
+            return is_excessive;
         }
         if self.len() < self.passing {
             return false;
         }
-        excess::is_excessive_behind(&self.kept, self.passing - self.gone, most)
+        if !self.suits(kinds) {
+            return false;
+        }
+        excess::is_excessive_behind(&self.kept, self.passing - self.gone, most, kinds)
+    }
+
+    /// The same, if the type and length in the first piece tell it, whichever kinds are known.
+    pub(super) fn is_first_excessive(&self, most: u64) -> Option<bool>
+        requires { is_limit most ≡ true }
+        ensures { (kinds : FrameKinds) → IfSome result (λ is. is ≡ is_excessive most (known_by kinds (concat self.now.pieces))) }
+    {
+        if self.passing > 0 {
+            return None;
+        }
+        excess::is_first_excessive(&self.kept, most)
     }
 
     /// Whether the first frame that is no whole unknown one is HEADERS, as far as its type came. Nothing is taken.
-    pub(super) fn begins_section(&self) -> bool
-        ensures { result ≡ begins_section (known (concat self.now.pieces)) }
+    pub(super) fn begins_section(&self, kinds: FrameKinds) -> bool
+        ensures { result ≡ begins_section (known_by kinds (concat self.now.pieces)) }
     {
         if self.len() < self.passing {
             return false;
         }
-        excess::begins_section(&self.kept, self.passing - self.gone)
+        if !self.suits(kinds) {
+            return false;
+        }
+        excess::begins_section(&self.kept, self.passing - self.gone, kinds)
     }
 
     /// Whether the bytes begin with the type and the length of a frame that is not SETTINGS: an unknown frame under way is one. Nothing
@@ -231,21 +282,20 @@ impl FrameBytes {
     }
 
     /// Whether an unknown frame is under way at the front. A frame has to begin there.
-    pub(super) fn is_under_way(&self) -> bool
-        ensures { result ≡ is_under_way (concat self.now.pieces) }
+    pub(super) fn is_under_way(&self, kinds: FrameKinds) -> bool
+        ensures { result ≡ is_under_way kinds (concat self.now.pieces) }
     {
         if self.passing > 0 {
-            return self.len() < self.passing;
+            return self.suits(kinds) && self.len() < self.passing;
         }
-        is_longer(self.len(), unknown_size(&self.kept))
+        is_longer(self.len(), unknown_size(&self.kept, kinds))
     }
 }
 
 // Frees what is kept, if the unknown frame under way goes on after it.
 fn release(kept: &mut BufList<Bytes>, let_go: &mut LetGo, gone: &mut usize, passing: usize)
-    requires front { AreLetGo passing gone.old let_go.old.pieces }
     requires fits { gone.old + length (concat kept.old.pieces) < 2 ^ 64 }
-    ensures front { AreLetGo passing gone.new let_go.new.pieces }
+    ensures front { (session : Bool) → AreLetGo session passing gone.old let_go.old.pieces → AreLetGo session passing gone.new let_go.new.pieces }
     ensures pieces { let_go.new.pieces ++ kept.new.pieces ≡ let_go.old.pieces ++ kept.old.pieces }
     ensures spared { IsSpared passing gone.new kept.new.pieces }
 {
@@ -278,29 +328,36 @@ fn is_longer(len: usize, size: Option<usize>) -> bool
 }
 
 // How many bytes the frame at the front has, if its type and length are whole and its type is unknown.
-fn unknown_size(pieces: &BufList<Bytes>) -> Option<usize>
-    ensures { result ≡ unknown_size (concat pieces.now.pieces) }
+pub(super) fn unknown_size(pieces: &BufList<Bytes>, kinds: FrameKinds) -> Option<usize>
+    ensures { result ≡ unknown_size kinds (concat pieces.now.pieces) }
 {
     if let Some(head) = FrameHead::at_front(pieces.first_bytes()) {
-        if is_known_type(head.kind) {
+        if is_known_type(head.kind, kinds) {
             return None;
         }
     }
-    unknown_size_anywhere(pieces)
+    unknown_size_anywhere(pieces, kinds)
+}
+
+// Whether an unknown frame is one of type 0x41: that has a meaning if sessions are known.
+fn is_session(pieces: &BufList<Bytes>) -> bool
+    ensures { result ≡ is_none (unknown_size plain_frames (concat pieces.now.pieces)) }
+{
+    unknown_size(pieces, FrameKinds::PLAIN).is_none()
 }
 
 // The same, wherever type and length lie. It stays apart, so that a known type is found without a cursor.
 #[tactic(auto, unfolding(crate::specs::UnknownSize::unknown_size))]
 #[inline(never)]
-fn unknown_size_anywhere(pieces: &BufList<Bytes>) -> Option<usize>
-    ensures { result ≡ unknown_size (concat pieces.now.pieces) }
+fn unknown_size_anywhere(pieces: &BufList<Bytes>, kinds: FrameKinds) -> Option<usize>
+    ensures { result ≡ unknown_size kinds (concat pieces.now.pieces) }
 {
     let mut cursor = pieces.cursor();
     let all = cursor.remaining();
     let Ok(kind) = cursor.get_var() else {
         return None;
     };
-    if is_known_type(kind) {
+    if is_known_type(kind, kinds) {
         return None;
     }
     let Ok(number) = cursor.get_var() else {
@@ -310,10 +367,10 @@ fn unknown_size_anywhere(pieces: &BufList<Bytes>) -> Option<usize>
 }
 
 // Whether a type has a meaning, or is refused.
-fn is_known_type(kind: u64) -> bool
-    ensures { result ≡ is_known_type kind }
+fn is_known_type(kind: u64, kinds: FrameKinds) -> bool
+    ensures { result ≡ is_known_type kinds kind }
 {
-    kind == 0x41
+    (kind == 0x41 && kinds.sessions)
         || kind == 0
         || kind == 1
         || kind == 3

@@ -3,8 +3,8 @@ use Rattle.h3_coding.specs.Varint.{varint_at}
 use Rattle.h3_proto.specs.Pairs.{split_of}
 use Rattle.h3_huffman.specs.Huffman.{bits, code_word, octets, huffman}
 use Rattle.h3_field.specs.StaticTable.{static_table, static_field, static_name}
-use Rattle.h3_wire.specs.Frames.{frame_at, frame_of}
-use Rattle.h3_wire.specs.Known.{known}
+use Rattle.h3_wire.specs.Frames.{frame_by, frame_of}
+use Rattle.h3_wire.specs.Known.{known_by}
 use Rattle.http_header.specs.Token.{is_token_byte}
 use Rattle.std.specs.Str.{is_utf8, chars}
 use lib.Utf8.{encode}
@@ -20,101 +20,101 @@ use Rattle.std.proofs.Common.{refl}
 use Rattle.h3_connection_rows.proofs.isolation_rows.isolation_rows_compute.Goals as goal
 
 pub returns-clause-beside_a_malformed_head_at_0 : goal.returns-clause-beside_a_malformed_head_at_0
-unfolding encoding static_field static_name chars encode varint_at split_of bits code_word octets huffman static_table frame_at frame_of known is_token_byte is_utf8 kind_of head_of unhuffman hear_up_to listen_up_to fields_in decode_section skipped read_peer pull_stream
+unfolding encoding static_field static_name chars encode varint_at split_of bits code_word octets huffman static_table frame_by frame_of known_by is_token_byte is_utf8 kind_of head_of unhuffman hear_up_to listen_up_to fields_in decode_section skipped read_peer pull_stream
 returns-clause-beside_a_malformed_head_at_0 c = refl
 
 pub returns-clause-beside_an_unknown_stream_at_0 : goal.returns-clause-beside_an_unknown_stream_at_0
-unfolding encoding static_field static_name chars encode varint_at split_of bits code_word octets huffman static_table frame_at frame_of known is_token_byte is_utf8 kind_of head_of unhuffman hear_up_to listen_up_to fields_in decode_section skipped read_peer pull_stream
+unfolding encoding static_field static_name chars encode varint_at split_of bits code_word octets huffman static_table frame_by frame_of known_by is_token_byte is_utf8 kind_of head_of unhuffman hear_up_to listen_up_to fields_in decode_section skipped read_peer pull_stream
 returns-clause-beside_an_unknown_stream_at_0 c = refl
 
 pub returns-clause-beside_a_cancellation_at_0 : goal.returns-clause-beside_a_cancellation_at_0
-unfolding encoding static_field static_name chars encode varint_at split_of bits code_word octets huffman static_table frame_at frame_of known is_token_byte is_utf8 kind_of head_of unhuffman hear_up_to listen_up_to fields_in decode_section skipped read_peer pull_stream
+unfolding encoding static_field static_name chars encode varint_at split_of bits code_word octets huffman static_table frame_by frame_of known_by is_token_byte is_utf8 kind_of head_of unhuffman hear_up_to listen_up_to fields_in decode_section skipped read_peer pull_stream
 returns-clause-beside_a_cancellation_at_0 c = refl
 
 pub returns-clause-beside_settings_at_0 : goal.returns-clause-beside_settings_at_0
-unfolding encoding static_field static_name chars encode varint_at split_of bits code_word octets huffman static_table frame_at frame_of known is_token_byte is_utf8 kind_of head_of unhuffman hear_up_to listen_up_to fields_in decode_section skipped read_peer pull_stream
+unfolding encoding static_field static_name chars encode varint_at split_of bits code_word octets huffman static_table frame_by frame_of known_by is_token_byte is_utf8 kind_of head_of unhuffman hear_up_to listen_up_to fields_in decode_section skipped read_peer pull_stream
 returns-clause-beside_settings_at_0 c = refl
 
 pub returns-clause-beside_all_of_them_at_0 : goal.returns-clause-beside_all_of_them_at_0
-unfolding encoding static_field static_name chars encode varint_at split_of bits code_word octets huffman static_table frame_at frame_of known is_token_byte is_utf8 kind_of head_of unhuffman hear_up_to listen_up_to fields_in decode_section skipped read_peer pull_stream
+unfolding encoding static_field static_name chars encode varint_at split_of bits code_word octets huffman static_table frame_by frame_of known_by is_token_byte is_utf8 kind_of head_of unhuffman hear_up_to listen_up_to fields_in decode_section skipped read_peer pull_stream
 returns-clause-beside_all_of_them_at_0 c = refl
 
 pub returns-clause-beside_a_malformed_head_at_1 : goal.returns-clause-beside_a_malformed_head_at_1
-unfolding encoding static_field static_name chars encode varint_at split_of bits code_word octets huffman static_table frame_at frame_of known is_token_byte is_utf8 kind_of head_of unhuffman hear_up_to listen_up_to fields_in decode_section skipped read_peer pull_stream
+unfolding encoding static_field static_name chars encode varint_at split_of bits code_word octets huffman static_table frame_by frame_of known_by is_token_byte is_utf8 kind_of head_of unhuffman hear_up_to listen_up_to fields_in decode_section skipped read_peer pull_stream
 returns-clause-beside_a_malformed_head_at_1 c = refl
 
 pub returns-clause-beside_an_unknown_stream_at_1 : goal.returns-clause-beside_an_unknown_stream_at_1
-unfolding encoding static_field static_name chars encode varint_at split_of bits code_word octets huffman static_table frame_at frame_of known is_token_byte is_utf8 kind_of head_of unhuffman hear_up_to listen_up_to fields_in decode_section skipped read_peer pull_stream
+unfolding encoding static_field static_name chars encode varint_at split_of bits code_word octets huffman static_table frame_by frame_of known_by is_token_byte is_utf8 kind_of head_of unhuffman hear_up_to listen_up_to fields_in decode_section skipped read_peer pull_stream
 returns-clause-beside_an_unknown_stream_at_1 c = refl
 
 pub returns-clause-beside_a_cancellation_at_1 : goal.returns-clause-beside_a_cancellation_at_1
-unfolding encoding static_field static_name chars encode varint_at split_of bits code_word octets huffman static_table frame_at frame_of known is_token_byte is_utf8 kind_of head_of unhuffman hear_up_to listen_up_to fields_in decode_section skipped read_peer pull_stream
+unfolding encoding static_field static_name chars encode varint_at split_of bits code_word octets huffman static_table frame_by frame_of known_by is_token_byte is_utf8 kind_of head_of unhuffman hear_up_to listen_up_to fields_in decode_section skipped read_peer pull_stream
 returns-clause-beside_a_cancellation_at_1 c = refl
 
 pub returns-clause-beside_settings_at_1 : goal.returns-clause-beside_settings_at_1
-unfolding encoding static_field static_name chars encode varint_at split_of bits code_word octets huffman static_table frame_at frame_of known is_token_byte is_utf8 kind_of head_of unhuffman hear_up_to listen_up_to fields_in decode_section skipped read_peer pull_stream
+unfolding encoding static_field static_name chars encode varint_at split_of bits code_word octets huffman static_table frame_by frame_of known_by is_token_byte is_utf8 kind_of head_of unhuffman hear_up_to listen_up_to fields_in decode_section skipped read_peer pull_stream
 returns-clause-beside_settings_at_1 c = refl
 
 pub returns-clause-beside_all_of_them_at_1 : goal.returns-clause-beside_all_of_them_at_1
-unfolding encoding static_field static_name chars encode varint_at split_of bits code_word octets huffman static_table frame_at frame_of known is_token_byte is_utf8 kind_of head_of unhuffman hear_up_to listen_up_to fields_in decode_section skipped read_peer pull_stream
+unfolding encoding static_field static_name chars encode varint_at split_of bits code_word octets huffman static_table frame_by frame_of known_by is_token_byte is_utf8 kind_of head_of unhuffman hear_up_to listen_up_to fields_in decode_section skipped read_peer pull_stream
 returns-clause-beside_all_of_them_at_1 c = refl
 
 pub returns-clause-beside_a_malformed_head_at_2 : goal.returns-clause-beside_a_malformed_head_at_2
-unfolding encoding static_field static_name chars encode varint_at split_of bits code_word octets huffman static_table frame_at frame_of known is_token_byte is_utf8 kind_of head_of unhuffman hear_up_to listen_up_to fields_in decode_section skipped read_peer pull_stream
+unfolding encoding static_field static_name chars encode varint_at split_of bits code_word octets huffman static_table frame_by frame_of known_by is_token_byte is_utf8 kind_of head_of unhuffman hear_up_to listen_up_to fields_in decode_section skipped read_peer pull_stream
 returns-clause-beside_a_malformed_head_at_2 c = refl
 
 pub returns-clause-beside_an_unknown_stream_at_2 : goal.returns-clause-beside_an_unknown_stream_at_2
-unfolding encoding static_field static_name chars encode varint_at split_of bits code_word octets huffman static_table frame_at frame_of known is_token_byte is_utf8 kind_of head_of unhuffman hear_up_to listen_up_to fields_in decode_section skipped read_peer pull_stream
+unfolding encoding static_field static_name chars encode varint_at split_of bits code_word octets huffman static_table frame_by frame_of known_by is_token_byte is_utf8 kind_of head_of unhuffman hear_up_to listen_up_to fields_in decode_section skipped read_peer pull_stream
 returns-clause-beside_an_unknown_stream_at_2 c = refl
 
 pub returns-clause-beside_a_cancellation_at_2 : goal.returns-clause-beside_a_cancellation_at_2
-unfolding encoding static_field static_name chars encode varint_at split_of bits code_word octets huffman static_table frame_at frame_of known is_token_byte is_utf8 kind_of head_of unhuffman hear_up_to listen_up_to fields_in decode_section skipped read_peer pull_stream
+unfolding encoding static_field static_name chars encode varint_at split_of bits code_word octets huffman static_table frame_by frame_of known_by is_token_byte is_utf8 kind_of head_of unhuffman hear_up_to listen_up_to fields_in decode_section skipped read_peer pull_stream
 returns-clause-beside_a_cancellation_at_2 c = refl
 
 pub returns-clause-beside_settings_at_2 : goal.returns-clause-beside_settings_at_2
-unfolding encoding static_field static_name chars encode varint_at split_of bits code_word octets huffman static_table frame_at frame_of known is_token_byte is_utf8 kind_of head_of unhuffman hear_up_to listen_up_to fields_in decode_section skipped read_peer pull_stream
+unfolding encoding static_field static_name chars encode varint_at split_of bits code_word octets huffman static_table frame_by frame_of known_by is_token_byte is_utf8 kind_of head_of unhuffman hear_up_to listen_up_to fields_in decode_section skipped read_peer pull_stream
 returns-clause-beside_settings_at_2 c = refl
 
 pub returns-clause-beside_all_of_them_at_2 : goal.returns-clause-beside_all_of_them_at_2
-unfolding encoding static_field static_name chars encode varint_at split_of bits code_word octets huffman static_table frame_at frame_of known is_token_byte is_utf8 kind_of head_of unhuffman hear_up_to listen_up_to fields_in decode_section skipped read_peer pull_stream
+unfolding encoding static_field static_name chars encode varint_at split_of bits code_word octets huffman static_table frame_by frame_of known_by is_token_byte is_utf8 kind_of head_of unhuffman hear_up_to listen_up_to fields_in decode_section skipped read_peer pull_stream
 returns-clause-beside_all_of_them_at_2 c = refl
 
 pub returns-clause-beside_a_malformed_head_at_3 : goal.returns-clause-beside_a_malformed_head_at_3
-unfolding encoding static_field static_name chars encode varint_at split_of bits code_word octets huffman static_table frame_at frame_of known is_token_byte is_utf8 kind_of head_of unhuffman hear_up_to listen_up_to fields_in decode_section skipped read_peer pull_stream
+unfolding encoding static_field static_name chars encode varint_at split_of bits code_word octets huffman static_table frame_by frame_of known_by is_token_byte is_utf8 kind_of head_of unhuffman hear_up_to listen_up_to fields_in decode_section skipped read_peer pull_stream
 returns-clause-beside_a_malformed_head_at_3 c = refl
 
 pub returns-clause-beside_an_unknown_stream_at_3 : goal.returns-clause-beside_an_unknown_stream_at_3
-unfolding encoding static_field static_name chars encode varint_at split_of bits code_word octets huffman static_table frame_at frame_of known is_token_byte is_utf8 kind_of head_of unhuffman hear_up_to listen_up_to fields_in decode_section skipped read_peer pull_stream
+unfolding encoding static_field static_name chars encode varint_at split_of bits code_word octets huffman static_table frame_by frame_of known_by is_token_byte is_utf8 kind_of head_of unhuffman hear_up_to listen_up_to fields_in decode_section skipped read_peer pull_stream
 returns-clause-beside_an_unknown_stream_at_3 c = refl
 
 pub returns-clause-beside_a_cancellation_at_3 : goal.returns-clause-beside_a_cancellation_at_3
-unfolding encoding static_field static_name chars encode varint_at split_of bits code_word octets huffman static_table frame_at frame_of known is_token_byte is_utf8 kind_of head_of unhuffman hear_up_to listen_up_to fields_in decode_section skipped read_peer pull_stream
+unfolding encoding static_field static_name chars encode varint_at split_of bits code_word octets huffman static_table frame_by frame_of known_by is_token_byte is_utf8 kind_of head_of unhuffman hear_up_to listen_up_to fields_in decode_section skipped read_peer pull_stream
 returns-clause-beside_a_cancellation_at_3 c = refl
 
 pub returns-clause-beside_settings_at_3 : goal.returns-clause-beside_settings_at_3
-unfolding encoding static_field static_name chars encode varint_at split_of bits code_word octets huffman static_table frame_at frame_of known is_token_byte is_utf8 kind_of head_of unhuffman hear_up_to listen_up_to fields_in decode_section skipped read_peer pull_stream
+unfolding encoding static_field static_name chars encode varint_at split_of bits code_word octets huffman static_table frame_by frame_of known_by is_token_byte is_utf8 kind_of head_of unhuffman hear_up_to listen_up_to fields_in decode_section skipped read_peer pull_stream
 returns-clause-beside_settings_at_3 c = refl
 
 pub returns-clause-beside_all_of_them_at_3 : goal.returns-clause-beside_all_of_them_at_3
-unfolding encoding static_field static_name chars encode varint_at split_of bits code_word octets huffman static_table frame_at frame_of known is_token_byte is_utf8 kind_of head_of unhuffman hear_up_to listen_up_to fields_in decode_section skipped read_peer pull_stream
+unfolding encoding static_field static_name chars encode varint_at split_of bits code_word octets huffman static_table frame_by frame_of known_by is_token_byte is_utf8 kind_of head_of unhuffman hear_up_to listen_up_to fields_in decode_section skipped read_peer pull_stream
 returns-clause-beside_all_of_them_at_3 c = refl
 
 pub returns-clause-beside_a_malformed_head_at_4 : goal.returns-clause-beside_a_malformed_head_at_4
-unfolding encoding static_field static_name chars encode varint_at split_of bits code_word octets huffman static_table frame_at frame_of known is_token_byte is_utf8 kind_of head_of unhuffman hear_up_to listen_up_to fields_in decode_section skipped read_peer pull_stream
+unfolding encoding static_field static_name chars encode varint_at split_of bits code_word octets huffman static_table frame_by frame_of known_by is_token_byte is_utf8 kind_of head_of unhuffman hear_up_to listen_up_to fields_in decode_section skipped read_peer pull_stream
 returns-clause-beside_a_malformed_head_at_4 c = refl
 
 pub returns-clause-beside_an_unknown_stream_at_4 : goal.returns-clause-beside_an_unknown_stream_at_4
-unfolding encoding static_field static_name chars encode varint_at split_of bits code_word octets huffman static_table frame_at frame_of known is_token_byte is_utf8 kind_of head_of unhuffman hear_up_to listen_up_to fields_in decode_section skipped read_peer pull_stream
+unfolding encoding static_field static_name chars encode varint_at split_of bits code_word octets huffman static_table frame_by frame_of known_by is_token_byte is_utf8 kind_of head_of unhuffman hear_up_to listen_up_to fields_in decode_section skipped read_peer pull_stream
 returns-clause-beside_an_unknown_stream_at_4 c = refl
 
 pub returns-clause-beside_a_cancellation_at_4 : goal.returns-clause-beside_a_cancellation_at_4
-unfolding encoding static_field static_name chars encode varint_at split_of bits code_word octets huffman static_table frame_at frame_of known is_token_byte is_utf8 kind_of head_of unhuffman hear_up_to listen_up_to fields_in decode_section skipped read_peer pull_stream
+unfolding encoding static_field static_name chars encode varint_at split_of bits code_word octets huffman static_table frame_by frame_of known_by is_token_byte is_utf8 kind_of head_of unhuffman hear_up_to listen_up_to fields_in decode_section skipped read_peer pull_stream
 returns-clause-beside_a_cancellation_at_4 c = refl
 
 pub returns-clause-beside_settings_at_4 : goal.returns-clause-beside_settings_at_4
-unfolding encoding static_field static_name chars encode varint_at split_of bits code_word octets huffman static_table frame_at frame_of known is_token_byte is_utf8 kind_of head_of unhuffman hear_up_to listen_up_to fields_in decode_section skipped read_peer pull_stream
+unfolding encoding static_field static_name chars encode varint_at split_of bits code_word octets huffman static_table frame_by frame_of known_by is_token_byte is_utf8 kind_of head_of unhuffman hear_up_to listen_up_to fields_in decode_section skipped read_peer pull_stream
 returns-clause-beside_settings_at_4 c = refl
 
 pub returns-clause-beside_all_of_them_at_4 : goal.returns-clause-beside_all_of_them_at_4
-unfolding encoding static_field static_name chars encode varint_at split_of bits code_word octets huffman static_table frame_at frame_of known is_token_byte is_utf8 kind_of head_of unhuffman hear_up_to listen_up_to fields_in decode_section skipped read_peer pull_stream
+unfolding encoding static_field static_name chars encode varint_at split_of bits code_word octets huffman static_table frame_by frame_of known_by is_token_byte is_utf8 kind_of head_of unhuffman hear_up_to listen_up_to fields_in decode_section skipped read_peer pull_stream
 returns-clause-beside_all_of_them_at_4 c = refl

@@ -3,8 +3,8 @@ use Rattle.h3_coding.specs.Varint.{varint_at}
 use Rattle.h3_proto.specs.Pairs.{split_of}
 use Rattle.h3_huffman.specs.Huffman.{bits, code_word, octets, huffman}
 use Rattle.h3_field.specs.StaticTable.{static_table, static_field, static_name}
-use Rattle.h3_wire.specs.Frames.{frame_at, frame_of}
-use Rattle.h3_wire.specs.Known.{known}
+use Rattle.h3_wire.specs.Frames.{frame_by, frame_of}
+use Rattle.h3_wire.specs.Known.{known_by}
 use Rattle.http_header.specs.Token.{is_token_byte}
 use Rattle.std.specs.Str.{is_utf8, chars}
 use lib.Utf8.{encode}
@@ -21,21 +21,21 @@ use Rattle.std.proofs.Common.{refl}
 use Rattle.h3_connection_rows.proofs.sending_rows.sending_rows_compute.Goals as goal
 
 pub returns-clause-request : goal.returns-clause-request
-unfolding encoding static_field static_name chars encode varint_at split_of bits code_word octets huffman static_table frame_at frame_of known is_token_byte is_utf8 kind_of head_of unhuffman hear_up_to listen_up_to fields_in decode_section skipped read_peer pull_stream violation_of_request violation_of_response violation_of_trailer
+unfolding encoding static_field static_name chars encode varint_at split_of bits code_word octets huffman static_table frame_by frame_of known_by is_token_byte is_utf8 kind_of head_of unhuffman hear_up_to listen_up_to fields_in decode_section skipped read_peer pull_stream violation_of_request violation_of_response violation_of_trailer
 returns-clause-request c = refl
 
 pub returns-clause-uncounted : goal.returns-clause-uncounted
-unfolding encoding static_field static_name chars encode varint_at split_of bits code_word octets huffman static_table frame_at frame_of known is_token_byte is_utf8 kind_of head_of unhuffman hear_up_to listen_up_to fields_in decode_section skipped read_peer pull_stream violation_of_request violation_of_response violation_of_trailer
+unfolding encoding static_field static_name chars encode varint_at split_of bits code_word octets huffman static_table frame_by frame_of known_by is_token_byte is_utf8 kind_of head_of unhuffman hear_up_to listen_up_to fields_in decode_section skipped read_peer pull_stream violation_of_request violation_of_response violation_of_trailer
 returns-clause-uncounted c = refl
 
 pub returns-clause-tunnel : goal.returns-clause-tunnel
-unfolding encoding static_field static_name chars encode varint_at split_of bits code_word octets huffman static_table frame_at frame_of known is_token_byte is_utf8 kind_of head_of unhuffman hear_up_to listen_up_to fields_in decode_section skipped read_peer pull_stream violation_of_request violation_of_response violation_of_trailer
+unfolding encoding static_field static_name chars encode varint_at split_of bits code_word octets huffman static_table frame_by frame_of known_by is_token_byte is_utf8 kind_of head_of unhuffman hear_up_to listen_up_to fields_in decode_section skipped read_peer pull_stream violation_of_request violation_of_response violation_of_trailer
 returns-clause-tunnel c = refl
 
 pub returns-clause-response : goal.returns-clause-response
-unfolding encoding static_field static_name chars encode varint_at split_of bits code_word octets huffman static_table frame_at frame_of known is_token_byte is_utf8 kind_of head_of unhuffman hear_up_to listen_up_to fields_in decode_section skipped read_peer pull_stream violation_of_request violation_of_response violation_of_trailer
+unfolding encoding static_field static_name chars encode varint_at split_of bits code_word octets huffman static_table frame_by frame_of known_by is_token_byte is_utf8 kind_of head_of unhuffman hear_up_to listen_up_to fields_in decode_section skipped read_peer pull_stream violation_of_request violation_of_response violation_of_trailer
 returns-clause-response c = refl
 
 pub returns-clause-early : goal.returns-clause-early
-unfolding encoding static_field static_name chars encode varint_at split_of bits code_word octets huffman static_table frame_at frame_of known is_token_byte is_utf8 kind_of head_of unhuffman hear_up_to listen_up_to fields_in decode_section skipped read_peer pull_stream violation_of_request violation_of_response violation_of_trailer
+unfolding encoding static_field static_name chars encode varint_at split_of bits code_word octets huffman static_table frame_by frame_of known_by is_token_byte is_utf8 kind_of head_of unhuffman hear_up_to listen_up_to fields_in decode_section skipped read_peer pull_stream violation_of_request violation_of_response violation_of_trailer
 returns-clause-early c = refl

@@ -1,4 +1,4 @@
-use Rattle.h3_messages.specs.FlagLaws.{requests_alike, responses_alike, trailers_alike, own_requests_alike, own_responses_alike, own_trailers_alike, awaited_alike, request_content_alike, response_content_alike, own_request_content_alike, own_response_content_alike}
+use Rattle.h3_messages.specs.FlagLaws.{requests_alike, responses_alike, trailers_alike, own_requests_alike, own_answers_alike, own_trailers_alike, awaited_alike, answered_alike, request_content_alike, response_content_alike, own_request_content_alike, own_response_content_alike}
 use Rattle.h3_messages.proofs.laws.rules_see_no_flags.Goals as goal
 
 pub returns-clause-request : goal.returns-clause-request
@@ -13,8 +13,8 @@ returns-clause-trailer c = trailers_alike
 pub returns-clause-own_request : goal.returns-clause-own_request
 returns-clause-own_request c = own_requests_alike
 
-pub returns-clause-own_response : goal.returns-clause-own_response
-returns-clause-own_response c = own_responses_alike
+pub returns-clause-own_answer : goal.returns-clause-own_answer
+returns-clause-own_answer c = own_answers_alike
 
 pub returns-clause-own_trailer : goal.returns-clause-own_trailer
 returns-clause-own_trailer c = own_trailers_alike
@@ -33,3 +33,6 @@ returns-clause-request_content c = own_request_content_alike
 
 pub returns-clause-response_content : goal.returns-clause-response_content
 returns-clause-response_content c = own_response_content_alike
+
+pub returns-clause-answered : goal.returns-clause-answered
+returns-clause-answered c = answered_alike

@@ -1,10 +1,17 @@
 use Rattle.h3_world.specs.Ends.{new_ends}
 use Rattle.h3_strict.specs.PlainEnds.{asks_strictly}
-use Rattle.h3_session.proofs.Headlines.{runs_in_keeping_world, runs_in_world}
+use Rattle.h3_session.proofs.Headlines.{gets_what_was_sent, runs_in_keeping_world, runs_in_world}
 use Rattle.h3_session.proofs.Messages.{hands_out, hands_out_always}
 use Rattle.h3_session.proofs.Runs.{answers_each, ran, runs_to}
 use Rattle.h3_session.proofs.Strict.{LawsOfEnds, runs_to_end, runs_until_memory}
+use Rattle.h3_proto.specs.declared.stream.Side.TheVariants.{Client, Server}
 use Rattle.h3_session.proofs.run.run.Goals as goal
+
+pub announcing-client-requires : goal.announcing-client-requires
+announcing-client-requires c = (c.requires.sides Client).table
+
+pub announcing-server-requires : goal.announcing-server-requires
+announcing-server-requires c = (c.requires.sides Server).table
 
 pub returns-clause-calls : goal.returns-clause-calls
 returns-clause-calls c =
@@ -52,6 +59,15 @@ returns-clause-memory c = λ few plain.
     let answers = c.in_ok-client-2.answers.items in
     runs_in_keeping_world setup c.args.events.now answers _ _
     (λ ends sendable run. c.two_endpoints_run_with_memory.ensures setup c.args.events.now answers ends c.requires plain sendable run) c.events_are_typed.ensures calls few
+
+pub returns-clause-faithful : goal.returns-clause-faithful
+returns-clause-faithful c = λ few.
+    let calls = ran (λ v. v.items) (new_ends c.args.setup) c.args.events.now c.announcing-client.result c.announcing-server.result c.run_between-answers.result _ _ _ _ _ c.in_ok-client-2.answers
+    c.announcing-client.ensures c.announcing-server.ensures c.in_ok-client.ensures.0 c.in_ok-client.ensures.1 c.run_between-answers.ensures c.in_ok-client-2.ensures.0 c.in_ok-client-2.ensures.1 in
+    let setup = c.args.setup in
+    let answers = c.in_ok-client-2.answers.items in
+    gets_what_was_sent setup c.args.events.now answers _ _
+    (λ ends sendable run. c.each_side_gets_what_the_other_sent.ensures.until_fault setup c.args.events.now answers ends c.requires sendable run) c.events_are_typed.ensures calls few
 
 pub returns-clause-front : goal.returns-clause-front
 returns-clause-front c = λ few.

@@ -1,8 +1,8 @@
 use Rattle.h3_coding.specs.Encodings.{encoding}
 use Rattle.h3_coding.specs.Varint.{varint_at}
 use Rattle.h3_proto.specs.Pairs.{split_of}
-use Rattle.h3_wire.specs.Frames.{frame_at, frame_of}
-use Rattle.h3_wire.specs.Known.{known}
+use Rattle.h3_wire.specs.Frames.{frame_by, frame_of}
+use Rattle.h3_wire.specs.Known.{known_by}
 use Rattle.h3_connection.specs.ExcessiveInstructions.{hear_up_to, listen_up_to}
 use Rattle.h3_connection.specs.PeerReading.{read_peer}
 use Rattle.std.proofs.Common.{◌≡◌, true, false, arith, refl}
@@ -20,9 +20,9 @@ pub returns-clause-limits : goal.returns-clause-limits
 returns-clause-limits c = limits
 
 pub returns-clause-waits : goal.returns-clause-waits
-unfolding encoding varint_at split_of frame_at frame_of known hear_up_to listen_up_to read_peer
+unfolding encoding varint_at split_of frame_by frame_of known_by hear_up_to listen_up_to read_peer
 returns-clause-waits c = refl
 
 pub returns-clause-settled : goal.returns-clause-settled
-unfolding encoding varint_at split_of frame_at frame_of known hear_up_to listen_up_to read_peer
+unfolding encoding varint_at split_of frame_by frame_of known_by hear_up_to listen_up_to read_peer
 returns-clause-settled c = refl

@@ -20,7 +20,7 @@ returns-in-Ok-Unfinished-clause-answer g c = λ h.
     let reads : Reads c.args.self.now _ _ _ = record { is = c.self.view_is; body = ap {A = Incoming} (λ i. is_body i.place) c.self.view_is; rest = c.front.ensures.rest } in
     let finds = rw c.in-Ok-Unfinished.field-0-is at c.in-Ok-Unfinished.ensures.finds in
     let small = rw c.in-Ok-Unfinished.field-0-is at c.in-Ok-Unfinished.ensures.within in
-    gives_as _ _ _ _ _ _ (pulled_unfinished c.args.side c.args.announced.now c.args.id c.args.decoder.now _ _ _ _ reads finds small) (c.pull_end.ensures.answer c.args.side c.args.announced.now c.args.decoder.now h)
+    gives_as _ _ _ _ _ _ (pulled_unfinished c.args.side c.args.announced.now c.args.id c.args.decoder.now _ _ _ _ reads finds small) (c.pull_end.ensures.answer c.args.side c.args.announced.now c.args.decoder.now finds.1 h)
 
 pub returns-in-Ok-Unfinished-clause-memory : goal.returns-in-Ok-Unfinished-clause-memory
 returns-in-Ok-Unfinished-clause-memory g c = λ h.
@@ -83,7 +83,7 @@ returns-in-Session-clause-answer g c = λ h.
     let begins = subst (λ b. IsBegun c.args.side c.self.inside.place c.self.inside.content found.0 b) c.in-Session.is found.1 in
     let small = rw c.in-Ok-Begun.field-0-is at c.in-Ok-Begun.ensures.within in
     gives_just _ _ _ _ _
-    (pulled_frame c.args.side c.args.announced.now c.args.id c.args.decoder.now _ _ _ _ found.0 _ reads found.2 small (begins.is c.args.announced.now c.args.id c.args.decoder.now _ refl) ∙ session_told _ _ _ _ _ _ c.begin_session.ensures.is refl) refl
+    (pulled_frame c.args.side c.args.announced.now c.args.id c.args.decoder.now _ _ _ _ found.0 _ reads found.2 small (begins.is c.args.announced.now c.args.id c.args.decoder.now _ refl) ∙ session_told c.args.announced.now _ c.self.inside.place _ c.in-Session.session _ c.begin_session.ensures.is refl) refl
 
 pub returns-in-Fault-clause-answer : goal.returns-in-Fault-clause-answer
 returns-in-Fault-clause-answer g c = λ h.
@@ -99,7 +99,7 @@ returns-in-Section-clause-list g c =
     let found = rw c.in-Ok-Begun.field-0-is at c.in-Ok-Begun.ensures.finds in
     let begins = subst (λ b. IsBegun c.args.side c.self.inside.place c.self.inside.content found.0 b) c.in-Section.is found.1 in
     let small = rw c.in-Ok-Begun.field-0-is at c.in-Ok-Begun.ensures.within in
-    lists_framed c.args.decoder.now c.args.self.now _ _ _ found.0 _ _ reads found.2 c.requires.none begins.section c.pull_section.ensures.list
+    lists_framed c.args.announced.now c.args.decoder.now c.args.self.now _ _ _ found.0 _ _ reads found.2 c.requires.none begins.section c.pull_section.ensures.list
 
 pub returns-in-Ok-Excessive-clause-answer : goal.returns-in-Ok-Excessive-clause-answer
 returns-in-Ok-Excessive-clause-answer g c = λ h.

@@ -22,7 +22,7 @@ returns-then-has_section g c = record {
   answer = λ h. gives_section c.args.side c.args.announced.now c.args.id c.args.decoder.now c.args.self.now c.args.self.now.section _ _ _ _ (sym c.fault.ensures ∙ c.in_default.is) (sym c.is_over.ensures ∙ c.if-is_over.false)
       (sym c.is_in_session.ensures ∙ c.if-is_in_session.false) refl (sym c.has_section.ensures.value ∙ c.if-has_section.true) c.pull_section.ensures.answer h;
   memory = λ h. (resumes_same c.args.announced.now _ _ (c.pull_section.ensures.memory h).0, (c.pull_section.ensures.memory h).1);
-  list = lists_waiting c.args.decoder.now c.args.self.now c.args.self.now.section _ refl (sym c.has_section.ensures.value ∙ c.if-has_section.true) c.pull_section.ensures.list;
+  list = lists_waiting c.args.announced.now c.args.decoder.now c.args.self.now c.args.self.now.section _ refl (sym c.has_section.ensures.value ∙ c.if-has_section.true) c.pull_section.ensures.list;
 }
 
 pub returns-then-is_in_payload : goal.returns-then-is_in_payload

@@ -1,7 +1,8 @@
 use Rattle.std.proofs.Common.{refl, sym, ◌∙◌}
 use Rattle.h3_wire.specs.PieceLaws.{ending_rest, rest_same}
 use Rattle.h3_connection.specs.SkippingLaws.{rest_shorter}
-use Rattle.h3_incoming.proofs.FrontLaws.{passes_empty, passes_known, refused_leaves}
+use Rattle.h3_connection.specs.StrictConnection.{kinds_of}
+use Rattle.h3_incoming.proofs.FrontLaws.{error_passes, passes_empty}
 use Rattle.h3_incoming.proofs.stream.front.front_one.Goals as goal
 
 pub returns-in-Err : goal.returns-in-Err
@@ -11,7 +12,7 @@ returns-in-Err c = record {
   between = tt;
   on = tt;
   less = tt;
-  err = passes_known _ _ _ (refused_leaves _ _ _ c.in-Err.ensures.gives);
+  err = error_passes (kinds_of c.args.announced.now) c.args.side c.args.place c.args.content _ _ _ c.in-Err.ensures.gives;
   rest = ending_rest _ _ _ c.next_begun.ensures.pieces;
 }
 
@@ -25,9 +26,9 @@ returns-then-begins_section-clause-rest c = rest_same _ _ refl
 pub returns-then-is_empty-clause-on : goal.returns-then-is_empty-clause-on
 returns-then-is_empty-clause-on c =
     let given = rw c.in-Ok-Some.field-0-is at c.in-Ok-Some.ensures.gives in
-    passes_empty _ _ _ given.0 given.2 (given.1.empty ∙ sym c.is_empty.ensures ∙ c.if-is_empty.true)
+    passes_empty _ _ _ _ given.0 given.2 (given.1.empty ∙ sym c.is_empty.ensures ∙ c.if-is_empty.true)
 
 pub returns-then-is_empty-clause-less : goal.returns-then-is_empty-clause-less
 returns-then-is_empty-clause-less c =
     let given = rw c.in-Ok-Some.field-0-is at c.in-Ok-Some.ensures.gives in
-    rest_shorter _ _ given.0 given.2
+    rest_shorter _ _ _ given.0 given.2

@@ -1,16 +1,13 @@
-use Rattle.std.proofs.Common.{rules, ◌≡◌, ap, sym, refl, ◌∙◌, subst}
-use Rattle.h3_qpack.specs.DecoderState.{DecoderState}
-use Rattle.h3_qpack.specs.DecodedSection.{Fields, with_fields, fields_in, decode_section, IsRefusalOf}
-use Rattle.h3_qpack.specs.SectionAnswers.{LinesAskMemory}
+use Rattle.std.proofs.Common.{rules, ◌≡◌, ap, refl, ◌∙◌}
+use Rattle.h3_qpack.specs.DecodedSection.{Fields, with_fields, decode_section, IsRefusalOf}
 use Rattle.h3_qpack.proofs.DecodedLaws.{section_of_value, refused_section}
 use Rattle.h3_qpack.proofs.decoder.Decoder.decode_block.Goals as goal
 
 is_value : (c : goal.In-Ok-block) → decode_section c.args.self.now c.args.buf.now ≡ Fields c.block.new.block c.in-Ok.found.0
 is_value c =
-    let lines = rw c.new-lines.ensures at c.in-Ok-block.ensures.ok.0 in
+    let lines = rw c.lines-lines.ensures at c.in-Ok-block.ensures.ok.0 in
     let begins = rw (c.new-ahead.ensures, c.chunk.ensures) at c.in-Ok.ensures.ok in
     begins
-    ∙ ap (λ (r : DecoderState). with_fields c.in-Ok.found.0 (fields_in r.table c.in-Ok.found.1 c.take_prefix.new.buf)) (sym c.self.view_is)
     ∙ ap (λ o. with_fields c.in-Ok.found.0 o) lines
 
 pub returns-in-Ok-block-clause-ok : goal.returns-in-Ok-block-clause-ok
@@ -33,12 +30,12 @@ returns-in-Err-block-clause-err c =
 pub returns-in-Err-block-clause-memory : goal.returns-in-Err-block-clause-memory
 returns-in-Err-block-clause-memory c = λ same.
     let begins = rw (c.new-ahead.ensures, c.chunk.ensures) at c.in-Ok.ensures.begins in
-    let lines = rw c.new-lines.ensures at (c.in-Err-block.ensures.memory same) in
+    let lines = rw c.lines-lines.ensures at (c.in-Err-block.ensures.memory same) in
     record {
       rest = c.take_prefix.new.buf;
       count = c.in-Ok.found.0;
       base = c.in-Ok.found.1;
       begins = begins.0;
       received = begins.1;
-      lines = subst (λ (r : DecoderState). LinesAskMemory r.table c.in-Ok.found.1 c.take_prefix.new.buf) c.self.view_is lines;
+      lines = lines;
     }

@@ -14,4 +14,4 @@ returns-in-Ok-relative-clause-yes c = λ yes.
     let read = rw c.name.ensures at (c.has_put_value-in-Ok-relative.ensures.yes yes) in
     named_put c.args.self.now.table c.args.self.now.base c.args.buf.now c.decode_index.new.buf c.has_put_value-in-Ok-relative.new.buf c.in-Ok-relative.entry.name c.args.block.now c.has_put_value-in-Ok-relative.new.block _
     (line_named _ c.requires.some c.requires.own) c.in-Ok.ensures.answer read
-    (λ value. rw (c.in-Dynamic.is, (rw (c.entries.ensures, c.base.ensures) at c.in-Ok-relative.ensures)) refl)
+    (λ value. rw (c.in-Dynamic.is, c.in-Ok-relative.ensures) refl)

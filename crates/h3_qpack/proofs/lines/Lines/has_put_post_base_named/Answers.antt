@@ -16,6 +16,6 @@ returns-in-Ok-post_base-clause-yes c = λ yes.
       field = record { name = c.in-Ok-post_base.entry.name; value = told.0; never_indexed = c.in-Ok.head.1 };
       begins =
           begins_with AtInteger c.args.self.now.table c.args.self.now.base (short_post_base_named_line told.0) post_base_named _ _ _ _ post_base_named_less (line_post_base_named _ c.requires.some c.requires.own) told.1
-          (rw (rw (c.entries.ensures, c.base.ensures) at c.in-Ok-post_base.ensures) refl);
+          (rw c.in-Ok-post_base.ensures refl);
       added = told.2;
     }

@@ -23,13 +23,13 @@ pub returns-in-Ok-relative : goal.returns-in-Ok-relative
 returns-in-Ok-relative c =
     puts _ _ _ _ _ _ c.in-Ok-relative.entry c.put-in-Ok-relative.result
     (begins_with AtInteger c.args.self.now.table c.args.self.now.base indexed_line indexed _ _ _ _ indexed_less (line_indexed _ c.requires.some c.requires.own) (c.in-Ok-Dynamic.ensures.own c.requires.own)
-    (rw c.in-Ok-Dynamic.field-0-is (rw (c.entries.ensures, c.base.ensures) at c.in-Ok-relative.ensures)))
+    (rw c.in-Ok-Dynamic.field-0-is c.in-Ok-relative.ensures))
     (rw c.lent.ensures at c.put-in-Ok-relative.ensures.ok) c.put-in-Ok-relative.ensures.err
 
 pub returns-in-Err-relative : goal.returns-in-Err-relative
 returns-in-Err-relative c =
     rw c.in-Err-relative.ensures.1 (begins_with_none AtInteger c.args.self.now.table c.args.self.now.base indexed_line _ _ _ _ (line_indexed _ c.requires.some c.requires.own) (c.in-Ok-Dynamic.ensures.own c.requires.own)
-    (rw c.in-Ok-Dynamic.field-0-is (rw (c.entries.ensures, c.base.ensures) at c.in-Err-relative.ensures.0)))
+    (rw c.in-Ok-Dynamic.field-0-is c.in-Err-relative.ensures.0))
 
 pub returns-in-Err : goal.returns-in-Err
 returns-in-Err c =

@@ -20,5 +20,5 @@ returns-in-Err-get c =
 
 pub returns-in-Ok-relative : goal.returns-in-Ok-relative
 returns-in-Ok-relative c =
-    rw (← c.self.view_is) (begins_with AtInteger c.self.inside.entries.now c.self.inside.base indexed_line indexed _ _ _ _ indexed_less (line_indexed _ c.requires.some c.requires.own) (c.in-Ok-Dynamic.ensures.own c.requires.own)
+    (begins_with AtInteger c.args.self.now.table c.args.self.now.base indexed_line indexed _ _ _ _ indexed_less (line_indexed _ c.requires.some c.requires.own) (c.in-Ok-Dynamic.ensures.own c.requires.own)
     (rw c.in-Ok-Dynamic.field-0-is (c.in-Ok-relative.ensures ∙ ap Some (sym c.entry.ensures))))

@@ -21,7 +21,7 @@ returns-in-Err-get_name c =
 
 pub returns-in-Ok-relative : goal.returns-in-Ok-relative
 returns-in-Ok-relative c =
-    rw (← c.self.view_is) (begins_with (behind (integer 4 c.args.buf.now)) c.self.inside.entries.now c.self.inside.base named_line named _ _ _ _ named_less (line_named _ c.requires.some c.requires.own) (c.in-Ok-Dynamic.ensures.own c.requires.own)
+    (begins_with (behind (integer 4 c.args.buf.now)) c.args.self.now.table c.args.self.now.base named_line named _ _ _ _ named_less (line_named _ c.requires.some c.requires.own) (c.in-Ok-Dynamic.ensures.own c.requires.own)
     (rw (c.in-Ok-Dynamic.field-0-is, c.named.ensures, c.in-Ok-relative.ensures) refl))
 
 pub returns-in-Err : goal.returns-in-Err

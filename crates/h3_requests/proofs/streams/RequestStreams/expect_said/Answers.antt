@@ -9,7 +9,7 @@ use Rattle.h3_requests.proofs.streams.RequestStreams.expect_said.Goals as goal
 
 pub invariant_of-self-2 : goal.invariant_of-self-2
 invariant_of-self-2 c =
-    written_so _ _ _ _ c.args.id c.in-Some.stream.now (record { incoming = c.stream.inside.incoming; outgoing = c.expect.new.self }) (c.get_mut.follows.holds _) (search rules) (search rules)
+    written_so _ _ _ _ c.args.id c.in-Some.stream.now (record { incoming = c.answer.new.self; outgoing = c.expect.new.self }) (c.get_mut.follows.holds _) (search rules) (search rules)
     (ap (λ o. o.pieces) c.expect.ensures ∙ ap (λ (r : RequestState). r.outgoing.pieces) c.stream.view_is)
     (ap end_waits c.expect.ensures ∙ ap (λ (r : RequestState). end_waits r.outgoing) c.stream.view_is)
     (ap takes_end c.expect.ensures ∙ ap (λ (r : RequestState). takes_end r.outgoing) c.stream.view_is) c.self.invariant
@@ -17,7 +17,8 @@ invariant_of-self-2 c =
 pub returns-clause-there : goal.returns-clause-there
 returns-clause-there c = λ fields is.
     let content = c.content_behind-content.ensures fields is in
-    altered_there c.args.self.now (streams_in c.self.inside.streams) _ c.args.id c.in-Some.stream.now _ (says fields) c.self.view_is (c.get_mut.follows.holds _) (search (rules, content)) (search (rules, content))
+    let answered = c.answer.ensures.told fields is in
+    altered_there c.args.self.now (streams_in c.self.inside.streams) _ c.args.id c.in-Some.stream.now _ (says fields) c.self.view_is (c.get_mut.follows.holds _) (search (rules, content, answered)) (search (rules, content, answered))
 
 pub returns-in_default-clause-there : goal.returns-in_default-clause-there
 returns-in_default-clause-there c = λ fields is. says_over c.args.self.now _ c.args.id fields (kept_at c.args.self.now c.args.id) refl (search rules) (search rules)

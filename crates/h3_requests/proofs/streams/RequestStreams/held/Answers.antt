@@ -5,7 +5,7 @@ use Rattle.h3_requests.proofs.Alike.{held_is}
 use Rattle.h3_requests.proofs.streams.RequestStreams.held.Goals as goal
 
 pub returns-in-Some : goal.returns-in-Some
-returns-in-Some c = let same = held_is (streams_in c.self.inside.streams) c.args.self.now c.args.id (Some c.in-Some.stream.now) c.self.view_is c.in-Some.ensures in search (rules, same)
+returns-in-Some c = let same = held_is c.args.announced.now (streams_in c.self.inside.streams) c.args.self.now c.args.id (Some c.in-Some.stream.now) c.self.view_is c.in-Some.ensures in search (rules, same)
 
 pub returns-in-None : goal.returns-in-None
-returns-in-None c = let same = held_is (streams_in c.self.inside.streams) c.args.self.now c.args.id None c.self.view_is c.in-None.ensures in search (rules, same)
+returns-in-None c = let same = held_is c.args.announced.now (streams_in c.self.inside.streams) c.args.self.now c.args.id None c.self.view_is c.in-None.ensures in search (rules, same)

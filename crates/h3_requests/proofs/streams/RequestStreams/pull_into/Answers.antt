@@ -105,8 +105,8 @@ returns-clause-list g c =
     let before : RequestState = record { incoming = c.stream.inside.incoming; outgoing = c.stream.inside.outgoing } in
     let there : kept_at (streams_in c.self.inside.streams) c.args.id ≡ Some before = search rules in
     let r = c.args.decoder.now in
-    subst (λ s. Lists (g.O.Answer.listed c.within_limit-2.new.out) (fields_at r (kept_at s c.args.id))) c.self.view_is
-    (subst (λ o. Lists (g.O.Answer.listed c.within_limit-2.new.out) (fields_at r o)) (sym there) (c.within_limit-2.ensures.list (fields_next r before.incoming) c.pull_into.ensures.list))
+    subst (λ s. Lists (g.O.Answer.listed c.within_limit-2.new.out) (fields_at c.args.announced.now r (kept_at s c.args.id))) c.self.view_is
+    (subst (λ o. Lists (g.O.Answer.listed c.within_limit-2.new.out) (fields_at c.args.announced.now r o)) (sym there) (c.within_limit-2.ensures.list (fields_next c.args.announced.now r before.incoming) c.pull_into.ensures.list))
 
 -- a stream that is over answers what is settled, and stays
 pub returns-in_default-clause-answer : goal.returns-in_default-clause-answer

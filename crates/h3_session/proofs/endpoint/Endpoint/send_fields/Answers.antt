@@ -15,7 +15,7 @@ returns-in-Err-clause-sends c =
 
 pub returns-in-Err-clause-names : goal.returns-in-Err-clause-names
 returns-in-Err-clause-names c =
-    head_names c.args.self.now.announced.choices c.args.fields.now c.args.self.now.side _ c.in-Err.later c.refusal_of_head.result c.in-Err.ensures.err c.refusal_of_head.ensures
+    head_names c.args.self.now.announced.choices c.args.fields.now c.args.self.now c.args.id c.in-Err.later c.refusal_of_head.result c.in-Err.ensures.err c.refusal_of_head.ensures
 
 pub returns-clause-sends : goal.returns-clause-sends
 returns-clause-sends c =

@@ -9,7 +9,7 @@ use Rattle.h3_session.proofs.endpoint.Endpoint.send_head_section.Goals as goal
 pub returns-in-Err : goal.returns-in-Err
 returns-in-Err c = λ head.
     head_stays c.args.self.now c.args.self.now c.args.room c.args.fields.now c.args.place (Malformed c.in-Err.why)
-    (section_malformed c.args.self.now c.args.room c.args.fields.now c.args.place c.in-Err.why c.in-Err.ensures.broken)
+    (section_malformed c.args.self.now c.args.room c.args.fields.now c.args.place c.in-Err.why (rw c.id-id.ensures at c.in-Err.ensures.broken))
 
 pub returns-in-Ok-send_section : goal.returns-in-Ok-send_section
 returns-in-Ok-send_section c = λ head.

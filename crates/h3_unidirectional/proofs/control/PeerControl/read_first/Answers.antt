@@ -8,14 +8,14 @@ use Rattle.h3_unidirectional.proofs.control.PeerControl.read_first.Goals as goal
 
 pub returns-in-Err-clause-refused : goal.returns-in-Err-clause-refused
 returns-in-Err-clause-refused c =
-    first_part c.args.side c.args.own.now c.args.self.now _ _ c.in-Err.ensures.refused (c.keep_goaways.ensures ∙ ap (λ last. kept_peer last c.read_one-progress.new.self) c.keeps_last.ensures)
+    first_part c.args.kinds c.args.side c.args.own.now c.args.self.now _ _ c.in-Err.ensures.refused (c.keep_goaways.ensures ∙ ap (λ last. kept_peer last c.read_one-progress.new.self) c.keeps_last.ensures)
 
 pub returns-then-are_refused-clause-ok : goal.returns-then-are_refused-clause-ok
 returns-then-are_refused-clause-ok c =
     let one = rw c.in-Ok-GoesOn.field-0-is at c.in-Ok-GoesOn.ensures.ok in
     let kept = c.in-Ok-GoesOn.ensures.first c.requires in
     let first = rw c.in-Ok-GoesOn.field-0-is at kept in
-    refused_first c.args.side c.args.own.now c.args.self.now _ _ _ one.0 first.0 first.1 (c.keep_goaways.ensures ∙ ap (λ last. kept_peer last c.read_one-progress.new.self) c.keeps_last.ensures)
+    refused_first c.args.kinds c.args.side c.args.own.now c.args.self.now _ _ _ one.0 first.0 first.1 (c.keep_goaways.ensures ∙ ap (λ last. kept_peer last c.read_one-progress.new.self) c.keeps_last.ensures)
     (sym c.are_refused.ensures ∙ c.if-are_refused.true)
     (ap (λ (p : Peer). record p { unread = concat c.new.result.pieces }) c.self.view_is
     ∙ ap (λ l. record c.keep_goaways.new.self { unread = l }) (ap (λ (u : UnreadFrames). concat u.pieces) c.new.ensures))
@@ -25,17 +25,17 @@ returns-clause-ok c =
     let one = rw c.in-Ok-GoesOn.field-0-is at c.in-Ok-GoesOn.ensures.ok in
     let kept = c.in-Ok-GoesOn.ensures.first c.requires in
     let first = rw c.in-Ok-GoesOn.field-0-is at kept in
-    ok_after c.args.side c.args.own.now c.args.self.now c.read.result _ _ _ one.0 first.1
+    ok_after c.args.kinds c.args.side c.args.own.now c.args.self.now c.read.result _ _ _ one.0 first.1
     (c.keep_goaways.ensures ∙ ap (λ last. kept_peer last c.read_one-progress.new.self) c.keeps_last.ensures) (sym c.are_refused.ensures ∙ c.if-are_refused.false) c.read.ensures.ok
 
 pub returns-clause-refused : goal.returns-clause-refused
 returns-clause-refused c =
     let one = rw c.in-Ok-GoesOn.field-0-is at c.in-Ok-GoesOn.ensures.ok in
-    err_after c.args.side c.args.own.now c.args.self.now c.read.result _ _ _ one.0 (c.keep_goaways.ensures ∙ ap (λ last. kept_peer last c.read_one-progress.new.self) c.keeps_last.ensures) c.read.ensures.front
+    err_after c.args.kinds c.args.side c.args.own.now c.args.self.now c.read.result _ _ _ one.0 (c.keep_goaways.ensures ∙ ap (λ last. kept_peer last c.read_one-progress.new.self) c.keeps_last.ensures) c.read.ensures.front
 
 pub returns-clause-taken : goal.returns-clause-taken
 returns-clause-taken c =
     let kept = c.in-Ok-GoesOn.ensures.first c.requires in
     let first = rw c.in-Ok-GoesOn.field-0-is at kept in
-    err_taken c.args.side c.args.own.now c.args.self.now c.read.result _ _ _ first.1 (c.keep_goaways.ensures ∙ ap (λ last. kept_peer last c.read_one-progress.new.self) c.keeps_last.ensures)
+    err_taken c.args.kinds c.args.side c.args.own.now c.args.self.now c.read.result _ _ _ first.1 (c.keep_goaways.ensures ∙ ap (λ last. kept_peer last c.read_one-progress.new.self) c.keeps_last.ensures)
     (sym c.are_refused.ensures ∙ c.if-are_refused.false) c.read.ensures.front

@@ -9,35 +9,35 @@ use Rattle.h3_unidirectional.proofs.control.PeerControl.read_one.Goals as goal
 pub returns-then-is_excessive-clause-ok : goal.returns-then-is_excessive-clause-ok
 returns-then-is_excessive-clause-ok c =
     rw (sym c.self.view_is)
-    (one_excessive _ _ _ _ _ (sym c.is_excessive.ensures ∙ c.if-is_excessive.true) refl (ap (λ (u : UnreadFrames). concat u.pieces) c.new.ensures))
+    (one_excessive _ _ _ _ _ _ (sym c.is_excessive.ensures ∙ c.if-is_excessive.true) refl (ap (λ (u : UnreadFrames). concat u.pieces) c.new.ensures))
 
 pub returns-in-Settings-clause-ok : goal.returns-in-Settings-clause-ok
 returns-in-Settings-clause-ok c =
     let gives = rw c.in-Ok-Some.field-0-is at c.in-Ok-Some.ensures.gives in
-    rw (sym c.self.view_is) (one_read _ _ _ _ _ _ _ (sym c.is_excessive.ensures ∙ c.if-is_excessive.false) c.reserve.ensures.items gives c.in-Settings.ensures)
+    rw (sym c.self.view_is) (one_read _ _ _ _ _ _ _ _ (sym c.is_excessive.ensures ∙ c.if-is_excessive.false) c.reserve.ensures.items gives c.in-Settings.ensures)
 
 pub returns-in-Goaway-clause-ok : goal.returns-in-Goaway-clause-ok
 returns-in-Goaway-clause-ok c =
     let gives = rw c.in-Ok-Some.field-0-is at c.in-Ok-Some.ensures.gives in
-    rw (sym c.self.view_is) (goaway_read _ _ _ _ _ _ _ _ (sym c.is_excessive.ensures ∙ c.if-is_excessive.false) c.reserve.ensures.items c.push_reserved.ensures.items gives c.in-Goaway.ensures)
+    rw (sym c.self.view_is) (goaway_read _ _ _ _ _ _ _ _ _ (sym c.is_excessive.ensures ∙ c.if-is_excessive.false) c.reserve.ensures.items c.push_reserved.ensures.items gives c.in-Goaway.ensures)
 
 pub returns-in-MaxPushId-clause-ok : goal.returns-in-MaxPushId-clause-ok
 returns-in-MaxPushId-clause-ok c =
     let gives = rw c.in-Ok-Some.field-0-is at c.in-Ok-Some.ensures.gives in
-    rw (sym c.self.view_is) (one_read _ _ _ _ _ _ _ (sym c.is_excessive.ensures ∙ c.if-is_excessive.false) c.reserve.ensures.items gives c.in-MaxPushId.ensures)
+    rw (sym c.self.view_is) (one_read _ _ _ _ _ _ _ _ (sym c.is_excessive.ensures ∙ c.if-is_excessive.false) c.reserve.ensures.items gives c.in-MaxPushId.ensures)
 
 pub returns-in-Fault-clause-ok : goal.returns-in-Fault-clause-ok
 returns-in-Fault-clause-ok c =
     let gives = rw c.in-Ok-Some.field-0-is at c.in-Ok-Some.ensures.gives in
-    rw (sym c.self.view_is) (one_fault _ _ _ _ _ _ _ _ (sym c.is_excessive.ensures ∙ c.if-is_excessive.false) c.reserve.ensures.items gives c.in-Fault.ensures)
+    rw (sym c.self.view_is) (one_fault _ _ _ _ _ _ _ _ _ (sym c.is_excessive.ensures ∙ c.if-is_excessive.false) c.reserve.ensures.items gives c.in-Fault.ensures)
 
 pub returns-in-Err-Proto-clause-ok : goal.returns-in-Err-Proto-clause-ok
 returns-in-Err-Proto-clause-ok c =
     let gives = rw c.in-Err-Proto.field-0-is at c.in-Err-Proto.ensures.gives in
-    rw (sym c.self.view_is, c.reserve.ensures.items, c.refused.ensures, c.in-Err-Proto.e-is) (peer_refused _ _ _ _ _ (sym c.is_excessive.ensures ∙ c.if-is_excessive.false) gives.0 gives.1)
+    rw (sym c.self.view_is, c.reserve.ensures.items, c.refused.ensures, c.in-Err-Proto.e-is) (peer_refused _ _ _ _ _ _ (sym c.is_excessive.ensures ∙ c.if-is_excessive.false) gives.0 gives.1)
 
 pub returns-in-Err : goal.returns-in-Err
-returns-in-Err c = record { ok = tt; refused = rw (sym c.self.view_is) (refused_front _ _ _ _ _ _ c.reserve.ensures.items c.in-Err.ensures.gives); first = λ none. tt; unknown = rw (sym c.self.view_is) refl }
+returns-in-Err c = record { ok = tt; refused = rw (sym c.self.view_is) (refused_front _ _ _ _ _ _ _ c.reserve.ensures.items c.in-Err.ensures.gives); first = λ none. tt; unknown = rw (sym c.self.view_is) refl }
 
 pub returns-in-Settings-clause-first : goal.returns-in-Settings-clause-first
 returns-in-Settings-clause-first c = rw (sym c.self.view_is, c.reserve.ensures.items) (λ none. (refl, refl))

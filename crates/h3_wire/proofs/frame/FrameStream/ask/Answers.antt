@@ -5,11 +5,12 @@ use Rattle.h3_wire.specs.Streams.{Framing, stream_part}
 use Rattle.h3_wire.specs.Tries.{Expects}
 use Rattle.h3_wire.specs.TryLaws.{Awaits-more}
 use Rattle.h3_wire.proofs.frame.FrameStream.ask.Goals as goal
+use Rattle.h3_wire.specs.Frames.{plain_frames}
 
 pub invariant_of-self : goal.invariant_of-self
 invariant_of-self g c =
     let more = c.receive.ensures.grows in
-    (subst (λ l. Expects c.self.inside.decoder l) (sym more.1) (Awaits-more c.self.inside.decoder.expected c.self.inside.decoder.tries (concat c.self.inside.stream.pieces) more.0 c.self.invariant.0), c.self.invariant.1)
+    (subst (λ l. Expects plain_frames c.self.inside.decoder l) (sym more.1) (Awaits-more plain_frames c.self.inside.decoder.expected c.self.inside.decoder.tries (concat c.self.inside.stream.pieces) more.0 c.self.invariant.0), c.self.invariant.1)
 
 pub returns-clause-asks : goal.returns-clause-asks
 returns-clause-asks g c =

@@ -15,16 +15,17 @@ use Rattle.h3_wire.specs.Asking.{answers_with}
 use Rattle.h3_wire.proofs.Rounds.{round, round_fails, some_at_end, none_at_end}
 use Rattle.h3_wire.proofs.TakenFrames.{taken, taken_fewer, polls_end, polls_error, polls_frame, polls_same}
 use Rattle.h3_wire.proofs.frame.FrameStream.read_frame.Goals as goal
+use Rattle.h3_wire.specs.Frames.{plain_frames}
 
 pub invariant_of-self : goal.invariant_of-self
 invariant_of-self g c =
     let more = c.receive.ensures.grows in
-    (subst (λ l. Expects c.self.inside.decoder l) (sym more.1) (Awaits-more c.self.inside.decoder.expected c.self.inside.decoder.tries (concat c.self.inside.stream.pieces) more.0 c.self.invariant.0), c.self.invariant.1)
+    (subst (λ l. Expects plain_frames c.self.inside.decoder l) (sym more.1) (Awaits-more plain_frames c.self.inside.decoder.expected c.self.inside.decoder.tries (concat c.self.inside.stream.pieces) more.0 c.self.invariant.0), c.self.invariant.1)
 
 pub take_frame-requires : goal.take_frame-requires
 take_frame-requires g c =
     let more = c.receive.ensures.grows in
-    record { expects = subst (λ l. Expects c.self.inside.decoder l) (sym more.1) (Awaits-more c.self.inside.decoder.expected c.self.inside.decoder.tries (concat c.self.inside.stream.pieces) more.0 c.self.invariant.0) }
+    record { expects = subst (λ l. Expects plain_frames c.self.inside.decoder l) (sym more.1) (Awaits-more plain_frames c.self.inside.decoder.expected c.self.inside.decoder.tries (concat c.self.inside.stream.pieces) more.0 c.self.invariant.0) }
 
 pub returns-in-Err-take_frame-clause-polls : goal.returns-in-Err-take_frame-clause-polls
 returns-in-Err-take_frame-clause-polls g c =

@@ -12,11 +12,11 @@ unreachable-requires c =
     absurd (omega (arith, c.requires.is.there, ap length none.0, head_some _ _ _ c.requires.is))
 
 pub returns-in-Ok-Some-clause-some : goal.returns-in-Ok-Some-clause-some
-returns-in-Ok-Some-clause-some c =
+returns-in-Ok-Some-clause-some c = λ kinds.
     let all = rw c.in-Ok-Some.field-0-is at c.in-Ok-Some.ensures.some in
     let pieces = rw c.in-Ok-Some.field-0-is at c.in-Ok-Some.ensures.pieces in
     let count : length c.in-Ok-Some.section ≡ c.args.head + c.args.size = chunk_size (c.args.head + c.args.size) _ _ c.in-Ok-Some.section c.requires.inside pieces in
-    cut_off _ c.in-Ok-Some.section _ c.args.head c.args.size c.requires.is all.0 count ∙ ap (λ s. Whole (frame.Headers s) (concat c.take_chunk.new.self.pieces)) (sym c.advance.ensures)
+    cut_off kinds _ c.in-Ok-Some.section _ c.args.head c.args.size c.requires.is all.0 count ∙ ap (λ s. Whole (frame.Headers s) (concat c.take_chunk.new.self.pieces)) (sym c.advance.ensures)
 
 pub returns-in-Ok-Some-clause-rest : goal.returns-in-Ok-Some-clause-rest
 returns-in-Ok-Some-clause-rest c =

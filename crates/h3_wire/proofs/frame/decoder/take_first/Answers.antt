@@ -10,7 +10,7 @@ use Rattle.h3_wire.proofs.Tries.{head_is_whole}
 use Rattle.h3_wire.proofs.frame.decoder.take_first.Goals as goal
 
 pub returns-then-head-eq0-clause-some : goal.returns-then-head-eq0-clause-some
-returns-then-head-eq0-clause-some c =
+returns-then-head-eq0-clause-some c = λ kinds.
     let head = c.in_ok-head.head in
     let bytes = c.first_bytes-bytes.result.now in
     let all = concat c.args.src.now.pieces in
@@ -19,7 +19,7 @@ returns-then-head-eq0-clause-some c =
     let within : head.size ≤ first_size c.args.src.now.pieces = omega (arith, first_length c.args.src.now.pieces, ap length c.first_bytes-bytes.ensures, c.in_ok-head.ensures.inside.1) in
     let passed = c.advance_first.ensures.all within in
     let behind : drop head.size all ≡ concat c.advance_first.new.self.pieces = sym (c.advance_first.ensures.rest ∙ ap (λ n. drop n all) passed) in
-    data_at head.number all (drop head.size all) here ∙ ap (λ l. Whole (frame.Data (record { 0 = head.number })) l) behind
+    data_at kinds head.number all (drop head.size all) here ∙ ap (λ l. Whole (frame.Data (record { 0 = head.number })) l) behind
 
 pub returns-then-head-eq0-clause-whole : goal.returns-then-head-eq0-clause-whole
 returns-then-head-eq0-clause-whole c =

@@ -5,9 +5,9 @@ use Rattle.h3_wire.proofs.SparedPieces.{more_let_go}
 use Rattle.h3_wire.proofs.frame.sparing.release.Goals as goal
 
 pub returns-clause-front : goal.returns-clause-front
-returns-clause-front c =
+returns-clause-front c = λ session h.
     let front = c.args.let_go.now.pieces in
     let kept = c.args.kept.now.pieces in
     let few : c.args.gone.now + length (concat kept) < c.args.passing = subst (λ n. c.args.gone.now + n < c.args.passing) c.remaining-len.ensures c.if-gone-len.false in
-    subst (λ (p : List (List ℕ)). AreLetGo c.args.passing (c.args.gone.now + c.remaining-len.result) p) (sym c.let_all_go.ensures.pieces)
-    (subst (λ n. AreLetGo c.args.passing (c.args.gone.now + n) (front ++ kept)) (sym c.remaining-len.ensures) (more_let_go c.args.passing c.args.gone.now front kept c.requires.front few))
+    subst (λ (p : List (List ℕ)). AreLetGo session c.args.passing (c.args.gone.now + c.remaining-len.result) p) (sym c.let_all_go.ensures.pieces)
+    (subst (λ n. AreLetGo session c.args.passing (c.args.gone.now + n) (front ++ kept)) (sym c.remaining-len.ensures) (more_let_go session c.args.passing c.args.gone.now front kept h few))

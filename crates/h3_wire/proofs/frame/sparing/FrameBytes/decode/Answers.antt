@@ -8,6 +8,6 @@ invariant_of-self c =
     let i = c.self.inside in
     let none : i.passing ≡ 0 = ap (λ (s : Sparing). s.passing) c.self.view_is ∙ c.requires.none in (
       c.self.invariant.0,
-      decoded_fits _ i.let_go.pieces i.kept.pieces c.decode.new.src.pieces (2 ^ 64) c.decode.ensures.gives c.self.invariant.1,
-      none_spared i.passing i.gone c.decode.new.src.pieces none,
+      decoded_fits c.args.kinds _ i.let_go.pieces i.kept.pieces c.decode_by.new.src.pieces (2 ^ 64) c.decode_by.ensures.gives c.self.invariant.1,
+      none_spared i.passing i.gone c.decode_by.new.src.pieces none,
     )

@@ -1,19 +1,25 @@
-use Rattle.std.proofs.Common.{◌≡◌, ◌++◌, ◌≤◌, Some, length, arith, ap, sym, subst, ◌∙◌}
+use Rattle.std.proofs.Common.{◌≡◌, ◌++◌, ◌≤◌, length, arith, ap, sym, subst, ◌∙◌}
 use Rattle.std.specs.List.{concat}
 use Rattle.h3_wire.specs.ExcessiveFrames.{is_excessive}
-use Rattle.h3_wire.specs.Known.{known}
-use Rattle.h3_wire.specs.UnknownSize.{Sparing, unknown_size}
-use Rattle.h3_wire.proofs.SparedExcess.{left_behind, none_under_way}
-use Rattle.h3_wire.proofs.SparedPieces.{size_of_both, size_with_more}
+use Rattle.h3_wire.specs.Known.{known_by}
+use Rattle.h3_wire.specs.UnknownSize.{IsPassing, Sparing, suits}
+use Rattle.h3_wire.proofs.SessionFrames.{under_way_tells, unsuited}
+use Rattle.h3_wire.proofs.SparedExcess.{left_behind}
+use Rattle.h3_wire.proofs.SparedPieces.{is_passing, size_of_both}
 use Rattle.h3_wire.proofs.frame.sparing.FrameBytes.is_excessive.Goals as goal
 
 pub returns-then-len-self : goal.returns-then-len-self
 returns-then-len-self c =
     let i = c.self.inside in
-    let unknown : unknown_size (concat c.args.self.now.pieces) ≡ Some i.passing =
-    subst (λ (s : Sparing). unknown_size (concat s.pieces) ≡ Some i.passing) c.self.view_is
-    (size_with_more i.let_go.pieces i.kept.pieces i.passing (c.self.invariant.0.unknown (omega (arith, c.if-self-eq0.false)))) in
-    sym (none_under_way c.args.most (concat c.args.self.now.pieces) i.passing unknown (omega (arith, c.len.ensures, c.if-len-self.true)))
+    let is = subst IsPassing c.self.view_is (is_passing i.session i.passing i.gone i.let_go.pieces i.kept.pieces c.self.invariant.0) in
+    let size : i.passing ≡ c.args.self.now.passing = ap (λ (s : Sparing). s.passing) c.self.view_is in
+    sym (under_way_tells c.args.most c.args.self.now c.args.kinds is (omega (arith, size, c.len.ensures, c.if-len-self.true))).0
+
+pub returns-then-not-suits : goal.returns-then-not-suits
+returns-then-not-suits c =
+    let i = c.self.inside in
+    let is = subst IsPassing c.self.view_is (is_passing i.session i.passing i.gone i.let_go.pieces i.kept.pieces c.self.invariant.0) in
+    sym (unsuited c.args.most c.args.self.now c.args.kinds is (sym c.suits.ensures ∙ c.if-not-suits.true)).short
 
 pub is_excessive_behind-requires-clause-there : goal.is_excessive_behind-requires-clause-there
 is_excessive_behind-requires-clause-there c =
@@ -27,5 +33,5 @@ returns c =
     let there : length (concat (i.let_go.pieces ++ i.kept.pieces)) ≡ length (concat c.args.self.now.pieces) = ap (λ (s : Sparing). length (concat s.pieces)) c.self.view_is in
     let whole : i.passing ≤ length (concat (i.let_go.pieces ++ i.kept.pieces)) = omega (arith, there, c.len.ensures, c.if-len-self.false) in
     c.is_excessive_behind.ensures
-    ∙ ap (is_excessive c.args.most) (left_behind i.let_go.pieces i.kept.pieces i.passing i.gone c.self.invariant.0 whole)
-    ∙ ap (λ (s : Sparing). is_excessive c.args.most (known (concat s.pieces))) c.self.view_is
+    ∙ ap (is_excessive c.args.most) (left_behind c.args.kinds i.session i.let_go.pieces i.kept.pieces i.passing i.gone (ap (λ (s : Sparing). suits s.session c.args.kinds) c.self.view_is ∙ sym c.suits.ensures ∙ c.if-not-suits.false) c.self.invariant.0 whole)
+    ∙ ap (λ (s : Sparing). is_excessive c.args.most (known_by c.args.kinds (concat s.pieces))) c.self.view_is

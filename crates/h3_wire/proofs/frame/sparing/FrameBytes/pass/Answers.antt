@@ -1,4 +1,4 @@
-use Rattle.std.proofs.Common.{◌≡◌, ◌++◌, ◌-◌, ◌^◌, ◌<◌, ◌≤◌, List, ℕ, length, drop, arith, ap, refl, sym, subst, ◌∙◌}
+use Rattle.std.proofs.Common.{◌≡◌, false, ◌++◌, ◌-◌, ◌^◌, ◌<◌, ◌≤◌, List, ℕ, length, drop, arith, ap, refl, sym, subst, ◌∙◌}
 use Rattle.std.proofs.lemmas.List.{length-drop}
 use Rattle.std.specs.List.{concat}
 use Rattle.h3_wire.specs.Pieces.{IsRest}
@@ -19,7 +19,7 @@ invariant_of-self c =
     let left = c.advance.new.self.pieces in
     let fewer : length (concat left) ≡ length (concat i.kept.pieces) - (i.passing - i.gone) = ap length c.advance.ensures.value ∙ length-drop (i.passing - i.gone) (concat i.kept.pieces) in
     let fits : length (concat left) < 2 ^ 64 = omega (arith, fewer, size_of_both i.let_go.pieces i.kept.pieces, c.self.invariant.1) in (
-      subst (λ (p : List (List ℕ)). AreLetGo 0 0 p) (sym c.new-self-inside.ensures) none_let_go,
+      subst (λ (p : List (List ℕ)). AreLetGo false 0 0 p) (sym c.new-self-inside.ensures) none_let_go,
       subst (λ (p : List (List ℕ)). length (concat (p ++ left)) < 2 ^ 64) (sym c.new-self-inside.ensures) fits,
       none_spared 0 0 left refl,
     )

@@ -10,13 +10,13 @@ keep-requires c =
     let all : length (concat (i.let_go.pieces ++ i.kept.pieces)) ≡ length (concat c.args.self.now.pieces) = ap (λ (s : Sparing). length (concat s.pieces)) c.self.view_is in
     record { fits = omega (arith, all, size_of_both i.let_go.pieces i.kept.pieces, c.requires.fits) }
 
-pub release-requires-clause-fits : goal.release-requires-clause-fits
-release-requires-clause-fits c =
+pub release-requires : goal.release-requires
+release-requires c =
     let i = c.self.inside in
     let new = c.keep.new.self.pieces in
     let all : length (concat (i.let_go.pieces ++ i.kept.pieces)) ≡ length (concat c.args.self.now.pieces) = ap (λ (s : Sparing). length (concat s.pieces)) c.self.view_is in
     let more : length (concat new) ≡ length (concat i.kept.pieces ++ c.args.bytes) = ap length c.in-Ok.ensures.bytes in
-    omega (arith, all, more, c.self.invariant.0.gone_is, length-append (concat i.kept.pieces) c.args.bytes, size_of_both i.let_go.pieces i.kept.pieces, c.requires.fits)
+    record { fits = omega (arith, all, more, c.self.invariant.0.gone_is, length-append (concat i.kept.pieces) c.args.bytes, size_of_both i.let_go.pieces i.kept.pieces, c.requires.fits) }
 
 pub invariant_of-self : goal.invariant_of-self
 invariant_of-self c =
@@ -26,4 +26,4 @@ invariant_of-self c =
     let more : length (concat new) ≡ length (concat i.kept.pieces ++ c.args.bytes) = ap length c.in-Ok.ensures.bytes in
     let fits : length (concat (i.let_go.pieces ++ new)) < 2 ^ 64 =
     omega (arith, all, more, length-append (concat i.kept.pieces) c.args.bytes, size_of_both i.let_go.pieces i.kept.pieces, size_of_both i.let_go.pieces new, c.requires.fits) in
-    (c.release.ensures.front, subst (λ (p : List (List ℕ)). length (concat p) < 2 ^ 64) (sym c.release.ensures.pieces) fits, c.release.ensures.spared)
+    (c.release.ensures.front i.session c.self.invariant.0, subst (λ (p : List (List ℕ)). length (concat p) < 2 ^ 64) (sym c.release.ensures.pieces) fits, c.release.ensures.spared)

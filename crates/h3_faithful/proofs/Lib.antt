@@ -1,0 +1,12 @@
+mod PlainMemory
+mod AnyPull
+mod AnyStep
+mod Quiet
+mod Runs
+mod SoundSteps
+mod Accounts
+mod Takes
+mod Ordered
+mod Telling
+mod Delivered
+mod Joined

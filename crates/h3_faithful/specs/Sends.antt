@@ -1,0 +1,73 @@
+-- Which sends are in order, by the events before and their answers alone (RFC 9114, section 4.1).
+use Rattle.std.specs.Prelude.{ℕ, Bool, true, false, not, ◌&&◌, List, nat_le}
+use Rattle.std.specs.List.{list_any}
+use Rattle.h3_field.specs.Field.{Field, section_size}
+use Rattle.h3_header.specs.Head.{head_fields, has_pseudo}
+use Rattle.h3_header.specs.Reads.{head_of_fields}
+use Rattle.h3_proto.specs.StreamIds.{is_request_stream}
+use Rattle.h3_proto.specs.declared.stream.Side.{Side}
+use Rattle.h3_proto.specs.declared.stream.Side.TheVariants.{Client}
+use Rattle.h3_connection.specs.Announcing.{section_of}
+use Rattle.h3_connection.specs.OwnIds.{other}
+use Rattle.h3_connection.specs.Pulling.{is_for}
+use Rattle.h3_connection.specs.StrictConnection.{is_strict}
+use Rattle.h3_world.specs.Setup.{announced_at}
+use Rattle.h3_world.specs.declared.event.Answer.{Answer}
+use Rattle.h3_world.specs.declared.event.Answer.TheVariants as answer
+use Rattle.h3_world.specs.declared.event.Event.{Event}
+use Rattle.h3_world.specs.declared.event.Event.TheVariants as event
+use Rattle.h3_world.specs.declared.setup.Setup.{Setup}
+use Rattle.h3_headline.specs.Changes.{goes_away, resets_on}
+use Rattle.h3_headline.specs.Messages.{MessageContent, any_of, has_finished, is_on}
+use Rattle.h3_headline.specs.Messages.MessageContent.{FieldSection}
+use Rattle.h3_headline.specs.Messages.SectionKind.{OfHead, OfTrailer}
+
+-- The request stream is open at the side: it opened it, or bytes came on it.
+abbrev pub opens : Side → ℕ → Event → Answer → Bool
+opens side id (event.OpenRequest acting) (answer.Opened i) = is_on side id acting i
+opens side id (event.Deliver acting i count) (answer.Delivered n) = is_on (other side) id acting i && is_request_stream i
+opens side id _ _ = false
+
+-- It is open there, and was neither finished nor reset.
+abbrev pub goes_on : Side → ℕ → List Event → List Answer → Bool
+goes_on side id events answers = any_of (opens side id) events answers && not (has_finished side id events answers) && not (any_of (resets_on side id) events answers)
+
+abbrev pub is_head : MessageContent → Bool
+is_head (FieldSection OfHead as_list fields) = true
+is_head _ = false
+
+abbrev pub is_trailer : MessageContent → Bool
+is_trailer (FieldSection OfTrailer as_list fields) = true
+is_trailer _ = false
+
+-- The other side takes a section of that size (RFC 9114, section 4.2.2).
+abbrev pub takes_size : Setup → Side → List Field → Bool
+takes_size setup side fields = nat_le (section_size fields) (section_of (announced_at setup (other side)))
+
+-- behind these contents a header section may come; and what stands between it and the trailer
+abbrev pub awaits_head : List MessageContent → Bool
+awaits_head before = not (list_any is_head before)
+
+abbrev pub is_between : List MessageContent → Bool
+is_between before = list_any is_head before && not (list_any is_trailer before)
+
+-- The event sends what is next on the side's stream, behind these contents, as the other side takes it.
+abbrev pub is_next : Setup → Side → ℕ → List MessageContent → Event → Bool
+is_next setup side id before (event.Head acting i head) = is_on side id acting i && (awaits_head before && is_for (other side) head && takes_size setup side (head_fields head))
+is_next setup side id before (event.Fields acting i fields) = is_on side id acting i && (awaits_head before && is_for (other side) (head_of_fields fields) && takes_size setup side fields)
+is_next setup side id before (event.Body acting i bytes) = is_on side id acting i && is_between before
+is_next setup side id before (event.Trailer acting i trailer) = is_on side id acting i && (is_between before && not (has_pseudo trailer) && takes_size setup side (head_fields trailer))
+is_next setup side id before (event.TrailerFields acting i fields) = is_on side id acting i && (is_between before && not (has_pseudo (head_of_fields fields)) && takes_size setup side fields)
+is_next setup side id before (event.Finish acting i) = is_on side id acting i && list_any is_head before
+is_next setup side id before _ = false
+
+abbrev pub sends_list : Event → Bool
+sends_list (event.Fields side id fields) = true
+sends_list (event.TrailerFields side id fields) = true
+sends_list _ = false
+
+-- A client that asks for a strict connection begins no request once its server goes away (RFC 9114, section 5.2).
+abbrev pub begins_late : Setup → List Event → List Answer → Event → Bool
+begins_late setup before given (event.Head Client id head) = is_strict setup.client && any_of goes_away before given
+begins_late setup before given (event.Fields Client id fields) = is_strict setup.client && any_of goes_away before given
+begins_late setup before given _ = false
