@@ -127,6 +127,7 @@ checks() {
   compile arguments arguments
   compile limits limits
   compile priority priority
+  compile by_priority by_priority
   compile given given
   compile read read
   compile past past
@@ -156,6 +157,7 @@ checks() {
     run arguments "$out/arguments" $mark
     run limits "$out/limits"
     run priority "$out/priority"
+    run by_priority "$out/by_priority"
     run given "$out/given"
     run read "$out/read" 0 3000
     run past "$out/past" 1 2000
@@ -188,6 +190,7 @@ checks() {
     compile lists lists_checked "${flags[@]}"
     compile never_indexed never_indexed_checked "${flags[@]}"
     compile shutdown shutdown_checked "${flags[@]}"
+    compile by_priority by_priority_checked "${flags[@]}"
     compile strict_connection strict_connection_checked "${flags[@]}"
     compile datagrams datagrams_checked "${flags[@]}"
     compile in_memory in_memory_checked "${flags[@]}"
@@ -204,6 +207,7 @@ checks() {
       run "lists with sanitizers" "$out/lists_checked"
       run "never_indexed with sanitizers" "$out/never_indexed_checked"
       run "shutdown with sanitizers" "$out/shutdown_checked"
+      run "by_priority with sanitizers" "$out/by_priority_checked"
       run "strict connections with sanitizers" "$out/strict_connection_checked"
       run "datagrams with sanitizers" "$out/datagrams_checked"
       printed "$out/in_memory_checked" tests/c/in_memory.stdout "in_memory with sanitizers"

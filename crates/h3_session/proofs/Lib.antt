@@ -11,6 +11,7 @@ pub mod Draining
 pub mod Starting
 pub mod SectionsSent
 pub mod Endings
+pub mod Ordering
 pub mod Held
 pub mod Inserting
 pub mod SendingSections

@@ -42,6 +42,7 @@ same_rest s =
       last_goaway = refl;
       kept = refl;
       sent = refl;
+      order = refl;
       unidirectional = record { each = λ q. refl };
     }
 
