@@ -1,6 +1,6 @@
 -- `set_priority` and `hold`: what they do to what is stored is what their contracts say.
 use Rattle.std.proofs.Common.{◌≡◌, ℕ, Bool, true, false, if◌then◌else◌, ◌||◌, List, [], ◌∷◌, Option, Some, None, Ok, Err, refl, ap, sym, subst, ◌∙◌}
-use Rattle.std.specs.Prelude.{◌≢◌, not, IfErr, IfSome, IsSome, OnOk, OnErr, Result, is_some, option_map}
+use Rattle.std.specs.Prelude.{◌≢◌, ◌==◌, not, IfErr, IfSome, IsSome, OnOk, OnErr, Result, is_some, option_map}
 use Rattle.h3_outgoing.specs.Sent.{preceding}
 use Rattle.h3_priority.specs.Priority.{PriorityParameters}
 use Rattle.h3_proto.specs.StreamIds.{is_request_stream}
@@ -19,6 +19,7 @@ use Rattle.h3_connection.specs.StandsLaws.{stands_sending}
 use Rattle.h3_connection.specs.StreamSets.{Streams, stream_at}
 use Rattle.h3_connection.specs.declared.event.Refusal.{Refusal}
 use Rattle.h3_connection.specs.declared.event.Refusal.TheVariants as refusal
+use Rattle.h3_connection.specs.declared.order.Precedence.{Precedence}
 use Rattle.h3_connection.specs.declared.order.SendOrder.{SendOrder}
 use Rattle.h3_requests.specs.Ordered.{refused_unless}
 use Rattle.h3_session.proofs.Ordering.{stands_order}
@@ -34,10 +35,6 @@ same_there (Some o) None h = absurd h
 
 there_same : (s : EndpointState) (e : EndpointHistory) (id : ℕ) → StandsFor s e → is_some (kept_at s.requests id) ≡ is_open e id
 there_same s e id h = same_there (stream_at e.outgoing id) (kept_at s.requests id) (h.outgoing id)
-
-there_some : {X : Type 0} (o : Option X) → IsSome o → is_some o ≡ true
-there_some None h = absurd h
-there_some (Some x) h = refl
 
 some_there : {X : Type 0} (o : Option X) → is_some o ≡ true → o ≢ None
 some_there None is none = absurd (cc)
@@ -105,7 +102,7 @@ gives_priority p o w h =
       is_finished = h.is_finished;
       is_reset = h.is_reset;
       end_taken = h.end_taken;
-      precedence = ap (λ q. record q { priority = p }) h.precedence;
+      precedence = ap (λ (q : Precedence). record q { priority = p }) h.precedence;
       taken = h.taken;
     }
 
@@ -123,9 +120,9 @@ pub priority_set : (s n m : EndpointState) (id : ℕ) (p : PriorityParameters) �
     → IfSome (kept_at s.requests id) (λ r. Sets s.requests n.requests id (record r { outgoing = preceding (record r.outgoing.precedence { priority = p }) r.outgoing }))
     → m ≡ record n { order = record n.order { rounds = rounds_begun n.order.rounds } } → SetsPriority s m id p (Ok tt)
 priority_set s n m id p closed request rest some sets begun =
-    let there : is_some (kept_at s.requests id) ≡ true = there_some (kept_at s.requests id) some in
+    let there : is_some (kept_at s.requests id) ≡ true = some in
     let now : EndpointState = record s { requests = n.requests; order = record s.order { rounds = rounds_begun s.order.rounds } } in
-    let same : m ≡ now = begun ∙ ap (λ v. record v { order = record v.order { rounds = rounds_begun v.order.rounds } }) rest in
+    let same : m ≡ now = begun ∙ ap (λ (v : EndpointState). record v { order = record v.order { rounds = rounds_begun v.order.rounds } }) rest in
     subst (λ v. SetsPriority s v id p (Ok tt)) (sym same)
     (acts (λ e. priority_refusal e id) (after_priority id p) s now
     (λ e h. sym (priority_refusal_is s e id h) ∙ priority_of s id true closed request there)
@@ -178,7 +175,7 @@ is_held_now is o w h =
       is_finished = h.is_finished;
       is_reset = h.is_reset;
       end_taken = h.end_taken;
-      precedence = ap (λ q. record q { is_held = is }) h.precedence;
+      precedence = ap (λ (q : Precedence). record q { is_held = is }) h.precedence;
       taken = h.taken;
     }
 
@@ -244,7 +241,9 @@ unheld false false true x y z order is = absurd (cc)
 unheld false false false x y z order is = refl
 
 not_own : (order : SendOrder) (side : Side) (id : ℕ) (is : Bool) → is_own side id ≡ false → own_held order side id is ≡ order
-not_own order side id is other = unheld _ _ _ _ _ _ order other
+not_own order side id is other =
+    unheld (id == control_id side) (id == encoder_id side) (id == decoder_id side) (record order { control_is_held = is }) (record order { encoder_is_held = is })
+    (record order { decoder_is_held = is }) order other
 
 pub holds_none : (s n : EndpointState) (id : ℕ) (is : Bool) → s.closed ≡ None → is_some (kept_at s.requests id) ≡ false → is_own s.side id ≡ false
     → n ≡ record s { order = own_held s.order s.side id is } → Holds s n id is (Err refusal.NotOpen)

@@ -156,14 +156,14 @@ impl Endpoint {
     fn end_turn_of(&mut self, id: StreamId, count: usize)
         ensures { EndsTurn self.old self.new id count }
     {
-        let Some((priority, waiting)) = self.turn_of(id) else {
+        let Some(turn) = self.turn_of(id) else {
             return;
         };
-        if count.min(waiting) == 0 {
+        if count.min(turn.1) == 0 {
             return;
         }
         let until = self.first_unseen();
-        end_turn(&mut self.order, priority, id, until);
+        end_turn(&mut self.order, turn.0, id, until);
     }
 
     // The priority of a request stream, and how many bytes wait on it.
