@@ -1,5 +1,6 @@
 /* Which stream sends next (RFC 9218, section 10): the rows of turns and urgencies, streams that are held, own streams first, an urgent response
- * behind twenty downloads on a slow link, and random programs beside a model that keeps streams in a row. One line 'ok NAME' or 'failed NAME'. */
+ * behind twenty downloads on a slow link, random programs beside a model that keeps streams in a row, and each allocation of the calls refused
+ * in turn. Linked with --wrap for malloc and realloc. One line 'ok NAME' or 'failed NAME'. */
 #include "h3.h"
 #include <string.h>
 #define TEST "by_priority"
@@ -369,6 +370,83 @@ static void of_model(void) {
   }
 }
 
+/* ---- each allocation of h3_set_priority and h3_hold is refused in turn: nothing changes, and the call can be made again ---- */
+
+void *__real_malloc(size_t);
+void *__real_realloc(void *, size_t);
+void *__wrap_malloc(size_t);
+void *__wrap_realloc(void *, size_t);
+
+static long left = -1; /* allocations until one is refused; -1: none is */
+
+static int refuse(void) { return left >= 0 && left-- == 0; }
+void *__wrap_malloc(size_t n) { return refuse() ? NULL : __real_malloc(n); }
+void *__wrap_realloc(void *p, size_t n) { return refuse() ? NULL : __real_realloc(p, n); }
+
+enum { ASKED = 300, CALLS = 48, PLAYED = 3000, NO_CALL = -1 };
+
+/* priorities of all classes, of streams far apart and of one that is over; each third stream is held, and some are let go */
+static uint32_t call(int i) {
+  uint64_t id = 4 * (uint64_t)(i * 89 % ASKED);
+  if (i % 3 == 2) return h3_hold(&ends[SERVER], 4 * (uint64_t)((i - i % 2 * 3) * 89 % ASKED), (uint32_t)(i % 2 == 0), NULL);
+  return h3_set_priority(&ends[SERVER], id, (uint32_t)(i % 8), (uint32_t)(i / 8 % 2), NULL);
+}
+
+/* the first stream is over, both ways */
+static void end_first(void) {
+  IS(h3_finish(&ends[CLIENT], 0, NULL), H3_OK);
+  carry(CLIENT, 0);
+  HOLDS(pull(SERVER, 0).kind == H3_HEAD && pull(SERVER, 0).kind == H3_END);
+  IS(h3_finish(&ends[SERVER], 0, NULL), H3_OK);
+  take_all(0);
+}
+
+/* All calls but the one at `skipped` are made. In the one at `at` this allocation is refused, and it is made `again` or not. Then who has its
+ * turn goes to `order`. The answer: whether an allocation was refused. */
+static int play(int skipped, int at, long allocation, int again, int64_t order[PLAYED]) {
+  int was_refused = 0, turns = 0;
+  make();
+  for (int i = 0; i < ASKED; i++) answer(ask(), 20);
+  end_first();
+  for (int i = 0; i < CALLS; i++) {
+    if (i == skipped) continue;
+    left = i == at ? allocation : -1;
+    uint32_t n = call(i);
+    if (i == at) was_refused = left < 0;
+    left = -1;
+    IS(n, i == at && was_refused ? H3_MEMORY : H3_OK);
+    if (i == at && was_refused && again) IS(call(i), H3_OK);
+  }
+  for (int64_t is; turns < PLAYED - 1 && (is = next()) != NONE; order[turns++] = is) {
+    uint64_t there = waits(SERVER, (uint64_t)is);
+    IS(h3_advance(&ends[SERVER], (uint64_t)is, there < 10 ? there : 10), H3_OK);
+  }
+  order[turns] = NONE;
+  HOLDS(turns < PLAYED - 1);
+  drop();
+  return was_refused;
+}
+
+static int same(const int64_t *one, const int64_t *other) {
+  while (*one == *other && *one != NONE) one++, other++;
+  return *one == *other;
+}
+
+static long of_memory(void) {
+  static int64_t whole[PLAYED], without[PLAYED], order[PLAYED];
+  long refused = 0;
+  play(NO_CALL, NO_CALL, 0, 0, whole);
+  for (int at = 0; at < CALLS; at++) {
+    play(at, NO_CALL, 0, 0, without);
+    for (long allocation = 0; play(NO_CALL, at, allocation, 0, order); allocation++, refused++) {
+      HOLDS(same(order, without));
+      HOLDS(play(NO_CALL, at, allocation, 1, order) && same(order, whole));
+    }
+    HOLDS(same(order, whole));
+  }
+  return refused;
+}
+
 int main(void) {
   begin_request(&request, "GET");
   begin_response(&response, "200");
@@ -379,6 +457,8 @@ int main(void) {
   of_refusals();
   of_slow_links();
   of_model();
-  if (!bad) puts("ok by_priority: urgencies, turns, held and own streams, an urgent response on a slow link, 80,000 random steps");
+  long refused = of_memory();
+  HOLDS(refused >= 5);
+  if (!bad) printf("ok by_priority: urgencies, turns, held and own streams, an urgent response on a slow link, 80,000 random steps, %ld allocations refused\n", refused);
   return bad;
 }

@@ -1,11 +1,13 @@
 -- Turns and what goes first: what is stored stands for the history.
-use Rattle.std.proofs.Common.{arith, ◌≡◌, ◌≢◌, ℕ, Bool, true, false, if◌then◌else◌, ◌&&◌, ◌||◌, List, [], length, refl, ap, sym, subst, ◌∙◌}
+use Rattle.std.proofs.Common.{arith, ◌≡◌, ◌≢◌, ℕ, ◌+◌, Bool, true, false, if◌then◌else◌, ◌&&◌, ◌||◌, List, [], length, refl, ap, sym, subst, ◌∙◌}
 use Rattle.std.specs.Prelude.{◌==◌, not, min, nat_lt, Option, Some, None, option_map, unwrap_or, IsSome}
 use Rattle.h3_priority.specs.Priority.{PriorityParameters}
 use Rattle.h3_scheduler.specs.Places.{IsNext}
 use Rattle.h3_scheduler.specs.TurnLaws.{next_alike}
 use Rattle.h3_scheduler.specs.Streams.{is_class}
 use Rattle.h3_scheduler.specs.declared.round.Round.{Round}
+use Rattle.h3_proto.specs.declared.stream.Side.{Side}
+use Rattle.h3_proto.specs.declared.stream.Side.TheVariants.{Client, Server}
 use Rattle.h3_connection.specs.ByPriority.{first_own, own_sends, places_of, sends_at, IsNextBehind, ShowsNextByPriority}
 use Rattle.h3_connection.specs.Endpoint.{EndpointHistory, bytes_waiting}
 use Rattle.h3_connection.specs.Order.{rounds_of, turn_over}
@@ -129,10 +131,55 @@ a_turn s id count until w order was some unseen is e h =
     = is ∙ ap (λ (o : SendOrder). record o { rounds = turn_over o.rounds w.precedence.priority id until }) h.order ∙ ap (λ p. record e.order { rounds = turn_over e.order.rounds p.priority id until }) f.is.precedence in
     ap (λ o. record s { order = o }) (here ∙ sym there)
 
+-- the same by what is told of the stream
+abbrev Turn : Type 0
+Turn = PriorityParameters × ℕ
+
+turn_told : (s : EndpointState) (id : ℕ) (turn : Turn) (A : Type 0) → ((w : OutgoingState) → sender_in s id ≡ Some w → (w.precedence.priority, length (bytes_of w.pieces)) ≡ turn → A) → turn_in s id ≡ Some turn → A
+turn_told s id turn A then is = by (sender_in s id) refl is
+  where
+    by : (there : Option OutgoingState) → sender_in s id ≡ there → option_map (λ w. (w.precedence.priority, length (bytes_of w.pieces))) there ≡ Some turn → A
+    by None was is = absurd (cc)
+    by (Some w) was is = then w was (cc)
+
+pub untold_turn : (s : EndpointState) (id count : ℕ) → turn_in s id ≡ None → EndsTurn s s id count
+untold_turn s id count is = by (sender_in s id) refl is
+  where
+    by : (there : Option OutgoingState) → sender_in s id ≡ there → option_map (λ w. (w.precedence.priority, length (bytes_of w.pieces))) there ≡ None → EndsTurn s s id count
+    by None was is = no_stream s id count was
+    by (Some w) was is = absurd (cc)
+
+pub empty_turn : (s : EndpointState) (id count : ℕ) (turn : Turn) → turn_in s id ≡ Some turn → min count turn.1 ≡ 0 → EndsTurn s s id count
+empty_turn s id count turn is none =
+    turn_told s id turn (EndsTurn s s id count) (λ w was told. no_bytes s id count w was (ap (λ (t : Turn). min count t.1) told ∙ none)) is
+
+pub ended_turn : (s : EndpointState) (id count until : ℕ) (turn : Turn) (order : SendOrder) → turn_in s id ≡ Some turn → (min count turn.1 == 0) ≡ false → ShowsFirstUnseen s until
+    → order ≡ record s.order { rounds = turn_over s.order.rounds turn.0 id until } → EndsTurn s (record s { order = order }) id count
+ended_turn s id count until turn order is some unseen after =
+    turn_told s id turn (EndsTurn s (record s { order = order }) id count)
+    (λ w was told. a_turn s id count until w order was (ap (λ (t : Turn). min count t.1 == 0) told ∙ some) unseen
+    (after ∙ sym (ap (λ (t : Turn). record s.order { rounds = turn_over s.order.rounds t.0 id until }) told))) is
+
 -- `next_by_priority`: an own stream waits as the history says
 own_same : (s : EndpointState) (e : EndpointHistory) (held : Bool) (id : ℕ) → StandsFor s e → own_sends_in s held id ≡ (if own_sends e held id then Some id else None)
 own_same s e held id h =
     ap (λ l. if not held && nat_lt 0 (length l) then Some id else None) (ap (λ side. waiting_on s.own side id) h.side ∙ waiting_is s.own e id h.own)
+
+-- their ids are four apart
+encoder_behind : (side : Side) → encoder_id side ≡ control_id side + 4
+encoder_behind Client = refl
+encoder_behind Server = refl
+
+decoder_behind : (side : Side) → decoder_id side ≡ control_id side + 8
+decoder_behind Client = refl
+decoder_behind Server = refl
+
+pub first_in_turn : (s : EndpointState) (control : ℕ) → control ≡ control_id s.side
+    → first_own_in s ≡ or_else (own_sends_in s s.order.control_is_held control) (or_else (own_sends_in s s.order.encoder_is_held (control + 4)) (own_sends_in s s.order.decoder_is_held (control + 8)))
+first_in_turn s control is =
+    ap (λ n. or_else (own_sends_in s s.order.control_is_held (control_id s.side)) (or_else (own_sends_in s s.order.encoder_is_held n) (own_sends_in s s.order.decoder_is_held (decoder_id s.side)))) (encoder_behind s.side)
+    ∙ ap (λ n. or_else (own_sends_in s s.order.control_is_held (control_id s.side)) (or_else (own_sends_in s s.order.encoder_is_held (control_id s.side + 4)) (own_sends_in s s.order.decoder_is_held n))) (decoder_behind s.side)
+    ∙ sym (ap (λ n. or_else (own_sends_in s s.order.control_is_held n) (or_else (own_sends_in s s.order.encoder_is_held (n + 4)) (own_sends_in s s.order.decoder_is_held (n + 8)))) is)
 
 first_by : (a b c : Bool) (x y z : ℕ) → or_else (if a then Some x else None) (or_else (if b then Some y else None) (if c then Some z else None)) ≡ (if a then Some x else (if b then Some y else (if c then Some z else None)))
 first_by true b c x y z = refl

@@ -1,13 +1,11 @@
 //! Which stream sends next, by priority.
-ghost use Rattle.h3_c.specs.Ordering.{HoldsOn, SendsByPriority, SetsPriorityOn};
+ghost use Rattle.std.specs.Prelude.{◌≡◌};
+ghost use Rattle.h3_c.specs.Ordering.{HoldsOn, SendsByPriority, SetsPriorityOn, flag_given, priority_given};
 
 use super::Connection;
 use crate::numbers::{ARGUMENT, NONE, OK, Told, called};
 use h3_priority::priority::Priority;
 use h3_proto::stream::StreamId;
-
-/// The greatest number that is an urgency.
-const LEAST_URGENT: u32 = 7;
 
 impl Connection {
     /// A request stream has this priority from now on.
@@ -17,10 +15,7 @@ impl Connection {
         let Ok(stream) = StreamId::try_from(id) else {
             return ARGUMENT;
         };
-        if urgency > LEAST_URGENT || incremental > 1 {
-            return ARGUMENT;
-        }
-        let Some(priority) = Priority::new(urgency as u8, incremental == 1) else {
+        let Some(priority) = priority_given(urgency, incremental) else {
             return ARGUMENT;
         };
         called(self.endpoint.set_priority(stream, priority))
@@ -33,10 +28,10 @@ impl Connection {
         let Ok(stream) = StreamId::try_from(id) else {
             return ARGUMENT;
         };
-        if held > 1 {
+        let Some(is_held) = flag_given(held) else {
             return ARGUMENT;
-        }
-        called(self.endpoint.hold(stream, held == 1))
+        };
+        called(self.endpoint.hold(stream, is_held))
     }
 
     /// The stream that sends next.
@@ -48,5 +43,29 @@ impl Connection {
         };
         *id = next.into_inner();
         OK
+    }
+}
+
+// The priority that C gives.
+fn priority_given(urgency: u32, incremental: u32) -> Option<Priority>
+    ensures { result ≡ priority_given urgency incremental }
+{
+    let Ok(urgency) = u8::try_from(urgency) else {
+        return None;
+    };
+    match flag_given(incremental) {
+        Some(incremental) => Priority::new(urgency, incremental),
+        None => None,
+    }
+}
+
+// 0 or 1.
+fn flag_given(number: u32) -> Option<bool>
+    ensures { result ≡ flag_given number }
+{
+    match number {
+        0 => Some(false),
+        1 => Some(true),
+        _ => None,
     }
 }

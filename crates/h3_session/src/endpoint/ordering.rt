@@ -1,8 +1,12 @@
 //! Which stream sends next, and what goes before what (RFC 9218, section 10).
-ghost use Rattle.std.specs.Prelude.{◌≡◌, ◌<◌, ◌^◌, Some, None};
+ghost use Rattle.std.specs.Prelude.{◌≡◌, ◌<◌, ◌^◌, is_some, IfErr, IfSome, IsSome, OnErr, OnOk};
 ghost use Rattle.h3_connection.specs.ByPriority.{Holds, SetsPriority, ShowsNextByPriority};
+ghost use Rattle.h3_connection.specs.Calls.{AllSame, Sets};
 ghost use Rattle.h3_connection.specs.Order.{own_held, rounds_begun, turn_over};
 ghost use Rattle.h3_connection.specs.OwnIds.{is_own};
+ghost use Rattle.h3_connection.specs.State.{kept_at};
+ghost use Rattle.h3_outgoing.specs.Sent.{preceding};
+ghost use Rattle.h3_requests.specs.Ordered.{refused_unless};
 ghost use Rattle.h3_session.specs.Turns.{own_sends_in, first_own_in, turn_in, EndsTurn};
 
 use super::Endpoint;
@@ -75,9 +79,28 @@ impl Endpoint {
         if id.into_inner() % 4 != 0 {
             return Err(Refusal::NotRequestId);
         }
-        self.requests.set_priority(self.alloc, id, priority)?;
-        begin_rounds(&mut self.order);
+        self.prioritize(id, priority)?;
+        self.begin_rounds();
         Ok(())
+    }
+
+    // A request stream has this priority, if it is there.
+    fn prioritize(&mut self, id: StreamId, priority: Priority) -> Result<(), Refusal>
+        ensures rest { self.new ≡ record self.old { requests = self.new.requests } }
+        ensures ok { OnOk result (IfSome (kept_at self.old.requests id) (λ r.
+            Sets self.old.requests self.new.requests id (record r { outgoing = preceding (record r.outgoing.precedence { priority = priority }) r.outgoing }))) }
+        ensures taken { OnOk result (IsSome (kept_at self.old.requests id)) }
+        ensures why { IfErr result (λ r. r ≡ refused_unless (is_some (kept_at self.old.requests id))) }
+        ensures err { OnErr result (AllSame self.old.requests self.new.requests) }
+    {
+        self.requests.set_priority(self.alloc, id, priority)
+    }
+
+    // Turns count from now on.
+    fn begin_rounds(&mut self)
+        ensures { self.new ≡ record self.old { order = record self.old.order { rounds = rounds_begun self.old.order.rounds } } }
+    {
+        begin_rounds(&mut self.order);
     }
 
     /// QUIC has no credit for a stream, so `next_by_priority` passes it over, or has it again. It may be a request stream that is open or a
@@ -90,13 +113,32 @@ impl Endpoint {
             return Err(Refusal::Closed(code));
         }
         if self.requests.contains(id) {
-            return self.requests.hold(self.alloc, id, is_held);
+            return self.hold_request(id, is_held);
         }
-        if hold_own(&mut self.order, self.side, id, is_held) {
+        if self.hold_own(id, is_held) {
             Ok(())
         } else {
             Err(Refusal::NotOpen)
         }
+    }
+
+    // A request stream is passed over, or not any longer, if it is there.
+    fn hold_request(&mut self, id: StreamId, is_held: bool) -> Result<(), Refusal>
+        ensures rest { self.new ≡ record self.old { requests = self.new.requests } }
+        ensures ok { OnOk result (IfSome (kept_at self.old.requests id) (λ r.
+            Sets self.old.requests self.new.requests id (record r { outgoing = preceding (record r.outgoing.precedence { is_held = is_held }) r.outgoing }))) }
+        ensures why { IfErr result (λ r. r ≡ refused_unless (is_some (kept_at self.old.requests id))) }
+        ensures err { OnErr result (AllSame self.old.requests self.new.requests) }
+    {
+        self.requests.hold(self.alloc, id, is_held)
+    }
+
+    // A local unidirectional stream is held, or not any longer, and this returns whether it is one.
+    fn hold_own(&mut self, id: StreamId, is_held: bool) -> bool
+        ensures order { self.new ≡ record self.old { order = own_held self.old.order self.old.side id is_held } }
+        ensures own { result ≡ is_own self.old.side id }
+    {
+        hold_own(&mut self.order, self.side, id, is_held)
     }
 
     // The turn of a request stream is over, if bytes of it are taken, and turns count.
@@ -114,14 +156,14 @@ impl Endpoint {
     fn end_turn_of(&mut self, id: StreamId, count: usize)
         ensures { EndsTurn self.old self.new id count }
     {
-        let Some((priority, waiting)) = self.turn_of(id) else {
+        let Some(turn) = self.turn_of(id) else {
             return;
         };
-        if count.min(waiting) == 0 {
+        if count.min(turn.1) == 0 {
             return;
         }
         let until = self.first_unseen();
-        end_turn(&mut self.order, priority, id, until);
+        end_turn(&mut self.order, turn.0, id, until);
     }
 
     // The priority of a request stream, and how many bytes wait on it.
