@@ -1,6 +1,6 @@
 -- Each call of a sender, and a cancellation, beside the same without strict messages.
 use Rattle.std.proofs.Common.{◌≡◌, ℕ, ◌+◌, Bool, true, false, if◌then◌else◌, List, [], ◌∷◌, ◌++◌, length, refl, ap, sym, ◌∙◌, subst, Option, Some, None, inl, inr}
-use Rattle.std.specs.Prelude.{not, ◌||◌, is_some, option_map, unwrap_or}
+use Rattle.std.specs.Prelude.{not, ◌||◌, ◌-◌, ◌^◌, is_some, min, option_map, unwrap_or}
 use Rattle.h3_field.specs.Field.{Field, section_size}
 use Rattle.h3_header.specs.Head.{Head, head_fields, has_pseudo}
 use Rattle.h3_messages.specs.Content.{may_end}
@@ -320,7 +320,7 @@ module _ (e : EndpointHistory) (id : ℕ) where
   advances_by : (count : ℕ) (o : Option Outgoing) → advance_at (plainly e) id count (option_map plain_outgoing o) ≡ plainly (advance_at e id count o)
   advances_by count None = refl
   advances_by count (Some o) =
-      let turn : ℕ → SendOrder = turned e.order id count o in
+      let turn : ℕ → SendOrder = λ n. turned e.order id count o (min n (2 ^ 64 - 1)) in
       ap (λ n. record (plainly e) { outgoing = set_stream (plainly e).outgoing id (plain_outgoing (record o { taken = o.taken + count })); order = turn n }) (above_each plain_incoming e.incoming)
       ∙ ap (λ (t : Streams Outgoing). record (plainly e) { outgoing = t; order = turn (first_above e.incoming) }) (set_each plain_outgoing e.outgoing id (record o { taken = o.taken + count }))
 
