@@ -1,6 +1,6 @@
 -- A call is answered alike by endpoints that differ in cuts alone.
 use Rattle.std.proofs.Common.{◌≡◌, ℕ, ◌+◌, Bool, true, false, if◌then◌else◌, List, [], ◌∷◌, ◌++◌, length, refl, ap, sym, ◌∙◌, subst, Option, Some, None}
-use Rattle.std.specs.Prelude.{◌||◌, ◌==◌, ◌≢◌, not, is_some, unwrap_or}
+use Rattle.std.specs.Prelude.{◌||◌, ◌==◌, ◌≢◌, ◌-◌, ◌^◌, min, not, is_some, unwrap_or}
 use Rattle.h3_header.specs.Head.{Head, head_fields}
 use Rattle.h3_messages.specs.declared.content.Content.{Content}
 use Rattle.h3_field.specs.Instruction.{DecoderInstruction}
@@ -169,7 +169,7 @@ module _ (e : EndpointHistory) (s : Streams Incoming) (t : Streams Unidirectiona
 
   advances : (id count : ℕ) (at : Option Out) → AlikeCalled (λ one two. one ≡ two) (Done, advance_at e id count at) (Done, advance_at two id count at)
   advances id count (Some o) =
-      subst (λ n. AlikeCalled (λ one two. one ≡ two) (Done, advance_at e id count (Some o)) (Done, record (advance_at two id count (Some o)) { order = turned e.order id count o n }))
+      subst (λ n. AlikeCalled (λ one two. one ≡ two) (Done, advance_at e id count (Some o)) (Done, record (advance_at two id count (Some o)) { order = turned e.order id count o (min n (2 ^ 64 - 1)) }))
       (sym (above_alike e.incoming s b.incoming)) (record { answer = refl; closed = refl; left = λ none. beside_alike (advance_at e id count (Some o)) s t r (as_is (advance_at e id count (Some o)) refl refl refl) })
   advances id count None =
       let taken_by = own_with (id == control_id e.side) (id == encoder_id e.side) (id == decoder_id e.side) e.own in
