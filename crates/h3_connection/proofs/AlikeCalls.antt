@@ -1,6 +1,6 @@
 -- A call is answered alike by endpoints that differ in cuts alone.
 use Rattle.std.proofs.Common.{◌≡◌, ℕ, ◌+◌, Bool, true, false, if◌then◌else◌, List, [], ◌∷◌, ◌++◌, length, refl, ap, sym, ◌∙◌, subst, Option, Some, None}
-use Rattle.std.specs.Prelude.{◌||◌, ◌-◌, ◌^◌, ◌==◌, ◌≢◌, not, is_some, min, unwrap_or}
+use Rattle.std.specs.Prelude.{◌||◌, ◌==◌, ◌≢◌, ◌-◌, ◌^◌, min, not, is_some, unwrap_or}
 use Rattle.h3_header.specs.Head.{Head, head_fields}
 use Rattle.h3_messages.specs.declared.content.Content.{Content}
 use Rattle.h3_field.specs.Instruction.{DecoderInstruction}
