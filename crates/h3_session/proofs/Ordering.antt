@@ -1,5 +1,6 @@
 -- Turns and what goes first: what is stored stands for the history.
 use Rattle.std.proofs.Common.{arith, ◌≡◌, ◌≢◌, ℕ, ◌+◌, Bool, true, false, if◌then◌else◌, ◌&&◌, ◌||◌, List, [], length, refl, ap, sym, subst, ◌∙◌}
+use Rattle.std.proofs.lemmas.Grind.{common_steps}
 use Rattle.std.specs.Prelude.{◌==◌, not, min, nat_lt, Option, Some, None, option_map, unwrap_or, IsSome}
 use Rattle.h3_priority.specs.Priority.{PriorityParameters}
 use Rattle.h3_scheduler.specs.Places.{IsNext}
@@ -116,6 +117,9 @@ no_bytes s id count w was none e h =
     ap (λ o. record s { order = o }) (h.order ∙ sym (ap (order_after e id (min count (length (bytes_waiting e id)))) f.there ∙ zero_turned e.order id (min count (length (bytes_waiting e id))) _ f.o same))
 
 -- a turn that counts
+abbrev turned_by : SendOrder → PriorityParameters → ℕ → ℕ → SendOrder
+turned_by order p id until = record order { rounds = turn_over order.rounds p id until }
+
 some_turned : (order : SendOrder) (id count bound : ℕ) (o : Outgoing) → (count == 0) ≡ false → turned order id count o bound ≡ record order { rounds = turn_over order.rounds o.precedence.priority id bound }
 some_turned order id count bound o some = rw some refl
 
@@ -135,30 +139,41 @@ a_turn s id count until w order was some unseen is e h =
 abbrev Turn : Type 0
 Turn = PriorityParameters × ℕ
 
-turn_told : (s : EndpointState) (id : ℕ) (turn : Turn) (A : Type 0) → ((w : OutgoingState) → sender_in s id ≡ Some w → (w.precedence.priority, length (bytes_of w.pieces)) ≡ turn → A) → turn_in s id ≡ Some turn → A
-turn_told s id turn A then is = by (sender_in s id) refl is
-  where
-    by : (there : Option OutgoingState) → sender_in s id ≡ there → option_map (λ w. (w.precedence.priority, length (bytes_of w.pieces))) there ≡ Some turn → A
-    by None was is = absurd (cc)
-    by (Some w) was is = then w was (cc)
+abbrev turn_of : OutgoingState → Turn
+turn_of w = (w.precedence.priority, length (bytes_of w.pieces))
+
+-- what was told was told of a sender
+told_by : (s : EndpointState) (id : ℕ) (turn : Turn) (A : Type 0) (there : Option OutgoingState) → ((w : OutgoingState) → sender_in s id ≡ Some w → turn_of w ≡ turn → A) → sender_in s id ≡ there
+    → option_map turn_of there ≡ Some turn → A
+told_by s id turn A None shown was is = absurd (cc)
+told_by s id turn A (Some w) shown was is = shown w was (cc)
+
+untold_by : (s : EndpointState) (id count : ℕ) (there : Option OutgoingState) → sender_in s id ≡ there → option_map turn_of there ≡ None → EndsTurn s s id count
+untold_by s id count None was is = no_stream s id count was
+untold_by s id count (Some w) was is = absurd (cc)
 
 pub untold_turn : (s : EndpointState) (id count : ℕ) → turn_in s id ≡ None → EndsTurn s s id count
-untold_turn s id count is = by (sender_in s id) refl is
-  where
-    by : (there : Option OutgoingState) → sender_in s id ≡ there → option_map (λ w. (w.precedence.priority, length (bytes_of w.pieces))) there ≡ None → EndsTurn s s id count
-    by None was is = no_stream s id count was
-    by (Some w) was is = absurd (cc)
+untold_turn s id count is = untold_by s id count (sender_in s id) refl is
 
-pub empty_turn : (s : EndpointState) (id count : ℕ) (turn : Turn) → turn_in s id ≡ Some turn → min count turn.1 ≡ 0 → EndsTurn s s id count
-empty_turn s id count turn is none =
-    turn_told s id turn (EndsTurn s s id count) (λ w was told. no_bytes s id count w was (ap (λ (t : Turn). min count t.1) told ∙ none)) is
+pub empty_turn : (s : EndpointState) (id count taken : ℕ) (turn : Turn) → turn_in s id ≡ Some turn → taken ≡ min count turn.1 → taken ≡ 0 → EndsTurn s s id count
+empty_turn s id count taken turn is all none =
+    told_by s id turn (EndsTurn s s id count) (sender_in s id) (λ w was told. no_bytes s id count w was (ap (λ (t : Turn). min count t.1) told ∙ sym all ∙ none)) refl is
 
-pub ended_turn : (s : EndpointState) (id count until : ℕ) (turn : Turn) (order : SendOrder) → turn_in s id ≡ Some turn → (min count turn.1 == 0) ≡ false → ShowsFirstUnseen s until
+not_zero : (n : ℕ) → n ≢ 0 → (n == 0) ≡ false
+not_zero n some = grind (arith, common_steps, some)
+
+turn_ended : (s : EndpointState) (id count until taken : ℕ) (turn : Turn) (order : SendOrder) → turn_in s id ≡ Some turn → taken ≡ min count turn.1 → taken ≢ 0 → ShowsFirstUnseen s until
     → order ≡ record s.order { rounds = turn_over s.order.rounds turn.0 id until } → EndsTurn s (record s { order = order }) id count
-ended_turn s id count until turn order is some unseen after =
-    turn_told s id turn (EndsTurn s (record s { order = order }) id count)
-    (λ w was told. a_turn s id count until w order was (ap (λ (t : Turn). min count t.1 == 0) told ∙ some) unseen
-    (after ∙ sym (ap (λ (t : Turn). record s.order { rounds = turn_over s.order.rounds t.0 id until }) told))) is
+turn_ended s id count until taken turn order is all some unseen after =
+    told_by s id turn (EndsTurn s (record s { order = order }) id count) (sender_in s id)
+    (λ w was told. a_turn s id count until w order was (ap (λ (t : Turn). min count t.1 == 0) told ∙ ap (λ n. n == 0) (sym all) ∙ not_zero taken some) unseen
+    (after ∙ sym (ap (λ (t : Turn). turned_by s.order t.0 id until) told))) refl is
+
+pub ended_turn : (s now : EndpointState) (id count until taken : ℕ) (turn : Turn) (order : SendOrder) → s ≡ now → turn_in now id ≡ Some turn → taken ≡ min count turn.1 → taken ≢ 0 → ShowsFirstUnseen now until
+    → order ≡ record s.order { rounds = turn_over s.order.rounds turn.0 id until } → EndsTurn now (record s { order = order }) id count
+ended_turn s now id count until taken turn order view is all some unseen after =
+    subst (λ v. EndsTurn now (record v { order = order }) id count) (sym view)
+    (turn_ended now id count until taken turn order is all some unseen (after ∙ ap (λ (v : EndpointState). turned_by v.order turn.0 id until) view))
 
 -- `next_by_priority`: an own stream waits as the history says
 own_same : (s : EndpointState) (e : EndpointHistory) (held : Bool) (id : ℕ) → StandsFor s e → own_sends_in s held id ≡ (if own_sends e held id then Some id else None)

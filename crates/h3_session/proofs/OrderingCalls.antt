@@ -71,11 +71,12 @@ priority_closed s id code p closed =
     priority_refuses s id p (refusal.Closed code)
     (ap (λ c. closed_or c (unless_request (is_request_stream id) (is_some (kept_at s.requests id)))) closed) (λ memory. absurd (cc))
 
-pub priority_of_none : (s : EndpointState) (id : ℕ) (p : PriorityParameters) → s.closed ≡ None → is_request_stream id ≡ false → SetsPriority s s id p (Err refusal.NotRequestId)
-priority_of_none s id p closed other =
+pub priority_of_none : (s : EndpointState) (id : ℕ) (p : PriorityParameters) (is_request : Bool) → s.closed ≡ None → is_request ≡ is_request_stream id → is_request ≡ false
+    → SetsPriority s s id p (Err refusal.NotRequestId)
+priority_of_none s id p is_request closed told other =
     priority_refuses s id p refusal.NotRequestId
     (ap (λ c. closed_or c (unless_request (is_request_stream id) (is_some (kept_at s.requests id)))) closed
-    ∙ ap (λ b. unless_request b (is_some (kept_at s.requests id))) other)
+    ∙ ap (λ b. unless_request b (is_some (kept_at s.requests id))) (sym told ∙ other))
     (λ memory. absurd (cc))
 
 priority_lacks : (s : EndpointState) (id : ℕ) (p : PriorityParameters) (there : Bool) → s.closed ≡ None → is_request_stream id ≡ true → is_some (kept_at s.requests id) ≡ there
@@ -84,13 +85,13 @@ priority_lacks s id p true closed request was =
     lacks (λ e. priority_refusal e id) (after_priority id p) s (λ e h. sym (priority_refusal_is s e id h) ∙ priority_of s id true closed request was)
 priority_lacks s id p false closed request was = priority_refuses s id p refusal.NotOpen (priority_of s id false closed request was) (λ memory. absurd (cc))
 
-pub priority_refused_by : (s n : EndpointState) (id : ℕ) (p : PriorityParameters) (r : Refusal) → s.closed ≡ None → is_request_stream id ≡ true
+pub priority_refused_by : (s n : EndpointState) (id : ℕ) (p : PriorityParameters) (r : Refusal) (is_request : Bool) → s.closed ≡ None → is_request ≡ is_request_stream id → is_request ≡ true
     → n ≡ record s { requests = n.requests } → r ≡ refused_unless (is_some (kept_at s.requests id)) → AllSame s.requests n.requests → SetsPriority s n id p (Err r)
-priority_refused_by s n id p r closed request rest why same =
+priority_refused_by s n id p r is_request closed told request rest why same =
     subst (λ v. SetsPriority s v id p (Err r)) (sym rest)
     (subst (λ x. SetsPriority s (record s { requests = n.requests }) id p (Err x)) (sym why)
     (alike (λ e. set_priority e id p) s n.requests (refused_unless (is_some (kept_at s.requests id))) same
-    (priority_lacks s id p (is_some (kept_at s.requests id)) closed request refl)))
+    (priority_lacks s id p (is_some (kept_at s.requests id)) closed (sym told ∙ request) refl)))
 
 -- the sender's part with another priority
 gives_priority : (p : PriorityParameters) (o : Outgoing) (w : OutgoingState) → IsOfOutgoing o w → IsOfOutgoing (prioritized p o) (preceding (record w.precedence { priority = p }) w)
@@ -116,16 +117,17 @@ priority_stands s new id p there sets e h =
     subst (λ o. StandsFor (record s { requests = new; order = record o { rounds = rounds_begun o.rounds } }) (after_priority id p e)) (sym h.order)
     (stands_order (record s { requests = new }) changed (record e.order { rounds = rounds_begun e.order.rounds }) stands)
 
-pub priority_set : (s n m : EndpointState) (id : ℕ) (p : PriorityParameters) → s.closed ≡ None → is_request_stream id ≡ true → n ≡ record s { requests = n.requests } → IsSome (kept_at s.requests id)
+pub priority_set : (s n m : EndpointState) (id : ℕ) (p : PriorityParameters) (is_request : Bool) → s.closed ≡ None → is_request ≡ is_request_stream id → is_request ≡ true
+    → n ≡ record s { requests = n.requests } → IsSome (kept_at s.requests id)
     → IfSome (kept_at s.requests id) (λ r. Sets s.requests n.requests id (record r { outgoing = preceding (record r.outgoing.precedence { priority = p }) r.outgoing }))
     → m ≡ record n { order = record n.order { rounds = rounds_begun n.order.rounds } } → SetsPriority s m id p (Ok tt)
-priority_set s n m id p closed request rest some sets begun =
+priority_set s n m id p is_request closed told request rest some sets begun =
     let there : is_some (kept_at s.requests id) ≡ true = some in
     let now : EndpointState = record s { requests = n.requests; order = record s.order { rounds = rounds_begun s.order.rounds } } in
     let same : m ≡ now = begun ∙ ap (λ (v : EndpointState). record v { order = record v.order { rounds = rounds_begun v.order.rounds } }) rest in
     subst (λ v. SetsPriority s v id p (Ok tt)) (sym same)
     (acts (λ e. priority_refusal e id) (after_priority id p) s now
-    (λ e h. sym (priority_refusal_is s e id h) ∙ priority_of s id true closed request there)
+    (λ e h. sym (priority_refusal_is s e id h) ∙ priority_of s id true closed (sym told ∙ request) there)
     (priority_stands s n.requests id p there sets))
 
 -- `hold`

@@ -76,12 +76,16 @@ impl Endpoint {
         if let Some(code) = self.closed {
             return Err(Refusal::Closed(code));
         }
-        if id.into_inner() % 4 != 0 {
+        if !id.is_request() {
             return Err(Refusal::NotRequestId);
         }
-        self.prioritize(id, priority)?;
-        self.begin_rounds();
-        Ok(())
+        match self.prioritize(id, priority) {
+            Ok(()) => {
+                self.begin_rounds();
+                Ok(())
+            }
+            Err(refusal) => Err(refusal),
+        }
     }
 
     // A request stream has this priority, if it is there.
