@@ -18,3 +18,4 @@ pub mod WaitingWords
 pub mod LeastBit
 pub mod ReadingBodies
 pub mod Unblocked
+pub mod Unfinished
