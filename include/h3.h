@@ -495,13 +495,13 @@ typedef struct {
                                        * field section names an entry of the dynamic table from its
                                        * required insert count on (RFC 9204, section 2.2.3), or if
                                        * `table` is 0 and its encoded count or sign is not (4.5.1.1
-                                        * and 4.5.1.2). If `webtransport` is not set, frames of type
-                                        * 0x41 and streams of type 0x54 are of unknown type: they are
-                                        * ignored (RFC 9114, section 9), and no H3_SESSION is
-                                        * returned. After the peer's GOAWAY a client sends no header
-                                        * section on a stream on which nothing was sent:
-                                        * H3_GOING_AWAY (RFC 9114, section 5.2). `webtransport`
-                                        * without `datagram` is refused: H3_SETTING */
+                                       * and 4.5.1.2). If `webtransport` is not set, frames of type
+                                       * 0x41 and streams of type 0x54 are of unknown type: they are
+                                       * ignored (RFC 9114, section 9), and no H3_SESSION is
+                                       * returned. After the peer's GOAWAY a client sends no header
+                                       * section on a stream on which nothing was sent:
+                                       * H3_GOING_AWAY (RFC 9114, section 5.2). `webtransport`
+                                       * without `datagram` is refused: H3_SETTING */
 } h3_config;
 
 /* A client with limits for an untrusted peer: it takes field sections of at most 65,536 bytes, and

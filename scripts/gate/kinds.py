@@ -15,6 +15,10 @@ ERROR = re.compile(r"(?:\./)?proofs/(\S+)/(\w+)\.antt:(\d+):\d+: error: (.*)")
 UNSOLVED = re.compile(r"`search` did not prove (.*)")
 AT_LIMIT = re.compile(r"gave up at|broke off|stopped at (?:its own|one of)|[Ii]t stopped \d+|goal may hold|builds no proof|could not check its values|ran out of")
 WITH_VALUES = re.compile(r"may be false|values at which")
+# What an answer `refl` is refused for where the goal's two sides compute to two values: two Booleans stand at one place of them, and all else is constructors.
+APART = re.compile(r"computed as far as they go, the two types (?:differ only where one has|are) `mathlib\.Core\.Bool\.(?:true|false)`\s+\(expected\)\s+and (?:the other has )?`mathlib\.Core\.Bool\.(?:true|false)`")
+SIDES = re.compile(r"(?m)^\s*expected type `mathlib\.Core\.Path\.◌≡◌ (?:\{A = [^{}]*\} )?([^`]*)`")
+VALUE = re.compile(r"(?:[()\s]|mathlib\.Core\.(?:Bool\.(?:true|false)|List\.(?:◌∷◌|\[\]))(?=[\s()]|$))*")
 # An error that names what the edit took away.
 NAMES = re.compile(r"has no field|is not in scope|has no `|was not admitted")
 
@@ -122,6 +126,12 @@ def told(printed, crate, function, text):
     return made
 
 
+def computes_apart(error):
+    """Does it say that the two sides of an equation are values, lists of Booleans, and not the same? Then no answer proves it."""
+    sides = SIDES.search(error)
+    return bool(sides and VALUE.fullmatch(sides[1]) and APART.search(error))
+
+
 def read_error(made, text, number, error):
     """one error in the function's answers"""
     name = without.name_at(text, number)
@@ -129,6 +139,8 @@ def read_error(made, text, number, error):
         made.unfit.update(it for it in named(error) if without.mentions(text.split("\n")[number - 1], it))
     elif without.is_search(text, name) and not NAMES.search(error):
         made.goals[name] = why(error)
+    elif without.body_of(text, name) == "refl" and computes_apart(error):
+        made.goals[name] = FALSE
     else:
         made.unfit.add(name)
         if re.search(rf"\.Goals` has no `{re.escape(name)}`", error):

@@ -64,6 +64,7 @@ func head(lines string) string { return "\x01" + string(rune(len(lines)+2)) + "\
 
 var fromClient = []violation{
 	{name: "what is unknown is passed over (RFC 9114, section 9)", control: settings + "\x21\x01a", others: []string{"\x21abc"}, request: "\x21\x02ab" + get, end: true},
+	{name: "frames and a stream of WebTransport, which is not announced (9)", control: settings + "\x40\x41\x01a", others: []string{"\x40\x54\x00abc"}, request: "\x40\x41\x02ab" + get, end: true},
 	{name: "DATA before HEADERS (4.1)", control: settings, request: "\x00\x01a", code: 0x105},
 	{name: "no head (4.1.2)", control: settings, end: true, code: 0x10d, stream: true},
 	{name: "a name in upper case (4.2)", control: settings, request: upperName, end: true, code: 0x10e, stream: true},

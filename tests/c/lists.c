@@ -178,6 +178,11 @@ static void of_protocols(void) {
   IS(h3_new(&client, &c, NULL), H3_OK);
   c.server = 1, c.extended_connect = 1;
   IS(h3_new(&server, &c, NULL), H3_OK);
+  /* before the settings of the server came none is sent (RFC 8441, section 3) */
+  list early = asking(bytes, "websocket");
+  IS(h3_open_request(&client, &id, NULL), H3_OK);
+  IS(h3_send_head(&client, id, early.sizes, NULL, early.count, early.bytes, length_of(&early), &setting), H3_MALFORMED);
+  HOLDS(setting == H3_BAD_PROTOCOL);
   carry(&server, &client);
   IS(h3_peer_setting(&client, 8, &setting), H3_OK);
   HOLDS(setting == 1);
@@ -188,6 +193,12 @@ static void of_protocols(void) {
     carry(&client, &server);
     pulls(&server, id, H3_HEAD, 0, 0, &l);
   }
+  /* host stands for :authority, as in other requests (section 4) */
+  list by_host = {5, {{7, 7}, {9, 9}, {7, 5}, {5, 1}, {4, 1}}, ":methodCONNECT:protocolwebsocket:schemehttps:path/hosta"};
+  IS(h3_open_request(&client, &id, NULL), H3_OK);
+  IS(h3_send_head(&client, id, by_host.sizes, NULL, by_host.count, by_host.bytes, length_of(&by_host), NULL), H3_OK);
+  carry(&client, &server);
+  pulls(&server, id, H3_HEAD, 0, 0, &by_host);
   for (size_t i = 0; i < sizeof refused / sizeof *refused; i++) {
     list l = asking(bytes, refused[i]);
     uint8_t frame[ROOM];
