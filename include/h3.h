@@ -778,8 +778,9 @@ enum h3_malformation {
   H3_BAD_PROTOCOL = 11,         /* :protocol without CONNECT, or where who receives it has not
                                  * announced it (RFC 8441, section 4; RFC 9220, section 3) */
   H3_BAD_CONNECT = 12,          /* plain CONNECT without a port in :authority (RFC 9110, section
-                                 * 9.3.6), or with :scheme or :path (4.4); a trailer section that is sent in a tunnel, or after a 2xx
-                                 * response to a request that was not pulled yet */
+                                 * 9.3.6), or with :scheme or :path (4.4); a trailer section that is
+                                 * sent in a tunnel, or after a 2xx response to a request that was
+                                 * not pulled yet */
   H3_MISSING_PSEUDO_FIELD = 13, /* a request without :method, :scheme or :path, a response without
                                  * :status (4.3.1, 4.3.2) */
   H3_BAD_SCHEME = 14,           /* no letter, and then letters, digits, '+', '-' and '.' (RFC 3986,
@@ -790,8 +791,8 @@ enum h3_malformation {
                                  * fragment (4.3.1) */
   H3_BAD_STATUS = 17,           /* 101 (4.5) */
   H3_NO_TRAILER_FIELD = 18,     /* content-length or host in a trailer (RFC 9110, section 6.5.1); in
-                                 * sending also fields of authentication, cookies, request modifiers,
-                                 * response control and content format */
+                                 * sending also fields of authentication, cookies, request
+                                 * modifiers, response control and content format */
   H3_TOO_LONG = 19              /* HEADERS longer than unfinished_limit (RFC 9114, section 10.5) */
 };
 
