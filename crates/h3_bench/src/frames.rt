@@ -19,6 +19,7 @@ struct Reader {
 impl Model for Reader {
     ghost use Rattle.std.specs.Prelude.{◌≡◌, ◌<◌, None};
     ghost use Rattle.std.specs.List.{concat};
+    ghost use Rattle.h3_wire.specs.Frames.{plain_frames};
     ghost use Rattle.h3_wire.specs.Tries.{Decoding, Expects};
 
     ghost Value = { Decoding };
@@ -26,7 +27,7 @@ impl Model for Reader {
     ghost view = { λ r. r.decoder };
 
     // while a payload is under way, no frame is tried
-    ghost invariant = { λ r. Expects r.decoder (concat r.unread.pieces) × (0 < r.left → r.decoder.expected ≡ None) };
+    ghost invariant = { λ r. Expects plain_frames r.decoder (concat r.unread.pieces) × (0 < r.left → r.decoder.expected ≡ None) };
 }
 
 impl Reader {

@@ -16,13 +16,14 @@ struct Offered {
 
 impl Model for Offered {
     ghost use Rattle.std.specs.List.{concat};
+    ghost use Rattle.h3_wire.specs.Frames.{plain_frames};
     ghost use Rattle.h3_wire.specs.Tries.{Decoding, Expects};
 
     ghost Value = { Decoding };
 
     ghost view = { λ o. o.decoder };
 
-    ghost invariant = { λ o. Expects o.decoder (concat o.buf.pieces) };
+    ghost invariant = { λ o. Expects plain_frames o.decoder (concat o.buf.pieces) };
 }
 
 impl Offered {
