@@ -6,7 +6,7 @@ ghost use Rattle.h3_connection.specs.Sending.{advance};
 ghost use Rattle.h3_connection.specs.declared.event.Refusal.TheVariants.{NotOpen, NotRequestId};
 ghost use Rattle.h3_connection_rows.specs.OrderRows.{five, fresh, held, next_in, turns, urged, urgent, without_0, without_16};
 
-/// The most urgent stream first; then the first that is not incremental and those that are by turns; what is held is passed over; the local
+/// The most urgent stream first; then the first that is not incremental and those that are by turns; what is held is skipped; the local
 /// streams first of all.
 pub fn order_rows_compute()
     ensures urgent { turns 2 urgent ≡ Some 16 ∷ Some 16 ∷ [] }
