@@ -669,7 +669,7 @@ static inline uint32_t h3_next_to_send(h3_endpoint *endpoint, uint64_t from, uin
  * first, in this order. Of the request streams that h3_next_to_send names one of the least urgency
  * is next. Within an urgency the incremental streams and the first of the others take turns. A turn
  * is over when h3_advance takes bytes, so send as much at a time as you like. A stream that is held
- * (h3_hold) is passed over. If you set no priority, the lowest id is next. It takes no memory. To
+ * (h3_hold) is skipped. If you set no priority, the lowest id is next. It takes no memory. To
  * send while QUIC takes bytes:
  *   while (h3_next_by_priority(&e, &id) == H3_OK) ..
  * with h3_outgoing, h3_advance and h3_end_taken, and h3_hold(&e, id, 1, NULL) if QUIC takes nothing

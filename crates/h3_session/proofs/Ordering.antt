@@ -1,7 +1,7 @@
 -- Turns and what goes first: what is stored stands for the history.
-use Rattle.std.proofs.Common.{arith, ◌≡◌, ◌≢◌, ℕ, ◌+◌, Bool, true, false, if◌then◌else◌, ◌&&◌, ◌||◌, List, [], length, refl, ap, sym, subst, ◌∙◌}
+use Rattle.std.proofs.Common.{arith, ◌≡◌, ◌≢◌, ℕ, ◌+◌, Bool, true, false, if◌then◌else◌, ◌&&◌, ◌||◌, List, length, refl, ap, sym, subst, ◌∙◌}
 use Rattle.std.proofs.lemmas.Grind.{common_steps}
-use Rattle.std.specs.Prelude.{◌==◌, not, min, nat_lt, Option, Some, None, option_map, unwrap_or, IsSome}
+use Rattle.std.specs.Prelude.{◌==◌, not, min, nat_lt, Option, Some, None, option_map, unwrap_or}
 use Rattle.h3_priority.specs.Priority.{PriorityParameters}
 use Rattle.h3_scheduler.specs.Places.{IsNext}
 use Rattle.h3_scheduler.specs.TurnLaws.{next_alike}
@@ -17,7 +17,7 @@ use Rattle.h3_connection.specs.OwnIds.{control_id, encoder_id, decoder_id}
 use Rattle.h3_connection.specs.Sending.{order_after, take_at, turned}
 use Rattle.h3_connection.specs.SendingContracts.{Advances}
 use Rattle.h3_connection.specs.Shutdown.{ShowsFirstUnseen}
-use Rattle.h3_connection.specs.State.{EndpointState, IsOfOutgoing, OutgoingState, RequestState, SameAt, StandsFor, kept_at}
+use Rattle.h3_connection.specs.State.{EndpointState, OutgoingState, RequestState, StandsFor, kept_at}
 use Rattle.h3_connection.specs.StreamSets.{stream_at}
 use Rattle.h3_connection.specs.WaitingPieces.{bytes_of}
 use Rattle.h3_connection.specs.declared.order.Precedence.{Precedence}

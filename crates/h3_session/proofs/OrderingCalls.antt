@@ -1,5 +1,5 @@
 -- `set_priority` and `hold`: what they do to what is stored is what their contracts say.
-use Rattle.std.proofs.Common.{◌≡◌, ℕ, Bool, true, false, if◌then◌else◌, ◌||◌, List, [], ◌∷◌, Option, Some, None, Ok, Err, refl, ap, sym, subst, ◌∙◌}
+use Rattle.std.proofs.Common.{◌≡◌, ℕ, Bool, true, false, if◌then◌else◌, ◌||◌, [], ◌∷◌, Option, Some, None, Ok, Err, refl, ap, sym, subst, ◌∙◌}
 use Rattle.std.specs.Prelude.{◌≢◌, ◌==◌, not, IfErr, IfSome, IsSome, OnOk, OnErr, Result, is_some, option_map}
 use Rattle.h3_outgoing.specs.Sent.{preceding}
 use Rattle.h3_priority.specs.Priority.{PriorityParameters}
@@ -12,8 +12,7 @@ use Rattle.h3_connection.specs.Order.{own_held, rounds_begun}
 use Rattle.h3_connection.specs.Outgoing.{Outgoing}
 use Rattle.h3_connection.specs.OwnIds.{control_id, encoder_id, decoder_id, is_own}
 use Rattle.h3_connection.specs.Refusals.{first_of}
-use Rattle.h3_connection.specs.Sending.{closed_or, does, is_open, outgoing_at, with_outgoing}
-use Rattle.h3_connection.specs.SendingContracts.{DoesOrRefuses}
+use Rattle.h3_connection.specs.Sending.{closed_or, is_open, outgoing_at, with_outgoing}
 use Rattle.h3_connection.specs.State.{EndpointState, RequestState, OutgoingState, StandsFor, IsOfOutgoing, SameAt, kept_at}
 use Rattle.h3_connection.specs.StandsLaws.{stands_sending}
 use Rattle.h3_connection.specs.StreamSets.{Streams, stream_at}

@@ -20,7 +20,7 @@ use h3_scheduler::round::Rounds;
 impl Endpoint {
     /// The stream that sends next (RFC 9218, section 10). The local control, encoder and decoder stream come first, in this order. Then
     /// comes a request stream, of those on which bytes or an end wait: one of the least urgency. Within an urgency the incremental streams
-    /// and the first of the others take turns. A turn is over once `advance` takes bytes. A stream that is held (`hold`) is passed over.
+    /// and the first of the others take turns. A turn is over once `advance` takes bytes. A stream that is held (`hold`) is skipped.
     /// `None` if none sends. If no priority was set these are the streams of `next_to_send`, by their ids. It takes no memory, and looks at
     /// no stream that does not send.
     pub fn next_by_priority(&self) -> Option<StreamId>
@@ -126,7 +126,7 @@ impl Endpoint {
         }
     }
 
-    // A request stream is passed over, or not any longer, if it is there.
+    // A request stream is skipped, or not any longer, if it is there.
     fn hold_request(&mut self, id: StreamId, is_held: bool) -> Result<(), Refusal>
         ensures rest { self.new ≡ record self.old { requests = self.new.requests } }
         ensures ok { OnOk result (IfSome (kept_at self.old.requests id) (λ r.
