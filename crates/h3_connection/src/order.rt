@@ -3,7 +3,7 @@
 use h3_priority::priority::Priority;
 use h3_scheduler::round::Rounds;
 
-/// What goes before what: the priority of a request stream at its sender, and whether it is passed over.
+/// What goes before what: the priority of a request stream at its sender, and whether it is skipped.
 #[derive(Clone, Copy, Debug, PartialEq, Eq)]
 pub struct Precedence {
     /// How urgent it is, and whether it is of use in parts.

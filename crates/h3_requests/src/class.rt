@@ -4,7 +4,7 @@ ghost use Rattle.h3_requests.specs.Classes.{class_of};
 
 use h3_connection::order::Precedence;
 
-/// The class of a stream that is held, whatever its priority. It stands behind all others.
+/// The class of a stream that is held, whatever its priority. It stands after all others.
 pub(crate) const HELD: u64 = 16;
 
 /// The class of a stream of which nothing was said: urgency 3, not incremental.

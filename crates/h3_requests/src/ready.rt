@@ -198,8 +198,8 @@ impl ReadyStreams {
         self.ends.take(class, id);
     }
 
-    // A stream goes from one class to another, with what of it waits. An `Err` says that memory was refused: which streams are ready stays as
-    // it was.
+    // A stream goes from one class to another, with what of it waits. If an allocation fails (`Err`), which streams are ready stays as it
+    // was.
     fn change_class(
         &mut self,
         before: u64,
@@ -225,8 +225,8 @@ impl ReadyStreams {
         Ok(())
     }
 
-    /// A stream goes to a class, if it is of another, with what of it waits. An `Err` says that memory was refused: which streams are ready
-    /// stays as it was.
+    /// A stream goes to a class, if it is of another, with what of it waits. If an allocation fails (`Err`), which streams are ready stays
+    /// as it was.
     pub(crate) fn settle_class(
         &mut self,
         before: u64,

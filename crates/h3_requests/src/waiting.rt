@@ -27,7 +27,7 @@ const WORD: u64 = 64;
 /// So many words have the bits of all request streams.
 const WORDS: u64 = 1 << 54;
 
-/// The words of a class begin so far behind those of the one before. As that is one more than a class has, the words of the same ids of
+/// The words of a class begin so far after those of the one before. As that is one more than a class has, the words of the same ids of
 /// different classes have places of their own in the row.
 const STRIDE: u64 = WORDS + 1;
 
@@ -35,7 +35,7 @@ const STRIDE: u64 = WORDS + 1;
 const CLASSES: u64 = 17;
 
 /// The streams on which something waits, by a bit each in words of 64, and those that have a place. One that has a place is put in with no
-/// memory. Each class has words of its own, behind those of the class before.
+/// memory. Each class has words of its own, after those of the class before.
 #[derive(Drop)]
 pub(crate) struct WaitingStreams {
     // of each number from that of its class on the streams from 256 times that on, if one has a place or something waits on it
@@ -329,8 +329,8 @@ impl WaitingStreams {
         None
     }
 
-    // The class of the first word with something waiting, from that of a class on: nothing waits in the classes between. (One that is told
-    // has something waiting, since no word behind those of its ids is used: `first_class` asks.)
+    // The class of the first word with something waiting, from that of a class on: nothing waits in the classes between. (One that is
+    // returned has something waiting, since no word after those of its ids is used: `first_class` asks.)
     fn class_from(&self, from: u64) -> Option<u64>
         requires { from ≤ 17 }
         ensures { IsClassFrom (is_waiting self.now) from result }

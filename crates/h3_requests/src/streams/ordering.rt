@@ -29,7 +29,7 @@ impl RequestStreams {
         }
     }
 
-    // The class in which a stream stands; that of all where none is of a class of its own.
+    // The class in which a stream stands; that of all if none is of a class of its own.
     pub(super) fn class(&self, id: StreamId) -> u64
         ensures value { result ≡ class_at (kept_at self.now id) }
         ensures few { result ≤ 16 }
@@ -63,7 +63,7 @@ impl RequestStreams {
         self.change_precedence(alloc, id, &Precedence { priority, ..there })
     }
 
-    /// A stream is passed over from now on, or not any longer. Refused are, in this order, a stream that is not there, and a failed allocation.
+    /// A stream is skipped from now on, or not any longer. Refused are, in this order, a stream that is not there, and a failed allocation.
     /// An `Err` changes nothing.
     pub fn hold(&mut self, alloc: Global, id: StreamId, is_held: bool) -> Result<(), Refusal>
         ensures ok { OnOk result (IfSome (kept_at self.old id) (λ r.
