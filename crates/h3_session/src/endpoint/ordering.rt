@@ -1,6 +1,7 @@
 //! Which stream sends next, and what goes before what (RFC 9218, section 10).
 ghost use Rattle.std.specs.Prelude.{◌≡◌, ◌<◌, ◌^◌, Some, None};
 ghost use Rattle.h3_connection.specs.ByPriority.{Holds, SetsPriority, ShowsNextByPriority};
+ghost use Rattle.h3_connection.specs.Prioritizing.{SendsNext};
 ghost use Rattle.h3_connection.specs.Order.{own_held, rounds_begun, turn_over};
 ghost use Rattle.h3_connection.specs.OwnIds.{is_own};
 ghost use Rattle.h3_session.specs.Turns.{own_sends_in, first_own_in, turn_in, EndsTurn};
@@ -8,7 +9,7 @@ ghost use Rattle.h3_session.specs.Turns.{own_sends_in, first_own_in, turn_in, En
 use super::Endpoint;
 use super::next::control_id;
 use h3_connection::event::Refusal;
-use h3_connection::order::SendOrder;
+use h3_connection::order::{PrioritySource, SendOrder};
 use h3_priority::priority::Priority;
 use h3_proto::stream::{Side, StreamId};
 use h3_scheduler::round::Rounds;
@@ -17,9 +18,20 @@ impl Endpoint {
     /// The stream that sends next (RFC 9218, section 10). The local control, encoder and decoder stream come first, in this order. Then
     /// comes a request stream, of those on which bytes or an end wait: one of the least urgency. Within an urgency the incremental streams
     /// and the first of the others take turns. A turn is over once `advance` takes bytes. A stream that is held (`hold`) is passed over.
-    /// `None` if none sends. If no priority was set these are the streams of `next_to_send`, by their ids. It takes no memory, and looks at
-    /// no stream that does not send.
-    pub fn next_by_priority(&self) -> Option<StreamId>
+    /// `None` if none sends. If no priority was set these are the streams of `next_to_send`, by their ids. It looks at no stream that does
+    /// not send. What PRIORITY_UPDATE frames said since the last call (`Config::with_priority_updates`) counts. If memory is refused for
+    /// that, the next call tries once more; nothing else takes memory.
+    pub fn next_by_priority(&mut self) -> Option<StreamId>
+        ensures { SendsNext self.old self.new result }
+    {
+        if self.streams.peer.updates_waiting() > 0 {
+            self.use_updates();
+        }
+        self.first_by_priority()
+    }
+
+    // The same, by what counts already.
+    fn first_by_priority(&self) -> Option<StreamId>
         ensures { ShowsNextByPriority self.now result }
     {
         if let Some(own) = self.first_own() {
@@ -63,21 +75,14 @@ impl Endpoint {
         }
     }
 
-    /// A request stream has this priority at its sender from now on. A server takes that of the request, or what it knows better (RFC 9218,
-    /// section 8). Refused are, in this order, a connection with a fault, a stream that is no request stream, one that is not open, and
+    /// A request stream has this priority at its sender from now on, whatever its client says: what a server knows better (RFC 9218, section
+    /// 8). Refused are, in this order, a connection with a fault, a stream that is no request stream, one that is not open, and
     /// last a failed allocation. An `Err` changes nothing.
     pub fn set_priority(&mut self, id: StreamId, priority: Priority) -> Result<(), Refusal>
         ensures { SetsPriority self.old self.new id priority result }
     {
-        if let Some(code) = self.closed {
-            return Err(Refusal::Closed(code));
-        }
-        if id.into_inner() % 4 != 0 {
-            return Err(Refusal::NotRequestId);
-        }
-        self.requests.set_priority(self.alloc, id, priority)?;
-        begin_rounds(&mut self.order);
-        Ok(())
+        self.judge_priority(id)?;
+        self.say_priority(id, PrioritySource::Own, priority)
     }
 
     /// QUIC has no credit for a stream, so `next_by_priority` passes it over, or has it again. It may be a request stream that is open or a
@@ -145,7 +150,7 @@ fn end_turn(order: &mut SendOrder, priority: Priority, id: StreamId, until: u64)
 }
 
 // Turns count from now on.
-fn begin_rounds(order: &mut SendOrder)
+pub(super) fn begin_rounds(order: &mut SendOrder)
     ensures { order.new ≡ record order.old { rounds = rounds_begun order.old.rounds } }
 {
     if order.rounds.is_none() {
