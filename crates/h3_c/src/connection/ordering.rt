@@ -1,8 +1,10 @@
 //! Which stream sends next, by priority.
-ghost use Rattle.h3_c.specs.Ordering.{HoldsOn, SendsByPriority, SetsPriorityOn};
+ghost use Rattle.std.specs.Prelude.{◌≡◌, ◌≤◌, nat_le, ◌&&◌, ◌==◌, if◌then◌else◌, Some, None};
+ghost use Rattle.h3_c.specs.Ordering.{HoldsOn, SendsByPriority, SendsPriorityOn, SetsInitialPriorityOn, SetsPriorityOn, ShowsPriorityOf};
 
 use super::Connection;
-use crate::numbers::{ARGUMENT, NONE, OK, Told, called};
+use crate::numbers::{ARGUMENT, NONE, OK, Told, called, refused};
+use h3_connection::event::Refusal;
 use h3_priority::priority::Priority;
 use h3_proto::stream::StreamId;
 
@@ -17,13 +19,51 @@ impl Connection {
         let Ok(stream) = StreamId::try_from(id) else {
             return ARGUMENT;
         };
-        if urgency > LEAST_URGENT || incremental > 1 {
-            return ARGUMENT;
+        match priority_of(urgency, incremental) {
+            Some(priority) => called(self.endpoint.set_priority(stream, priority)),
+            None => ARGUMENT,
         }
-        let Some(priority) = Priority::new(urgency as u8, incremental == 1) else {
+    }
+
+    /// The request of a stream asks for this priority by its `priority` field.
+    pub(crate) fn set_initial_priority(&mut self, id: u64, urgency: u32, incremental: u32) -> Told
+        ensures { SetsInitialPriorityOn self.old self.new id urgency incremental result }
+    {
+        let Ok(stream) = StreamId::try_from(id) else {
             return ARGUMENT;
         };
-        called(self.endpoint.set_priority(stream, priority))
+        match priority_of(urgency, incremental) {
+            Some(priority) => called(self.endpoint.set_initial_priority(stream, priority)),
+            None => ARGUMENT,
+        }
+    }
+
+    /// The server is told the priority of a response.
+    pub(crate) fn send_priority(&mut self, id: u64, urgency: u32, incremental: u32) -> Told
+        ensures { SendsPriorityOn self.old self.new id urgency incremental result }
+    {
+        let Ok(stream) = StreamId::try_from(id) else {
+            return ARGUMENT;
+        };
+        match priority_of(urgency, incremental) {
+            Some(priority) => called(self.endpoint.send_priority(stream, priority)),
+            None => ARGUMENT,
+        }
+    }
+
+    /// The priority that counts of a request stream.
+    pub(crate) fn priority(&self, id: u64, urgency: &mut u32, incremental: &mut u32) -> Told
+        ensures { ShowsPriorityOf self.now id result urgency.old urgency.new incremental.old incremental.new }
+    {
+        let Ok(stream) = StreamId::try_from(id) else {
+            return ARGUMENT;
+        };
+        let Some(priority) = self.endpoint.priority(stream) else {
+            return refused(Refusal::NotOpen);
+        };
+        *urgency = priority.urgency() as u32;
+        *incremental = priority.is_incremental() as u32;
+        OK
     }
 
     /// QUIC has no credit for a stream, or has it again.
@@ -40,8 +80,8 @@ impl Connection {
     }
 
     /// The stream that sends next.
-    pub(crate) fn next_by_priority(&self, id: &mut u64) -> Told
-        ensures { SendsByPriority self.now result id.old id.new }
+    pub(crate) fn next_by_priority(&mut self, id: &mut u64) -> Told
+        ensures { SendsByPriority self.old self.new result id.old id.new }
     {
         let Some(next) = self.endpoint.next_by_priority() else {
             return NONE;
@@ -49,4 +89,14 @@ impl Connection {
         *id = next.into_inner();
         OK
     }
+}
+
+// The priority of these numbers: an urgency from 0 to 7, and 0 or 1.
+fn priority_of(urgency: u32, incremental: u32) -> Option<Priority>
+    ensures { result ≡ (if nat_le urgency 7 && nat_le incremental 1 then Some (record { urgency = urgency; incremental = incremental == 1 }) else None) }
+{
+    if urgency > LEAST_URGENT || incremental > 1 {
+        return None;
+    }
+    Priority::new(urgency as u8, incremental == 1)
 }
