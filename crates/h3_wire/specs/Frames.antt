@@ -61,7 +61,8 @@ is_session kinds kind = (kind == 0x41) && kinds.sessions
 abbrev pub is_update : FrameKinds → ℕ → Bool
 is_update kinds kind = kinds.updates && is_update_type kind
 
--- RFC 9218 7.2: the id of what it is for, then the text of its priority
+-- RFC 9218 7.2: PRIORITY_UPDATE, read whole
+-- the id of what it is for, then the text of its priority
 abbrev pub update_frame : ℕ → Option (ℕ × List ℕ) → List ℕ → Front
 update_frame kind None rest = Refused error.Malformed
 update_frame kind (Some p) rest = Whole (frame.PriorityUpdate (record { is_push = kind == 0xf0701; id = p.0; value = p.1 })) rest
