@@ -41,7 +41,7 @@ SetsInitialPriority old new id p result = DoesOrRefuses (λ e. set_initial_prior
 abbrev pub is_sent : Outgoing → Bool
 is_sent o = o.is_reset || o.end_taken
 
--- RFC 9218 7.2: which update counts
+-- which update counts (RFC 9218, section 7.2)
 -- an update of a stream of which nothing came yet waits on; one of a stream that has ended is dropped
 abbrev pub used_at : EndpointHistory → ℕ → PriorityParameters → Option Outgoing → EndpointHistory
 used_at e id p None = e

@@ -54,7 +54,6 @@ impl Endpoint {
         Ok(())
     }
 
-    // RFC 9218 7.2: which update counts
     /// What PRIORITY_UPDATE frames said is used of the streams that are open, and dropped of those on which sending has ended. What they said
     /// of others waits on. If memory is refused, so does what was not looked at.
     #[inline(never)]
