@@ -517,9 +517,9 @@ typedef struct {
  * has a dynamic table of 4,096 bytes, for which 16 streams may wait. It counts acknowledgments, and
  * the table of its encoder has at most 4,096 bytes and is used economically. It is strict, keeps
  * 1,000 ids of canceled streams and priority updates of 100 streams, and has reject_requests,
- * any_protocol, guard_secrets, shortest_strings and strict_connection set. All else is 0, so a frame or instruction that it
- * keeps until it is whole has at most 262,144 bytes: four times 65,536. SECURITY.md says what each
- * limit bounds. */
+ * any_protocol, guard_secrets, shortest_strings and strict_connection set. All else is 0, so a
+ * frame or instruction that it keeps until it is whole has at most 262,144 bytes: four times
+ * 65,536. SECURITY.md says what each limit bounds. */
 static inline void h3_config_default(h3_config *config);
 
 /* Makes an endpoint in *endpoint, which is overwritten: what it held before is not freed. Its
@@ -678,17 +678,17 @@ static inline uint32_t h3_next_to_send(h3_endpoint *endpoint, uint64_t from, uin
  * this order. Of the request streams that h3_next_to_send names one of the least urgency is next.
  * Within an urgency the incremental streams and the first of the others take turns. A turn is over
  * when h3_advance takes bytes, so send as much at a time as you like. A stream that is held (h3_hold)
- * is passed over. If no priority was said, the lowest id is next. What PRIORITY_UPDATE frames said
- * (`priority_updates`) counts from the first call on after which their stream is open. If there is no
- * memory for that, the next call tries once more. To send while QUIC takes bytes:
+ * is skipped. If no priority was said, the lowest id is next. What PRIORITY_UPDATE frames said
+ * (`priority_updates`) counts as soon as their stream is open. If there is no memory for that, the
+ * next call tries once more. To send while QUIC takes bytes:
  *   while (h3_next_by_priority(&e, &id) == H3_OK) ..
  * with h3_outgoing, h3_advance and h3_end_taken, and h3_hold(&e, id, 1, NULL) if QUIC takes nothing
  * of this stream. */
 static inline uint32_t h3_next_by_priority(h3_endpoint *endpoint, uint64_t *id);
 
 /* A request stream has this priority from now on, whatever its client says: what a server knows
- * better (RFC 9218, section 8). `urgency` is from 0, the most urgent, to 7, and `incremental` 1 or 0.
- * Refused, in this order: H3_ARGUMENT (id not below 2^62, urgency above 7, incremental above 1),
+ * better (RFC 9218, section 8). `urgency` is from 0, the most urgent, to 7, and `incremental` 1 or
+ * 0. Refused, in this order: H3_ARGUMENT (id not below 2^62, urgency above 7, incremental above 1),
  * H3_CLOSED, H3_NOT_REQUEST_ID, H3_NOT_OPEN, H3_MEMORY. */
 static inline uint32_t h3_set_priority(h3_endpoint *endpoint, uint64_t id, uint32_t urgency,
                                        uint32_t incremental, uint64_t *detail);

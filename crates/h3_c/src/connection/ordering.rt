@@ -38,7 +38,7 @@ impl Connection {
         }
     }
 
-    /// The server is told the priority of a response.
+    /// Tells the server the priority of a response.
     pub(crate) fn send_priority(&mut self, id: u64, urgency: u32, incremental: u32) -> Told
         ensures { SendsPriorityOn self.old self.new id urgency incremental result }
     {

@@ -70,7 +70,7 @@ pub extern "C" fn h3_raw_set_initial_priority(
     told.number
 }
 
-/// The server is told the priority of a response (RFC 9218, section 7.2).
+/// Tells the server the priority of a response (RFC 9218, section 7.2).
 #[unsafe(no_mangle)]
 pub extern "C" fn h3_raw_send_priority(
     alloc: Global,

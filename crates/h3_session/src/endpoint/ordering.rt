@@ -19,8 +19,8 @@ impl Endpoint {
     /// comes a request stream, of those on which bytes or an end wait: one of the least urgency. Within an urgency the incremental streams
     /// and the first of the others take turns. A turn is over once `advance` takes bytes. A stream that is held (`hold`) is passed over.
     /// `None` if none sends. If no priority was set these are the streams of `next_to_send`, by their ids. It looks at no stream that does
-    /// not send. What PRIORITY_UPDATE frames said since the last call (`Config::with_priority_updates`) counts. If memory is refused for
-    /// that, the next call tries once more; nothing else takes memory.
+    /// not send. What PRIORITY_UPDATE frames said since the last call (`Config::with_priority_updates`) counts. If an
+    /// allocation fails for that, the next call tries once more; nothing else takes memory.
     pub fn next_by_priority(&mut self) -> Option<StreamId>
         ensures { SendsNext self.old self.new result }
     {

@@ -55,7 +55,7 @@ impl Endpoint {
     }
 
     /// What PRIORITY_UPDATE frames said is used of the streams that are open, and dropped of those on which sending has ended. What they said
-    /// of others waits on. If memory is refused, so does what was not looked at.
+    /// of others waits on. If an allocation fails, so does what was not looked at.
     #[inline(never)]
     pub(super) fn use_updates(&mut self)
         ensures { UsesUpdates self.old self.new }
@@ -119,7 +119,7 @@ impl Endpoint {
         Ok(())
     }
 
-    // Why no priority is told.
+    // Why the server learns no priority.
     fn send_priority_refusal(&self, id: StreamId) -> Option<Refusal>
         ensures { result ≡ send_refused self.now id }
     {
