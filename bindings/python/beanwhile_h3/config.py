@@ -61,6 +61,9 @@ class Config:
     strict_connection: bool
     """The connection is closed if the peer's settings, the first frame of its control stream, the id of a session or the entries that a field
     section names are invalid. A client begins no request after the peer's GOAWAY."""
+    priority_updates: int
+    """Of how many streams a server keeps what PRIORITY_UPDATE frames said (RFC 9218, section 7.2) until it is used, at most 128. With 0 such a frame is
+    one of an unknown type."""
 
     @classmethod
     def client(cls) -> Self:
