@@ -1,5 +1,5 @@
-/* PRIORITY_UPDATE frames (RFC 9218, section 7.2), where `priority_updates` is set: what each closes the connection for, at once and byte by byte; which
- * priority counts; what waits for its stream; what a client writes; and that memory that is refused loses nothing. Without the choice they are passed over.
+/* PRIORITY_UPDATE frames (RFC 9218, section 7.2), if `priority_updates` is set: what each closes the connection for, at once and byte by byte; which
+ * priority counts; what waits for its stream; what a client writes; and that memory that is refused loses nothing. Without the choice they are skipped.
  * One line 'ok NAME' or 'failed NAME'. */
 #define TEST "priority_updates"
 #include "field_list.h"

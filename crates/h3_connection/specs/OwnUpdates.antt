@@ -1,4 +1,4 @@
--- The frames of a control stream behind its SETTINGS (RFC 9114, section 6.2.1): GOAWAY, and a client's PRIORITY_UPDATE (RFC 9218, section 7.2).
+-- The frames of a control stream after its SETTINGS (RFC 9114, section 6.2.1): GOAWAY, and a client's PRIORITY_UPDATE (RFC 9218, section 7.2).
 use Rattle.std.specs.Prelude.{ℕ, ◌-◌, false, List, [], ◌∷◌, ◌++◌, drop, flat_map, take}
 use Rattle.h3_coding.specs.Encodings.{encoding}
 use Rattle.h3_priority.specs.Priority.{PriorityParameters, value_that_says}
@@ -17,7 +17,7 @@ goaway_encoding id = frame_encoding 7 (encoding id)
 abbrev pub update_encoding : OwnUpdate → List ℕ
 update_encoding u = frame_encoding (type_of_update false) (update_payload (record { is_push = false; id = u.id; value = value_that_says u.priority }))
 
--- these GOAWAY frames and updates, where so many GOAWAY frames stand before them: each update stands behind as many as it says
+-- these GOAWAY frames and updates, if so many GOAWAY frames stand before them: each update stands after as many as it says
 abbrev pub control_frames : ℕ → List ℕ → List OwnUpdate → List ℕ
 control_frames written ids [] = flat_map goaway_encoding ids
 control_frames written ids (u ∷ updates) =

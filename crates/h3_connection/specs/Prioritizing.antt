@@ -1,4 +1,4 @@
--- What a client says of priorities counts at its server (RFC 9218, sections 5 and 7), where that says nothing itself. And what a client writes of it.
+-- What a client says of priorities counts at its server (RFC 9218, sections 5 and 7), if that says nothing itself. And what a client writes of it.
 use Rattle.std.specs.Prelude.{◌≡◌, ℕ, Bool, true, false, not, ◌||◌, List, [], ◌∷◌, ◌++◌, drop, filter, length, slice_get, take, IfSome, if◌then◌else◌, Option, Some, None, is_some, option_map, unwrap_or, Result}
 use Rattle.h3_priority.specs.Priority.{PriorityParameters}
 use Rattle.h3_proto.specs.StreamIds.{is_request_stream}

@@ -122,7 +122,7 @@ KeepsOpen side streams a = kind_of side (stream_of a) ≡ Request → IsSome (st
 abbrev pub IsToldPeer : Side → Streams Unidirectional → ℕ → Type 0
 IsToldPeer side streams id = (kind_of side id ≡ PeerUnidirectional) × (is_critical (unwrap_or (stream_at streams id) untold).role ≡ true)
 
--- an update that stands behind no more than so many GOAWAY frames
+-- an update that stands after no more than so many GOAWAY frames
 abbrev pub IsBehind : ℕ → OwnUpdate → Type 0
 IsBehind written u = u.behind ≤ written
 
@@ -140,7 +140,7 @@ pub record IsReached (e : EndpointHistory) : Type 0 where
   pub told_decoder : IfSome e.decoder_on (IsToldPeer e.side e.unidirectional)
   -- a request stream of which something is kept is open
   pub kept : All (KeepsOpen e.side e.incoming) e.kept
-  -- each update that was written stands behind GOAWAY frames that were
+  -- each update that was written stands after GOAWAY frames that were
   pub own_updates : All (IsBehind (length e.own.goaways)) e.own.updates
 
 -- What is stored is what this history leaves.

@@ -61,7 +61,7 @@ session_fault own id = if is_no_session own id then Some id_error else None
 abbrev pub knows_sessions : Announced → Bool
 knows_sessions own = not (is_strict own) || is_enabled 0x2b603742 own.settings
 
--- PRIORITY_UPDATE is known where what it says is kept (RFC 9218, section 7.2)
+-- PRIORITY_UPDATE is known if what it says is kept (RFC 9218, section 7.2)
 abbrev pub knows_updates : Announced → Bool
 knows_updates own = nat_lt 0 own.choices.extensions.priority_updates
 

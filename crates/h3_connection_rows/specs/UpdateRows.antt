@@ -17,7 +17,7 @@ use Rattle.h3_connection_rows.specs.Worked.{hex, plain}
 abbrev pub updating : ℕ → Announced
 updating most = record (plain 1000 0 0) { choices = record no_choices { extensions = record no_extensions { priority_updates = most } } }
 
--- a server, behind the settings of whose client these bytes came
+-- a server, to which these bytes came after the settings of its client
 abbrev pub came : ℕ → List ℕ → Option Refusal × EndpointHistory
 came most text = deliver (new_endpoint Server (updating most)) 2 (hex (codes "000400") ++ hex text)
 
@@ -31,7 +31,7 @@ opening id e = (deliver e id []).1
 abbrev pub of : ℕ → Bool → PriorityParameters
 of urgency incremental = record { urgency = urgency; incremental = incremental }
 
--- what counts of a stream that opens behind these bytes
+-- what counts of a stream that opens after these bytes
 abbrev pub counts : ℕ → List ℕ → ℕ → Option PriorityParameters
 counts most text id = priority_at (opening id (came most text).1) id
 
@@ -48,7 +48,7 @@ used e = use_updates e (length e.peer.updates.waiting)
 abbrev pub set : EndpointHistory → EndpointHistory
 set e = (set_priority e 0 (of 2 false)).1
 
--- what a client writes on its control stream behind the settings, of stream 0, with GOAWAYs before it and behind it
+-- what a client writes on its control stream after the settings, of stream 0, with GOAWAYs before it and after it
 abbrev pub client : EndpointHistory
 client = (open_request (new_endpoint Client (updating 0))).1
 

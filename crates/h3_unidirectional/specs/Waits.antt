@@ -14,6 +14,6 @@ IsPlaceOf waiting id (Some place) = (p : PriorityParameters) × (slice_get waiti
 abbrev pub updates_in : WaitingUpdates → Updates
 updates_in u = record { most = u.most; waiting = u.waiting.items }
 
--- one more takes no memory, where one more may be kept
+-- one more takes no memory, if one more may be kept
 abbrev pub HasSpare : WaitingUpdates → Type 0
 HasSpare u = length u.waiting.items < u.most → vec_len u.waiting < vec_capacity u.waiting

@@ -51,7 +51,7 @@ begins_section bytes = is_of_type 1 (varint_at bytes)
 abbrev pub is_excessive : ℕ → List ℕ → Bool
 is_excessive most bytes = is_limit most && says_too_much most (varint_at bytes)
 
--- The same of PRIORITY_UPDATE, whose payload is kept too where such frames are known (RFC 9218, section 7.2)
+-- The same of PRIORITY_UPDATE, whose payload is kept too if such frames are known (RFC 9218, section 7.2)
 abbrev pub is_long_update : FrameKinds → ℕ → ℕ → Option (ℕ × List ℕ) → Bool
 is_long_update kinds most kind None = false
 is_long_update kinds most kind (Some p) = is_update kinds kind && nat_lt most p.0
@@ -60,6 +60,6 @@ abbrev pub says_long_update : FrameKinds → ℕ → Option (ℕ × List ℕ) �
 says_long_update kinds most None = false
 says_long_update kinds most (Some p) = is_long_update kinds most p.0 (varint_at p.1)
 
--- and of all frames whose payload is kept, where frames of these kinds are known
+-- and of all frames whose payload is kept, if frames of these kinds are known
 abbrev pub is_excessive_by : FrameKinds → ℕ → List ℕ → Bool
 is_excessive_by kinds most bytes = (kinds.updates && (is_limit most && says_long_update kinds most (varint_at bytes))) || is_excessive most bytes

@@ -57,7 +57,7 @@ plain_frames = record { sessions = true; updates = false }
 abbrev pub is_session : FrameKinds → ℕ → Bool
 is_session kinds kind = (kind == 0x41) && kinds.sessions
 
--- PRIORITY_UPDATE is known where that is chosen. Else its types are those of unknown frames
+-- PRIORITY_UPDATE is known if that is chosen. Else its types are those of unknown frames
 abbrev pub is_update : FrameKinds → ℕ → Bool
 is_update kinds kind = kinds.updates && is_update_type kind
 
@@ -80,7 +80,7 @@ frame_of kind payload rest =
     else (if is_http2 kind then Refused (error.UnsupportedFrame kind)
     else Unknown kind rest))))))
 
--- the frame of a type and a whole payload, where frames of these kinds are known
+-- the frame of a type and a whole payload, if frames of these kinds are known
 abbrev pub frame_known : FrameKinds → ℕ → List ℕ → List ℕ → Front
 frame_known kinds kind payload rest = if is_update kinds kind then update_frame kind (varint_at payload) rest else frame_of kind payload rest
 

@@ -6,7 +6,7 @@ use Rattle.h3_wire.specs.Frames.{is_http2, is_session, is_update, plain_frames}
 use Rattle.h3_wire.specs.Update.{is_update_type}
 use Rattle.h3_wire.specs.declared.frame.kinds.FrameKinds.{FrameKinds}
 
--- the types that have a meaning (RFC 9114, section 7.2; 0x41 where sessions of WebTransport are known, those of PRIORITY_UPDATE where it is), and
+-- the types that have a meaning (RFC 9114, section 7.2; 0x41 if sessions of WebTransport are known, those of PRIORITY_UPDATE if it is), and
 -- those of HTTP/2, which are refused
 abbrev pub is_known_type : FrameKinds → ℕ → Bool
 is_known_type kinds kind =
