@@ -195,7 +195,7 @@ checks() {
     compile shutdown shutdown_checked "${flags[@]}"
     compile by_priority by_priority_checked "${flags[@]}" "${refusing[@]}"
     compile strict_connection strict_connection_checked "${flags[@]}"
-    compile priority_updates priority_updates_checked -Wl,--wrap=malloc,--wrap=realloc "${flags[@]}"
+    compile priority_updates priority_updates_checked "${flags[@]}" "${refusing[@]}"
     compile datagrams datagrams_checked "${flags[@]}"
     compile in_memory in_memory_checked "${flags[@]}"
     compile ../../examples/quickstart quickstart_checked "-I$lib" "${flags[@]}"
