@@ -81,6 +81,7 @@ pub mod FirstRequestLaws
 pub mod Shutdown
 pub mod Draining
 pub mod StandsLaws
+pub mod OwnUpdatesLaws
 pub mod StrictSends
 pub mod SentContent
 pub mod StrictSendingLaws

@@ -1,5 +1,5 @@
 -- The frames of a control stream after its SETTINGS (RFC 9114, section 6.2.1): GOAWAY, and a client's PRIORITY_UPDATE (RFC 9218, section 7.2).
-use Rattle.std.specs.Prelude.{ℕ, ◌-◌, false, List, [], ◌∷◌, ◌++◌, drop, flat_map, take}
+use Rattle.std.specs.Prelude.{ℕ, ◌+◌, ◌-◌, false, List, [], ◌∷◌, ◌++◌, drop, flat_map, take}
 use Rattle.h3_coding.specs.Encodings.{encoding}
 use Rattle.h3_priority.specs.Priority.{PriorityParameters, value_that_says}
 use Rattle.h3_wire.specs.Encoded.{frame_encoding, update_payload}
@@ -21,4 +21,5 @@ update_encoding u = frame_encoding (type_of_update false) (update_payload (recor
 abbrev pub control_frames : ℕ → List ℕ → List OwnUpdate → List ℕ
 control_frames written ids [] = flat_map goaway_encoding ids
 control_frames written ids (u ∷ updates) =
-    flat_map goaway_encoding (take (u.behind - written) ids) ++ update_encoding u ++ control_frames u.behind (drop (u.behind - written) ids) updates
+    flat_map goaway_encoding (take (u.behind - written) ids) ++ update_encoding u
+    ++ control_frames (written + (u.behind - written)) (drop (u.behind - written) ids) updates
