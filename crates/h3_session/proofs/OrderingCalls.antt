@@ -39,7 +39,7 @@ same_there (Some o) (Some r) h = refl
 same_there None (Some r) h = absurd h
 same_there (Some o) None h = absurd h
 
-there_same : (s : EndpointState) (e : EndpointHistory) (id : ℕ) → StandsFor s e → is_some (kept_at s.requests id) ≡ is_open e id
+pub there_same : (s : EndpointState) (e : EndpointHistory) (id : ℕ) → StandsFor s e → is_some (kept_at s.requests id) ≡ is_open e id
 there_same s e id h = same_there (stream_at e.outgoing id) (kept_at s.requests id) (h.outgoing id)
 
 some_there : {X : Type 0} (o : Option X) → is_some o ≡ true → o ≢ None

@@ -1,7 +1,7 @@
 -- What is stored stands for the endpoint's history, after what a call that sends has changed.
 use Rattle.std.proofs.Common.{◌≡◌, ◌==◌, ℕ, ◌+◌, ◌≤◌, Bool, true, false, if◌then◌else◌, List, [], ◌∷◌, ◌++◌, length, flat_map, Some, None, refl, ap, sym, subst, ◌∙◌, arith, length-append}
 use Rattle.std.specs.Prelude.{All}
-use Rattle.std.proofs.lemmas.List.Elements.{All-weaker}
+use Rattle.std.proofs.lemmas.List.Elements.{All-push, All-weaker}
 use Rattle.h3_field.specs.Instruction.{EncoderInstruction, encoder_bytes}
 use Rattle.h3_qpack.specs.EncoderHistory.{EncoderHistory}
 use Rattle.h3_qpack.specs.EncoderState.{encoder_state}
@@ -14,7 +14,7 @@ use Rattle.h3_connection.specs.Lasts.{last_id}
 use Rattle.h3_connection.specs.LastLaws.{last_appended}
 use Rattle.h3_connection.specs.Listeners.{Encoding}
 use Rattle.h3_connection.specs.OwnIds.{control_id, encoder_id, decoder_id}
-use Rattle.h3_connection.specs.OwnUpdates.{OwnUpdate}
+use Rattle.h3_connection.specs.OwnUpdates.{OwnUpdate, update_encoding}
 use Rattle.h3_connection.specs.Outgoing.{nothing_sent}
 use Rattle.h3_connection.specs.Sending.{counted, own_advanced}
 use Rattle.h3_connection.specs.State.{EndpointState, RequestState, StandsFor, OwnStands, IsBehind, IsOfOutgoing, IsReached, KeepsOpen, nothing_waits}
@@ -22,7 +22,7 @@ use Rattle.h3_connection.specs.StreamSets.{Streams, set_stream}
 use Rattle.h3_connection.specs.StreamSetLaws.{set-distinct}
 use Rattle.h3_connection.specs.StandsLaws.{own_same, reached_same, still_there, part_set, sent_set}
 use Rattle.h3_unidirectional.specs.Owned.{waiting_on, having_taken}
-use Rattle.h3_unidirectional.specs.OwnLaws.{goaway_stands, instructions_stand, taken_stands}
+use Rattle.h3_unidirectional.specs.OwnLaws.{goaway_stands, instructions_stand, taken_stands, update_stands}
 
 -- a stream on which nothing was sent
 fresh_sent : IsOfOutgoing nothing_sent nothing_waits
@@ -131,6 +131,36 @@ goaway_stands_for s e id h =
       order = h.order;
       reached = reached_same e (record e { own = record e.own { goaways = e.own.goaways ++ id ∷ [] } }) refl
           (All-weaker (IsBehind (length e.own.goaways)) (IsBehind (length (e.own.goaways ++ id ∷ []))) (λ u behind. still_behind e.own.goaways id u behind) e.own.updates h.reached.own_updates)
+          h.reached;
+    }
+
+-- A PRIORITY_UPDATE frame was written.
+pub update_stands_for : (s : EndpointState) (e : EndpointHistory) (u : OwnUpdate) → u.behind ≡ length e.own.goaways → StandsFor s e
+    → StandsFor (record s { own = record s.own { control = s.own.control ++ update_encoding u } }) (record e { own = record e.own { updates = e.own.updates ++ u ∷ [] } })
+update_stands_for s e u now h =
+    record {
+      side = h.side;
+      announced = h.announced;
+      closed = h.closed;
+      next_id = h.next_id;
+      incoming = h.incoming;
+      outgoing = h.outgoing;
+      unidirectional = h.unidirectional;
+      distinct = h.distinct;
+      control_on = h.control_on;
+      encoder_on = h.encoder_on;
+      decoder_on = h.decoder_on;
+      peer = h.peer;
+      decoding = h.decoding;
+      encoder = h.encoder;
+      decoder_unread = h.decoder_unread;
+      own = update_stands s.own e u now h.reached.own_updates h.own;
+      last_goaway = h.last_goaway;
+      kept = h.kept;
+      sent = h.sent;
+      order = h.order;
+      reached = reached_same e (record e { own = record e.own { updates = e.own.updates ++ u ∷ [] } }) refl
+          (All-push (IsBehind (length e.own.goaways)) e.own.updates u h.reached.own_updates (omega (arith, now)))
           h.reached;
     }
 
