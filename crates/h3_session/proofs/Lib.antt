@@ -14,6 +14,7 @@ pub mod Endings
 pub mod Ordering
 pub mod OrderingCalls
 pub mod TellingPriorities
+pub mod UsingUpdates
 pub mod Held
 pub mod Inserting
 pub mod SendingSections
