@@ -36,8 +36,9 @@ type Config struct {
 	GuardSecrets bool
 	// ShortestStrings: the local encoder writes a name or value as it stands if its Huffman code is not shorter.
 	ShortestStrings bool
-	// StrictConnection: the connection is closed if the peer's settings, the first frame of its control stream, the id of a session or the entries
-	// that a field section names are invalid. A client begins no request after the peer's GOAWAY.
+	// StrictConnection closes the connection for invalid settings, another frame before them, an invalid session id, and a field section that
+	// names an entry above its required insert count. Without WebTransport its frames and streams are ignored. After the peer's GOAWAY a
+	// client begins no request.
 	StrictConnection bool
 }
 

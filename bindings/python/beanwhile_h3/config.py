@@ -59,8 +59,9 @@ class Config:
     shortest_strings: bool
     """The local encoder writes a name or value as it stands if its Huffman code is not shorter."""
     strict_connection: bool
-    """The connection is closed if the peer's settings, the first frame of its control stream, the id of a session or the entries that a field
-    section names are invalid. A client begins no request after the peer's GOAWAY."""
+    """Closes the connection for invalid settings, another frame before them, an invalid session id, and a field section that names an entry
+    above its required insert count. Without `webtransport` its frames and streams are ignored. After the peer's GOAWAY a client begins no
+    request."""
 
     @classmethod
     def client(cls) -> Self:
