@@ -81,9 +81,9 @@
  * what was taken, or the next pull of a stream that may still deliver something: not of one whose
  * pull returns H3_END or a fault of the stream again. If there is no such stream, pull
  * h3_control_id, which delivers nothing. h3_finish, h3_reset, h3_advance, h3_end_taken,
- * h3_outgoing, h3_next_to_send, h3_next_request_id, h3_next_unblocked, h3_next_event,
- * h3_first_unseen, h3_is_drained, the calls for datagrams and capsules, the states and h3_free take
- * no memory.
+ * h3_outgoing, h3_next_to_send, h3_next_by_priority, h3_next_request_id, h3_next_unblocked,
+ * h3_next_event, h3_first_unseen, h3_is_drained, the calls for datagrams and capsules, the states
+ * and h3_free take no memory.
  *
  * WHAT TO CALL FROM QUIC'S CALLBACKS
  *
@@ -664,6 +664,32 @@ static inline uint32_t h3_is_drained(h3_endpoint *endpoint, uint32_t *drained);
  * with h3_outgoing, h3_advance, and h3_end_taken if fin came and all bytes were taken. */
 static inline uint32_t h3_next_to_send(h3_endpoint *endpoint, uint64_t from, uint64_t *id);
 
+/* The stream that sends next by the priorities that you set (RFC 9218, section 10), to *id.
+ * H3_NONE, with *id not written, if none does. The local control, encoder and decoder stream come
+ * first, in this order. Of the request streams that h3_next_to_send names one of the least urgency
+ * is next. Within an urgency the incremental streams and the first of the others take turns. A turn
+ * is over when h3_advance takes bytes, so send as much at a time as you like. A stream that is held
+ * (h3_hold) is skipped. If you set no priority, the lowest id is next. It takes no memory. To
+ * send while QUIC takes bytes:
+ *   while (h3_next_by_priority(&e, &id) == H3_OK) ..
+ * with h3_outgoing, h3_advance and h3_end_taken, and h3_hold(&e, id, 1, NULL) if QUIC takes nothing
+ * of this stream. */
+static inline uint32_t h3_next_by_priority(h3_endpoint *endpoint, uint64_t *id);
+
+/* A request stream has this priority from now on: `urgency` from 0, the most urgent, to 7, and
+ * `incremental` 1 or 0. Until then it has 3 and 0. A server passes what h3_priority_read read of
+ * the request's `priority` field, or what it knows better (RFC 9218, section 8). Refused, in this
+ * order: H3_ARGUMENT (id not below 2^62, urgency above 7, incremental above 1), H3_CLOSED,
+ * H3_NOT_REQUEST_ID, H3_NOT_OPEN, H3_MEMORY. */
+static inline uint32_t h3_set_priority(h3_endpoint *endpoint, uint64_t id, uint32_t urgency,
+                                       uint32_t incremental, uint64_t *detail);
+
+/* QUIC has no credit for a stream (`held` 1), so that h3_next_by_priority passes it over, or it has
+ * credit again (`held` 0). A request stream that is open, or the local control, encoder or decoder
+ * stream. h3_next_to_send names a stream that is held as any. Refused, in this order: H3_ARGUMENT
+ * (id not below 2^62, held above 1), H3_CLOSED, H3_NOT_OPEN, H3_MEMORY. */
+static inline uint32_t h3_hold(h3_endpoint *endpoint, uint64_t id, uint32_t held, uint64_t *detail);
+
 /* Copies the first bytes that wait on a stream, as many as fit; *n says how many. If the next ones
  * are of a body that you hold (h3_send_body_of), *past says how many of them: pass QUIC the n bytes
  * and after them the next `past` bytes of your body, or as many of these as you like. Else *past is
@@ -1071,6 +1097,11 @@ uint32_t h3_raw_shutdown(h3_endpoint endpoint, uint64_t *detail, h3_endpoint *ou
 uint32_t h3_raw_first_unseen(h3_endpoint endpoint, uint64_t *id, h3_endpoint *out);
 uint32_t h3_raw_is_drained(h3_endpoint endpoint, uint32_t *drained, h3_endpoint *out);
 uint32_t h3_raw_next_to_send(h3_endpoint endpoint, uint64_t from, uint64_t *id, h3_endpoint *out);
+uint32_t h3_raw_next_by_priority(h3_endpoint endpoint, uint64_t *id, h3_endpoint *out);
+uint32_t h3_raw_set_priority(h3_endpoint endpoint, uint64_t id, uint32_t urgency,
+                             uint32_t incremental, uint64_t *detail, h3_endpoint *out);
+uint32_t h3_raw_hold(h3_endpoint endpoint, uint64_t id, uint32_t held, uint64_t *detail,
+                     h3_endpoint *out);
 uint32_t h3_raw_outgoing(h3_endpoint endpoint, uint64_t id, uint8_t *buffer, size_t room, size_t *n,
                          size_t *past, uint32_t *fin, h3_endpoint *out);
 uint32_t h3_raw_advance(h3_endpoint endpoint, uint64_t id, size_t n, h3_endpoint *out);
@@ -1244,6 +1275,23 @@ static inline uint32_t h3_is_drained(h3_endpoint *endpoint, uint32_t *drained) {
   if (!endpoint || !endpoint->at) return H3_NO_ENDPOINT;
   if (!drained) return H3_ARGUMENT;
   return h3_raw_is_drained(*endpoint, drained, endpoint);
+}
+static inline uint32_t h3_next_by_priority(h3_endpoint *endpoint, uint64_t *id) {
+  if (!endpoint || !endpoint->at) return H3_NO_ENDPOINT;
+  if (!id) return H3_ARGUMENT;
+  return h3_raw_next_by_priority(*endpoint, id, endpoint);
+}
+static inline uint32_t h3_set_priority(h3_endpoint *endpoint, uint64_t id, uint32_t urgency,
+                                       uint32_t incremental, uint64_t *detail) {
+  uint64_t none;
+  if (!endpoint || !endpoint->at) return H3_NO_ENDPOINT;
+  return h3_raw_set_priority(*endpoint, id, urgency, incremental, detail ? detail : &none, endpoint);
+}
+static inline uint32_t h3_hold(h3_endpoint *endpoint, uint64_t id, uint32_t held,
+                               uint64_t *detail) {
+  uint64_t none;
+  if (!endpoint || !endpoint->at) return H3_NO_ENDPOINT;
+  return h3_raw_hold(*endpoint, id, held, detail ? detail : &none, endpoint);
 }
 static inline uint32_t h3_next_to_send(h3_endpoint *endpoint, uint64_t from, uint64_t *id) {
   if (!endpoint || !endpoint->at) return H3_NO_ENDPOINT;

@@ -315,6 +315,18 @@ class endpoint {
     if (h3_next_to_send(&raw_, from, &id) != H3_OK) return std::nullopt;
     return id;
   }
+  /* The stream that sends next (RFC 9218, section 10): the local streams first, then the most urgent, by turns. */
+  std::optional<std::uint64_t> next_by_priority() noexcept {
+    std::uint64_t id;
+    if (h3_next_by_priority(&raw_, &id) != H3_OK) return std::nullopt;
+    return id;
+  }
+  /* A request stream has this priority: urgency 0 to 7. */
+  result set_priority(std::uint64_t id, std::uint32_t urgency, bool incremental) noexcept {
+    return call(h3_set_priority, id, urgency, std::uint32_t{incremental});
+  }
+  /* QUIC has no credit for a stream, so that next_by_priority passes it over, or has it again. */
+  result hold(std::uint64_t id, bool held) noexcept { return call(h3_hold, id, std::uint32_t{held}); }
   /* Copies the first bytes that wait into the room, and says how many bytes of the caller's body come next. All wait until `advance`, which
    * counts both. */
   outgoing peek(std::uint64_t id, span<std::uint8_t> room) noexcept {

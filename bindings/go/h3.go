@@ -217,6 +217,35 @@ func (e *Endpoint) NextToSend(from uint64) (uint64, bool) {
 	return uint64(id), answer == C.H3_OK
 }
 
+// NextByPriority is the stream that sends next (RFC 9218, section 10): the local streams first, then the most urgent, by turns. It returns
+// false if none does.
+func (e *Endpoint) NextByPriority() (uint64, bool) {
+	var id C.uint64_t
+	answer := C.h3_next_by_priority(&e.raw, &id)
+	return uint64(id), answer == C.H3_OK
+}
+
+// SetPriority gives a request stream its priority. Until then it has urgency 3, and is not incremental.
+func (e *Endpoint) SetPriority(id uint64, priority Priority) error {
+	var detail C.uint64_t
+	urgency, incremental := C.uint32_t(priority.Urgency), bit(priority.Incremental)
+	return refusal(C.h3_set_priority(&e.raw, C.uint64_t(id), urgency, incremental, &detail), detail)
+}
+
+// Hold says that QUIC has no credit for a stream, so that NextByPriority passes it over, or that it has credit again.
+func (e *Endpoint) Hold(id uint64, held bool) error {
+	var detail C.uint64_t
+	return refusal(C.h3_hold(&e.raw, C.uint64_t(id), bit(held), &detail), detail)
+}
+
+// bit is 1 or 0.
+func bit(is bool) C.uint32_t {
+	if is {
+		return 1
+	}
+	return 0
+}
+
 // NextUnblocked returns the lowest id, from the given one on, of a stream that can be pulled again: its pull returned Waiting, and the
 // insertions that it needs have arrived. It returns false if there is none.
 func (e *Endpoint) NextUnblocked(from uint64) (uint64, bool) {

@@ -31,6 +31,7 @@ mark=""
 libs=("-I$lib/beanwhile" "-L$lib" -lbeanwhile_h3 -lbeanwhile_h3_shim)
 
 wrapped=(-Wl,--wrap=malloc,--wrap=realloc,--wrap=free)
+refusing=(-Wl,--wrap=malloc,--wrap=realloc)
 
 compile() { # NAME OUT FLAGS..
   local name=$1 to=$2
@@ -43,7 +44,7 @@ compile() { # NAME OUT FLAGS..
 
 # random programs of two endpoints, in C++; COUNT=60000 of them
 programs() {
-  if "$cxx" -std=c++17 -O1 -g -Wall -Wextra -Werror -Wl,--wrap=malloc,--wrap=realloc -o "$out/programs" tests/c/programs.cc "${libs[@]}"; then
+  if "$cxx" -std=c++17 -O1 -g -Wall -Wextra -Werror "${refusing[@]}" -o "$out/programs" tests/c/programs.cc "${libs[@]}"; then
     run programs "$out/programs" 1 "${COUNT:-60000}"
   else
     echo "failed programs: it was not compiled"
@@ -118,7 +119,7 @@ run() { # NAME PROGRAM ARGUMENTS..
 checks() {
   compile calls calls
   compile memory memory "${wrapped[@]}"
-  compile sizes sizes -Wl,--wrap=malloc,--wrap=realloc
+  compile sizes sizes "${refusing[@]}"
   compile schedules schedules
   compile unread unread
   compile small_pieces small_pieces "${wrapped[@]}"
@@ -127,6 +128,7 @@ checks() {
   compile arguments arguments
   compile limits limits
   compile priority priority
+  compile by_priority by_priority "${refusing[@]}"
   compile given given
   compile read read
   compile past past
@@ -136,8 +138,8 @@ checks() {
   compile cancellations cancellations "${wrapped[@]}"
   compile shutdown shutdown
   compile strict_connection strict_connection
-  compile streams streams -Wl,--wrap=malloc,--wrap=realloc
-  compile drained drained -Wl,--wrap=malloc,--wrap=realloc
+  compile streams streams "${refusing[@]}"
+  compile drained drained "${refusing[@]}"
   compile datagrams datagrams
   compile lists lists
   compile never_indexed never_indexed
@@ -156,6 +158,7 @@ checks() {
     run arguments "$out/arguments" $mark
     run limits "$out/limits"
     run priority "$out/priority"
+    run by_priority "$out/by_priority"
     run given "$out/given"
     run read "$out/read" 0 3000
     run past "$out/past" 1 2000
@@ -188,6 +191,7 @@ checks() {
     compile lists lists_checked "${flags[@]}"
     compile never_indexed never_indexed_checked "${flags[@]}"
     compile shutdown shutdown_checked "${flags[@]}"
+    compile by_priority by_priority_checked "${flags[@]}" "${refusing[@]}"
     compile strict_connection strict_connection_checked "${flags[@]}"
     compile datagrams datagrams_checked "${flags[@]}"
     compile in_memory in_memory_checked "${flags[@]}"
@@ -204,6 +208,7 @@ checks() {
       run "lists with sanitizers" "$out/lists_checked"
       run "never_indexed with sanitizers" "$out/never_indexed_checked"
       run "shutdown with sanitizers" "$out/shutdown_checked"
+      run "by_priority with sanitizers" "$out/by_priority_checked"
       run "strict connections with sanitizers" "$out/strict_connection_checked"
       run "datagrams with sanitizers" "$out/datagrams_checked"
       printed "$out/in_memory_checked" tests/c/in_memory.stdout "in_memory with sanitizers"

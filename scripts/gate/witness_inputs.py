@@ -20,7 +20,7 @@ FREES = ["-Wl,--wrap=malloc,--wrap=realloc,--wrap=free"]
 IN_C = {
     "tests/c/memory.c": (FREES, []), "tests/c/sizes.c": (REFUSES, []), "tests/c/schedules.c": ([], ["0", "200"]), "tests/c/unread.c": ([], []),
     "tests/c/small_pieces.c": (FREES, []), "tests/c/unknown.c": (FREES, []), "tests/c/instructions.c": ([], []), "tests/c/arguments.c": ([], ["unproved"]),
-    "tests/c/limits.c": ([], []), "tests/c/priority.c": ([], []), "tests/c/given.c": ([], []), "tests/c/read.c": ([], ["0", "300"]),
+    "tests/c/limits.c": ([], []), "tests/c/priority.c": ([], []), "tests/c/by_priority.c": (REFUSES, []), "tests/c/given.c": ([], []), "tests/c/read.c": ([], ["0", "300"]),
     "tests/c/past.c": ([], ["1", "200"]), "tests/c/details.c": ([], []), "tests/c/defaults.c": ([], []), "tests/c/excess.c": (FREES, []),
     "tests/c/cancellations.c": (FREES, []), "tests/c/shutdown.c": ([], []), "tests/c/datagrams.c": ([], []),
     "tests/c/lists.c": ([], []), "tests/c/never_indexed.c": ([], []), "tests/c/streams.c": (REFUSES, []),

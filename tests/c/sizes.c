@@ -336,6 +336,10 @@ static void deliveries(void) {
   carry(1, 3);
   DONE(h3_first_unseen(&ends[1], &id), "h3_first_unseen", 0);
   DONE(h3_is_drained(&ends[1], &drained), "h3_is_drained", 0);
+  DONE(h3_hold(&ends[1], 3, 1, NULL), "h3_hold", 3);
+  DONE(h3_next_by_priority(&ends[1], &value), "h3_next_by_priority", 7);
+  WANT(value == 7, "another stream is next", 7, value);
+  WANT(h3_set_priority(&ends[1], 0, 1, 0, NULL) == H3_NOT_OPEN, "h3_set_priority", 0, 0);
   DONE(h3_stream_kind(&ends[0], 3, &type), "h3_stream_kind", 3);
   WANT(type == H3_STREAM_CONTROL, "another type of stream", 3, type);
   WANT(id == 0 && drained == 1, "an endpoint without requests is not drained", 3, id);

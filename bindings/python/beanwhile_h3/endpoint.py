@@ -33,7 +33,7 @@ from .items import (
     Trailer,
     Waiting,
 )
-from .state import ClosedStream, ConnectionState, GoawayCame, PeerLimits, SettingsCame, StreamState, StreamType
+from .state import ClosedStream, ConnectionState, GoawayCame, PeerLimits, Priority, SettingsCame, StreamState, StreamType
 
 Bytes = bytes | bytearray | memoryview
 
@@ -263,6 +263,26 @@ class Endpoint:
     def next_to_send(self, start: int = 0) -> int | None:
         """The lowest stream id from `start` on on which bytes wait, or an end that `end_taken` did not name yet."""
         return self._found("h3_raw_next_to_send", start)
+
+    def next_by_priority(self) -> int | None:
+        """The stream that sends next (RFC 9218, section 10): the local streams first, then the most urgent, by turns."""
+        found = c_uint64()
+        answer = self._answer("h3_raw_next_by_priority", byref(found))
+        if answer not in (Answer.OK, Answer.NONE):
+            raise refused(answer)
+        return None if answer else found.value
+
+    def set_priority(self, id: int, priority: Priority) -> None:
+        """A request stream has this priority from now on. Until then it has urgency 3, and is not incremental.
+
+        Raises `Answer.ARGUMENT`, `CLOSED`, `NOT_REQUEST_ID`, `NOT_OPEN`, `MEMORY`."""
+        self._call("h3_raw_set_priority", _number(id), _number(priority.urgency), int(priority.incremental))
+
+    def hold(self, id: int, held: bool) -> None:
+        """QUIC has no credit for a stream, so that `next_by_priority` passes it over, or has it again.
+
+        Raises `Answer.ARGUMENT`, `CLOSED`, `NOT_OPEN`, `MEMORY`."""
+        self._call("h3_raw_hold", _number(id), int(held))
 
     def outgoing(self, id: int, most: int | None = None) -> tuple[bytes, bool]:
         """The first bytes that wait on a stream, all or at most so many, and whether the stream ends after them. They go on waiting until

@@ -3,6 +3,7 @@ use crate::datagram::{Datagram, HeadBytes};
 use crate::error::{Error, Fault, Malformation};
 use crate::fields::{in_a_row, AsField, Fields};
 use crate::item::{Came, Head, Item, Next, Pause};
+use crate::priority::Priority;
 use crate::raw::{self, FieldSize, Handle, RawConnection, RawItem, RawStream};
 use crate::state::{ClosedStream, ConnectionEvent, ConnectionState, PeerLimits, StreamState, StreamType};
 use std::ptr;
@@ -305,6 +306,32 @@ impl Endpoint {
         let mut id = 0;
         self.call(|handle, _, out| unsafe { raw::h3_raw_next_to_send(handle, from, &mut id, out) }).ok()?;
         Some(id)
+    }
+
+    /// The stream that sends next (RFC 9218, section 10): the local streams first, then the most urgent, by turns.
+    pub fn next_by_priority(&mut self) -> Option<u64> {
+        let mut id = 0;
+        self.call(|handle, _, out| unsafe { raw::h3_raw_next_by_priority(handle, &mut id, out) }).ok()?;
+        Some(id)
+    }
+
+    /// A request stream has this priority from now on. Until then it has urgency 3, and is not incremental.
+    ///
+    /// # Errors
+    ///
+    /// [`Error::Argument`], [`Error::Closed`], [`Error::NotRequestId`], [`Error::NotOpen`], [`Error::Memory`].
+    pub fn set_priority(&mut self, id: u64, priority: Priority) -> Result<(), Error> {
+        let (urgency, incremental) = (priority.urgency.into(), priority.incremental.into());
+        self.call(|handle, detail, out| unsafe { raw::h3_raw_set_priority(handle, id, urgency, incremental, detail, out) })
+    }
+
+    /// QUIC has no credit for a stream, so that `next_by_priority` passes it over, or has it again.
+    ///
+    /// # Errors
+    ///
+    /// [`Error::Argument`], [`Error::Closed`], [`Error::NotOpen`], [`Error::Memory`].
+    pub fn hold(&mut self, id: u64, held: bool) -> Result<(), Error> {
+        self.call(|handle, detail, out| unsafe { raw::h3_raw_hold(handle, id, held.into(), detail, out) })
     }
 
     /// Copies the first bytes that wait on a stream into the buffer. Returns how many, and whether the stream ends after them. They wait

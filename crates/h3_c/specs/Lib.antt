@@ -4,6 +4,7 @@ pub mod Configs
 pub mod Datagrams
 pub mod Does
 pub mod Ending
+pub mod Ordering
 pub mod Events
 pub mod Exported
 pub mod Given

@@ -24,6 +24,7 @@ mod events;
 mod heads;
 mod items;
 mod kinds;
+mod ordering;
 mod outgoing;
 mod reading;
 mod receiving;

@@ -9,6 +9,7 @@ mod heads;
 mod items;
 mod kinds;
 mod making;
+mod ordering;
 mod outgoing;
 mod priority;
 mod reading;

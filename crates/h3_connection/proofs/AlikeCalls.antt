@@ -1,6 +1,6 @@
 -- A call is answered alike by endpoints that differ in cuts alone.
 use Rattle.std.proofs.Common.{◌≡◌, ℕ, ◌+◌, Bool, true, false, if◌then◌else◌, List, [], ◌∷◌, ◌++◌, length, refl, ap, sym, ◌∙◌, subst, Option, Some, None}
-use Rattle.std.specs.Prelude.{◌||◌, ◌==◌, ◌≢◌, not, is_some, unwrap_or}
+use Rattle.std.specs.Prelude.{◌||◌, ◌==◌, ◌≢◌, ◌-◌, ◌^◌, min, not, is_some, unwrap_or}
 use Rattle.h3_header.specs.Head.{Head, head_fields}
 use Rattle.h3_messages.specs.declared.content.Content.{Content}
 use Rattle.h3_field.specs.Instruction.{DecoderInstruction}
@@ -16,13 +16,14 @@ use Rattle.h3_connection.specs.Control.{Found}
 use Rattle.h3_connection.specs.Delivering.{incoming_at, taken, closed_by, delivery_refusal, bytes_at, end_at, reset_at, give_up, deliver}
 use Rattle.h3_connection.specs.Endpoint.{EndpointHistory, Kind, Own, kind_of, own_waiting, bytes_waiting, is_critical_of}
 use Rattle.h3_connection.specs.Incoming.{Incoming, nothing_came, having_told}
+use Rattle.h3_connection.specs.FirstAbove.{first_above, greater}
 use Rattle.h3_connection.specs.OwnIds.{control_id, encoder_id, decoder_id}
 use Rattle.h3_connection.specs.Outgoing.{Outgoing as Out, is_end_next, part_bytes_waiting, with_finish, with_reset}
 use Rattle.h3_connection.specs.Outgoing.OwnPart.{OwnTrailer}
 use Rattle.h3_connection.specs.PullCuts.{DifferInCuts}
 use Rattle.h3_connection.specs.Sections.{written_section}
 use Rattle.h3_connection.specs.Refusals.{first_of, refusal_of_head}
-use Rattle.h3_connection.specs.Sending.{does, closed_or, open_refusal, head_refusal, body_refusal, trailer_refusal, finish_refusal, reset_refusal, goaway_refusal, own_advanced, advance_at, cancel_refusal, cancel, sent_bytes, counted, encoded, appended, head_part, fields_cost, with_outgoing, outgoing_at, asked, content_of_own, known_of, saying_at, sender_at, unless_closed, telling_at}
+use Rattle.h3_connection.specs.Sending.{does, closed_or, open_refusal, head_refusal, body_refusal, trailer_refusal, finish_refusal, reset_refusal, goaway_refusal, own_advanced, advance_at, turned, cancel_refusal, cancel, sent_bytes, counted, encoded, appended, head_part, fields_cost, with_outgoing, outgoing_at, asked, content_of_own, known_of, saying_at, sender_at, unless_closed, telling_at}
 use Rattle.h3_connection.specs.Shown.{peer_limits, table_sizes}
 use Rattle.h3_connection.specs.StreamSets.{Streams, stream_at}
 use Rattle.h3_connection.specs.StreamSetLaws.{other_id}
@@ -32,6 +33,13 @@ use Rattle.h3_connection.proofs.AlikeReading.{Beside, beside_alike, given_up_ali
 use Rattle.h3_connection.proofs.ReadingCuts.{Alike}
 use Rattle.h3_connection.specs.StrictSending.{broken_head, broken_protocol}
 use Rattle.h3_field.specs.Field.{Field}
+
+-- the first id above all streams, where these stand under the same ids
+above_alike : (one two : Streams Incoming) → EachStream DifferInCuts one two → first_above two ≡ first_above one
+above_alike [] [] h = refl
+above_alike [] (b ∷ two) h = absurd h
+above_alike (a ∷ one) [] h = absurd h
+above_alike ((p, x) ∷ one) ((q, y) ∷ two) h = ap (λ id. greater (id + 4) (first_above two)) h.0 ∙ ap (greater (p + 4)) (above_alike one two h.2)
 
 -- the same answer, and where no fault was found endpoints that differ in cuts alone
 pub record AlikeAfter (x y : Option Refusal × EndpointHistory) : Type 0 where
@@ -160,7 +168,9 @@ module _ (e : EndpointHistory) (s : Streams Incoming) (t : Streams Unidirectiona
   ends id None = same_here (Took false)
 
   advances : (id count : ℕ) (at : Option Out) → AlikeCalled (λ one two. one ≡ two) (Done, advance_at e id count at) (Done, advance_at two id count at)
-  advances id count (Some o) = record { answer = refl; closed = refl; left = λ none. beside_alike _ s t r (as_is _ refl refl refl) }
+  advances id count (Some o) =
+      subst (λ n. AlikeCalled (λ one two. one ≡ two) (Done, advance_at e id count (Some o)) (Done, record (advance_at two id count (Some o)) { order = turned e.order id count o (min n (2 ^ 64 - 1)) }))
+      (sym (above_alike e.incoming s b.incoming)) (record { answer = refl; closed = refl; left = λ none. beside_alike (advance_at e id count (Some o)) s t r (as_is (advance_at e id count (Some o)) refl refl refl) })
   advances id count None =
       let taken_by = own_with (id == control_id e.side) (id == encoder_id e.side) (id == decoder_id e.side) e.own in
       record {

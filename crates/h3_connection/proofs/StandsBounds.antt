@@ -51,6 +51,7 @@ stands_same old new e same h = record {
   last_goaway = same.rest.last_goaway ∙ h.last_goaway;
   kept = same.rest.kept ∙ h.kept;
   sent = same.rest.sent ∙ h.sent;
+  order = same.rest.order ∙ h.order;
   reached = h.reached;
 }
 

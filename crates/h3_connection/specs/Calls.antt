@@ -47,6 +47,7 @@ pub record SameRest (old new : EndpointState) : Type 0 where
   pub last_goaway : new.last_goaway ≡ old.last_goaway
   pub kept : new.kept ≡ old.kept
   pub sent : new.sent ≡ old.sent
+  pub order : new.order ≡ old.order
   pub unidirectional : AllSame old.unidirectional new.unidirectional
 
 -- nothing has changed

@@ -11,6 +11,8 @@ use Rattle.h3_qpack.specs.EncoderHistory.{EncoderHistory, no_table}
 use Rattle.h3_qpack.specs.declared.encoder_choices.EncoderChoices.{EncoderChoices}
 use Rattle.h3_qpack.specs.DecoderState.{DecoderState, announcing, checking}
 use Rattle.h3_connection.specs.declared.setup.Announced.{Announced}
+use Rattle.h3_connection.specs.Order.{no_order}
+use Rattle.h3_connection.specs.declared.order.SendOrder.{SendOrder}
 use Rattle.h3_connection.specs.OwnIds.{other, control_id, encoder_id, decoder_id, is_own}
 use Rattle.h3_proto.specs.declared.stream.Side.{Side}
 use Rattle.h3_connection.specs.StreamSets.{Streams, stream_at}
@@ -56,6 +58,8 @@ pub record EndpointHistory : Type 0 where
   pub kept : List Arrival
   -- what it was handed to send: the bytes of names, values and bodies, and 64 for each field and each call
   pub sent : ℕ
+  -- whose turn it is to send, and which own streams are held
+  pub order : SendOrder
 
 -- how many ids are kept, where a choice limits them
 abbrev pub most_kept : Choices → Option ℕ
@@ -108,6 +112,7 @@ new_endpoint side announced =
       own = record { goaways = []; control_taken = 0; instructions = []; encoder_taken = 0; replies = []; decoder_taken = 0 };
       kept = [];
       sent = 0;
+      order = no_order;
     }
 
 -- the longest frame whose payload it keeps until it is whole

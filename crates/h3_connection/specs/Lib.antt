@@ -9,6 +9,8 @@ pub mod MalformationCodes
 pub mod StrictConnection
 pub mod FaultTexts
 pub mod OwnIds
+pub mod Order
+pub mod FirstAbove
 pub mod Lasts
 pub mod LastLaws
 pub mod PeerReading
@@ -65,6 +67,7 @@ pub mod Unread
 pub mod NextWaiting
 pub mod NextWaitingLaws
 pub mod EndsWaiting
+pub mod ByPriority
 pub mod CallLists
 pub mod Isolation
 pub mod CallCuts

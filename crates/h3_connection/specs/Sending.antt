@@ -1,5 +1,5 @@
 -- Calls of a sender, and the pulls and cancellations of a receiver, with their refusals in order.
-use Rattle.std.specs.Prelude.{ℕ, ◌+◌, Bool, true, false, not, ◌||◌, List, [], ◌∷◌, ◌++◌, codes, length, slice_index, if◌then◌else◌, ◌==◌, nat_lt, Option, Some, None, is_some, unwrap_or}
+use Rattle.std.specs.Prelude.{ℕ, ◌+◌, ◌-◌, ◌^◌, min, Bool, true, false, not, ◌||◌, List, [], ◌∷◌, ◌++◌, codes, length, slice_index, if◌then◌else◌, ◌==◌, nat_lt, Option, Some, None, is_some, unwrap_or}
 use Rattle.h3_field.specs.Field.{Field}
 use Rattle.h3_qpack.specs.SectionEncoding.{sent_section}
 use Rattle.h3_connection.specs.Refusals.{Sender, SenderStream, seen, refusal_of_head, refusal_of_body, refusal_of_trailer, refusal_of_end, refusal_to_stop, refusal_to_open, refusal_of_goaway}
@@ -21,6 +21,9 @@ use Rattle.h3_connection.specs.Codes.{decompression_failed}
 use Rattle.h3_connection.specs.StreamSets.{Streams, stream_at, set_stream}
 use Rattle.h3_connection.specs.StrictConnection.{begins_none_after}
 use Rattle.h3_connection.specs.StrictSending.{broken_head, broken_protocol, broken_trailer, early_trailer, passes_content}
+use Rattle.h3_connection.specs.FirstAbove.{first_above}
+use Rattle.h3_connection.specs.Order.{turn_over}
+use Rattle.h3_connection.specs.declared.order.SendOrder.{SendOrder}
 use Rattle.h3_connection.specs.Incoming.{Incoming, having_told}
 use Rattle.h3_messages.specs.Content.{may_end}
 use Rattle.h3_messages.specs.Messages.{value_of}
@@ -191,9 +194,21 @@ own_advanced own side id count =
     if id == encoder_id side then record own { encoder_taken = own.encoder_taken + count } else (
     if id == decoder_id side then record own { decoder_taken = own.decoder_taken + count } else own))
 
+-- once bytes of a stream were taken its turn is over, as all that are open are below the bound (a number of 64 bits, and no id has more than 62)
+abbrev pub turned : SendOrder → ℕ → ℕ → Outgoing → ℕ → SendOrder
+turned order id count o bound = if count == 0 then order else record order { rounds = turn_over order.rounds o.precedence.priority id bound }
+
+abbrev pub order_after : EndpointHistory → ℕ → ℕ → Option Outgoing → SendOrder
+order_after e id count (Some o) = turned e.order id count o (min (first_above e.incoming) (2 ^ 64 - 1))
+order_after e id count None = e.order
+
+-- the bytes go
+abbrev pub take_at : EndpointHistory → ℕ → ℕ → Option Outgoing → EndpointHistory
+take_at e id count (Some o) = with_outgoing e id (record o { taken = o.taken + count })
+take_at e id count None = record e { own = own_advanced e.own e.side id count }
+
 abbrev pub advance_at : EndpointHistory → ℕ → ℕ → Option Outgoing → EndpointHistory
-advance_at e id count (Some o) = with_outgoing e id (record o { taken = o.taken + count })
-advance_at e id count None = record e { own = own_advanced e.own e.side id count }
+advance_at e id count there = record (take_at e id count there) { order = order_after e id count there }
 
 abbrev pub advance : EndpointHistory → ℕ → ℕ → EndpointHistory
 advance e id count = advance_at e id count (stream_at e.outgoing id)

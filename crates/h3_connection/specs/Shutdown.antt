@@ -9,6 +9,7 @@ use Rattle.h3_connection.specs.Answers.{call_refused}
 use Rattle.h3_connection.specs.Delivering.{incoming_at}
 use Rattle.h3_connection.specs.Endpoint.{EndpointHistory, own_waiting}
 use Rattle.h3_connection.specs.EndsWaiting.{has_to_send}
+use Rattle.h3_connection.specs.FirstAbove.{first_above}
 use Rattle.h3_connection.specs.FirstRequests.{count_below, first_pass}
 use Rattle.h3_connection.specs.Lasts.{last_id}
 use Rattle.h3_connection.specs.Outgoing.{is_sent_off}
@@ -21,14 +22,6 @@ use Rattle.h3_connection.specs.State.{EndpointState, kept_at}
 use Rattle.h3_connection.specs.StreamSets.{Streams, stream_at}
 use Rattle.h3_connection.specs.declared.event.Refusal.{Refusal}
 use Rattle.h3_connection.specs.declared.event.Refusal.TheVariants as refusal
-
--- The ids of request streams are four apart (RFC 9000, section 2.1): the first one above all of these.
-abbrev pub greater : ℕ → ℕ → ℕ
-greater one other = if nat_lt one other then other else one
-
-abbrev pub first_above : {X : Type 0} → Streams X → ℕ
-first_above [] = 0
-first_above ((id, x) ∷ streams) = greater (id + 4) (first_above streams)
 
 -- the first id above the greatest
 abbrev pub above_greatest : Option ℕ → ℕ

@@ -109,6 +109,7 @@ stands_sending s e new id before x o h was same is sets =
       last_goaway = h.last_goaway;
       kept = h.kept;
       sent = h.sent;
+      order = h.order;
       reached = reached_same e (with_outgoing e id o) refl h.reached;
     }
 
@@ -136,6 +137,7 @@ stands_receiving s e new id before x h was same sets =
       last_goaway = h.last_goaway;
       kept = h.kept;
       sent = h.sent;
+      order = h.order;
       reached = reached_receiving e id x.incoming h.reached;
     }
 
@@ -165,6 +167,7 @@ stands_both s e new id x o h is sets =
       last_goaway = h.last_goaway;
       kept = h.kept;
       sent = h.sent;
+      order = h.order;
       reached = reached_same (with_incoming e id x.incoming) after refl (reached_receiving e id x.incoming h.reached);
     }
 
@@ -223,5 +226,6 @@ stands_unidirectional s e new id o h keeps sets =
       last_goaway = h.last_goaway;
       kept = h.kept;
       sent = h.sent;
+      order = h.order;
       reached = reached_unidirectional e id o keeps h.reached;
     }

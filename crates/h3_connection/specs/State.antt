@@ -25,6 +25,9 @@ use Rattle.h3_connection.specs.StreamSets.{Streams, HaveDistinctIds, stream_at}
 use Rattle.h3_connection.specs.Endpoint.{EndpointHistory, goaway_encoding, own_waiting, kind_of}
 use Rattle.h3_connection.specs.Endpoint.Kind.{Request, PeerUnidirectional}
 use Rattle.h3_connection.specs.declared.setup.Announced.{Announced}
+use Rattle.h3_connection.specs.Order.{default_precedence}
+use Rattle.h3_connection.specs.declared.order.Precedence.{Precedence}
+use Rattle.h3_connection.specs.declared.order.SendOrder.{SendOrder}
 use Rattle.h3_connection.specs.declared.place.SendPlace.{SendPlace}
 use Rattle.h3_connection.specs.declared.place.SendPlace.TheVariants.{NothingSent, HeadSent, TrailerSent}
 
@@ -37,10 +40,11 @@ pub record OutgoingState : Type 0 where
   pub is_finished : Bool
   pub is_reset : Bool
   pub end_taken : Bool
+  pub precedence : Precedence
 
 -- nothing was sent
 abbrev pub nothing_waits : OutgoingState
-nothing_waits = record { pieces = []; place = NothingSent; content = Unsaid; is_finished = false; is_reset = false; end_taken = false }
+nothing_waits = record { pieces = []; place = NothingSent; content = Unsaid; is_finished = false; is_reset = false; end_taken = false; precedence = default_precedence }
 
 -- a request stream, both ways
 pub record RequestState : Type 0 where
@@ -71,6 +75,7 @@ pub record EndpointState : Type 0 where
   pub last_goaway : Option ℕ
   pub kept : List Arrival
   pub sent : ℕ
+  pub order : SendOrder
 
 abbrev pub place_of : List OwnPart → SendPlace
 place_of parts = if is_unsent parts then NothingSent else (if last_is_trailer parts then TrailerSent else HeadSent)
@@ -82,6 +87,7 @@ pub record IsOfOutgoing (o : Outgoing) (w : OutgoingState) : Type 0 where
   pub is_finished : w.is_finished ≡ o.is_finished
   pub is_reset : w.is_reset ≡ o.is_reset
   pub end_taken : w.end_taken ≡ o.end_taken
+  pub precedence : w.precedence ≡ o.precedence
   pub taken : o.is_reset ≡ false → o.taken ≤ length (flat_map written_part o.parts)
 
 -- a stream of a map, as `BTreeMap` finds it
@@ -153,4 +159,5 @@ pub record StandsFor (s : EndpointState) (e : EndpointHistory) : Type 0 where
   pub last_goaway : s.last_goaway ≡ last_id e.own.goaways
   pub kept : s.kept ≡ e.kept
   pub sent : s.sent ≡ e.sent
+  pub order : s.order ≡ e.order
   pub reached : IsReached e

@@ -5,5 +5,6 @@
 pub mod arrival;
 pub mod event;
 pub mod laws;
+pub mod order;
 pub mod place;
 pub mod setup;

@@ -21,3 +21,4 @@ pub mod ServerCases3
 pub mod ServerCases4
 pub mod ServerCases5
 pub mod ServerCases6
+pub mod OrderRows

@@ -13,6 +13,7 @@ pub mod isolation_rows;
 pub mod kept_rows;
 pub mod limit_rows;
 pub mod message_rows;
+pub mod order_rows;
 pub mod sending_rows;
 pub mod server_cases_1;
 pub mod server_cases_2;

@@ -3,6 +3,7 @@ mod AnyPull
 mod AnyStep
 mod Quiet
 mod Runs
+mod UntilMemory
 mod SoundSteps
 mod Accounts
 mod Takes

@@ -1,11 +1,12 @@
 -- Bytes, the end or the reset of a request stream go over: both endpoints answer as the world and stand in it after that.
-use Rattle.std.proofs.Common.{◌≡◌, ℕ, ◌-◌, take, None, true, ap, ◌∙◌, Some, ◌≤◌, Bool, false, [], length, drop, refl, sym, subst, arith, if◌then◌else◌}
+use Rattle.std.proofs.Common.{◌≡◌, ℕ, ◌-◌, take, None, true, ap, ◌∙◌, Option, Some, ◌≤◌, Bool, false, [], length, drop, refl, sym, subst, arith, if◌then◌else◌}
 use Rattle.h3_proto.specs.declared.stream.Side.{Side}
 use Rattle.h3_connection.specs.declared.arrival.Arrival.TheVariants.{BytesCame}
 use Rattle.h3_connection.specs.Endpoint.{EndpointHistory, bytes_waiting}
 use Rattle.h3_connection.specs.Keeping.{arrives, read_arrival}
 use Rattle.h3_connection.specs.OwnIds.{other}
-use Rattle.h3_connection.specs.Sending.{advance, advance_at}
+use Rattle.h3_connection.specs.Outgoing.{Outgoing}
+use Rattle.h3_connection.specs.Sending.{advance, advance_at, order_after, take_at}
 use Rattle.h3_world.specs.declared.setup.Setup.{Setup}
 use Rattle.h3_world.specs.World.{World}
 use Rattle.std.specs.Prelude.{◌||◌}
@@ -23,7 +24,7 @@ use Rattle.h3_headline.specs.Arriving.{come}
 use Rattle.h3_headline.specs.ComingLaws.{coming_refusal, kind_is, stands_after_coming}
 use Rattle.h3_headline.specs.DeliverLaws.{flow_received, goes_on, opened_own, sends_at, sends_set, silent_own, still_heard, taken_none}
 use Rattle.h3_headline.specs.FlowLaws.{open_there}
-use Rattle.h3_headline.specs.MovesLaws.{sender_stands}
+use Rattle.h3_headline.specs.MovesLaws.{sender_stands, stands_ordered}
 use Rattle.h3_headline.specs.ReceivingLaws.{bytes_come}
 use Rattle.h3_headline.specs.Standing.{StandsAt}
 use Rattle.h3_headline.specs.Steps.{IsThere}
@@ -50,6 +51,7 @@ bytes_over setup w side id count er ew hr hw sound sending fits goes =
     let v = with_flow w (other side) id (come f count) in
     let there = open_there w (other side) id sending in
     let s = sends_at setup w (other side) id ew hw sending in
+    let there_sent : Option Outgoing = Some (outgoing_of f) in
     let bytes = take count (bytes_waiting ew id) in
     let r = flow_received w side id (come f count) there refl in
     let is : bytes ≡ take count (drop f.delivered (flow_bytes f)) = ap (take count) s.left ∙ by_reset f.is_reset (subst (λ n. count ≤ n) refl fits) in
@@ -60,8 +62,10 @@ bytes_over setup w side id count er ew hr hw sound sending fits goes =
       arrived = goes_on setup w side id er (BytesCame id bytes) hr sound there refl goes ∙ ap (λ k. taken None None er (bytes_at er id bytes k)) (kind_is er.side id there.request);
       reader = subst (StandsAt setup v side) (silent_own er new (opened_own er id (stream_at er.incoming id) (kept (incoming_at er id) bytes))) stands;
       writer =
-          sender_stands setup w v side id [] (come f count) ew (advance ew id count) (set_stream ew.outgoing id (outgoing_of (come f count))) hw r (ap (advance_at ew id count) s.stream)
-          (still_heard setup w side ew hw) (sends_set setup w (other side) id (come f count) ew hw sending);
+          subst (StandsAt setup v (other side)) (sym (ap (advance_at ew id count) s.stream))
+          (stands_ordered setup v (other side) (take_at ew id count there_sent) (order_after ew id count there_sent)
+          (sender_stands setup w v side id [] (come f count) ew (take_at ew id count there_sent) (set_stream ew.outgoing id (outgoing_of (come f count))) hw r refl
+          (still_heard setup w side ew hw) (sends_set setup w (other side) id (come f count) ew hw sending)));
     }
   where
     by_reset : (b : Bool) → count ≤ (if b then 0 else length (flow_bytes (flow w (other side) id)) - (flow w (other side) id).delivered)

@@ -6,6 +6,7 @@ use Rattle.h3_connection.specs.declared.event.StreamFault.{StreamFault}
 use Rattle.h3_proto.specs.declared.stream.Side.{Side}
 use Rattle.h3_connection.specs.Endpoint.{EndpointHistory, Own, bytes_waiting}
 use Rattle.h3_connection.specs.OwnIds.{other}
+use Rattle.h3_connection.specs.Order.{default_precedence}
 use Rattle.h3_connection.specs.StreamSets.{HaveDistinctIds, stream_at}
 use Rattle.h3_world.specs.declared.setup.Setup.{Setup}
 use Rattle.h3_world.specs.World.{World, party, Party}
@@ -75,7 +76,7 @@ pub record IsUnseen (w : World) (side : Side) (id : ℕ) : Type 0 where
   pub kept : ReceivesFlow (flow w (other side) id) nothing_came
 
 abbrev pub made : List OwnPart → ℕ → Bool → Bool → Outgoing
-made parts taken finished reset = record { parts = parts; taken = taken; content = Unsaid; is_finished = finished; is_reset = reset; end_taken = false }
+made parts taken finished reset = record { parts = parts; taken = taken; content = Unsaid; is_finished = finished; is_reset = reset; end_taken = false; precedence = default_precedence }
 
 abbrev pub with_replies : Own → List DecoderInstruction → Own
 with_replies o replies = record o { replies = replies }

@@ -14,6 +14,7 @@ use Rattle.h3_connection.specs.Incoming.{Incoming, nothing_came}
 use Rattle.h3_world.specs.Flow.{Flow}
 use Rattle.h3_world.specs.Order.{outgoing_of}
 use Rattle.h3_connection.specs.Outgoing.{nothing_sent, Outgoing}
+use Rattle.h3_connection.specs.declared.order.SendOrder.{SendOrder}
 use Rattle.h3_headline.specs.Arriving.{Moves, Receives, saying}
 use Rattle.h3_headline.specs.FlowLaws.{other-other, same_number}
 use Rattle.h3_headline.specs.Standing.{HasControlOf, HasDecoderStreamOf, HasEncoderStreamOf, ReceivesAt, ReceivesFlow, StandsAt}
@@ -43,6 +44,26 @@ stands_moved setup w v side e f h m =
       outgoing = m.outgoing;
       incoming = m.incoming;
       distinct = m.distinct;
+    }
+
+-- Whose turn it is to send is no part of what it stands in.
+pub stands_ordered : (setup : Setup) (w : World) (side : Side) (e : EndpointHistory) (order : SendOrder) → StandsAt setup w side e → StandsAt setup w side (record e { order = order })
+stands_ordered setup w side e order h =
+    record {
+      side_is = h.side_is;
+      announced = h.announced;
+      any = h.any;
+      no_fault = h.no_fault;
+      nothing_kept = h.nothing_kept;
+      own = h.own;
+      encoder = h.encoder;
+      control = h.control;
+      encoder_stream = h.encoder_stream;
+      decoder_stream = h.decoder_stream;
+      no_others = h.no_others;
+      outgoing = h.outgoing;
+      incoming = h.incoming;
+      distinct = h.distinct;
     }
 
 -- what was open to it stays so

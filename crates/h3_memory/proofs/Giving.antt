@@ -26,7 +26,7 @@ use Rattle.h3_headline.specs.DeliverLaws.{has_outgoing_is}
 use Rattle.h3_memory.specs.Kept.{Delivery, Bytes, KeepingWorld, read_delivery, read_deliveries}
 use Rattle.h3_memory.specs.Keeping.{MayAllBeRead, StandsKeeping, ahead, came_of, text_of}
 use Rattle.h3_memory.proofs.CatchesUp.{ReadsAll, keeping_so, reads_all, standing_of}
-use Rattle.h3_memory.proofs.HandsOver.{advanced_ahead, hands_over}
+use Rattle.h3_memory.proofs.HandsOver.{LetsGo, advanced_ahead, hands_over}
 use Rattle.h3_memory.proofs.Judged.{Waits, arrives_so, outgoing_ahead, waits_at}
 use Rattle.h3_memory.proofs.KeptLaws.{KeptLaws}
 use Rattle.h3_memory.proofs.KeptMore.{CaughtUp, IsNext, caught_up_is}
@@ -111,7 +111,7 @@ module _ (qpack : KeptLaws) (laws : Laws) (setup : Setup) (w : World) (side : Si
   -- **What is taken is read behind all that was kept.**
   pub taken_so : (d : Delivery) (a : Arrival) (gone : EndpointHistory) (success : Answer) → has_outgoing w s (stream_of a) ≡ true
       → MayAllBeRead setup w s (came_behind (came_of w s) ds) (closed_behind (is_closed w s) ds) (d ∷ []) → IsNext (text_of setup w s) (came_behind (came_of w s) ds) d a
-      → gone ≡ ahead r.ew (ds ++ d ∷ []) r.there.held r.there.incoming r.there.arrivals
+      → LetsGo r.ew (ds ++ d ∷ []) r.there.held r.there.incoming r.there.arrivals gone
       → ((v : World) → read_so side w mine ds (success, v) ≡ (success, keeping_so side v mine []))
       → Agrees setup (offered_to side success gone g (arrives f a)) (read_so side w mine ds (if is_closed W s (stream_of a) then (answer.Refused refusal.AfterEnd, W) else (success, read_delivery setup W s d)))
   taken_so d a gone success there may next is good =
@@ -176,7 +176,7 @@ module _ (qpack : KeptLaws) (laws : Laws) (setup : Setup) (w : World) (side : Si
           (λ goes. taken_so (Bytes id count) (BytesCame id (take count (bytes_waiting g id))) (advance g id count) (answer.Delivered count) before
           (before, sym (facts.closed id) ∙ goes, within id (facts.came id) (facts.text id) (bytes_there setup W s id count caught.then_reads.two.sound there fits), tt)
           (refl, k.front count small ∙ ap (λ n. take count (drop n (text_of setup W s id))) (facts.came id) ∙ ap (λ l. take count (drop (came_behind (came_of w s) ds id) l)) (facts.text id))
-          (ap (λ x. advance x id count) r.there.is ∙ advanced_ahead setup w s r.ew ds r.there.held r.there.incoming r.there.arrivals id count r.two.both.there r.there.distinct before)
+          (advanced_ahead setup w s r.ew g ds r.there.held r.there.incoming r.there.arrivals id count r.two.both.there r.there.distinct before r.there.is)
           (λ v. refl))
         where
           within : (id : ℕ) → came_of W s id ≡ came_behind (came_of w s) ds id → text_of setup W s id ≡ text_of setup w s id → came_of W s id + count ≤ length (text_of setup W s id)

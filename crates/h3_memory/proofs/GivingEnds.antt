@@ -160,7 +160,7 @@ module _ (qpack : KeptLaws) (laws : Laws) (setup : Setup) (w : World) (side : Si
             sym (facts.came id) ∙ all_came setup W s id caught.then_reads.two.sound there off two.1 (same_number (waiting setup W s id) 0 parts.1) ∙ ap length (facts.text id),
             tt,
           )
-          refl (r.there.is ∙ told_ahead r.ew ds (End id) r.there.held r.there.incoming r.there.arrivals (λ q. refl)) (λ v. refl))
+          refl (told_ahead r.ew g ds (End id) r.there.held r.there.incoming r.there.arrivals (λ q. refl) r.there.is) (λ v. refl))
 
   -- **The reset.**
   pub resets_then : (id : ℕ) → has_outgoing W s id ≡ true → not (shown.is_reset g id) ≡ (is_own s id || not (flow W s id).is_reset)
@@ -192,4 +192,4 @@ module _ (qpack : KeptLaws) (laws : Laws) (setup : Setup) (w : World) (side : Si
           by_truth (is_closed W s id) (λ shut. late id (ResetCame id reset_code) (delivered_reset W s id) refl before shut)
           (λ goes. taken_so qpack laws setup w side mine ds f g made r (Reset id) (ResetCame id reset_code) g answer.Done before
           (second_is (is_own s id) (is_open w s id) off before, sym (facts.closed id) ∙ goes, still_reset id before off (resets_then id there ∙ broken), tt)
-          (refl, refl) (r.there.is ∙ told_ahead r.ew ds (Reset id) r.there.held r.there.incoming r.there.arrivals (λ q. refl)) (λ v. refl))
+          (refl, refl) (told_ahead r.ew g ds (Reset id) r.there.held r.there.incoming r.there.arrivals (λ q. refl) r.there.is) (λ v. refl))

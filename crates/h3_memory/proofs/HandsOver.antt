@@ -7,13 +7,15 @@ use Rattle.h3_connection.specs.Endpoint.{EndpointHistory, Own}
 use Rattle.h3_connection.specs.Incoming.{Incoming}
 use Rattle.h3_connection.specs.Outgoing.{Outgoing}
 use Rattle.h3_connection.specs.OwnIds.{other, is_own, control_id, encoder_id, decoder_id}
-use Rattle.h3_connection.specs.Sending.{advance, advance_at, own_advanced}
+use Rattle.h3_connection.specs.Sending.{advance, order_after, own_advanced, take_at}
 use Rattle.h3_connection.specs.StreamSets.{HaveDistinctIds, Streams, stream_at, set_stream}
+use Rattle.h3_connection.specs.declared.order.SendOrder.{SendOrder}
 use Rattle.h3_world.specs.declared.setup.Setup.{Setup}
 use Rattle.h3_world.specs.Delivering.{is_closed}
 use Rattle.h3_world.specs.Streams.{is_open}
 use Rattle.h3_world.specs.World.{World}
 use Rattle.h3_headline.specs.FlowLaws.{same_number}
+use Rattle.h3_headline.specs.MovesLaws.{stands_ordered}
 use Rattle.h3_headline.specs.OwnEventLaws.{own_outgoing}
 use Rattle.h3_headline.specs.Standing.{StandsAt}
 use Rattle.h3_memory.specs.Kept.{Delivery, Bytes, End, Reset}
@@ -23,7 +25,7 @@ use Rattle.h3_memory.proofs.BehindOwn.{not_it}
 use Rattle.h3_memory.proofs.BehindReads.{message_untaken}
 use Rattle.h3_memory.proofs.KeptMore.{IsNext, kept_more, may_more}
 use Rattle.h3_memory.proofs.ReadAll.{came_behind, closed_behind}
-use Rattle.h3_memory.proofs.ReadingEnds.{own_taken, taken_alike}
+use Rattle.h3_memory.proofs.ReadingEnds.{Two, next_kept, own_taken, taken_alike}
 use Rattle.h3_memory.proofs.ReadingState.{Reading}
 
 -- bytes among more deliveries
@@ -94,10 +96,16 @@ set_more ((q, p) ∷ streams) ds id count o distinct here = by_id (set_more stre
         ap (λ l. handed_stream ds (q, p) ∷ l) (later is)
         ∙ ap (λ x. x ∷ map F streams) (sym (one_same ds (Bytes id count) q p (not_it id q count (Rattle.h3_memory.proofs.TextsOf.flipped id q ∙ e))))
 
+-- A writer that let these go is ahead of the one behind, whose turn to send may be another one's now.
+pub record LetsGo (e : EndpointHistory) (ds : List Delivery) (held : Held) (incoming : Streams Incoming) (kept : List Arrival) (gone : EndpointHistory) : Type 0 where
+  pub order : SendOrder
+  pub is : gone ≡ ahead (record e { order = order }) ds held incoming kept
+
 -- **A writer lets bytes go.**
-pub advanced_ahead : (setup : Setup) (w : World) (side : Side) (e : EndpointHistory) (ds : List Delivery) (held : Held) (incoming : Streams Incoming) (kept : List Arrival) (id count : ℕ) → StandsAt setup w side e → HaveDistinctIds e.outgoing
-    → (is_own side id || is_open w side id) ≡ true → advance (ahead e ds held incoming kept) id count ≡ ahead e (ds ++ Bytes id count ∷ []) held incoming kept
-advanced_ahead setup w side e ds held incoming kept id count h distinct there = by_own (is_own side id) refl
+pub advanced_ahead : (setup : Setup) (w : World) (side : Side) (e g : EndpointHistory) (ds : List Delivery) (held : Held) (incoming : Streams Incoming) (kept : List Arrival) (id count : ℕ) → StandsAt setup w side e → HaveDistinctIds e.outgoing
+    → (is_own side id || is_open w side id) ≡ true → g ≡ ahead e ds held incoming kept → LetsGo e (ds ++ Bytes id count ∷ []) held incoming kept (advance g id count)
+advanced_ahead setup w side e g ds held incoming kept id count h distinct there is =
+    record { order = order; is = ap (λ x. advance x id count) is ∙ ap (λ (x : EndpointHistory). record x { order = order }) (by_own (is_own side id) refl) }
   where
     f : EndpointHistory
     f = ahead e ds held incoming kept
@@ -105,31 +113,54 @@ advanced_ahead setup w side e ds held incoming kept id count h distinct there = 
     more : List Delivery
     more = ds ++ Bytes id count ∷ []
 
+    order : SendOrder
+    order = order_after f id count (stream_at f.outgoing id)
+
     own_is : is_own side id ≡ true → own_advanced (handed_own e.side e.own ds) e.side id count ≡ handed_own e.side e.own more
     own_is own = sym (own_taken e.side (handed_own e.side e.own ds) id count (ap (λ s. is_own s id) h.side_is ∙ own)) ∙ own_more e.side e.own ds (Bytes id count)
 
     off_is : is_own side id ≡ false → handed_own e.side e.own ds ≡ handed_own e.side e.own more
     off_is off = sym (message_untaken e.side (handed_own e.side e.own ds) id count (ap (λ s. is_own s id) h.side_is ∙ off)) ∙ own_more e.side e.own ds (Bytes id count)
 
-    by_own : (b : Bool) → is_own side id ≡ b → advance f id count ≡ ahead e more held incoming kept
+    by_own : (b : Bool) → is_own side id ≡ b → take_at f id count (stream_at f.outgoing id) ≡ ahead e more held incoming kept
     by_own true own =
         let none : stream_at e.outgoing id ≡ None = own_outgoing setup w side id e h own in
-        ap (advance_at f id count) (at_mapped ds e.outgoing id ∙ ap (option_map (further_taken ds id)) none)
+        ap (take_at f id count) (at_mapped ds e.outgoing id ∙ ap (option_map (further_taken ds id)) none)
         ∙ ap (λ o. record f { own = o }) (own_is own)
         ∙ ap (λ l. record f { own = handed_own e.side e.own more; outgoing = l }) (sym (missing_same e.outgoing ds id count none))
     by_own false off =
         let opened : is_open w side id ≡ true = Rattle.h3_memory.proofs.TextsOf.second_is (is_own side id) (is_open w side id) off there in
         let some = h.outgoing id ∙ ap (λ b. if b then Some (Rattle.h3_world.specs.Order.outgoing_of (Rattle.h3_world.specs.Streams.flow w side id)) else None) opened in
-        ap (advance_at f id count) (at_mapped ds e.outgoing id ∙ ap (option_map (further_taken ds id)) some)
+        ap (take_at f id count) (at_mapped ds e.outgoing id ∙ ap (option_map (further_taken ds id)) some)
         ∙ ap (λ l. record f { outgoing = l }) (set_more e.outgoing ds id count (Rattle.h3_world.specs.Order.outgoing_of (Rattle.h3_world.specs.Streams.flow w side id)) distinct some)
         ∙ ap (λ o. record f { own = o; outgoing = map (handed_stream more) e.outgoing }) (off_is off)
 
 -- or the end or the reset, of which it keeps nothing
-pub told_ahead : (e : EndpointHistory) (ds : List Delivery) (d : Delivery) (held : Held) (incoming : Streams Incoming) (kept : List Arrival) → ((q : ℕ) → bytes_in q (d ∷ []) ≡ 0)
-    → ahead e ds held incoming kept ≡ ahead e (ds ++ d ∷ []) held incoming kept
-told_ahead e ds d held incoming kept none =
-    ap (λ o. record (ahead e ds held incoming kept) { own = o }) (sym (Rattle.h3_memory.proofs.ReadingEnds.own_untaken e.side (handed_own e.side e.own ds) d (none (control_id e.side)) (none (encoder_id e.side)) (none (decoder_id e.side))) ∙ own_more e.side e.own ds d)
-    ∙ ap (λ l. record (ahead e ds held incoming kept) { own = handed_own e.side e.own (ds ++ d ∷ []); outgoing = l }) (sym (all_same e.outgoing ds d none))
+pub told_ahead : (e g : EndpointHistory) (ds : List Delivery) (d : Delivery) (held : Held) (incoming : Streams Incoming) (kept : List Arrival) → ((q : ℕ) → bytes_in q (d ∷ []) ≡ 0)
+    → g ≡ ahead e ds held incoming kept → LetsGo e (ds ++ d ∷ []) held incoming kept g
+told_ahead e g ds d held incoming kept none is =
+    record {
+      order = e.order;
+      is = is ∙ ap (λ o. record (ahead e ds held incoming kept) { own = o }) (sym (Rattle.h3_memory.proofs.ReadingEnds.own_untaken e.side (handed_own e.side e.own ds) d (none (control_id e.side)) (none (encoder_id e.side)) (none (decoder_id e.side))) ∙ own_more e.side e.own ds d)
+          ∙ ap (λ l. record (ahead e ds held incoming kept) { own = handed_own e.side e.own (ds ++ d ∷ []); outgoing = l }) (sym (all_same e.outgoing ds d none));
+    }
+
+-- both stand as before, whosever turn it is
+two_ordered : (setup : Setup) (w : World) (side : Side) (er ew : EndpointHistory) (order : SendOrder) → Two setup w side er ew → Two setup w side er (record ew { order = order })
+two_ordered setup w side er ew order t =
+    record {
+      both = record {
+        here = t.both.here;
+        there = stands_ordered setup w (other side) ew order t.both.there;
+        writes_here = t.both.writes_here;
+        writes_there = t.both.writes_there;
+        sends_here = t.both.sends_here;
+        sends_there = t.both.sends_there;
+      };
+      sound = t.sound;
+      few = t.few;
+      next_id = next_kept setup w side er ew er (record ew { order = order }) _ t refl refl refl;
+    }
 
 -- What comes first still does.
 first_still : (arrivals : List Arrival) (id : ℕ) (a : Arrival) → ComesFirst id arrivals → ComesFirst id (arrivals ++ a ∷ [])
@@ -139,12 +170,12 @@ first_still (b ∷ arrivals) id a first = first
 -- **The state with one more handed over, by what its writer is then.**
 pub hands_over : (setup : Setup) (w : World) (side : Side) (mine ds : List Delivery) (f g after : EndpointHistory) (arrivals : List Arrival) (d : Delivery) (a : Arrival) → (r : Reading setup w side mine ds f g arrivals)
     → MayAllBeRead setup w (other side) (came_behind (came_of w (other side)) ds) (closed_behind (is_closed w (other side)) ds) (d ∷ []) → IsNext (text_of setup w (other side)) (came_behind (came_of w (other side)) ds) d a
-    → after ≡ ahead r.ew (ds ++ d ∷ []) r.there.held r.there.incoming r.there.arrivals → Reading setup w side mine (ds ++ d ∷ []) f after (arrivals ++ a ∷ [])
-hands_over setup w side mine ds f g after arrivals d a r may next is =
+    → LetsGo r.ew (ds ++ d ∷ []) r.there.held r.there.incoming r.there.arrivals after → Reading setup w side mine (ds ++ d ∷ []) f after (arrivals ++ a ∷ [])
+hands_over setup w side mine ds f g after arrivals d a r may next gone =
     record {
       er = r.er;
-      ew = r.ew;
-      two = r.two;
+      ew = record r.ew { order = gone.order };
+      two = two_ordered setup w side r.er r.ew gone.order r.two;
       here = record {
         held = r.here.held;
         incoming = r.here.incoming;
@@ -160,7 +191,7 @@ hands_over setup w side mine ds f g after arrivals d a r may next is =
         held = r.there.held;
         incoming = r.there.incoming;
         arrivals = r.there.arrivals;
-        is = is;
+        is = gone.is;
         resumes = r.there.resumes;
         kept = r.there.kept;
         may = r.there.may;

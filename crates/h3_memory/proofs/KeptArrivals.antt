@@ -32,7 +32,7 @@ use Rattle.h3_memory.specs.Keeping.{AreKept, MayAllBeRead, StandsKeeping, ahead,
 use Rattle.h3_memory.proofs.CatchesUp.{ReadsAll, keeping_so, reads_all}
 use Rattle.h3_memory.proofs.Giving.{outgoing_before, outgoing_then, waits_then}
 use Rattle.h3_memory.proofs.GivingEnds.{all_came, before_of, both_are, ends_then, neither_of, not_it_is, resets_then, still_finished, still_reset}
-use Rattle.h3_memory.proofs.HandsOver.{advanced_ahead, hands_over, told_ahead}
+use Rattle.h3_memory.proofs.HandsOver.{LetsGo, advanced_ahead, hands_over, told_ahead}
 use Rattle.h3_memory.proofs.Judged.{Waits, refused_ahead}
 use Rattle.h3_memory.proofs.KeptLaws.{KeptLaws}
 use Rattle.h3_memory.proofs.KeptMore.{CaughtUp, IsNext, caught_up_is, refused_is}
@@ -102,7 +102,7 @@ module _ (qpack : KeptLaws) (laws : Laws) (setup : Setup) (w : World) (side : Si
 
   -- **It is kept, and a part of all is read.**
   kept_so : (d : Delivery) (a : Arrival) (gone after : EndpointHistory) → MayAllBeRead setup w s (came_behind (came_of w s) ds) (closed_behind (is_closed w s) ds) (d ∷ []) → IsNext (text_of setup w s) (came_behind (came_of w s) ds) d a
-      → gone ≡ ahead r.ew (ds ++ d ∷ []) r.there.held r.there.incoming r.there.arrivals → reading.ReadsPart (unkept f) (f.kept ++ a ∷ []) after → KeptSo setup w side mine ds d gone after
+      → LetsGo r.ew (ds ++ d ∷ []) r.there.held r.there.incoming r.there.arrivals gone → reading.ReadsPart (unkept f) (f.kept ++ a ∷ []) after → KeptSo setup w side mine ds d gone after
   kept_so d a gone after may next is part =
       let z = hands_over setup w side mine ds (unkept f) g gone f.kept d a r may next is in
       let p : PartRead setup w side mine (ds ++ d ∷ []) gone after = part_read_on qpack laws setup made frames w side mine (ds ++ d ∷ []) gone part z in
@@ -134,7 +134,7 @@ module _ (qpack : KeptLaws) (laws : Laws) (setup : Setup) (w : World) (side : Si
         kept = kept_so (Bytes id count) (BytesCame id (take count (bytes_waiting g id))) (advance g id count) after
             (before, sym (facts.closed id) ∙ goes, within (facts.came id) (facts.text id) (bytes_there setup W s id count caught.then_reads.two.sound there enough), tt)
             (refl, k.front count small ∙ ap (λ n. take count (drop n (text_of setup W s id))) (facts.came id) ∙ ap (λ l. take count (drop (came_behind (came_of w s) ds id) l)) (facts.text id))
-            (ap (λ x. advance x id count) r.there.is ∙ advanced_ahead setup w s r.ew ds r.there.held r.there.incoming r.there.arrivals id count r.two.both.there r.there.distinct before) part;
+            (advanced_ahead setup w s r.ew g ds r.there.held r.there.incoming r.there.arrivals id count r.two.both.there r.there.distinct before r.there.is) part;
       }
     where
       within : came_of W s id ≡ came_behind (came_of w s) ds id → text_of setup W s id ≡ text_of setup w s id → came_of W s id + count ≤ length (text_of setup W s id) → came_behind (came_of w s) ds id + count ≤ length (text_of setup w s id)
@@ -189,7 +189,7 @@ module _ (qpack : KeptLaws) (laws : Laws) (setup : Setup) (w : World) (side : Si
       }
 
   pub end_kept : (id : ℕ) (after : EndpointHistory) → EndOffered id → reading.ReadsPart (unkept f) (f.kept ++ EndCame id ∷ []) after → KeptSo setup w side mine ds (End id) g after
-  end_kept id after e part = kept_so (End id) (EndCame id) g after e.may refl (r.there.is ∙ told_ahead r.ew ds (End id) r.there.held r.there.incoming r.there.arrivals (λ q. refl)) part
+  end_kept id after e part = kept_so (End id) (EndCame id) g after e.may refl (told_ahead r.ew g ds (End id) r.there.held r.there.incoming r.there.arrivals (λ q. refl) r.there.is) part
 
   -- **The reset.**
   pub record ResetOffered (id : ℕ) : Type 0 where
@@ -212,4 +212,4 @@ module _ (qpack : KeptLaws) (laws : Laws) (setup : Setup) (w : World) (side : Si
       }
 
   pub reset_kept : (id : ℕ) (after : EndpointHistory) → ResetOffered id → reading.ReadsPart (unkept f) (f.kept ++ ResetCame id reset_code ∷ []) after → KeptSo setup w side mine ds (Reset id) g after
-  reset_kept id after e part = kept_so (Reset id) (ResetCame id reset_code) g after e.may (refl, refl) (r.there.is ∙ told_ahead r.ew ds (Reset id) r.there.held r.there.incoming r.there.arrivals (λ q. refl)) part
+  reset_kept id after e part = kept_so (Reset id) (ResetCame id reset_code) g after e.may (refl, refl) (told_ahead r.ew g ds (Reset id) r.there.held r.there.incoming r.there.arrivals (λ q. refl) r.there.is) part

@@ -74,15 +74,15 @@ end_next o w h = ap (λ b. b && (length (bytes_of w.pieces) == 0)) (end_waiting 
 
 -- Its FIN was taken.
 pub end_gone : (o : Outgoing) (w : OutgoingState) → IsOfOutgoing o w → IsOfOutgoing (record o { end_taken = true }) (has_end_taken w)
-end_gone o w h = record { pieces = h.pieces; place = h.place; content = h.content; is_finished = h.is_finished; is_reset = h.is_reset; end_taken = refl; taken = h.taken }
+end_gone o w h = record { pieces = h.pieces; place = h.place; content = h.content; is_finished = h.is_finished; is_reset = h.is_reset; end_taken = refl; precedence = h.precedence; taken = h.taken }
 
 -- The message is whole.
 pub ended : (o : Outgoing) (w : OutgoingState) → IsOfOutgoing o w → IsOfOutgoing (with_finish o) (has_ended w)
-ended o w h = record { pieces = h.pieces; place = h.place; content = refl; is_finished = refl; is_reset = h.is_reset; end_taken = h.end_taken; taken = h.taken }
+ended o w h = record { pieces = h.pieces; place = h.place; content = refl; is_finished = refl; is_reset = h.is_reset; end_taken = h.end_taken; precedence = h.precedence; taken = h.taken }
 
 -- Sending is cut off.
 pub cut_off : (o : Outgoing) (w : OutgoingState) → IsOfOutgoing o w → IsOfOutgoing (with_reset o) (was_cut_off w)
-cut_off o w h = record { pieces = refl; place = h.place; content = refl; is_finished = refl; is_reset = refl; end_taken = h.end_taken; taken = λ never. absurd (cc) }
+cut_off o w h = record { pieces = refl; place = h.place; content = refl; is_finished = refl; is_reset = refl; end_taken = h.end_taken; precedence = h.precedence; taken = λ never. absurd (cc) }
 
 -- Some bytes are taken.
 taken_by : (reset : Bool) (taken count : ℕ) (parts : List OwnPart) → without_front count (if reset then [] else without_front taken (map piece_of parts)) ≡ (if reset then [] else without_front (taken + count) (map piece_of parts))
@@ -103,6 +103,7 @@ advanced o w count h few =
       is_finished = h.is_finished;
       is_reset = h.is_reset;
       end_taken = h.end_taken;
+      precedence = h.precedence;
       taken = λ here. few_by o.is_reset o.taken count o.parts here (h.taken here) few;
     }
 
@@ -128,6 +129,7 @@ appended o w part at h here is =
       is_finished = h.is_finished;
       is_reset = h.is_reset;
       end_taken = h.end_taken;
+      precedence = h.precedence;
       taken = λ again. let all = flat_map-append written_part o.parts (part ∷ []) in
           omega (arith, h.taken again, ap length all, length-append (flat_map written_part o.parts) (flat_map written_part (part ∷ [])));
     }
@@ -141,6 +143,7 @@ said o w k h = record {
   is_finished = h.is_finished;
   is_reset = h.is_reset;
   end_taken = h.end_taken;
+  precedence = h.precedence;
   taken = h.taken;
 }
 
@@ -156,5 +159,6 @@ body_appended o w bytes h here is =
       is_finished = put.is_finished;
       is_reset = put.is_reset;
       end_taken = put.end_taken;
+      precedence = put.precedence;
       taken = put.taken;
     }

@@ -5,6 +5,7 @@ use Rattle.h3_messages.specs.declared.content.Content.{Content}
 use Rattle.h3_messages.specs.declared.content.Content.TheVariants.{Unsaid}
 use Rattle.h3_connection.specs.State.{OutgoingState}
 use Rattle.h3_connection.specs.WaitingPieces.{bytes_of, frame_piece, without_front}
+use Rattle.h3_connection.specs.declared.order.Precedence.{Precedence}
 use Rattle.h3_connection.specs.declared.place.SendPlace.{SendPlace}
 use Rattle.h3_connection.specs.declared.place.SendPlace.TheVariants.{NothingSent, HeadSent, TrailerSent}
 
@@ -64,6 +65,10 @@ is_end_next s = end_waits s && (length (bytes_of s.pieces) == 0)
 
 abbrev pub has_end_taken : OutgoingState → OutgoingState
 has_end_taken s = record s { end_taken = true }
+
+-- by this it goes before others from then on
+abbrev pub preceding : Precedence → OutgoingState → OutgoingState
+preceding precedence s = record s { precedence = precedence }
 
 -- the place of a message by its parts
 abbrev pub place : Bool → Bool → SendPlace

@@ -5,7 +5,7 @@ ghost use Rattle.h3_connection.specs.State.{nothing_waits};
 ghost use Rattle.h3_connection.specs.StrictSending.{early_trailer, passes_content};
 ghost use Rattle.h3_outgoing.specs.Copied.{Filled, put};
 ghost use Rattle.h3_outgoing.specs.Held.{AreApart, front_of, held, past_of};
-ghost use Rattle.h3_outgoing.specs.Sent.{has_section, has_body, is_to_have, has_ended, was_cut_off, taken_from, takes_head, takes_body, takes_end, is_sent_off, end_waits, is_end_next, has_end_taken};
+ghost use Rattle.h3_outgoing.specs.Sent.{has_section, has_body, is_to_have, has_ended, was_cut_off, taken_from, takes_head, takes_body, takes_end, is_sent_off, end_waits, is_end_next, has_end_taken, preceding};
 
 pub use crate::copying::{as_bytes, put_bytes, put_front};
 use crate::frame::Frame;
@@ -15,8 +15,10 @@ use crate::section::EncodedSection;
 use bytes::{Buf, Bytes};
 use h3_connection::arrival::MOST_HELD;
 use h3_connection::event::Malformation;
+use h3_connection::order::Precedence;
 use h3_connection::place::SendPlace;
 use h3_messages::Content;
+use h3_priority::priority::Priority;
 use std::alloc::{AllocError, Global};
 use std::marker::Model;
 
@@ -43,6 +45,7 @@ pub struct OutgoingStream {
     is_finished: bool,
     is_reset: bool,
     end_taken: bool,
+    precedence: Precedence,
 }
 
 impl Model for OutgoingStream {
@@ -57,6 +60,7 @@ impl Model for OutgoingStream {
       is_finished = s.is_finished;
       is_reset = s.is_reset;
       end_taken = s.end_taken;
+      precedence = s.precedence;
     } };
 }
 
@@ -72,6 +76,10 @@ impl OutgoingStream {
             is_finished: false,
             is_reset: false,
             end_taken: false,
+            precedence: Precedence {
+                priority: Priority::default(),
+                is_held: false,
+            },
         }
     }
 
@@ -347,6 +355,7 @@ impl OutgoingStream {
             is_finished: self.is_finished,
             is_reset: self.is_reset,
             end_taken: self.end_taken,
+            precedence: self.precedence,
         }
     }
 
@@ -358,6 +367,20 @@ impl OutgoingStream {
         let mut like = self.like(alloc);
         like.end_taken = true;
         like
+    }
+
+    /// What goes before it.
+    pub fn precedence(&self) -> Precedence
+        ensures { result ≡ self.now.precedence }
+    {
+        self.precedence
+    }
+
+    /// It goes before others by this from now on. It takes no memory.
+    pub fn set_precedence(&mut self, precedence: &Precedence)
+        ensures { self.new ≡ preceding precedence.now self.old }
+    {
+        self.precedence = *precedence;
     }
 
     /// The place in the message.

@@ -5,8 +5,7 @@ use Rattle.std.specs.Int.{bit_at, bit_not}
 use Rattle.std.proofs.lemmas.Bool.{cases_eq}
 use Rattle.std.proofs.lemmas.Grind.{common_steps}
 use Rattle.std.proofs.lemmas.Nat.Bits.{bit_at-zero, bit_at_set_same, bit_at_set_other, bit_at_clear_same, bit_at_clear_other}
-use Rattle.h3_requests.specs.Waiting.{is_in, HaveSameWords, IsOneWord}
-use Rattle.h3_requests.specs.Ready.{IsOneTest}
+use Rattle.h3_requests.specs.Waiting.{is_in, HaveSameWords, IsOneTest, IsOneWord}
 
 -- one bit of a word is this, and the others are as before
 abbrev IsOneBit : (word later place bit : ℕ) → Type 0

@@ -12,7 +12,10 @@ pub mod Sendable
 pub mod Received
 pub mod Ways
 pub mod Bits
+pub mod Classed
+pub mod Ordered
 pub mod WaitingWords
 pub mod LeastBit
 pub mod ReadingBodies
 pub mod Unblocked
+pub mod Unfinished

@@ -82,8 +82,8 @@ received_alike a b unread section body_left waits_for same =
 
 sent_alike : (a b : OutgoingState) → a.pieces ≡ [] → b.pieces ≡ [] → SendsAlike a b → a ≡ b
 sent_alike a b an bn same =
-    let left : a ≡ record { pieces = []; place = b.place; content = b.content; is_finished = b.is_finished; is_reset = b.is_reset; end_taken = b.end_taken } = rw (sym an, sym same.place, sym same.content, sym same.is_finished, sym same.is_reset, sym same.end_taken) refl in
-    let right : record { pieces = []; place = b.place; content = b.content; is_finished = b.is_finished; is_reset = b.is_reset; end_taken = b.end_taken } ≡ b = rw (sym bn) refl in
+    let left : a ≡ record { pieces = []; place = b.place; content = b.content; is_finished = b.is_finished; is_reset = b.is_reset; end_taken = b.end_taken; precedence = b.precedence } = rw (sym an, sym same.place, sym same.content, sym same.is_finished, sym same.is_reset, sym same.end_taken, sym same.precedence) refl in
+    let right : record { pieces = []; place = b.place; content = b.content; is_finished = b.is_finished; is_reset = b.is_reset; end_taken = b.end_taken; precedence = b.precedence } ≡ b = rw (sym bn) refl in
     left ∙ right
 
 -- Streams that are over alike are the same.
@@ -330,6 +330,11 @@ at_last : (ways : List Way) (r : Way) (n : ℕ) → n ≡ length ways → slice_
 at_last ways r n is =
     let within : n < length (ways ++ r ∷ []) = omega (arith, is, length-append ways (r ∷ [])) in
     slice_get-get_or (ways ++ r ∷ []) n r within ∙ ap (λ k. Some (get_or (ways ++ r ∷ []) k r)) is ∙ ap Some (get_or-append_seam ways r [] r)
+
+pub way_last : (ways : List Way) (r : Way) (n : ℕ) → n ≡ length ways + 1 → way_at (ways ++ r ∷ []) n ≡ Some r
+way_last ways r n is =
+    let up : n ≡ suc (length ways) = omega (arith, is) in
+    ap (way_at (ways ++ r ∷ [])) up ∙ behind (ways ++ r ∷ []) (length ways) ∙ at_last ways r (length ways) refl
 
 -- what is behind the ways is the last one
 grown_all : (P : Way → Type 0) (ways : List Way) (r : Way) → P r → (way : ℕ) → length ways < way → IfSome (way_at (ways ++ r ∷ []) way) P

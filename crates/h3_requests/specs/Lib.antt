@@ -2,8 +2,10 @@ pub mod Bounds
 pub mod Boxed
 pub mod Changing
 pub mod Counted
+pub mod Classes
 pub mod Waiting
 pub mod HasBytes
+pub mod Ordered
 pub mod Lending
 pub mod Lesser
 pub mod LesserLaws

@@ -84,6 +84,7 @@ pub record SendsAlike (a b : OutgoingState) : Type 0 where
   pub is_finished : a.is_finished ≡ b.is_finished
   pub is_reset : a.is_reset ≡ b.is_reset
   pub end_taken : a.end_taken ≡ b.end_taken
+  pub precedence : a.precedence ≡ b.precedence
 
 -- what a stream has but for the code of its reset
 abbrev pub without_code : Option StreamFault → Option StreamFault

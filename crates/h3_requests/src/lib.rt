@@ -3,6 +3,7 @@
 #![tactic(auto)]
 
 mod boxed;
+mod class;
 mod greatest;
 mod lesser;
 mod map;

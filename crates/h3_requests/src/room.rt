@@ -25,8 +25,13 @@ impl Model for SectionRoom {
 
 impl SectionRoom {
     // The room of a stream that is among these ids, and whose queue has a place.
-    pub(crate) fn of(id: StreamId, frame: FrameRoom, _ready: &ReadyStreams) -> SectionRoom
-        requires { is_listed _ready.now id ≡ true }
+    pub(crate) fn of(
+        class: u64,
+        id: StreamId,
+        frame: FrameRoom,
+        _ready: &ReadyStreams,
+    ) -> SectionRoom
+        requires { is_listed _ready.now class id ≡ true }
         ensures { result ≡ id }
     {
         SectionRoom { id, frame }

@@ -4,13 +4,16 @@ ghost use Rattle.std.specs.List.{concat};
 ghost use Rattle.h3_connection.specs.Calls.{fresh_request};
 ghost use Rattle.h3_connection.specs.Delivering.{kept};
 ghost use Rattle.h3_connection.specs.declared.event.StreamFault.TheVariants.{Reset};
+ghost use Rattle.h3_requests.specs.Classes.{class_at};
 ghost use Rattle.h3_requests.specs.Done.{is_done, is_sought};
 ghost use Rattle.h3_requests.specs.Unblocked.{is_unblocked};
 ghost use Rattle.h3_requests.specs.Over.{reset_with, with_end_taken, IsOver, ReceivesAlike, SendsAlike};
 
+use crate::class::class_of;
 use bytes::Bytes;
 use h3_connection::arrival::MOST_HELD;
 use h3_connection::event::StreamFault;
+use h3_connection::order::Precedence;
 use h3_connection::setup::Announced;
 use h3_incoming::IncomingStream;
 use h3_outgoing::OutgoingStream;
@@ -72,6 +75,15 @@ impl RequestStream {
         ensures { result.now ≡ self.now.outgoing }
     {
         &self.outgoing
+    }
+
+    // The class of what goes before what in which it stands.
+    #[inline(always)]
+    pub(crate) fn class(&self) -> u64
+        ensures value { result ≡ class_at (Some self.now) }
+        ensures few { result ≤ 16 }
+    {
+        class_of(&self.outgoing.precedence())
     }
 
     // Whether its end or its reset came: nothing more comes then.
@@ -220,4 +232,14 @@ fn sends_alike(stream: &OutgoingStream, other: &OutgoingStream) -> bool
         && stream.is_finished() == other.is_finished()
         && stream.is_reset() == other.is_reset()
         && stream.end_taken() == other.end_taken()
+        && precede_alike(&stream.precedence(), &other.precedence())
+}
+
+// Whether both go before the same.
+fn precede_alike(one: &Precedence, other: &Precedence) -> bool
+    ensures { result ≡ true → one.now ≡ other.now }
+{
+    one.priority.urgency() == other.priority.urgency()
+        && one.priority.is_incremental() == other.priority.is_incremental()
+        && one.is_held == other.is_held
 }

@@ -17,6 +17,7 @@ use std::marker::Model;
 mod answering;
 mod ending;
 mod judged;
+mod ordering;
 mod pulling;
 mod reading;
 mod receiving;
@@ -76,11 +77,12 @@ impl RequestStreams {
         ensures over { OnErr result (IfSome (kept_at self.old id) IsOver) }
         ensures err { OnErr result (self.new ≡ self.old) }
     {
+        let class = self.class(id);
         let Ok(before) = self.streams.open(alloc, id) else {
             return Err(AllocError);
         };
         self.blocked.replace(before, 0);
-        self.ready.leave(id);
+        self.ready.leave(class, id);
         self.seen = count_seen(&self.streams, self.seen);
         Ok(())
     }
@@ -104,9 +106,10 @@ impl RequestStreams {
     pub fn undo_open(&mut self, id: StreamId)
         ensures { TakesOut self.old self.new id }
     {
+        let class = self.class(id);
         let before = self.streams.remove(id);
         self.blocked.replace(before, 0);
-        self.ready.leave(id);
+        self.ready.leave(class, id);
         self.seen = self.seen.min(id.into_inner() / STEP);
     }
 }

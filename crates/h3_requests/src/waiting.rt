@@ -3,8 +3,8 @@ ghost use Rattle.std.specs.Prelude.{◌≡◌, ◌≢◌, ◌<◌, ◌≤◌, �
 ghost use Rattle.std.specs.Int.{bit_not, w64};
 ghost use Rattle.h3_connection.specs.NextWaiting.{IsLeast};
 ghost use Rattle.h3_requests.specs.FirstWord.{IsFirstWord};
-ghost use Rattle.h3_requests.specs.Waiting.{has_place, is_waiting, places_at, waiting_at, IsOneWord, HaveSameWords};
-ghost use Rattle.h3_requests.specs.Ready.{IsOneTest};
+ghost use Rattle.h3_requests.specs.Lesser.{lesser_of};
+ghost use Rattle.h3_requests.specs.Waiting.{has_place, is_any, is_waiting, places_at, waiting_at, word_at_number, IsClassFrom, IsFirstClass, IsOnePlace, IsOneWord, HaveSameWords, KeepsOtherPlaces, PutIf};
 
 use h3_proto::stream::StreamId;
 use std::alloc::{AllocError, Global};
@@ -27,19 +27,27 @@ const WORD: u64 = 64;
 /// So many words have the bits of all request streams.
 const WORDS: u64 = 1 << 54;
 
+/// The words of a class begin so far after those of the one before. As that is one more than a class has, the words of the same ids of
+/// different classes have places of their own in the row.
+const STRIDE: u64 = WORDS + 1;
+
+/// So many classes there are.
+const CLASSES: u64 = 17;
+
 /// The streams on which something waits, by a bit each in words of 64, and those that have a place. One that has a place is put in with no
-/// memory.
+/// memory. Each class has words of its own, after those of the class before.
 #[derive(Drop)]
 pub(crate) struct WaitingStreams {
-    // of each number the streams from 256 times that on, if one has a place or something waits on it
+    // of each number from that of its class on the streams from 256 times that on, if one has a place or something waits on it
     words: BoundedWords,
 }
 
-/// The number of the word in which a stream has its bit.
-fn word_of(stream: u64) -> u64
-    ensures { result ≡ stream / 256 }
+/// The number of the word in which a stream of a class has its bit.
+fn word_of(class: u64, stream: u64) -> u64
+    requires { class ≤ 16 }
+    ensures { result ≡ word_at_number class (stream / 256) }
 {
-    stream / (STEP * WORD)
+    class * STRIDE + stream / (STEP * WORD)
 }
 
 /// The stream's bit in its word.
@@ -47,6 +55,23 @@ fn bit_of(stream: u64) -> u64
     ensures { result ≡ 1 * 2 ^ (stream / 4 % 64) % 2 ^ 64 }
 {
     1 << (stream / STEP % WORD)
+}
+
+/// The lesser of two ids.
+fn earlier(one: Option<StreamId>, other: Option<StreamId>) -> Option<StreamId>
+    ensures { result ≡ lesser_of one other }
+{
+    match (one, other) {
+        (Some(first), Some(second)) => {
+            if second.into_inner() < first.into_inner() {
+                other
+            } else {
+                one
+            }
+        }
+        (Some(_), None) => one,
+        (None, _) => other,
+    }
 }
 
 /// The stream of a place in a word; none beyond the last stream id.
@@ -67,7 +92,7 @@ fn stream_at(number: u64, place: u64) -> Option<StreamId>
 impl WaitingStreams {
     /// No stream. It takes no memory.
     pub(crate) fn new(alloc: Global) -> WaitingStreams
-        ensures { (q : ℕ) → is_waiting result q ≡ false }
+        ensures { (class q : ℕ) → is_waiting result class q ≡ false }
     {
         WaitingStreams {
             words: BoundedWords::new(alloc),
@@ -75,27 +100,29 @@ impl WaitingStreams {
     }
 
     /// Whether a request stream has a place in a word that is found with no search.
-    pub(crate) fn has_near_place(&self, id: StreamId) -> bool
-        ensures { result ≡ true → has_place self.now id ≡ true }
+    pub(crate) fn has_near_place(&self, class: u64, id: StreamId) -> bool
+        requires { class ≤ 16 }
+        ensures { result ≡ true → has_place self.now class id ≡ true }
     {
         let number = id.into_inner();
-        let Some(word) = self.words.near(word_of(number)) else {
+        let Some(word) = self.words.near(word_of(class, number)) else {
             return false;
         };
         number % STEP == 0 && (word.places >> (number / STEP % WORD)) % 2 == 1
     }
 
     /// A place for a request stream, so that something can come to wait on it with no memory. On which it waits stays as it was.
-    pub(crate) fn reserve(&mut self, id: StreamId) -> Result<(), AllocError>
-        ensures placed { OnOk result (has_place self.new id ≡ true) }
-        ensures kept { (q : ℕ) → has_place self.old q ≡ true → has_place self.new q ≡ true }
-        ensures same { (q : ℕ) → is_waiting self.new q ≡ is_waiting self.old q }
+    pub(crate) fn reserve(&mut self, class: u64, id: StreamId) -> Result<(), AllocError>
+        requires { class ≤ 16 }
+        ensures placed { OnOk result (has_place self.new class id ≡ true) }
+        ensures kept { (c q : ℕ) → has_place self.old c q ≡ true → has_place self.new c q ≡ true }
+        ensures same { (c q : ℕ) → is_waiting self.new c q ≡ is_waiting self.old c q }
     {
         let number = id.into_inner();
         if number % STEP != 0 {
             return Err(AllocError);
         }
-        self.add_places(word_of(number), bit_of(number))
+        self.add_places(word_of(class, number), bit_of(number))
     }
 
     // Places are added to a word. (One that stands in the row is looked up once.)
@@ -135,13 +162,27 @@ impl WaitingStreams {
     }
 
     /// On a stream that has a place something waits from now on. It takes no memory.
-    pub(crate) fn put(&mut self, id: StreamId)
-        requires { has_place self.old id ≡ true }
-        ensures put { IsOneTest id true (is_waiting self.old) (is_waiting self.new) }
-        ensures places { (q : ℕ) → has_place self.new q ≡ has_place self.old q }
+    pub(crate) fn put(&mut self, class: u64, id: StreamId)
+        requires few { class ≤ 16 }
+        requires place { has_place self.old class id ≡ true }
+        ensures put { IsOnePlace class id true (is_waiting self.old) (is_waiting self.new) }
+        ensures places { (c q : ℕ) → has_place self.new c q ≡ has_place self.old c q }
     {
         let number = id.into_inner();
-        self.add_waiting(word_of(number), bit_of(number));
+        self.add_waiting(word_of(class, number), bit_of(number));
+    }
+
+    /// The same if it is to wait, and nothing else.
+    #[tactic(auto, using(crate::proofs::Classed::put_true, crate::proofs::Classed::put_false))]
+    pub(crate) fn put_if(&mut self, class: u64, id: StreamId, waits: bool)
+        requires few { class ≤ 16 }
+        requires place { waits ≡ true → has_place self.old class id ≡ true }
+        ensures put { PutIf class id waits (is_waiting self.old) (is_waiting self.new) }
+        ensures places { (c q : ℕ) → has_place self.new c q ≡ has_place self.old c q }
+    {
+        if waits {
+            self.put(class, id);
+        }
     }
 
     // Streams are added to a word that is there.
@@ -181,15 +222,16 @@ impl WaitingStreams {
     }
 
     /// Nothing waits on a stream any longer, and its place goes. It takes no memory.
-    pub(crate) fn take(&mut self, id: StreamId)
-        ensures taken { IsOneTest id false (is_waiting self.old) (is_waiting self.new) }
-        ensures places { (q : ℕ) → q ≢ id → has_place self.new q ≡ has_place self.old q }
+    pub(crate) fn take(&mut self, class: u64, id: StreamId)
+        requires { class ≤ 16 }
+        ensures taken { IsOnePlace class id false (is_waiting self.old) (is_waiting self.new) }
+        ensures places { KeepsOtherPlaces class id (has_place self.old) (has_place self.new) }
     {
         let number = id.into_inner();
         if number % STEP != 0 {
             return;
         }
-        self.take_bits(word_of(number), bit_of(number));
+        self.take_bits(word_of(class, number), bit_of(number));
     }
 
     // Takes bits out of a word.
@@ -229,36 +271,88 @@ impl WaitingStreams {
         );
     }
 
-    /// The first stream from this id on on which something waits. It takes no memory, and looks at 64 streams at once.
-    pub(crate) fn next(&self, from: u64) -> Option<StreamId>
-        ensures { IsLeast (is_waiting self.now) from result }
+    /// The first stream of a class from this id on on which something waits. It takes no memory, and looks at 64 streams at once.
+    pub(crate) fn next(&self, class: u64, from: u64) -> Option<StreamId>
+        requires { class ≤ 16 }
+        ensures { IsLeast (is_waiting self.now class) from result }
     {
         let Some(end) = from.checked_add(STEP - 1) else {
             return None;
         };
         let first = end / STEP;
         let number = first / WORD;
+        if number >= WORDS {
+            return None;
+        }
+        let base = class * STRIDE;
         let place = first % WORD;
-        let here = self.waiting_in(number) >> place;
+        let here = self.waiting_in(base + number) >> place;
         if here != 0 {
             return stream_at(number, place + here.trailing_zeros() as u64);
         }
-        let Some((number, word)) = self.next_word(number + 1) else {
+        let Some((later, word)) = self.next_word(base + (number + 1)) else {
             return None;
         };
-        stream_at(number, word.trailing_zeros() as u64)
+        stream_at(later - base, word.trailing_zeros() as u64)
+    }
+
+    /// The first stream of any class from this id on on which something waits. It takes no memory, and looks at 64 streams of a class at
+    /// once.
+    #[inline(never)]
+    pub(crate) fn next_of_any(&self, from: u64) -> Option<StreamId>
+        ensures { IsLeast (is_any (is_waiting self.now)) from result }
+    {
+        let mut first = None;
+        for class in 0..CLASSES {
+            first = earlier(first, self.next(class, from));
+        }
+        first
+    }
+
+    /// The first class in which something waits on a stream. It takes no memory.
+    pub(crate) fn first_class(&self) -> Option<u64>
+        ensures first { IsFirstClass (is_waiting self.now) result }
+        ensures few { IfSome result (λ class. class ≤ 16) }
+    {
+        let mut from = 0;
+        for passed in 0..CLASSES {
+            // (for the proof: each round passes a class)
+            prove!(passed <= from);
+            let Some(class) = self.class_from(from) else {
+                return None;
+            };
+            if self.next(class, 0).is_some() {
+                return Some(class);
+            }
+            from = class + 1;
+        }
+        None
+    }
+
+    // The class of the first word with something waiting, from that of a class on: nothing waits in the classes between. (One that is
+    // returned has something waiting, since no word after those of its ids is used: `first_class` asks.)
+    fn class_from(&self, from: u64) -> Option<u64>
+        requires { from ≤ 17 }
+        ensures { IsClassFrom (is_waiting self.now) from result }
+    {
+        let Some((number, _)) = self.next_word(from * STRIDE) else {
+            return None;
+        };
+        let class = number / STRIDE;
+        if class < CLASSES { Some(class) } else { None }
     }
 
     /// A stream has its place no longer. On which streams something waits stays as it was. It takes no memory.
-    pub(crate) fn release(&mut self, id: StreamId)
-        ensures same { (q : ℕ) → is_waiting self.new q ≡ is_waiting self.old q }
-        ensures places { (q : ℕ) → q ≢ id → has_place self.new q ≡ has_place self.old q }
+    pub(crate) fn release(&mut self, class: u64, id: StreamId)
+        requires { class ≤ 16 }
+        ensures same { (c q : ℕ) → is_waiting self.new c q ≡ is_waiting self.old c q }
+        ensures places { KeepsOtherPlaces class id (has_place self.old) (has_place self.new) }
     {
         let number = id.into_inner();
         if number % STEP != 0 {
             return;
         }
-        self.take_places(word_of(number), bit_of(number));
+        self.take_places(word_of(class, number), bit_of(number));
     }
 
     // Takes places out of a word.

@@ -29,7 +29,8 @@ use Rattle.h3_requests.specs.Greatest.{IsGreatest, IsOneOf}
 use Rattle.h3_connection.specs.FirstRequests.{count_below, first_pass}
 use Rattle.h3_requests.specs.HasBytes as stored
 use Rattle.h3_outgoing.specs.Sent as sent
-use Rattle.h3_connection.specs.Shutdown.{above_greatest, are_seen_below, bounded, first_above, first_unseen, goaway_below, goaway_once, greater, is_done, is_drained, is_named, is_rejected, is_rejected_by, is_rejected_in, last_taken, takes_no_more, ShowsFirstUnseen}
+use Rattle.h3_connection.specs.FirstAbove.{first_above, greater}
+use Rattle.h3_connection.specs.Shutdown.{above_greatest, are_seen_below, bounded, first_unseen, goaway_below, goaway_once, is_done, is_drained, is_named, is_rejected, is_rejected_by, is_rejected_in, last_taken, takes_no_more, ShowsFirstUnseen}
 use Rattle.h3_session.proofs.SendingCalls.{same_itself}
 use Rattle.h3_session.proofs.Taking.{found, request_waits}
 

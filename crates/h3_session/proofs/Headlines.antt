@@ -14,7 +14,6 @@ use Rattle.h3_world.specs.World.{World, empty_world}
 use Rattle.h3_headline.specs.Standing.{Stands}
 use Rattle.h3_memory.specs.Refused.{EndsRun}
 use Rattle.h3_memory.specs.Theorem.{RunsWithMemory}
-use Rattle.h3_faithful.specs.Faithful.{UntilFault}
 use Rattle.h3_session.specs.Acting.{RunsByCalls}
 use Rattle.h3_session.specs.Headlines.{RunsInKeepingWorld, RunsInWorld}
 use Rattle.h3_session.specs.Running.{RunsTo}
@@ -53,9 +52,9 @@ runs_in_keeping_world setup events answers client server law typed calls few =
     let run = calls_run (new_ends setup) events answers client server calls in
     record { ends = run.0; runs = law run.0 (few_are_sendable setup events typed few) run.1; client_stands = run.2; server_stands = run.3 }
 
--- **So each side gets what the other sent, in any setup, up to a fault of the connection.**
-pub gets_what_was_sent : (setup : Setup) (events : List Event) (answers : List Answer) (client server : EndpointState)
-    → ((ends : Ends) → AllByRecursion (IsSendable setup) events → EndsRun (new_ends setup) events answers ends → UntilFault setup events answers) → AllByRecursion IsTyped events
-    → RunsByCalls (new_ends setup) events answers client server → AreFew setup events → UntilFault setup events answers
-gets_what_was_sent setup events answers client server law typed calls few =
+-- **So what a run has, whatever memory is refused, these answers have.**
+pub of_runs : {P : Type 0} (setup : Setup) (events : List Event) (answers : List Answer) (client server : EndpointState)
+    → ((ends : Ends) → AllByRecursion (IsSendable setup) events → EndsRun (new_ends setup) events answers ends → P) → AllByRecursion IsTyped events
+    → RunsByCalls (new_ends setup) events answers client server → AreFew setup events → P
+of_runs setup events answers client server law typed calls few =
     let run = calls_run (new_ends setup) events answers client server calls in law run.0 (few_are_sendable setup events typed few) run.1

@@ -11,6 +11,8 @@ pub mod Draining
 pub mod Starting
 pub mod SectionsSent
 pub mod Endings
+pub mod Ordering
+pub mod OrderingCalls
 pub mod Held
 pub mod Inserting
 pub mod SendingSections

@@ -33,5 +33,6 @@ stands_unchanged s t e same h =
       last_goaway = same.rest.last_goaway ∙ h.last_goaway;
       kept = same.rest.kept ∙ h.kept;
       sent = same.rest.sent ∙ h.sent;
+      order = same.rest.order ∙ h.order;
       reached = h.reached;
     }

@@ -44,6 +44,7 @@ stands_requests s e new ins outs h received sent distinct keeps =
       last_goaway = h.last_goaway;
       kept = h.kept;
       sent = h.sent;
+      order = h.order;
       reached = record { unlearned = h.reached.unlearned; control = h.reached.control; encoder = h.reached.encoder; decoder = h.reached.decoder; told_control = h.reached.told_control; told_encoder = h.reached.told_encoder; told_decoder = h.reached.told_decoder; kept = keeps };
     }
 
@@ -78,7 +79,7 @@ stands_fresh s e new id x h is sets =
 
 -- what a stream is sent of which nothing was sent
 pub fresh_sent : IsOfOutgoing nothing_sent fresh_request.outgoing
-fresh_sent = record { pieces = refl; place = refl; content = refl; is_finished = refl; is_reset = refl; end_taken = refl; taken = λ is. omega arith }
+fresh_sent = record { pieces = refl; place = refl; content = refl; is_finished = refl; is_reset = refl; end_taken = refl; precedence = refl; taken = λ is. omega arith }
 
 -- Where none is stored, a stream is opened.
 pub stands_opened : (s : EndpointState) (e : EndpointHistory) (new : Streams RequestState) (id : ℕ) → StandsFor s e
@@ -129,6 +130,7 @@ stands_replied s e bytes replies h is =
       last_goaway = h.last_goaway;
       kept = h.kept;
       sent = h.sent;
+      order = h.order;
       reached = reached_same e (replied e replies) refl h.reached;
     }
 
@@ -155,6 +157,7 @@ stands_closed s e code h =
       last_goaway = h.last_goaway;
       kept = h.kept;
       sent = h.sent;
+      order = h.order;
       reached = reached_same e (record e { closed = Some code }) refl h.reached;
     }
 
@@ -187,5 +190,6 @@ stands_keeping s e kept h keeps =
       last_goaway = h.last_goaway;
       kept = refl;
       sent = h.sent;
+      order = h.order;
       reached = record { unlearned = h.reached.unlearned; control = h.reached.control; encoder = h.reached.encoder; decoder = h.reached.decoder; told_control = h.reached.told_control; told_encoder = h.reached.told_encoder; told_decoder = h.reached.told_decoder; kept = keeps };
     }

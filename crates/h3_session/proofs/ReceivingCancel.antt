@@ -75,6 +75,7 @@ nothing_changed s =
         last_goaway = refl;
         kept = refl;
         sent = refl;
+        order = refl;
         unidirectional = record { each = λ q. refl };
       };
       next_id = refl;
@@ -107,6 +108,7 @@ all_same s new bytes same is =
         last_goaway = refl;
         kept = refl;
         sent = refl;
+        order = refl;
         unidirectional = record { each = λ q. refl };
       };
       next_id = refl;

@@ -371,6 +371,7 @@ module _ (s : EndpointState) (opened : Streams RequestState) (a : Arrival) (f : 
       last_goaway = h.rest.last_goaway;
       kept = h.rest.kept;
       sent = h.rest.sent;
+      order = h.rest.order;
       unidirectional = record { each = h.rest.unidirectional.each };
     };
     next_id = h.next_id;

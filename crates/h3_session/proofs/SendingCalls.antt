@@ -42,6 +42,7 @@ same_rest s =
       last_goaway = refl;
       kept = refl;
       sent = refl;
+      order = refl;
       unidirectional = record { each = λ q. refl };
     }
 
@@ -165,7 +166,7 @@ opens s now new id view is sets same =
     subst (λ v. open_refused v ≡ None → Opens v (record s { requests = new; next_id = s.next_id + 4 }) (Ok id)) view (opens_here s new id here same) is
 
 -- a change of the sender's part of a stream that is there
-sends : (s : EndpointState) (new : Streams RequestState) (id : ℕ) (change : OutgoingState → OutgoingState) (act : Outgoing → Outgoing) (there : Option RequestState)
+pub sends : (s : EndpointState) (new : Streams RequestState) (id : ℕ) (change : OutgoingState → OutgoingState) (act : Outgoing → Outgoing) (there : Option RequestState)
     → ((o : Outgoing) (w : OutgoingState) → IsOfOutgoing o w → IsOfOutgoing (act o) (change w))
     → kept_at s.requests id ≡ there → there ≢ None
     → IfSome there (λ r. Sets s.requests new id (record r { outgoing = change r.outgoing }))

@@ -124,6 +124,7 @@ module _ (act : EndpointHistory → Option Refusal × EndpointHistory) (s : Endp
           last_goaway = is.rest.last_goaway;
           kept = is.rest.kept;
           sent = is.rest.sent;
+          order = is.rest.order;
           unidirectional = is.rest.unidirectional;
         };
         next_id = is.next_id;

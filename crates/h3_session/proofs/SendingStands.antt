@@ -24,7 +24,7 @@ use Rattle.h3_unidirectional.specs.OwnLaws.{goaway_stands, instructions_stand, t
 
 -- a stream on which nothing was sent
 fresh_sent : IsOfOutgoing nothing_sent nothing_waits
-fresh_sent = record { pieces = refl; place = refl; content = refl; is_finished = refl; is_reset = refl; end_taken = refl; taken = λ here. omega arith }
+fresh_sent = record { pieces = refl; place = refl; content = refl; is_finished = refl; is_reset = refl; end_taken = refl; precedence = refl; taken = λ here. omega arith }
 
 reached_opened : (e : EndpointHistory) (id : ℕ) → IsReached e → IsReached (opened_at e id None)
 reached_opened e id h =
@@ -65,6 +65,7 @@ opened_stands s e new h sets =
       last_goaway = h.last_goaway;
       kept = h.kept;
       sent = h.sent;
+      order = h.order;
       reached = reached_same (opened_at e e.next_id None) (record (opened_at e e.next_id None) { next_id = e.next_id + 4 }) refl (reached_opened e e.next_id h.reached);
     }
 
@@ -91,6 +92,7 @@ counted_stands s e cost h =
       last_goaway = h.last_goaway;
       kept = h.kept;
       sent = ap (λ n. n + cost + 64) h.sent;
+      order = h.order;
       reached = reached_same e (counted e cost) refl h.reached;
     }
 
@@ -119,6 +121,7 @@ goaway_stands_for s e id h =
       last_goaway = sym (last_appended e.own.goaways id);
       kept = h.kept;
       sent = h.sent;
+      order = h.order;
       reached = reached_same e (record e { own = record e.own { goaways = e.own.goaways ++ id ∷ [] } }) refl h.reached;
     }
 
@@ -158,6 +161,7 @@ own_taken_stands s e id count h fits =
       last_goaway = h.last_goaway ∙ sym (ap last_id (same_goaways e.own count (id == control_id e.side) (id == encoder_id e.side) (id == decoder_id e.side)));
       kept = h.kept;
       sent = h.sent;
+      order = h.order;
       reached = reached_same e f refl h.reached;
     }
 
@@ -194,6 +198,7 @@ encoding_stands s e encoding encoder is h stores unread unlearned =
       last_goaway = h.last_goaway;
       kept = h.kept;
       sent = h.sent;
+      order = h.order;
       reached = record {
         unlearned = unlearned;
         control = h.reached.control;

@@ -8,6 +8,7 @@ use Rattle.h3_connection.specs.declared.arrival.Arrival.{Arrival}
 use Rattle.h3_connection.specs.declared.setup.Announced.{Announced}
 use Rattle.h3_connection.specs.Endpoint.{new_endpoint}
 use Rattle.h3_connection.specs.KeptGoaways.{keeps_last, kept_peer}
+use Rattle.h3_connection.specs.Order.{no_order}
 use Rattle.h3_connection.specs.PeerReading.{nothing_read}
 use Rattle.h3_connection.specs.State.{EndpointState, IsReached, OwnStands, RequestState, StandsFor, TakesWhatIsThere}
 use Rattle.h3_connection.specs.StreamSets.{Streams}
@@ -45,6 +46,7 @@ stored side announced requests streams kept = record {
   last_goaway = None;
   kept = kept;
   sent = 0;
+  order = no_order;
 }
 
 -- nothing is kept of nothing
@@ -73,6 +75,7 @@ first_stands side announced = record {
   last_goaway = refl;
   kept = refl;
   sent = refl;
+  order = refl;
   reached = nothing_came side announced;
 }
 

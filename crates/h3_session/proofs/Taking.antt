@@ -21,8 +21,8 @@ use Rattle.h3_requests.specs.Limited.{AreReceivers}
 use Rattle.h3_connection.specs.Incoming.{Incoming}
 use Rattle.h3_connection.specs.Outgoing.{Outgoing, OwnPart, OwnInterim, OwnHead, OwnBody, OwnTrailer, part_bytes_waiting}
 use Rattle.h3_connection.specs.ReadingContracts.{IsSomeFront, LendsOutgoing, ShowsWaiting, ShowsHeads}
-use Rattle.h3_connection.specs.Sending.{advance, advance_at}
-use Rattle.h3_connection.specs.SendingContracts.{Advances}
+use Rattle.h3_connection.specs.Sending.{take_at}
+use Rattle.h3_session.specs.Turns.{TakesBytes}
 use Rattle.h3_connection.specs.StandsLaws.{stands_sending}
 use Rattle.h3_connection.specs.State.{EndpointState, RequestState, OutgoingState, StandsFor, IsOfOutgoing, SameAt, kept_at}
 use Rattle.h3_connection.specs.StreamSets.{Streams, stream_at}
@@ -68,46 +68,46 @@ few : (count most : ℕ) → min count most ≤ most
 few count most = omega arith
 
 advances_request_here : (s : EndpointState) (new : Streams RequestState) (id count : ℕ) (r : RequestState) → kept_at s.requests id ≡ Some r
-    → Sets s.requests new id (record r { outgoing = sent.taken_from r.outgoing (min count (length (bytes_of r.outgoing.pieces))) }) → Advances s (record s { requests = new }) id count
+    → Sets s.requests new id (record r { outgoing = sent.taken_from r.outgoing (min count (length (bytes_of r.outgoing.pieces))) }) → TakesBytes s (record s { requests = new }) id count
 advances_request_here s new id count r was sets e h =
     let kept : sender_in s id ≡ Some r.outgoing = ap (option_map (λ r. r.outgoing)) was in
     let f = found s e id r.outgoing h kept in
     let taken = min count (length (bytes_of r.outgoing.pieces)) in
     let same : taken ≡ min count (length (bytes_waiting e id)) = ap (λ bytes. min count (length bytes)) (request_waits s e id r.outgoing h kept) in
     let fits : taken ≤ length (part_bytes_waiting f.o) = subst (λ bytes. taken ≤ length bytes) (waits f.o r.outgoing f.is) (few count (length (bytes_of r.outgoing.pieces))) in
-    let here : StandsFor (record s { requests = new }) (advance_at e id taken (Some f.o))
+    let here : StandsFor (record s { requests = new }) (take_at e id taken (Some f.o))
     = stands_sending s e new id r (record r { outgoing = sent.taken_from r.outgoing taken }) (record f.o { taken = f.o.taken + taken }) h was refl (advanced f.o r.outgoing taken f.is fits) sets in
-    let there : StandsFor (record s { requests = new }) (advance e id taken) = subst (λ o. StandsFor (record s { requests = new }) (advance_at e id taken o)) (sym f.there) here in
-    subst (λ n. StandsFor (record s { requests = new }) (advance e id n)) same there
+    let there : StandsFor (record s { requests = new }) (take_at e id taken (stream_at e.outgoing id)) = subst (λ o. StandsFor (record s { requests = new }) (take_at e id taken o)) (sym f.there) here in
+    subst (λ n. StandsFor (record s { requests = new }) (take_at e id n (stream_at e.outgoing id))) same there
 
 advances_there : (s : EndpointState) (new : Streams RequestState) (id count : ℕ) (there : Option RequestState) → kept_at s.requests id ≡ there → is_some there ≡ true
     → IfSome there (λ r. Sets s.requests new id (record r { outgoing = sent.taken_from r.outgoing (min count (length (bytes_of r.outgoing.pieces))) }))
-    → Advances s (record s { requests = new }) id count
+    → TakesBytes s (record s { requests = new }) id count
 advances_there s new id count None was some sets = absurd (cc)
 advances_there s new id count (Some r) was some sets = advances_request_here s new id count r was sets
 
 pub advances_request : (s now : EndpointState) (new : Streams RequestState) (id count : ℕ) → s ≡ now → is_some (kept_at s.requests id) ≡ true
     → IfSome (kept_at s.requests id) (λ r. Sets s.requests new id (record r { outgoing = sent.taken_from r.outgoing (min count (length (bytes_of r.outgoing.pieces))) }))
-    → Advances now (record s { requests = new }) id count
+    → TakesBytes now (record s { requests = new }) id count
 advances_request s now new id count view some sets =
-    subst (λ v. Advances v (record s { requests = new }) id count) view (advances_there s new id count (kept_at s.requests id) refl some sets)
+    subst (λ v. TakesBytes v (record s { requests = new }) id count) view (advances_there s new id count (kept_at s.requests id) refl some sets)
 
 advances_own_here : (s : EndpointState) (id count taken : ℕ) → taken ≡ min count (length (waiting_on s.own s.side id)) → sender_in s id ≡ None
-    → Advances s (record s { own = having_taken s.own s.side id taken }) id count
+    → TakesBytes s (record s { own = having_taken s.own s.side id taken }) id count
 advances_own_here s id count taken is was e h =
     let same : taken ≡ min count (length (bytes_waiting e id)) = is ∙ ap (λ bytes. min count (length bytes)) (own_waits s e id h was) in
     let fits : taken ≤ length (waiting_on s.own s.side id) = subst (λ n. n ≤ length (waiting_on s.own s.side id)) (sym is) (few count (length (waiting_on s.own s.side id))) in
     let new = record s { own = having_taken s.own s.side id taken } in
-    let here : StandsFor new (advance_at e id taken None) = own_taken_stands s e id taken h fits in
-    let there : StandsFor new (advance e id taken) = subst (λ o. StandsFor new (advance_at e id taken o)) (sym (not_found s e id h was)) here in
-    subst (λ n. StandsFor new (advance e id n)) same there
+    let here : StandsFor new (take_at e id taken None) = own_taken_stands s e id taken h fits in
+    let there : StandsFor new (take_at e id taken (stream_at e.outgoing id)) = subst (λ o. StandsFor new (take_at e id taken o)) (sym (not_found s e id h was)) here in
+    subst (λ n. StandsFor new (take_at e id n (stream_at e.outgoing id))) same there
 
 pub advances_own : (s now : EndpointState) (x : StreamsState) (id count taken : ℕ) → s ≡ now → taken ≡ min count (length (waiting_on now.own now.side id)) → sender_in now id ≡ None
-    → x ≡ record (streams_of s) { own = having_taken s.own s.side id taken } → Advances now (placed s x) id count
+    → x ≡ record (streams_of s) { own = having_taken s.own s.side id taken } → TakesBytes now (placed s x) id count
 advances_own s now x id count taken view is was same =
     let new = record s { own = having_taken s.own s.side id taken } in
-    subst (λ y. Advances now (placed s y) id count) (sym same)
-    (subst (λ v. taken ≡ min count (length (waiting_on v.own v.side id)) → sender_in v id ≡ None → Advances v new id count) view (advances_own_here s id count taken) is was)
+    subst (λ y. TakesBytes now (placed s y) id count) (sym same)
+    (subst (λ v. taken ≡ min count (length (waiting_on v.own v.side id)) → sender_in v id ≡ None → TakesBytes v new id count) view (advances_own_here s id count taken) is was)
 
 -- `outgoing`: each piece that waits has bytes
 abbrev HasBytes : Piece → Type 0

@@ -17,6 +17,7 @@ pub mod Running
 pub mod Acting
 pub mod Copied
 pub mod Held
+pub mod Turns
 pub mod Typed
 pub mod Headlines
 pub mod Messages

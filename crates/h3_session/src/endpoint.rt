@@ -8,6 +8,7 @@ ghost use Rattle.h3_connection.specs.State.{StandsFor};
 
 use h3_coding::varint::VarInt;
 use h3_connection::arrival::Arrival;
+use h3_connection::order::SendOrder;
 use h3_connection::setup::{Announced, Limits, NewError};
 use h3_proto::config::Config;
 use h3_proto::error::Code;
@@ -30,6 +31,7 @@ mod lacking;
 mod lists;
 mod next;
 mod opening;
+mod ordering;
 mod pulling;
 mod reading;
 mod receiving;
@@ -58,6 +60,7 @@ pub struct Endpoint {
     last_goaway: Option<VarInt>,
     kept: VecDeque<Arrival>,
     sent: u64,
+    order: SendOrder,
     // a section is written in it: what it has says nothing, and a contract does not see it
     block: Vec<u8>,
 }
@@ -84,6 +87,7 @@ impl Model for Endpoint {
       last_goaway = e.last_goaway;
       kept = e.kept.items;
       sent = e.sent;
+      order = e.order;
     } };
 }
 
@@ -133,6 +137,12 @@ impl Endpoint {
             last_goaway: None,
             kept: VecDeque::new(alloc),
             sent: 0,
+            order: SendOrder {
+                rounds: None,
+                control_is_held: false,
+                encoder_is_held: false,
+                decoder_is_held: false,
+            },
             block: Vec::new(alloc),
         })
     }

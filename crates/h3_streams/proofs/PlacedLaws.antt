@@ -98,6 +98,7 @@ stands_with s x y e f h k =
       last_goaway = h.last_goaway;
       kept = h.kept;
       sent = h.sent;
+      order = h.order;
       reached = record { unlearned = k.unlearned; control = k.no_control; encoder = k.no_encoder; decoder = k.no_decoder; told_control = k.told_control; told_encoder = k.told_encoder; told_decoder = k.told_decoder; kept = h.reached.kept };
     }
 

@@ -1,6 +1,6 @@
 -- Each call of a sender, and a cancellation, beside the same without strict messages.
 use Rattle.std.proofs.Common.{◌≡◌, ℕ, ◌+◌, Bool, true, false, if◌then◌else◌, List, [], ◌∷◌, ◌++◌, length, refl, ap, sym, ◌∙◌, subst, Option, Some, None, inl, inr}
-use Rattle.std.specs.Prelude.{not, ◌||◌, is_some, option_map, unwrap_or}
+use Rattle.std.specs.Prelude.{not, ◌||◌, ◌-◌, ◌^◌, is_some, min, option_map, unwrap_or}
 use Rattle.h3_field.specs.Field.{Field, section_size}
 use Rattle.h3_header.specs.Head.{Head, head_fields, has_pseudo}
 use Rattle.h3_messages.specs.Content.{may_end}
@@ -12,12 +12,13 @@ use Rattle.h3_connection.specs.OwnIds.{other}
 use Rattle.h3_connection.specs.Pulling.{is_for}
 use Rattle.h3_connection.specs.Delivering.{incoming_at, opened_at, given_up_by, give_up}
 use Rattle.h3_connection.specs.Endpoint.{EndpointHistory, is_critical_id}
+use Rattle.h3_connection.specs.FirstAbove.{first_above}
 use Rattle.h3_connection.specs.Incoming.{Incoming, nothing_came, having_told}
 use Rattle.h3_connection.specs.Outgoing.{Outgoing, OwnPart, nothing_sent, takes_head, takes_body, takes_end, is_sent_off, with_body, with_finish, with_reset, with_said}
 use Rattle.h3_connection.specs.Outgoing.OwnPart.{OwnTrailer}
 use Rattle.h3_connection.specs.Sections.{written_section}
 use Rattle.h3_connection.specs.Refusals.{first_of, is_too_large, unless_going}
-use Rattle.h3_connection.specs.Sending.{closed_or, open_refusal, open_request, body_refusal, finish_refusal, reset_refusal, goaway_refusal, goaway, cancel_refusal, cancel, send_head, send_body, send_trailer, finish, reset, sent_bytes, counted, encoded, appended, head_part, fields_cost, outgoing_at, asked, content_of_own, known_of, saying_at, advance_at, advance, does, broken_head_at, telling_at}
+use Rattle.h3_connection.specs.Sending.{closed_or, open_refusal, open_request, body_refusal, finish_refusal, reset_refusal, goaway_refusal, goaway, cancel_refusal, cancel, send_head, send_body, send_trailer, finish, reset, sent_bytes, counted, encoded, appended, head_part, fields_cost, outgoing_at, asked, content_of_own, known_of, saying_at, advance_at, advance, does, broken_head_at, telling_at, turned}
 use Rattle.h3_connection.specs.StreamSets.{Streams, stream_at, set_stream}
 use Rattle.h3_connection.specs.StrictConnection.{begins_none_after}
 use Rattle.h3_connection.specs.StrictMessages.{malformation_by}
@@ -27,6 +28,7 @@ use Rattle.h3_connection.specs.declared.event.Malformation.TheVariants as malfor
 use Rattle.h3_connection.specs.declared.event.Refusal.{Refusal}
 use Rattle.h3_connection.specs.declared.event.Refusal.TheVariants as refusal
 use Rattle.h3_connection.specs.declared.event.StreamFault.{StreamFault}
+use Rattle.h3_connection.specs.declared.order.SendOrder.{SendOrder}
 use Rattle.h3_connection.specs.declared.event.StreamFault.TheVariants as stream_fault
 use Rattle.h3_header.specs.Reads.{head_of_fields}
 use Rattle.h3_world.specs.EndLists.{after_trailer_fields, send_fields, send_trailer_fields}
@@ -39,7 +41,7 @@ use Rattle.h3_connection.specs.declared.setup.Announced.{Announced}
 use Rattle.h3_strict.specs.Plainly.{each_stream, plain, plain_incoming, plain_outgoing, plainly}
 use Rattle.h3_strict.specs.PlainAlike.{Agrees, RulesPlainly}
 use Rattle.h3_strict.proofs.PlainCalls.{AcceptsOrLarge, CallsPlainly, behind, if_broken, unless_broken, if_open, does_plainly}
-use Rattle.h3_strict.proofs.PlainStreams.{at_each, set_each, set_alike, in_at, out_at}
+use Rattle.h3_strict.proofs.PlainStreams.{above_each, at_each, set_each, set_alike, in_at, out_at}
 
 -- one sender changes
 sets_out : (e : EndpointHistory) (id : ℕ) (g : Outgoing → Outgoing) → ((o : Outgoing) → plain_outgoing (g o) ≡ g (plain_outgoing o))
@@ -317,7 +319,10 @@ module _ (e : EndpointHistory) (id : ℕ) where
   -- some bytes were taken
   advances_by : (count : ℕ) (o : Option Outgoing) → advance_at (plainly e) id count (option_map plain_outgoing o) ≡ plainly (advance_at e id count o)
   advances_by count None = refl
-  advances_by count (Some o) = ap (λ (t : Streams Outgoing). record (plainly e) { outgoing = t }) (set_each plain_outgoing e.outgoing id (record o { taken = o.taken + count }))
+  advances_by count (Some o) =
+      let turn : ℕ → SendOrder = λ n. turned e.order id count o (min n (2 ^ 64 - 1)) in
+      ap (λ n. record (plainly e) { outgoing = set_stream (plainly e).outgoing id (plain_outgoing (record o { taken = o.taken + count })); order = turn n }) (above_each plain_incoming e.incoming)
+      ∙ ap (λ (t : Streams Outgoing). record (plainly e) { outgoing = t; order = turn (first_above e.incoming) }) (set_each plain_outgoing e.outgoing id (record o { taken = o.taken + count }))
 
   pub advances_plainly : (count : ℕ) → advance (plainly e) id count ≡ plainly (advance e id count)
   advances_plainly count = ap (advance_at (plainly e) id count) (at_each plain_outgoing e.outgoing id) ∙ advances_by count sent

@@ -6,6 +6,7 @@ use Rattle.std.proofs.lemmas.Grind.{common_steps}
 use Rattle.std.proofs.lemmas.List.Sums.{sum_by-cons}
 use Rattle.h3_connection.specs.Delivering.{incoming_at}
 use Rattle.h3_connection.specs.Endpoint.{EndpointHistory}
+use Rattle.h3_connection.specs.FirstAbove.{first_above, greater}
 use Rattle.h3_connection.specs.Incoming.{Incoming, nothing_came}
 use Rattle.h3_connection.specs.Outgoing.{Outgoing, nothing_sent}
 use Rattle.h3_connection.specs.Sending.{outgoing_at}
@@ -30,6 +31,11 @@ set_each f [] id x = refl
 set_each f ((q, y) ∷ streams) id x =
     ap (λ l. if q == id then (id, f x) ∷ each_stream f streams else (q, f y) ∷ l) (set_each f streams id x)
     ∙ each_if f (q == id) ((id, x) ∷ streams) ((q, y) ∷ set_stream streams id x)
+
+-- the same id is above all of them
+pub above_each : {X : Type 0} (f : X → X) (streams : Streams X) → first_above (each_stream f streams) ≡ first_above streams
+above_each f [] = refl
+above_each f ((q, x) ∷ streams) = ap (greater (q + 4)) (above_each f streams)
 
 -- a stream that is set to one that is the same but for that
 pub set_alike : {X : Type 0} (f : X → X) (streams : Streams X) (id : ℕ) (x y : X) → stream_at streams id ≡ Some x → f y ≡ f x → each_stream f (set_stream streams id y) ≡ each_stream f streams

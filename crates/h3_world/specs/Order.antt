@@ -1,6 +1,7 @@
 -- Where a message is (RFC 9114, section 4.1), at its sender and at its receiver.
 use Rattle.std.specs.Prelude.{◌-◌, ◌==◌, Bool, true, false, not, ◌&&◌, ◌||◌, List, [], ◌∷◌, flat_map, nat_lt, slice_get, Option, Some, None}
 use Rattle.h3_messages.specs.declared.content.Content.TheVariants.{Unsaid}
+use Rattle.h3_connection.specs.Order.{default_precedence}
 use Rattle.h3_connection.specs.Outgoing.{Outgoing}
 use Rattle.h3_world.specs.Flow.{Flow, Part, Section, own_part, bytes_waiting}
 use Rattle.h3_world.specs.Flow.Part.{Interim, Head, Trailer, End}
@@ -21,7 +22,7 @@ is_finished f = not f.is_reset && is_end (last_part f.sent)
 -- The flow as an endpoint has it that sends it: its rules say which part may come next. No event of a schedule says that a FIN was taken. It
 -- counts no content, as an endpoint that judges plainly.
 abbrev pub outgoing_of : Flow → Outgoing
-outgoing_of f = record { parts = flat_map own_part f.sent; taken = f.delivered; content = Unsaid; is_finished = is_finished f; is_reset = f.is_reset; end_taken = false }
+outgoing_of f = record { parts = flat_map own_part f.sent; taken = f.delivered; content = Unsaid; is_finished = is_finished f; is_reset = f.is_reset; end_taken = false; precedence = default_precedence }
 
 -- reset before, or finished and handed over whole
 abbrev pub is_sent_off : Flow → Bool

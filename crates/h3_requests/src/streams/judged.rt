@@ -45,10 +45,11 @@ impl RequestStreams {
         let Ok(frame) = stream.outgoing.reserve() else {
             return Err(Refusal::OutOfMemory);
         };
-        let Ok(()) = self.ready.reserve_both(id) else {
+        let class = stream.class();
+        let Ok(()) = self.ready.reserve_both(class, id) else {
             return Err(Refusal::OutOfMemory);
         };
-        Ok(SectionRoom::of(id, frame, &self.ready))
+        Ok(SectionRoom::of(class, id, frame, &self.ready))
     }
 
     // RFC 9114 4.1: a trailer section in its place, sent
@@ -81,10 +82,11 @@ impl RequestStreams {
         let Ok(frame) = stream.outgoing.reserve() else {
             return Err(Refusal::OutOfMemory);
         };
-        let Ok(()) = self.ready.reserve(id) else {
+        let class = stream.class();
+        let Ok(()) = self.ready.reserve(class, id) else {
             return Err(Refusal::OutOfMemory);
         };
-        Ok(SectionRoom::of(id, frame, &self.ready))
+        Ok(SectionRoom::of(class, id, frame, &self.ready))
     }
 
     // RFC 9114 4.1: a body in its place, sent
@@ -110,13 +112,14 @@ impl RequestStreams {
         if !body.has_remaining() {
             return Ok(());
         }
-        let Ok(()) = self.ready.reserve(id) else {
+        let class = stream.class();
+        let Ok(()) = self.ready.reserve(class, id) else {
             return Err((Refusal::OutOfMemory, body));
         };
         if let Err(body) = stream.outgoing.send_body(body) {
             return Err((Refusal::OutOfMemory, body));
         }
-        self.ready.settle(id, stream.outgoing.waiting() > 0);
+        self.ready.settle(class, id, stream.outgoing.waiting() > 0);
         Ok(())
     }
 
@@ -140,14 +143,15 @@ impl RequestStreams {
         if len == 0 {
             return Ok(());
         }
-        let Ok(()) = self.ready.reserve(id) else {
+        let class = stream.class();
+        let Ok(()) = self.ready.reserve(class, id) else {
             return Err(Refusal::OutOfMemory);
         };
         let Ok(()) = stream.outgoing.send_body_of(len) else {
             return Err(Refusal::OutOfMemory);
         };
         let waits = stream.outgoing.waiting() > 0;
-        self.ready.settle(id, waits);
+        self.ready.settle(class, id, waits);
         Ok(())
     }
 
@@ -169,10 +173,11 @@ impl RequestStreams {
         if !stream.outgoing.content().may_end() {
             return Err(Refusal::Malformed(Malformation::ContentLength));
         }
+        let class = stream.class();
         stream.outgoing.finish();
         let ends = stream.outgoing.end_waits();
         let is_over = stream.is_over();
-        self.ready.settle_end(id, ends);
+        self.ready.settle_end(class, id, ends);
         self.streams.retire_if(id, is_over);
         Ok(())
     }
@@ -191,9 +196,10 @@ impl RequestStreams {
         if stream.outgoing.is_sent_off() {
             return Err(Refusal::Ended);
         }
+        let class = stream.class();
         stream.outgoing.reset();
         let is_over = stream.is_over();
-        self.ready.leave(id);
+        self.ready.leave(class, id);
         self.streams.retire_if(id, is_over);
         Ok(())
     }

@@ -32,13 +32,14 @@ impl RequestStreams {
         let Some(stream) = self.streams.get_mut(id) else {
             return Err(section);
         };
-        let Ok(()) = self.ready.reserve_both(id) else {
+        let class = stream.class();
+        let Ok(()) = self.ready.reserve_both(class, id) else {
             return Err(section);
         };
         if let Err(section) = stream.outgoing.send_section(frame, section, place) {
             return Err(section);
         }
-        self.ready.settle(id, stream.outgoing.waiting() > 0);
+        self.ready.settle(class, id, stream.outgoing.waiting() > 0);
         Ok(())
     }
 
@@ -52,11 +53,12 @@ impl RequestStreams {
         let Some(stream) = self.streams.get_mut(id) else {
             return self.streams.is_over(id);
         };
+        let class = stream.class();
         let waiting = stream.outgoing.waiting();
         stream.outgoing.advance(count.min(waiting));
         let left = stream.outgoing.waiting();
         let is_over = stream.is_over();
-        self.ready.settle_rest(id, left > 0);
+        self.ready.settle_rest(class, id, left > 0);
         self.streams.retire_if(id, is_over);
         true
     }
@@ -77,16 +79,18 @@ impl RequestStreams {
         ensures same { result ≡ false → AllSame self.old self.new }
     {
         let Some(stream) = self.streams.get_mut(id) else {
+            let class = self.class(id);
             if !self.streams.take_end(id) {
                 return false;
             }
-            self.ready.settle_end(id, false);
+            self.ready.settle_end(class, id, false);
             return true;
         };
+        let class = stream.class();
         if !stream.outgoing.take_end() {
             return false;
         }
-        self.ready.settle_end(id, false);
+        self.ready.settle_end(class, id, false);
         true
     }
 

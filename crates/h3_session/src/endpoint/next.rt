@@ -78,7 +78,7 @@ pub(super) fn earlier(one: Option<StreamId>, other: Option<StreamId>) -> Option<
 }
 
 /// The id of the local control stream. Those of the encoder and decoder streams are four and eight more.
-fn control_id(side: Side) -> u64
+pub(super) fn control_id(side: Side) -> u64
     ensures { result ≡ control_id side }
 {
     match side {

@@ -14,6 +14,7 @@ ghost use Rattle.h3_outgoing.specs.Sent.{has_body, has_ended, was_cut_off};
 ghost use Rattle.h3_requests.specs.Refused.{data_refused_at, end_refused_at, reset_refused_at};
 ghost use Rattle.h3_session.specs.Held.{HoldsNone, LendsFront, SendsBodyOf};
 ghost use Rattle.h3_session.specs.NextRequest.{ShowsNextRequest};
+ghost use Rattle.h3_session.specs.Turns.{TakesBytes};
 ghost use Rattle.h3_session.specs.Refused.{sender_in, critical_refused, goaway_refused, open_refused};
 
 use super::Endpoint;
@@ -264,9 +265,17 @@ impl Endpoint {
         None
     }
 
-    /// Takes the first bytes that wait on a stream, at most all. It takes no memory.
+    /// Takes the first bytes that wait on a stream, at most all. Its turn is over then (`next_by_priority`). It takes no memory.
     pub fn advance(&mut self, id: StreamId, count: usize)
         ensures { Advances self.old self.new id count }
+    {
+        self.end_turn(id, count);
+        self.take_bytes(id, count);
+    }
+
+    // Takes these bytes, and ends no turn.
+    fn take_bytes(&mut self, id: StreamId, count: usize)
+        ensures { TakesBytes self.old self.new id count }
     {
         if self.advance_request(id, count) {
             return;
@@ -276,7 +285,7 @@ impl Endpoint {
 
     // Takes the first bytes that wait on a request stream, and answers whether that is there, with one look-up.
     fn advance_request(&mut self, id: StreamId, count: usize) -> bool
-        ensures there { result ≡ true → Advances self.old self.new id count }
+        ensures there { result ≡ true → TakesBytes self.old self.new id count }
         ensures absent { result ≡ false → sender_in self.old id ≡ None }
         ensures none { result ≡ false → self.new ≡ self.old }
     {
@@ -285,7 +294,7 @@ impl Endpoint {
 
     fn advance_own(&mut self, id: StreamId, count: usize)
         requires { sender_in self.old id ≡ None }
-        ensures { Advances self.old self.new id count }
+        ensures { TakesBytes self.old self.new id count }
     {
         let waiting = self.own_outgoing(id).len();
         take_own(&mut self.streams, self.side, id, count.min(waiting));

@@ -2,9 +2,10 @@ use Rattle.h3_faithful.proofs.Accounts.{MemoryMoves}
 use Rattle.h3_faithful.proofs.Joined.{until_fault}
 use Rattle.h3_faithful.proofs.Runs.{RunLaws, fault_free, runs_until_fault}
 use Rattle.h3_faithful.proofs.SoundSteps.{SoundLaws}
+use Rattle.h3_faithful.proofs.UntilMemory.{AlikeLaws, no_fault_at_all, no_fault_until_kept}
 use Rattle.h3_faithful.proofs.laws.each_side_gets_what_the_other_sent.Goals as goal
 
-sound_laws : goal.After-sides_that_judge_plainly_count_nothing → SoundLaws
+sound_laws : goal.After-ends_stand_where_a_section_was_cut_off → SoundLaws
 sound_laws c =
     record {
       each = c.each_step_keeps_worlds_sound.ensures.sound;
@@ -12,7 +13,7 @@ sound_laws c =
       behind = c.a_side_gives_a_stream_up.ensures.behind;
     }
 
-moves : goal.After-sides_that_judge_plainly_count_nothing → MemoryMoves
+moves : goal.After-ends_stand_where_a_section_was_cut_off → MemoryMoves
 moves c =
     record {
       begins = c.each_step_moves_messages.ensures.begins;
@@ -24,7 +25,7 @@ moves c =
       sound = sound_laws c;
     }
 
-laws : goal.After-sides_that_judge_plainly_count_nothing → RunLaws
+laws : goal.After-ends_stand_where_a_section_was_cut_off → RunLaws
 laws c =
     record {
       steps = record {
@@ -69,4 +70,17 @@ returns-clause-fault_free c = λ setup events answers ends made sendable run fre
     record {
       until_fault = until_fault (moves c) c.ordered_sends_are_accepted.ensures.step c.with_all_delivered_pauses_are_at_the_end.ensures setup events answers sendable (runs_until_fault (laws c) setup made events answers ends sendable run);
       no_connection_fault = λ alike. fault_free (laws c) setup made events answers ends sendable run free;
+    }
+
+alike_laws : goal.After-ends_stand_where_a_section_was_cut_off → AlikeLaws
+alike_laws c = record { strict = c.endpoints_that_judge_alike_find_no_fault.ensures.strict; loose = c.endpoints_that_judge_alike_find_no_fault.ensures.loose; cuts = c.ends_stand_where_a_section_was_cut_off.ensures }
+
+pub returns-clause-until_kept : goal.returns-clause-until_kept
+returns-clause-until_kept c = λ setup events answers ends made sendable run. no_fault_until_kept (alike_laws c) setup events answers ends made sendable run
+
+pub returns-clause-alike : goal.returns-clause-alike
+returns-clause-alike c = λ setup events answers ends made sendable run none.
+    record {
+      until_fault = until_fault (moves c) c.ordered_sends_are_accepted.ensures.step c.with_all_delivered_pauses_are_at_the_end.ensures setup events answers sendable (runs_until_fault (laws c) setup made events answers ends sendable run);
+      no_connection_fault = no_fault_at_all setup answers (no_fault_until_kept (alike_laws c) setup events answers ends made sendable run) none;
     }

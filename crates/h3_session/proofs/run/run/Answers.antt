@@ -1,6 +1,6 @@
 use Rattle.h3_world.specs.Ends.{new_ends}
 use Rattle.h3_strict.specs.PlainEnds.{asks_strictly}
-use Rattle.h3_session.proofs.Headlines.{gets_what_was_sent, runs_in_keeping_world, runs_in_world}
+use Rattle.h3_session.proofs.Headlines.{of_runs, runs_in_keeping_world, runs_in_world}
 use Rattle.h3_session.proofs.Messages.{hands_out, hands_out_always}
 use Rattle.h3_session.proofs.Runs.{answers_each, ran, runs_to}
 use Rattle.h3_session.proofs.Strict.{LawsOfEnds, runs_to_end, runs_until_memory}
@@ -66,8 +66,17 @@ returns-clause-faithful c = λ few.
     c.announcing-client.ensures c.announcing-server.ensures c.in_ok-client.ensures.0 c.in_ok-client.ensures.1 c.run_between-answers.ensures c.in_ok-client-2.ensures.0 c.in_ok-client-2.ensures.1 in
     let setup = c.args.setup in
     let answers = c.in_ok-client-2.answers.items in
-    gets_what_was_sent setup c.args.events.now answers _ _
+    of_runs setup c.args.events.now answers _ _
     (λ ends sendable run. c.each_side_gets_what_the_other_sent.ensures.until_fault setup c.args.events.now answers ends c.requires sendable run) c.events_are_typed.ensures calls few
+
+pub returns-clause-no_fault : goal.returns-clause-no_fault
+returns-clause-no_fault c = λ few.
+    let calls = ran (λ v. v.items) (new_ends c.args.setup) c.args.events.now c.announcing-client.result c.announcing-server.result c.run_between-answers.result _ _ _ _ _ c.in_ok-client-2.answers
+    c.announcing-client.ensures c.announcing-server.ensures c.in_ok-client.ensures.0 c.in_ok-client.ensures.1 c.run_between-answers.ensures c.in_ok-client-2.ensures.0 c.in_ok-client-2.ensures.1 in
+    let setup = c.args.setup in
+    let answers = c.in_ok-client-2.answers.items in
+    of_runs setup c.args.events.now answers _ _
+    (λ ends sendable run. c.each_side_gets_what_the_other_sent.ensures.until_kept setup c.args.events.now answers ends c.requires sendable run) c.events_are_typed.ensures calls few
 
 pub returns-clause-front : goal.returns-clause-front
 returns-clause-front c = λ few.

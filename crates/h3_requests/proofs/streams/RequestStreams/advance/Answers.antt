@@ -9,15 +9,15 @@ use Rattle.h3_requests.proofs.Ways.{over_advanced}
 use Rattle.h3_requests.proofs.Sendable.{had_place, moved, ready_before, settled}
 use Rattle.h3_requests.proofs.streams.RequestStreams.advance.Goals as goal
 
-pub settle_rest-requires : goal.settle_rest-requires
-settle_rest-requires c = ready_before _ _ _ c.args.id c.min.result _ c.in-Some.stream.now c.self.invariant (search rules) (search rules)
+pub settle_rest-requires-clause-waits : goal.settle_rest-requires-clause-waits
+settle_rest-requires-clause-waits c = ready_before _ _ _ _ c.args.id c.min.result _ c.in-Some.stream.now c.self.invariant (search rules) (search rules) (search rules)
 
 pub invariant_of-self-2 : goal.invariant_of-self-2
 invariant_of-self-2 c =
     let after : RequestState = record { incoming = c.stream.inside.incoming; outgoing = c.advance.new.self } in
     moved c.retire_if.ensures
-    (settled _ _ _ _ _ c.args.id _ c.in-Some.stream.now after (c.get_mut.follows.holds _) (search rules) (ap (λ (r : RequestState). r.incoming.waits_for) c.stream.view_is) c.settle_rest.ensures.bytes (search rules) c.settle_rest.ensures.ends (ap end_waits c.advance.ensures ∙ ap (λ (r : RequestState). end_waits r.outgoing) c.stream.view_is)
-    (had_place _ _ _ _ c.args.id c.in-Some.stream.now after (c.get_mut.follows.holds _) (search rules) (ap takes_end c.advance.ensures ∙ ap (λ (r : RequestState). takes_end r.outgoing) c.stream.view_is) c.self.invariant) c.self.invariant)
+    (settled _ _ _ _ _ _ c.args.id _ c.in-Some.stream.now after (c.get_mut.follows.holds _) (search rules) (ap (λ (r : RequestState). r.incoming.waits_for) c.stream.view_is) c.settle_rest.ensures.bytes (search rules) c.settle_rest.ensures.ends (ap end_waits c.advance.ensures ∙ ap (λ (r : RequestState). end_waits r.outgoing) c.stream.view_is)
+    (had_place _ _ _ _ c.args.id c.in-Some.stream.now after (c.get_mut.follows.holds _) (search rules) (ap takes_end c.advance.ensures ∙ ap (λ (r : RequestState). takes_end r.outgoing) c.stream.view_is) c.self.invariant _ (search rules)) (search rules) (ap (λ o. o.precedence) c.advance.ensures ∙ ap (λ (r : RequestState). r.outgoing.precedence) c.stream.view_is) c.settle_rest.ensures.classes c.self.invariant)
 
 -- nothing waits on a stream that is over
 pub returns-in_default-clause-there : goal.returns-in_default-clause-there

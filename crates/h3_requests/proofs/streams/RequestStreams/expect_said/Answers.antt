@@ -12,7 +12,8 @@ invariant_of-self-2 c =
     written_so _ _ _ _ c.args.id c.in-Some.stream.now (record { incoming = c.answer.new.self; outgoing = c.expect.new.self }) (c.get_mut.follows.holds _) (search rules) (search rules)
     (ap (λ o. o.pieces) c.expect.ensures ∙ ap (λ (r : RequestState). r.outgoing.pieces) c.stream.view_is)
     (ap end_waits c.expect.ensures ∙ ap (λ (r : RequestState). end_waits r.outgoing) c.stream.view_is)
-    (ap takes_end c.expect.ensures ∙ ap (λ (r : RequestState). takes_end r.outgoing) c.stream.view_is) c.self.invariant
+    (ap takes_end c.expect.ensures ∙ ap (λ (r : RequestState). takes_end r.outgoing) c.stream.view_is)
+    (ap (λ o. o.precedence) c.expect.ensures ∙ ap (λ (r : RequestState). r.outgoing.precedence) c.stream.view_is) c.self.invariant
 
 pub returns-clause-there : goal.returns-clause-there
 returns-clause-there c = λ fields is.

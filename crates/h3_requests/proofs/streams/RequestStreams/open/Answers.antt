@@ -1,5 +1,5 @@
 -- The count of the stream that was there goes with it.
-use Rattle.std.proofs.Common.{refl}
+use Rattle.std.proofs.Common.{rules, refl}
 use Rattle.h3_requests.proofs.Counts.{has_count_at}
 use Rattle.h3_requests.proofs.Sendable.{inserted, seen_set}
 use Rattle.h3_requests.proofs.streams.RequestStreams.open.Goals as goal
@@ -12,5 +12,5 @@ count_seen-self-inside-requires c = seen_set _ _ c.args.id _ c.in-Ok.ensures.ok 
 
 pub invariant_of-self-2 : goal.invariant_of-self-2
 invariant_of-self-2 c =
-    inserted _ _ _ _ _ _ c.args.id _ _ c.in-Ok.ensures.ok c.in-Ok.ensures.distinct refl refl refl refl c.in-Ok.ensures.before
-    c.replace.ensures.sound c.replace.ensures.replaced c.leave.ensures.bytes c.leave.ensures.taken c.leave.ensures.places c.self.invariant c.count_seen-self-inside.ensures.seen
+    inserted _ _ _ _ _ _ _ c.args.id _ _ c.in-Ok.ensures.ok c.in-Ok.ensures.distinct refl refl refl refl refl c.in-Ok.ensures.before
+    c.replace.ensures.sound c.replace.ensures.replaced (search rules) c.leave.ensures.bytes c.leave.ensures.taken c.leave.ensures.places c.leave.ensures.classes c.self.invariant c.count_seen-self-inside.ensures.seen

@@ -15,4 +15,4 @@ pub count_seen-self-inside-requires : goal.count_seen-self-inside-requires
 count_seen-self-inside-requires c = seen_set _ _ c.args.id _ c.in-Ok.ensures.ok c.self.invariant.seen_at_least
 
 pub invariant_of-self-2 : goal.invariant_of-self-2
-invariant_of-self-2 c = came _ _ _ _ c.args.id _ c.in-Ok.ensures.ok c.in-Ok.ensures.distinct refl refl refl refl (ap (λ l. kept_at l c.args.id) c.self.view_is ∙ c.requires) c.self.invariant c.count_seen-self-inside.ensures.seen
+invariant_of-self-2 c = came _ _ _ _ c.args.id _ c.in-Ok.ensures.ok c.in-Ok.ensures.distinct refl refl refl refl refl (ap (λ l. kept_at l c.args.id) c.self.view_is ∙ c.requires) c.self.invariant c.count_seen-self-inside.ensures.seen

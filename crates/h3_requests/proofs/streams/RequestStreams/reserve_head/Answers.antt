@@ -13,7 +13,7 @@ pub invariant_of-self-in_default-reserve : goal.invariant_of-self-in_default-res
 invariant_of-self-in_default-reserve c = written _ _ _ _ c.args.id c.in-Some.stream.now _ (c.get_mut.follows.holds _) (search rules) (search rules) (search rules) c.self.invariant
 
 pub invariant_of-self-in_default-reserve_both : goal.invariant_of-self-in_default-reserve_both
-invariant_of-self-in_default-reserve_both c = both_kept {s = c.self.inside.ready} {t = c.reserve_both.new.self} c.reserve_both.ensures.same c.reserve_both.ensures.ending c.reserve_both.ensures.places (written _ _ _ _ c.args.id c.in-Some.stream.now _ (c.get_mut.follows.holds _) (search rules) (search rules) (search rules) c.self.invariant)
+invariant_of-self-in_default-reserve_both c = both_kept {s = c.self.inside.ready} {t = c.reserve_both.new.self} c.reserve_both.ensures.same c.reserve_both.ensures.ending c.reserve_both.ensures.places c.reserve_both.ensures.classes (written _ _ _ _ c.args.id c.in-Some.stream.now _ (c.get_mut.follows.holds _) (search rules) (search rules) (search rules) c.self.invariant)
 
 pub invariant_of-self-2 : goal.invariant_of-self-2
-invariant_of-self-2 c = both_kept {s = c.self.inside.ready} {t = c.reserve_both.new.self} c.reserve_both.ensures.same c.reserve_both.ensures.ending c.reserve_both.ensures.places (written _ _ _ _ c.args.id c.in-Some.stream.now _ (c.get_mut.follows.holds _) (search rules) (search rules) (search rules) c.self.invariant)
+invariant_of-self-2 c = both_kept {s = c.self.inside.ready} {t = c.reserve_both.new.self} c.reserve_both.ensures.same c.reserve_both.ensures.ending c.reserve_both.ensures.places c.reserve_both.ensures.classes (written _ _ _ _ c.args.id c.in-Some.stream.now _ (c.get_mut.follows.holds _) (search rules) (search rules) (search rules) c.self.invariant)

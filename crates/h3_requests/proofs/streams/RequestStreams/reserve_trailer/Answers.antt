@@ -16,7 +16,7 @@ pub invariant_of-self-in_default-reserve : goal.invariant_of-self-in_default-res
 invariant_of-self-in_default-reserve c = written _ _ _ _ c.args.id c.in-Some.stream.now _ (c.get_mut.follows.holds _) (search rules) (search rules) (search rules) c.self.invariant
 
 pub invariant_of-self-in_default-reserve-2 : goal.invariant_of-self-in_default-reserve-2
-invariant_of-self-in_default-reserve-2 c = room_kept {s = c.self.inside.ready} {t = c.reserve-2.new.self} c.reserve-2.ensures.same c.reserve-2.ensures.ends (written _ _ _ _ c.args.id c.in-Some.stream.now _ (c.get_mut.follows.holds _) (search rules) (search rules) (search rules) c.self.invariant)
+invariant_of-self-in_default-reserve-2 c = room_kept {s = c.self.inside.ready} {t = c.reserve-2.new.self} c.reserve-2.ensures.same c.reserve-2.ensures.ends c.reserve-2.ensures.classes (written _ _ _ _ c.args.id c.in-Some.stream.now _ (c.get_mut.follows.holds _) (search rules) (search rules) (search rules) c.self.invariant)
 
 pub invariant_of-self-2 : goal.invariant_of-self-2
-invariant_of-self-2 c = room_kept {s = c.self.inside.ready} {t = c.reserve-2.new.self} c.reserve-2.ensures.same c.reserve-2.ensures.ends (written _ _ _ _ c.args.id c.in-Some.stream.now _ (c.get_mut.follows.holds _) (search rules) (search rules) (search rules) c.self.invariant)
+invariant_of-self-2 c = room_kept {s = c.self.inside.ready} {t = c.reserve-2.new.self} c.reserve-2.ensures.same c.reserve-2.ensures.ends c.reserve-2.ensures.classes (written _ _ _ _ c.args.id c.in-Some.stream.now _ (c.get_mut.follows.holds _) (search rules) (search rules) (search rules) c.self.invariant)

@@ -8,4 +8,4 @@ invariant_of-self-then-is_sent_off c = written _ _ _ _ c.args.id c.in-Some.strea
 
 pub invariant_of-self-2 : goal.invariant_of-self-2
 invariant_of-self-2 c = moved c.retire_if.ensures
-    (left _ _ _ _ _ c.args.id c.in-Some.stream.now _ (c.get_mut.follows.holds _) (search rules) (search rules) (search rules) (search rules) (search rules) c.leave.ensures.bytes c.leave.ensures.taken c.leave.ensures.places c.self.invariant)
+    (left _ _ _ _ _ _ c.args.id c.in-Some.stream.now _ (c.get_mut.follows.holds _) (search rules) (search rules) (search rules) (search rules) (search rules) (search rules) (search rules) c.leave.ensures.bytes c.leave.ensures.taken c.leave.ensures.places c.leave.ensures.classes c.self.invariant)

@@ -19,8 +19,8 @@ invariant_of-self-in_default c =
     let over = subst (λ s. IfSome (over_at s c.args.id) IsOver) same c.take_end.ensures.over in
     let told = subst (λ s. c.take_end.result ≡ has_end (over_at s c.args.id)) same c.take_end.ensures.told in
     let taken = subst (λ s. IfSome (over_at s c.args.id) (λ r. Sets (streams_in s) (streams_in c.take_end.new.self) c.args.id (with_end_taken r))) same (c.take_end.ensures.taken c.if-not-take_end.false) in
-    over_gone _ _ _ (streams_in c.self.inside.streams) _ c.args.id (over_at c.self.inside.streams c.args.id) found over (sym told ∙ c.if-not-take_end.false)
-    c.take_end.ensures.distinct taken c.settle_end.ensures.bytes c.settle_end.ensures.end c.settle_end.ensures.places c.self.invariant
+    over_gone _ _ _ (streams_in c.self.inside.streams) _ _ c.args.id (over_at c.self.inside.streams c.args.id) found over (sym told ∙ c.if-not-take_end.false)
+    c.take_end.ensures.distinct taken (search (rules, found)) c.settle_end.ensures.bytes c.settle_end.ensures.end c.settle_end.ensures.places c.settle_end.ensures.classes c.self.invariant
 
 pub returns-in_default-clause-told : goal.returns-in_default-clause-told
 returns-in_default-clause-told c =
@@ -36,5 +36,5 @@ invariant_of-self-then-not-take_end-2 c = written _ _ _ _ c.args.id c.in-Some.st
 
 pub invariant_of-self-2 : goal.invariant_of-self-2
 invariant_of-self-2 c =
-    end_gone _ _ _ _ _ c.args.id c.in-Some.stream.now (record { incoming = c.stream.inside.incoming; outgoing = c.take_end-2.new.self }) (c.get_mut.follows.holds _) (search rules) (ap (λ (r : RequestState). r.incoming.waits_for) c.stream.view_is)
-    (search rules) (search rules) c.settle_end-2.ensures.bytes c.settle_end-2.ensures.end c.settle_end-2.ensures.places c.self.invariant
+    end_gone _ _ _ _ _ _ c.args.id c.in-Some.stream.now (record { incoming = c.stream.inside.incoming; outgoing = c.take_end-2.new.self }) (c.get_mut.follows.holds _) (search rules) (ap (λ (r : RequestState). r.incoming.waits_for) c.stream.view_is)
+    (search rules) (search rules) (search rules) c.settle_end-2.ensures.bytes c.settle_end-2.ensures.end c.settle_end-2.ensures.places c.settle_end-2.ensures.classes c.self.invariant

@@ -1,15 +1,16 @@
 -- Its bits are cleared in its word.
-use Rattle.h3_requests.specs.Waiting.{places_at, waiting_at}
-use Rattle.h3_requests.proofs.Bits.{below, cleared_in, of_number}
+use Rattle.std.specs.Prelude.{false}
+use Rattle.h3_requests.specs.Waiting.{has_place, places_at, waiting_at}
+use Rattle.h3_requests.proofs.Classed.{clear_place, others_keep}
 use Rattle.h3_requests.proofs.waiting.WaitingStreams.take.Goals as goal
 
 pub returns-clause-taken : goal.returns-clause-taken
 returns-clause-taken c =
-    below _ _ c.into_inner-number.result c.args.id _ _ c.into_inner-number.ensures.value c.into_inner-number.ensures.bound
-    (cleared_in (waiting_at c.args.self.now) (waiting_at c.take_bits.new.self) c.into_inner-number.result c.word_of.result c.bit_of.result c.args.id c.into_inner-number.ensures.value
-    (of_number c.into_inner-number.result c.args.id c.into_inner-number.ensures.value c.if-number-ne0.false) c.word_of.ensures c.bit_of.ensures c.take_bits.ensures.waiting)
+    clear_place (waiting_at c.args.self.now) (waiting_at c.take_bits.new.self) c.args.class c.into_inner-number.result c.word_of.result c.bit_of.result c.args.id c.into_inner-number.ensures.value c.into_inner-number.ensures.bound
+    c.if-number-ne0.false c.word_of.ensures c.bit_of.ensures c.take_bits.ensures.waiting
 
 pub returns-clause-places : goal.returns-clause-places
 returns-clause-places c =
-    (cleared_in (places_at c.args.self.now) (places_at c.take_bits.new.self) c.into_inner-number.result c.word_of.result c.bit_of.result c.args.id c.into_inner-number.ensures.value
-    (of_number c.into_inner-number.result c.args.id c.into_inner-number.ensures.value c.if-number-ne0.false) c.word_of.ensures c.bit_of.ensures c.take_bits.ensures.places).others
+    others_keep c.args.class c.args.id false (has_place c.args.self.now) (has_place c.take_bits.new.self)
+    (clear_place (places_at c.args.self.now) (places_at c.take_bits.new.self) c.args.class c.into_inner-number.result c.word_of.result c.bit_of.result c.args.id c.into_inner-number.ensures.value c.into_inner-number.ensures.bound
+    c.if-number-ne0.false c.word_of.ensures c.bit_of.ensures c.take_bits.ensures.places)

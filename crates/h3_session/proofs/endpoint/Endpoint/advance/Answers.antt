@@ -1,6 +1,6 @@
-use Rattle.std.proofs.Common.{subst}
-use Rattle.h3_connection.specs.SendingContracts.{Advances}
+-- The turn is over, and the bytes go.
+use Rattle.h3_session.proofs.Ordering.{advances}
 use Rattle.h3_session.proofs.endpoint.Endpoint.advance.Goals as goal
 
 pub returns : goal.returns
-returns c = subst (λ s. Advances s c.advance_own.new.self c.args.id c.args.count) (c.advance_request.ensures.none c.if-advance_request.false) c.advance_own.ensures
+returns c = advances c.args.self.now c.end_turn.new.self c.take_bytes.new.self c.args.id c.args.count c.end_turn.ensures c.take_bytes.ensures

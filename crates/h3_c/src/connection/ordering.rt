@@ -1,0 +1,71 @@
+//! Which stream sends next, by priority.
+ghost use Rattle.std.specs.Prelude.{◌≡◌};
+ghost use Rattle.h3_c.specs.Ordering.{HoldsOn, SendsByPriority, SetsPriorityOn, flag_given, priority_given};
+
+use super::Connection;
+use crate::numbers::{ARGUMENT, NONE, OK, Told, called};
+use h3_priority::priority::Priority;
+use h3_proto::stream::StreamId;
+
+impl Connection {
+    /// A request stream has this priority from now on.
+    pub(crate) fn set_priority(&mut self, id: u64, urgency: u32, incremental: u32) -> Told
+        ensures { SetsPriorityOn self.old self.new id urgency incremental result }
+    {
+        let Ok(stream) = StreamId::try_from(id) else {
+            return ARGUMENT;
+        };
+        let Some(priority) = priority_given(urgency, incremental) else {
+            return ARGUMENT;
+        };
+        called(self.endpoint.set_priority(stream, priority))
+    }
+
+    /// QUIC has no credit for a stream, or has it again.
+    pub(crate) fn hold(&mut self, id: u64, held: u32) -> Told
+        ensures { HoldsOn self.old self.new id held result }
+    {
+        let Ok(stream) = StreamId::try_from(id) else {
+            return ARGUMENT;
+        };
+        let Some(is_held) = flag_given(held) else {
+            return ARGUMENT;
+        };
+        called(self.endpoint.hold(stream, is_held))
+    }
+
+    /// The stream that sends next.
+    pub(crate) fn next_by_priority(&self, id: &mut u64) -> Told
+        ensures { SendsByPriority self.now result id.old id.new }
+    {
+        let Some(next) = self.endpoint.next_by_priority() else {
+            return NONE;
+        };
+        *id = next.into_inner();
+        OK
+    }
+}
+
+// The priority that C gives.
+fn priority_given(urgency: u32, incremental: u32) -> Option<Priority>
+    ensures { result ≡ priority_given urgency incremental }
+{
+    let Ok(urgency) = u8::try_from(urgency) else {
+        return None;
+    };
+    match flag_given(incremental) {
+        Some(incremental) => Priority::new(urgency, incremental),
+        None => None,
+    }
+}
+
+// 0 or 1.
+fn flag_given(number: u32) -> Option<bool>
+    ensures { result ≡ flag_given number }
+{
+    match number {
+        0 => Some(false),
+        1 => Some(true),
+        _ => None,
+    }
+}

@@ -1,0 +1,70 @@
+//! What C calls: which stream sends next, by priority.
+ghost use Rattle.std.specs.Prelude.{IsSome};
+ghost use Rattle.h3_c.specs.Does.{Does};
+ghost use Rattle.h3_c.specs.Does.CallOfC.{Hold, NextByPriority, SetPriority};
+ghost use Rattle.h3_c.specs.Exported.{Steps};
+ghost use Rattle.h3_c.specs.Numbers.{number};
+
+use crate::handle::{Handle, kept, opened};
+use std::alloc::Global;
+
+/// The stream that sends next: one of the least urgency, by turns.
+#[unsafe(no_mangle)]
+pub extern "C" fn h3_raw_next_by_priority(
+    alloc: Global,
+    handle: Handle,
+    id: &mut u64,
+    out: &mut Handle,
+) -> u32
+    requires { IsSome handle.value }
+    ensures there { IsSome out.new.value }
+    ensures goes { Steps handle.value out.new.value (Does (NextByPriority id.old id.new (number result 0))) }
+{
+    let connection = opened(alloc, handle);
+    let told = connection.next_by_priority(id);
+    *out = kept(connection);
+    told.number
+}
+
+/// A request stream has this priority from now on.
+#[unsafe(no_mangle)]
+pub extern "C" fn h3_raw_set_priority(
+    alloc: Global,
+    handle: Handle,
+    id: u64,
+    urgency: u32,
+    incremental: u32,
+    detail: &mut u64,
+    out: &mut Handle,
+) -> u32
+    requires { IsSome handle.value }
+    ensures there { IsSome out.new.value }
+    ensures goes { Steps handle.value out.new.value (Does (SetPriority id urgency incremental (number result detail.new))) }
+{
+    let mut connection = opened(alloc, handle);
+    let told = connection.set_priority(id, urgency, incremental);
+    *out = kept(connection);
+    *detail = told.detail;
+    told.number
+}
+
+/// QUIC has no credit for a stream, or has it again.
+#[unsafe(no_mangle)]
+pub extern "C" fn h3_raw_hold(
+    alloc: Global,
+    handle: Handle,
+    id: u64,
+    held: u32,
+    detail: &mut u64,
+    out: &mut Handle,
+) -> u32
+    requires { IsSome handle.value }
+    ensures there { IsSome out.new.value }
+    ensures goes { Steps handle.value out.new.value (Does (Hold id held (number result detail.new))) }
+{
+    let mut connection = opened(alloc, handle);
+    let told = connection.hold(id, held);
+    *out = kept(connection);
+    *detail = told.detail;
+    told.number
+}

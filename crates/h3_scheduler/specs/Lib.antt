@@ -1,0 +1,13 @@
+pub mod Least
+pub mod Rounds
+pub mod Standing
+pub mod Streams
+pub mod Schedule
+pub mod Calls
+pub mod Next
+pub mod Turning
+pub mod Rows
+pub mod LeastLaws
+pub mod TurnLaws
+pub mod Moments
+pub mod Places
