@@ -69,6 +69,7 @@ stands_order s e order h =
         told_encoder = h.reached.told_encoder;
         told_decoder = h.reached.told_decoder;
         kept = h.reached.kept;
+        own_updates = h.reached.own_updates;
       };
     }
 

@@ -26,7 +26,7 @@ own_waits Server announced = record
 
 nothing_came : (side : Side) (announced : Announced) → IsReached (new_endpoint side announced)
 nothing_came side announced = record
-    { unlearned = λ _. (refl, refl); control = λ _. refl; encoder = λ _. refl; decoder = λ _. refl; told_control = tt; told_encoder = tt; told_decoder = tt; kept = λ k a h. absurd (omega (arith, h)) }
+    { unlearned = λ _. (refl, refl); control = λ _. refl; encoder = λ _. refl; decoder = λ _. refl; told_control = tt; told_encoder = tt; told_decoder = tt; kept = λ k a h. absurd (omega (arith, h)); own_updates = λ k u h. absurd (omega (arith, h)) }
 
 abbrev stored : Side → Announced → Streams RequestState → StreamsState → List Arrival → EndpointState
 stored side announced requests streams kept = record {

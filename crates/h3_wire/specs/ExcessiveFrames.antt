@@ -2,6 +2,8 @@
 use Rattle.std.specs.Prelude.{ℕ, Bool, false, ◌&&◌, ◌||◌, ◌==◌, List, nat_le, nat_lt, Option, Some, None}
 use Rattle.h3_coding.specs.Varint.{varint_at}
 use Rattle.h3_proto.specs.Config.{is_limit}
+use Rattle.h3_wire.specs.Frames.{is_update}
+use Rattle.h3_wire.specs.declared.frame.kinds.FrameKinds.{FrameKinds}
 
 -- the types of frames whose payload is kept until it is whole: all below 10 but DATA, and MAX_PUSH_ID. They are HEADERS 1, CANCEL_PUSH 3,
 -- SETTINGS 4, PUSH_PROMISE 5 and GOAWAY 7 (RFC 9114, section 7.2), and those of HTTP/2 that are refused (section 7.2.8)
@@ -48,3 +50,16 @@ begins_section bytes = is_of_type 1 (varint_at bytes)
 -- There is a limit, and the bytes begin with the head of a frame whose payload is kept, and that is longer. The payload need not be there.
 abbrev pub is_excessive : ℕ → List ℕ → Bool
 is_excessive most bytes = is_limit most && says_too_much most (varint_at bytes)
+
+-- The same of PRIORITY_UPDATE, whose payload is kept too if such frames are known (RFC 9218, section 7.2)
+abbrev pub is_long_update : FrameKinds → ℕ → ℕ → Option (ℕ × List ℕ) → Bool
+is_long_update kinds most kind None = false
+is_long_update kinds most kind (Some p) = is_update kinds kind && nat_lt most p.0
+
+abbrev pub says_long_update : FrameKinds → ℕ → Option (ℕ × List ℕ) → Bool
+says_long_update kinds most None = false
+says_long_update kinds most (Some p) = is_long_update kinds most p.0 (varint_at p.1)
+
+-- and of all frames whose payload is kept, if frames of these kinds are known
+abbrev pub is_excessive_by : FrameKinds → ℕ → List ℕ → Bool
+is_excessive_by kinds most bytes = (kinds.updates && (is_limit most && says_long_update kinds most (varint_at bytes))) || is_excessive most bytes

@@ -1,6 +1,7 @@
 //! What stands of a request stream, by its id.
-ghost use Rattle.std.specs.Prelude.{◌≡◌, ◌≤◌, Some, is_some, option_copied, option_map, unwrap_or};
+ghost use Rattle.std.specs.Prelude.{◌≡◌, ◌≤◌, Some, false, is_some, option_copied, option_map, unwrap_or};
 ghost use Rattle.h3_connection.specs.Keeping.{is_settled_request};
+ghost use Rattle.h3_connection.specs.Prioritizing.{takes_no_response};
 ghost use Rattle.h3_connection.specs.State.{kept_at};
 ghost use Rattle.h3_messages.specs.OwnMessages.{awaits_tunnel};
 ghost use Rattle.h3_requests.specs.Changing.{receiver_refusal};
@@ -59,6 +60,16 @@ impl RequestStreams {
     {
         match self.streams.get_alike(id) {
             Some(stream) => is_settled(stream.incoming()),
+            None => false,
+        }
+    }
+
+    /// Whether no response comes any more on a stream: its end or its reset came, or it was given up.
+    pub fn takes_no_response(&self, id: StreamId) -> bool
+        ensures { result ≡ unwrap_or (option_map (λ r. takes_no_response r.incoming) (kept_at self.now id)) false }
+    {
+        match self.streams.get_alike(id) {
+            Some(stream) => stream.has_ended() || stream.incoming().fault().is_some(),
             None => false,
         }
     }

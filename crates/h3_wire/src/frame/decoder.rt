@@ -14,8 +14,9 @@ use super::errors::{FrameProtocolError, FrameStreamError};
 use super::kinds::FrameKinds;
 use super::sparing::unknown_size;
 use crate::buf::BufList;
-use crate::proto::frame::{Frame, FrameError, FrameHead, PayloadLen};
+use crate::proto::frame::{Frame, FrameError, FrameHead, PayloadLen, is_update_type, read_update};
 use bytes::{Buf, Bytes};
+use h3_coding::coding::BufExt;
 use std::alloc::Global;
 use std::marker::Model;
 
@@ -241,16 +242,58 @@ fn decode_frame(alloc: Global, kinds: FrameKinds, src: &mut BufList<Bytes>) -> T
     ensures few { has_head (concat src.old.pieces) ≡ false → length (concat src.old.pieces) < 16 }
     ensures rest { IsRest src.old.pieces src.new.pieces }
 {
+    if let Some(tried) = decode_update(alloc, kinds, src) {
+        return tried;
+    }
     match passed_size(src, kinds) {
         Some(size) => pass_unknown(src, size),
         None => decode_plain(alloc, src),
     }
 }
 
+// RFC 9218 7.2: PRIORITY_UPDATE, read whole
+// If PRIORITY_UPDATE is known: takes such a frame at the front. One that is not whole is not taken. None, if it is no such frame, changes nothing.
+fn decode_update(alloc: Global, kinds: FrameKinds, src: &mut BufList<Bytes>) -> Option<Tried>
+    ensures tries { IfSome result (λ tried. Tries tried (frame_by kinds (concat src.old.pieces)) (concat src.old.pieces) (concat src.new.pieces)) }
+    ensures whole { IfSome result (λ tried. has_head (concat src.old.pieces) ≡ true) }
+    ensures none { IsNone result → frame_by kinds (concat src.old.pieces) ≡ frame_by (record kinds { updates = false }) (concat src.old.pieces) }
+    ensures same { IsNone result → src.new.pieces ≡ src.old.pieces }
+    ensures rest { IsRest src.old.pieces src.new.pieces }
+{
+    if !kinds.updates {
+        return None;
+    }
+    let mut cursor = src.cursor();
+    let all = cursor.remaining();
+    let Ok(kind) = cursor.get_var() else {
+        return None;
+    };
+    if !is_update_type(kind) {
+        return None;
+    }
+    let Ok(number) = cursor.get_var() else {
+        return None;
+    };
+    let len = number as usize;
+    let behind = cursor.remaining();
+    if behind < len {
+        return Some(Tried::Waits(all - behind + len));
+    }
+    match read_update(alloc, &mut cursor, kind, len) {
+        Ok(update) => {
+            let position = cursor.position();
+            src.advance(position);
+            Some(Tried::Frame(update))
+        }
+        Err(FrameError::OutOfMemory) => Some(Tried::OutOfMemory),
+        Err(_) => Some(Tried::Refused(FrameProtocolError::Malformed)),
+    }
+}
+
 // If sessions are not known: how many bytes the unknown frame at the front has, one of type 0x41 among them, if its type and length came.
 fn passed_size(src: &BufList<Bytes>, kinds: FrameKinds) -> Option<usize>
     ensures some { IfSome result (λ size. unknown_size kinds (concat src.now.pieces) ≡ Some size) }
-    ensures none { IsNone result → frame_by kinds (concat src.now.pieces) ≡ frame_by plain_frames (concat src.now.pieces) }
+    ensures none { IsNone result → frame_by (record kinds { updates = false }) (concat src.now.pieces) ≡ frame_by plain_frames (concat src.now.pieces) }
 {
     if kinds.sessions {
         return None;
