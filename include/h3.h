@@ -147,7 +147,7 @@
  *
  * WHICH CALL CAN FILL WHICH STREAM (so that you know which to look at; h3_next_to_send finds all)
  *
- *   h3_new                                  the local control, encoder and decoder stream
+ *   h3_new, h3_new_with                     the local control, encoder and decoder stream
  *   h3_send_head, h3_send_trailer           that stream, and the local encoder stream
  *   h3_send_body, h3_send_body_of           that stream
  *   h3_finish                               no bytes; the end of that stream (h3_outgoing then says
@@ -511,6 +511,11 @@ typedef struct {
                                        * request stream or at a client, 0x106 without an id, 0x108
                                        * for a push or for an id of no request stream, 0x101 with a
                                        * value that h3_priority_read refuses */
+  uint64_t other_settings;            /* how many of the peer's settings are kept whose ids are not
+                                       * known here, for h3_peer_setting: the first ones of its
+                                       * SETTINGS frame, at most 64, and a greater number is the
+                                       * same. A reserved id (RFC 9114, section 7.2.4.1) is never
+                                       * kept. With 0 all of them are ignored (section 7.2.4) */
 } h3_config;
 
 /* A client with limits for an untrusted peer: it takes field sections of at most 65,536 bytes, and
@@ -530,6 +535,20 @@ static inline void h3_config_default(h3_config *config);
  * H3_BLOCKED_LIMIT, H3_SETTING, H3_UNFINISHED_LIMIT, H3_MEMORY. H3_ARGUMENT does nothing: *endpoint
  * is as it was. After any other refusal *endpoint holds none. */
 static inline uint32_t h3_new(h3_endpoint *endpoint, const h3_config *config, uint64_t *detail);
+
+/* A setting: its id, and its value. */
+typedef struct {
+  uint64_t id, value;
+} h3_setting;
+
+/* The same of an endpoint that announces further settings (RFC 9114, section 7.2.4), for an
+ * extension that you speak: `count` of them, at most 8. They stand behind the others, in the same
+ * SETTINGS frame. Refused, in this order: H3_ARGUMENT, also with more than 8, what h3_new refuses
+ * except H3_MEMORY, H3_SETTING (detail: the first id that is 0, 2, 3, 4, 5 or 2^62 and more, that
+ * h3_config announces, that came before, or whose value is 2^62 and more), H3_MEMORY. *endpoint is
+ * written as by h3_new. */
+static inline uint32_t h3_new_with(h3_endpoint *endpoint, const h3_config *config,
+                                   const h3_setting *further, size_t count, uint64_t *detail);
 
 /* Frees an endpoint and all that it keeps; *endpoint then holds none. If it held none, nothing is
  * done. */
@@ -1074,7 +1093,8 @@ enum h3_event {
 static inline uint32_t h3_next_event(h3_endpoint *endpoint, uint32_t *kind, uint64_t *number);
 
 /* The value of a setting that the peer announced (RFC 9114, section 7.2.4). H3_NONE before its
- * settings came, or if it is not among them. */
+ * settings came, or if it is not among them. One whose id is not known here is returned if
+ * `other_settings` of h3_config had it kept; if its id came twice, this is the first value. */
 static inline uint32_t h3_peer_setting(h3_endpoint *endpoint, uint64_t setting, uint64_t *value);
 
 /* The ids of the local unidirectional streams. */
@@ -1087,7 +1107,8 @@ static inline uint64_t h3_decoder_id(int server) { return server ? 11 : 10; }
  * takes the handle by value and writes the handle for the next call through its last argument,
  * whatever it returns. The handle must hold an endpoint. No pointer may be NULL, even with a length
  * of 0: these do not test for it. A configuration is its numbers and how many they are; the first
- * is their size in bytes. h3_raw_new writes *out on H3_OK only. */
+ * is their size in bytes. Further settings are an id and a value in turn. h3_raw_new and
+ * h3_raw_new_with write *out on H3_OK only. */
 uint32_t h3_raw_version(void);
 uint32_t h3_raw_priority_read(const uint8_t *value, size_t len, uint32_t *urgency,
                               uint32_t *incremental);
@@ -1098,6 +1119,8 @@ uint32_t h3_raw_capsule_head(uint64_t capsule_type, uint64_t length, uint8_t *bu
                              size_t *n);
 void h3_raw_config_default(uint64_t *numbers, size_t count);
 uint32_t h3_raw_new(const uint64_t *numbers, size_t count, uint64_t *detail, h3_endpoint *out);
+uint32_t h3_raw_new_with(const uint64_t *numbers, size_t count, const uint64_t *further,
+                         size_t further_count, uint64_t *detail, h3_endpoint *out);
 void h3_raw_free(h3_endpoint endpoint);
 uint32_t h3_raw_open_request(h3_endpoint endpoint, uint64_t *id, uint64_t *detail,
                              h3_endpoint *out);
@@ -1198,13 +1221,26 @@ static inline uint32_t h3_capsule_head(uint64_t capsule_type, uint64_t length, v
 static inline void h3_config_default(h3_config *config) {
   if (config) h3_raw_config_default((uint64_t *)config, sizeof *config / sizeof(uint64_t));
 }
+static inline size_t h3_config_numbers(const h3_config *config) {
+  return config->size > sizeof *config || config->size % sizeof(uint64_t)
+             ? 0
+             : (size_t)config->size / sizeof(uint64_t);
+}
 static inline uint32_t h3_new(h3_endpoint *endpoint, const h3_config *config, uint64_t *detail) {
   uint64_t none;
   if (!endpoint || !config) return H3_ARGUMENT;
-  size_t count = config->size > sizeof *config || config->size % sizeof(uint64_t)
-                     ? 0
-                     : (size_t)config->size / sizeof(uint64_t);
-  uint32_t answer = h3_raw_new((const uint64_t *)config, count, detail ? detail : &none, endpoint);
+  uint32_t answer = h3_raw_new((const uint64_t *)config, h3_config_numbers(config),
+                               detail ? detail : &none, endpoint);
+  if (answer && answer != H3_ARGUMENT) endpoint->at = NULL;
+  return answer;
+}
+static inline uint32_t h3_new_with(h3_endpoint *endpoint, const h3_config *config,
+                                   const h3_setting *further, size_t count, uint64_t *detail) {
+  uint64_t none = 0;
+  if (!endpoint || !config || (!further && count) || count > 8) return H3_ARGUMENT;
+  uint32_t answer = h3_raw_new_with((const uint64_t *)config, h3_config_numbers(config),
+                                    count ? (const uint64_t *)further : &none, 2 * count,
+                                    detail ? detail : &none, endpoint);
   if (answer && answer != H3_ARGUMENT) endpoint->at = NULL;
   return answer;
 }

@@ -81,14 +81,20 @@ class Endpoint:
     lock: threads may share it. `close` frees it, and so do `with` and the garbage collector; every call after that raises
     `Answer.NO_ENDPOINT`."""
 
-    def __init__(self, config: Config) -> None:
-        """Raises `Answer.ARGUMENT` (the value of `grease`), `TABLE_LIMIT`, `BLOCKED_LIMIT`, `SETTING`, `UNFINISHED_LIMIT`, `MEMORY`."""
+    def __init__(self, config: Config, further: Iterable[tuple[int, int]] = ()) -> None:
+        """`further` has ids and values of settings that are announced behind those of the configuration, at most 8, for an extension that the
+        caller speaks.
+
+        Raises `Answer.ARGUMENT` (the value of `grease`; more than 8 settings), `TABLE_LIMIT`, `BLOCKED_LIMIT`, `UNFINISHED_LIMIT`, `SETTING`,
+        `MEMORY`."""
         self._handle = raw.Handle()
         self._lock = threading.RLock()
         self._library = raw.library()
         self.is_server = bool(config.is_server)
         numbers, detail = (c_uint64 * NUMBERS)(*map(_number, config.numbers())), c_uint64()
-        answer = self._library.h3_raw_new(numbers, NUMBERS, byref(detail), byref(self._handle))
+        pairs = [_number(number) for pair in further for number in pair]
+        settings = (c_uint64 * max(len(pairs), 1))(*pairs)
+        answer = self._library.h3_raw_new_with(numbers, NUMBERS, settings, len(pairs), byref(detail), byref(self._handle))
         if answer:
             raise refused(answer, detail.value)
 

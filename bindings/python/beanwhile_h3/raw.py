@@ -132,6 +132,7 @@ DECLARATIONS: dict[str, tuple[Any, list[Any]]] = {
     "h3_raw_capsule_head": (c_uint32, [c_uint64, c_uint64, BUFFER, c_size_t, SIZE_OUT]),
     "h3_raw_config_default": (None, [U64_OUT, c_size_t]),
     "h3_raw_new": (c_uint32, [U64_OUT, c_size_t, U64_OUT, OUT]),
+    "h3_raw_new_with": (c_uint32, [U64_OUT, c_size_t, U64_OUT, c_size_t, U64_OUT, OUT]),
     "h3_raw_free": (None, [Handle]),
     "h3_raw_open_request": GIVES_ID,
     "h3_raw_next_request_id": GIVES_ID,

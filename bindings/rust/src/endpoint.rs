@@ -64,6 +64,23 @@ impl Endpoint {
         Ok(Endpoint { handle })
     }
 
+    /// Makes an endpoint that announces further settings (an id and a value each) behind those of the configuration, at most 8, for an
+    /// extension that the caller speaks.
+    ///
+    /// # Errors
+    ///
+    /// [`Error::Argument`] (the value of `grease`; more than 8 settings), [`Error::TableLimit`], [`Error::BlockedLimit`],
+    /// [`Error::UnfinishedLimit`], [`Error::Setting`], [`Error::Memory`].
+    pub fn new_with(config: &Config, further: &[(u64, u64)]) -> Result<Endpoint, Error> {
+        let (numbers, mut handle, mut detail) = (config.numbers(), Handle { at: ptr::null_mut() }, 0);
+        let pairs: Vec<u64> = further.iter().flat_map(|&(id, value)| [id, value]).collect();
+        let answer = unsafe {
+            raw::h3_raw_new_with(numbers.as_ptr(), numbers.len(), pairs.as_ptr(), pairs.len(), &mut detail, &mut handle)
+        };
+        answered(answer, detail)?;
+        Ok(Endpoint { handle })
+    }
+
     /// A call that answers a number, and may name another.
     fn call(&mut self, call: impl FnOnce(Handle, *mut u64, *mut Handle) -> u32) -> Result<(), Error> {
         let mut detail = 0;

@@ -21,6 +21,7 @@ mod closing;
 mod datagrams;
 mod ending;
 mod events;
+mod further;
 mod heads;
 mod items;
 mod kinds;
@@ -32,6 +33,8 @@ mod sending;
 mod showing;
 mod shutdown;
 mod unblocked;
+
+pub(crate) use further::{GivenPairs, made_with};
 
 /// An endpoint, what the last pull answered, and what was reported of the connection. A contract sees each as it is.
 #[derive(Drop)]

@@ -360,3 +360,26 @@ pub fn without_updates_nothing_of_them_is_read()
     ensures used { (e : EndpointHistory) (count : ℕ) → e.peer.updates.waiting ≡ [] → use_updates e count ≡ with_waiting e [] }
     ensures text { (ids : List ℕ) → control_frames 0 ids [] ≡ flat_map goaway_encoding ids }
 {}
+
+ghost use Rattle.h3_wire.specs.StreamHeaders.{control_encoding};
+ghost use Rattle.h3_wire.specs.declared.proto.frame.Frame.{Frame};
+ghost use Rattle.h3_wire.specs.declared.proto.frame.PayloadLen.{PayloadLen};
+ghost use Rattle.h3_connection.specs.Endpoint.{new_endpoint_with};
+ghost use Rattle.h3_connection.specs.OtherSettings.{OtherSettings, value_in, with_others};
+ghost use Rattle.h3_connection.specs.OwnSettings.{control_start};
+ghost use Rattle.h3_connection.specs.PeerReading.{Peer, having_frame, with_unread};
+ghost use Rattle.h3_connection.specs.Shown.{peer_setting};
+
+/// If an endpoint keeps no settings without a meaning, none are read (`kept`, `read`), and it shows those that have a meaning (`shown`).
+pub fn without_other_settings_none_are_kept()
+    ensures kept { (settings : Option (List (ℕ × ℕ))) (f : Frame PayloadLen) (o : OtherSettings) (bytes : List ℕ) → o.most ≡ 0 → with_others settings f o bytes ≡ o }
+    ensures read { (p : Peer) (f : Frame PayloadLen) (bytes rest : List ℕ) → p.others.most ≡ 0 → having_frame p f bytes rest ≡ with_unread p rest }
+    ensures shown { (e : EndpointHistory) (id : ℕ) → e.peer.others.kept ≡ [] → peer_setting e id ≡ value_in e.peer.settings id }
+{}
+
+/// An endpoint that announces no further settings is as `new_endpoint` makes it (`new`), and its control stream begins with its settings alone
+/// (`text`).
+pub fn without_further_settings_nothing_more_is_announced()
+    ensures new { (side : Side) (own : Announced) → new_endpoint_with side own [] ≡ new_endpoint side own }
+    ensures text { (settings : List (ℕ × ℕ)) → control_start settings [] ≡ control_encoding settings }
+{}

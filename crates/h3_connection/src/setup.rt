@@ -3,11 +3,13 @@ ghost use Rattle.std.specs.Prelude.{◌≡◌, ◌<◌, ◌≤◌, ◌^◌};
 ghost use Rattle.h3_proto.specs.Config.{announced, is_enabled};
 ghost use Rattle.h3_connection.specs.Announcing.{announced_by, connects, is_below_announced, least_limit, section_of};
 ghost use Rattle.h3_connection.specs.StrictConnection.{announces_alone, have_bad_value, is_no_flag, is_no_session, judges_connect, kinds_of, knows_sessions, lacks_datagrams, refuses_settings};
+ghost use Rattle.h3_connection.specs.OtherSettings.{most_others};
 ghost use Rattle.h3_connection.specs.Updates.{most_updates};
 
 use h3_coding::varint::VarInt;
 use h3_proto::config::{
-    Choices, Config, MAX_BLOCKED_STREAMS, MAX_PRIORITY_UPDATES, MAX_TABLE_CAPACITY,
+    Choices, Config, MAX_BLOCKED_STREAMS, MAX_OTHER_SETTINGS, MAX_PRIORITY_UPDATES,
+    MAX_TABLE_CAPACITY,
 };
 use h3_proto::frame::{SettingId, Settings, SettingsError};
 use h3_proto::stream::Side;
@@ -154,6 +156,17 @@ impl Announced {
             .extensions
             .priority_updates
             .min(MAX_PRIORITY_UPDATES) as usize
+    }
+
+    /// How many of the peer's settings it keeps that have no meaning here (RFC 9114, section 7.2.4).
+    pub fn most_others(&self) -> usize
+        ensures value { result ≡ most_others self.now }
+        ensures few { result ≤ 64 }
+    {
+        self.choices
+            .extensions
+            .other_settings
+            .min(MAX_OTHER_SETTINGS) as usize
     }
 
     /// Whether it limits what is unfinished to less than what a peer may send that keeps to what is announced.

@@ -23,3 +23,4 @@ pub mod ServerCases5
 pub mod ServerCases6
 pub mod OrderRows
 pub mod UpdateRows
+pub mod SettingRows

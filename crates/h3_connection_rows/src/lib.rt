@@ -21,6 +21,7 @@ pub mod server_cases_3;
 pub mod server_cases_4;
 pub mod server_cases_5;
 pub mod server_cases_6;
+pub mod setting_rows;
 pub mod strict_rows;
 pub mod table_rows;
 pub mod unread_rows;

@@ -10,4 +10,6 @@ pub mod Payloads
 pub mod Announced
 pub mod ReceivedLaws
 pub mod Settings
+pub mod OtherSettings
+pub mod Further
 pub mod StreamIds

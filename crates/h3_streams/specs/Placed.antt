@@ -10,6 +10,7 @@ use Rattle.h3_connection.specs.Endpoint.Kind.{Request, ServerOpened, OwnUnidirec
 use Rattle.h3_connection.specs.Listeners.{Decoding, Encoding}
 use Rattle.h3_connection.specs.OwnIds.{other, is_own}
 use Rattle.h3_connection.specs.PeerReading.{Peer, none_read}
+use Rattle.h3_connection.specs.OtherSettings.{most_others}
 use Rattle.h3_connection.specs.Updates.{most_updates}
 use Rattle.h3_connection.specs.State.{EndpointState, OwnState, StandsFor, kept_at}
 use Rattle.h3_connection.specs.StreamSets.{Streams}
@@ -54,7 +55,7 @@ first_streams announced =
       control_on = None;
       encoder_on = None;
       decoder_on = None;
-      peer = none_read (most_updates announced);
+      peer = none_read (most_updates announced) (most_others announced);
       decoding = record { decoder = first_decoder announced; unread = [] };
       encoding = record { encoder = encoder_state (first_encoder announced); unread = [] };
       own = first_own announced.settings;
