@@ -516,6 +516,14 @@ typedef struct {
                                        * SETTINGS frame, at most 64, and a greater number is the
                                        * same. A reserved id (RFC 9114, section 7.2.4.1) is never
                                        * kept. With 0 all of them are ignored (section 7.2.4) */
+  uint64_t other_streams;             /* whether unidirectional streams of the peer are handed out
+                                       * whose types are not known here (1): h3_stream_kind returns
+                                       * H3_STREAM_OTHER for such a stream, h3_other_type its type,
+                                       * and h3_read and h3_pull H3_RAW, H3_END and H3_FAULT_RESET.
+                                       * Grant credit for them by `unread` as for all streams. One
+                                       * of a reserved type (RFC 9114, section 6.2.3) is never
+                                       * handed out, nor one of WebTransport without
+                                       * `webtransport`. With 0 what comes on them is dropped */
 } h3_config;
 
 /* A client with limits for an untrusted peer: it takes field sections of at most 65,536 bytes, and
@@ -770,7 +778,7 @@ enum h3_kind {
   H3_TOO_LARGE_HEAD = 5,    /* in place of a header or trailer section above the local limit;
                                number: its size */
   H3_SESSION = 6,           /* a WebTransport session begins; number: its id */
-  H3_RAW = 7,               /* `len` bytes of a session */
+  H3_RAW = 7,               /* `len` bytes of a session, or of an H3_STREAM_OTHER */
   H3_END = 8,               /* the stream has ended, and all of it was delivered */
   H3_PENDING = 9,           /* the next item has not come yet */
   H3_WAITING = 10,          /* the next header or trailer section needs insertions from the peer's
@@ -1048,14 +1056,20 @@ enum h3_stream_type {
   H3_STREAM_DECODER = 3,
   H3_STREAM_PUSH = 4,    /* the connection has a fault by it: no push was allowed */
   H3_STREAM_SESSION = 5, /* of a WebTransport session */
-  H3_STREAM_UNKNOWN = 6  /* what comes on it is dropped. QUIC may send STOP_SENDING, with
+  H3_STREAM_UNKNOWN = 6, /* what comes on it is dropped. QUIC may send STOP_SENDING, with
                             H3_CODE_STREAM_CREATION_ERROR */
+  H3_STREAM_OTHER = 7    /* of another type, and handed out: with `other_streams` of h3_config */
 };
 
 /* The h3_stream_type of a unidirectional stream of the peer, by what came on it. Ask after data on
  * such a stream. H3_NONE for any other stream (*type is not written then).
  * Refused: H3_ARGUMENT (id not below 2^62). */
 static inline uint32_t h3_stream_kind(h3_endpoint *endpoint, uint64_t id, uint32_t *type);
+
+/* The type of an H3_STREAM_OTHER, by the number that its stream begins with (RFC 9114, section
+ * 6.2). H3_NONE for any other stream (*type is not written then).
+ * Refused: H3_ARGUMENT (id not below 2^62). */
+static inline uint32_t h3_other_type(h3_endpoint *endpoint, uint64_t id, uint64_t *type);
 
 typedef struct {
   uint64_t sending_table;    /* size of the dynamic table that this side writes, in bytes (RFC 9204,
@@ -1183,6 +1197,7 @@ uint32_t h3_raw_read_datagram(h3_endpoint endpoint, const uint8_t *bytes, size_t
                               size_t *from, uint64_t *detail, h3_endpoint *out);
 uint32_t h3_raw_stream(h3_endpoint endpoint, uint64_t id, h3_stream_state *state, h3_endpoint *out);
 uint32_t h3_raw_stream_kind(h3_endpoint endpoint, uint64_t id, uint32_t *type, h3_endpoint *out);
+uint32_t h3_raw_other_type(h3_endpoint endpoint, uint64_t id, uint64_t *type, h3_endpoint *out);
 uint32_t h3_raw_connection(h3_endpoint endpoint, h3_state *state, h3_endpoint *out);
 uint32_t h3_raw_next_event(h3_endpoint endpoint, uint32_t *kind, uint64_t *number, h3_endpoint *out);
 uint32_t h3_raw_peer_setting(h3_endpoint endpoint, uint64_t setting, uint64_t *value,
@@ -1494,6 +1509,11 @@ static inline uint32_t h3_stream_kind(h3_endpoint *endpoint, uint64_t id, uint32
   if (!endpoint || !endpoint->at) return H3_NO_ENDPOINT;
   if (!type) return H3_ARGUMENT;
   return h3_raw_stream_kind(*endpoint, id, type, endpoint);
+}
+static inline uint32_t h3_other_type(h3_endpoint *endpoint, uint64_t id, uint64_t *type) {
+  if (!endpoint || !endpoint->at) return H3_NO_ENDPOINT;
+  if (!type) return H3_ARGUMENT;
+  return h3_raw_other_type(*endpoint, id, type, endpoint);
 }
 static inline uint32_t h3_connection(h3_endpoint *endpoint, h3_state *state) {
   if (!endpoint || !endpoint->at) return H3_NO_ENDPOINT;

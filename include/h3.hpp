@@ -442,6 +442,12 @@ class endpoint {
     if (h3_stream_kind(&raw_, id, &type) != H3_OK) return std::nullopt;
     return type;
   }
+  /* The type of an H3_STREAM_OTHER. */
+  std::optional<std::uint64_t> other_type(std::uint64_t id) noexcept {
+    std::uint64_t type;
+    if (h3_other_type(&raw_, id, &type) != H3_OK) return std::nullopt;
+    return type;
+  }
   h3_state connection() noexcept {
     h3_state state{};
     h3_connection(&raw_, &state);

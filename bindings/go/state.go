@@ -33,6 +33,7 @@ const (
 	StreamPush    StreamType = C.H3_STREAM_PUSH
 	StreamSession StreamType = C.H3_STREAM_SESSION // of a WebTransport session
 	StreamUnknown StreamType = C.H3_STREAM_UNKNOWN // what comes on it is dropped: QUIC may send STOP_SENDING
+	StreamOther   StreamType = C.H3_STREAM_OTHER   // of another type, and handed out: with Config.OtherStreams
 )
 
 // StreamKind is the type of a unidirectional stream of the peer, by what came on it; false: it is another stream.
@@ -40,6 +41,13 @@ func (e *Endpoint) StreamKind(id uint64) (StreamType, bool) {
 	var kind C.uint32_t
 	answer := C.h3_stream_kind(&e.raw, C.uint64_t(id), &kind)
 	return StreamType(kind), answer == C.H3_OK
+}
+
+// OtherType is the type of a StreamOther, by the number that it begins with; false: it is another stream.
+func (e *Endpoint) OtherType(id uint64) (uint64, bool) {
+	var number C.uint64_t
+	answer := C.h3_other_type(&e.raw, C.uint64_t(id), &number)
+	return uint64(number), answer == C.H3_OK
 }
 
 // PeerLimits is what the peer's settings allow.

@@ -95,7 +95,7 @@ static void of_many(void) {
   }
   uint64_t reserved = 0;
   for (uint64_t id = 0x10080; id < 0x10080 + 80; id++) reserved += (id - 0x21) % 0x1f == 0;
-  make(SERVER, 64, 1);
+  make(SERVER, NEVER, 1);
   comes(SERVER, bytes, len, 50, 0);
   uint64_t kept = 0;
   for (uint64_t id = 0x10080; id < 0x10080 + 80; id++) {

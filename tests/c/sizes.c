@@ -344,6 +344,7 @@ static void deliveries(void) {
   WANT(h3_send_priority(&ends[1], 0, 1, 0, NULL) == H3_NOT_CLIENT, "h3_send_priority", 0, 0);
   WANT(h3_priority(&ends[1], 0, &urgency, &incremental) == H3_NOT_OPEN, "h3_priority", 0, 0);
   DONE(h3_stream_kind(&ends[0], 3, &type), "h3_stream_kind", 3);
+  WANT(h3_other_type(&ends[0], 3, &value) == H3_NONE, "h3_other_type", 0, 0);
   WANT(type == H3_STREAM_CONTROL, "another type of stream", 3, type);
   WANT(id == 0 && drained == 1, "an endpoint without requests is not drained", 3, id);
   drop();

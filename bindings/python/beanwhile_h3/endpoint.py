@@ -494,6 +494,10 @@ class Endpoint:
             raise refused(answer)
         return None if answer else StreamType(kind.value)
 
+    def other_type(self, id: int) -> int | None:
+        """The type of a `StreamType.OTHER`, by the number that it begins with. None: it is another stream."""
+        return self._found("h3_raw_other_type", id)
+
     def connection(self) -> ConnectionState:
         """The state of the connection."""
         state = raw.RawConnection()

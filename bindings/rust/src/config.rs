@@ -1,7 +1,7 @@
 use crate::raw;
 
 /// How many numbers `h3_config` has: its size, and those of [`Config`].
-pub(crate) const NUMBERS: usize = 24;
+pub(crate) const NUMBERS: usize = 25;
 
 /// What an endpoint is and announces, as `h3_config`.
 ///
@@ -70,6 +70,9 @@ pub struct Config {
     /// How many of the peer's settings are kept whose ids are not known here, for `peer_setting`: the first ones, at most 64. With 0 all of
     /// them are ignored (RFC 9114, section 7.2.4).
     pub other_settings: u64,
+    /// Unidirectional streams of the peer whose types are not known here are handed out, as `StreamType::Other`. Without it what comes on them
+    /// is dropped.
+    pub other_streams: bool,
 }
 
 impl Config {
@@ -110,6 +113,7 @@ impl Config {
             strict_connection: numbers[21] != 0,
             priority_updates: numbers[22],
             other_settings: numbers[23],
+            other_streams: numbers[24] != 0,
         }
     }
 
@@ -140,6 +144,7 @@ impl Config {
             self.strict_connection.into(),
             self.priority_updates,
             self.other_settings,
+            self.other_streams.into(),
         ]
     }
 }

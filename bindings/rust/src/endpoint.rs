@@ -634,8 +634,16 @@ impl Endpoint {
             3 => Some(StreamType::Decoder),
             4 => Some(StreamType::Push),
             5 => Some(StreamType::Session),
+            7 => Some(StreamType::Other),
             _ => Some(StreamType::Unknown),
         }
+    }
+
+    /// The type of a `StreamType::Other`, by the number that it begins with. `None`: it is another stream.
+    pub fn other_type(&mut self, id: u64) -> Option<u64> {
+        let mut found = 0;
+        self.call(|handle, _, out| unsafe { raw::h3_raw_other_type(handle, id, &mut found, out) }).ok()?;
+        Some(found)
     }
 
     /// What is to be seen of the connection.

@@ -117,6 +117,7 @@ extern "C" {
     pub(crate) fn h3_raw_read_datagram(endpoint: Handle, bytes: *const u8, len: usize, id: *mut u64, from: *mut usize, detail: *mut u64, out: *mut Handle) -> u32;
     pub(crate) fn h3_raw_stream(endpoint: Handle, id: u64, state: *mut RawStream, out: *mut Handle) -> u32;
     pub(crate) fn h3_raw_stream_kind(endpoint: Handle, id: u64, kind: *mut u32, out: *mut Handle) -> u32;
+    pub(crate) fn h3_raw_other_type(endpoint: Handle, id: u64, number: *mut u64, out: *mut Handle) -> u32;
     pub(crate) fn h3_raw_connection(endpoint: Handle, state: *mut RawConnection, out: *mut Handle) -> u32;
     pub(crate) fn h3_raw_next_event(endpoint: Handle, kind: *mut u32, number: *mut u64, out: *mut Handle) -> u32;
     pub(crate) fn h3_raw_peer_setting(endpoint: Handle, setting: u64, value: *mut u64, out: *mut Handle) -> u32;

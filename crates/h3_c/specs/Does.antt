@@ -16,7 +16,7 @@ use Rattle.h3_c.specs.Ending.{SendsNext, TakesEndOf}
 use Rattle.h3_c.specs.Events.{ReportsEvent}
 use Rattle.h3_c.specs.Exported.{Calls, CallsOn, CopiesOut, DeliversOn, OnStream, OpensRequest, Pulls, ReadsBytes, ReadsFields, SendsCut, ShowsNextId, Takes, Unwritten}
 use Rattle.h3_c.specs.Given.{fields_given}
-use Rattle.h3_c.specs.Kinds.{ShowsKind}
+use Rattle.h3_c.specs.Kinds.{ShowsKind, ShowsType}
 use Rattle.h3_c.specs.Numbers.{body_told, call_told, delivery_told, ok}
 use Rattle.h3_c.specs.Ordering.{HoldsOn, SendsByPriority, SendsPriorityOn, SetsInitialPriorityOn, SetsPriorityOn, ShowsPriorityOf}
 use Rattle.h3_c.specs.Reads.{ReadsOn}
@@ -75,6 +75,7 @@ pub data CallOfC : Type 0 where
   -- what can be read
   Stream : (id : ℕ) (before state : StreamState) (n : Told) → CallOfC
   StreamKind : (id before kind : ℕ) (n : Told) → CallOfC
+  OtherType : (id before number : ℕ) (n : Told) → CallOfC
   Connection : (state : ConnectionState) (n : Told) → CallOfC
   NextEvent : (kind_before kind number_before number : ℕ) (n : Told) → CallOfC
   PeerSetting : (setting before value : ℕ) (n : Told) → CallOfC
@@ -130,6 +131,7 @@ Does (DatagramHead id before buffer count_before count n) v w =
 Does (ReadDatagram bytes id_before id from_before from n) v w = ReadsOne v w bytes n id_before id from_before from
 Does (Stream id before state n) v w = (w ≡ v) × OnStream id n v w ((n ≡ ok) × ShowsStream v id state) × Unwritten id (state ≡ before)
 Does (StreamKind id before kind n) v w = (w ≡ v) × OnStream id n v w (ShowsKind v id n before kind) × Unwritten id (kind ≡ before)
+Does (OtherType id before number n) v w = (w ≡ v) × OnStream id n v w (ShowsType v id n before number) × Unwritten id (number ≡ before)
 Does (Connection state n) v w = (w ≡ v) × (n ≡ ok) × ShowsConnection v state
 Does (NextEvent kind_before kind number_before number n) v w = ReportsEvent v w n kind_before kind number_before number
 Does (PeerSetting setting before value n) v w = (w ≡ v) × ShowsSetting v setting n before value

@@ -11,7 +11,7 @@ use h3_session::endpoint::Endpoint;
 use std::alloc::Global;
 
 /// How many numbers `h3_config` has: its size in bytes, and those of `GivenConfig`.
-const NUMBERS: usize = 24;
+const NUMBERS: usize = 25;
 
 /// The numbers of `h3_config` after its size, in its order. One other than 0 means yes.
 #[derive(Copy, Clone)]
@@ -39,6 +39,7 @@ pub struct GivenConfig {
     pub strict_connection: u64,
     pub priority_updates: u64,
     pub other_settings: u64,
+    pub other_streams: u64,
 }
 
 impl Default for GivenConfig {
@@ -69,6 +70,7 @@ impl Default for GivenConfig {
             strict_connection: 1,
             priority_updates: 100,
             other_settings: 0,
+            other_streams: 0,
         }
     }
 }
@@ -108,6 +110,7 @@ impl GivenConfig {
             strict_connection: number_or(numbers, 21, default.strict_connection),
             priority_updates: number_or(numbers, 22, default.priority_updates),
             other_settings: number_or(numbers, 23, default.other_settings),
+            other_streams: number_or(numbers, 24, default.other_streams),
         })
     }
 
@@ -140,6 +143,7 @@ impl GivenConfig {
             self.strict_connection,
             self.priority_updates,
             self.other_settings,
+            self.other_streams,
         ]
     }
 
@@ -208,6 +212,7 @@ fn config_of(given: &GivenConfig) -> Config
         .with_strict_connection(given.strict_connection != 0)
         .with_priority_updates(given.priority_updates)
         .with_other_settings(given.other_settings)
+        .with_other_streams(given.other_streams != 0)
 }
 
 /// The endpoint that is asked for, with these further settings.

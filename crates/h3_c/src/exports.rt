@@ -5,6 +5,7 @@ mod closing;
 mod datagrams;
 mod ending;
 mod events;
+mod further;
 mod heads;
 mod items;
 mod kinds;

@@ -139,7 +139,7 @@ pub fn drained_stays()
 
 ghost use Rattle.h3_connection.specs.Delivering.{delivery_refusal, unidirectional_at, with_unidirectional};
 ghost use Rattle.h3_connection.specs.Endpoint.Kind.{PeerUnidirectional};
-ghost use Rattle.h3_connection.specs.StrictConnection.{kinds_of, knows_sessions};
+ghost use Rattle.h3_connection.specs.StrictConnection.{kinds_of, knows_sessions, known_streams};
 ghost use Rattle.h3_connection.specs.Unidirectional.{role_after};
 ghost use Rattle.h3_connection.specs.Unidirectional.Role.{Untold, Ignored};
 ghost use Rattle.h3_connection.specs.CallLists.{answers};
@@ -151,9 +151,9 @@ ghost use Rattle.h3_connection.specs.UnknownStreams.{IsUnread, without_stream, a
 /// has a fault.
 pub fn unknown_streams_change_nothing_else()
     ensures bytes { (e : EndpointHistory) (id : ℕ) (bytes rest : List ℕ) → e.closed ≡ None → kind_of e.side id ≡ PeerUnidirectional → delivery_refusal e id ≡ None →
-        role_after (knows_sessions e.announced) (unidirectional_at e id).role bytes ≡ (Ignored, rest) →
+        role_after (known_streams e.announced) (unidirectional_at e id).role bytes ≡ (Ignored, rest) →
         deliver e id bytes ≡ (None, with_unidirectional e id (record (unidirectional_at e id) { role = Ignored })) }
-    ensures calls { (side : Side) (own : Announced) (id : ℕ) (calls : List Call) → kind_of side id ≡ PeerUnidirectional → IsUnread (role_after (knows_sessions own) (Untold []) (brought_on id calls)).0 →
+    ensures calls { (side : Side) (own : Announced) (id : ℕ) (calls : List Call) → kind_of side id ≡ PeerUnidirectional → IsUnread (role_after (known_streams own) (Untold []) (brought_on id calls)).0 →
         answers_without id (new_endpoint side own) calls ≡ answers (new_endpoint side own) (without_stream id calls) }
 {}
 

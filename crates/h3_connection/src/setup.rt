@@ -1,6 +1,7 @@
 //! What an endpoint announces.
-ghost use Rattle.std.specs.Prelude.{◌≡◌, ◌<◌, ◌≤◌, ◌^◌};
+ghost use Rattle.std.specs.Prelude.{◌≡◌, ◌<◌, ◌≤◌, ◌^◌, ◌&&◌, not};
 ghost use Rattle.h3_proto.specs.Config.{announced, is_enabled};
+ghost use Rattle.h3_proto.specs.OtherSettings.{is_reserved};
 ghost use Rattle.h3_connection.specs.Announcing.{announced_by, connects, is_below_announced, least_limit, section_of};
 ghost use Rattle.h3_connection.specs.StrictConnection.{announces_alone, have_bad_value, is_no_flag, is_no_session, judges_connect, kinds_of, knows_sessions, lacks_datagrams, refuses_settings};
 ghost use Rattle.h3_connection.specs.OtherSettings.{most_others};
@@ -12,6 +13,7 @@ use h3_proto::config::{
     MAX_TABLE_CAPACITY,
 };
 use h3_proto::frame::{SettingId, Settings, SettingsError};
+use h3_proto::other_settings::is_reserved;
 use h3_proto::stream::Side;
 use h3_wire::frame::FrameKinds;
 
@@ -135,6 +137,14 @@ impl Announced {
     {
         !self.choices.extensions.strict_connection
             || is_enabled(&self.settings, SettingId::ENABLE_WEBTRANSPORT)
+    }
+
+    /// Whether a unidirectional stream of this type, which has no meaning, is handed out: the caller asks for it, and the type is not reserved
+    /// (RFC 9114, section 6.2.3).
+    pub fn hands_out(&self, kind: u64) -> bool
+        ensures { result ≡ (self.now.choices.extensions.other_streams && not (is_reserved kind)) }
+    {
+        self.choices.extensions.other_streams && !is_reserved(kind)
     }
 
     /// Which kinds of frames it knows.

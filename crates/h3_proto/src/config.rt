@@ -126,6 +126,8 @@ pub struct Extensions {
     pub priority_updates: u64,
     /// So many of the peer's settings are kept that have no meaning here. More than `MAX_OTHER_SETTINGS` is the same as that.
     pub other_settings: u64,
+    /// Unidirectional streams of types that have no meaning here are handed out (RFC 9114, section 6.2).
+    pub other_streams: bool,
 }
 
 impl Default for Extensions {
@@ -141,6 +143,7 @@ impl Default for Extensions {
             strict_connection: false,
             priority_updates: 0,
             other_settings: 0,
+            other_streams: false,
         }
     }
 }
@@ -400,6 +403,18 @@ impl Config {
         } }
     {
         self.choices.extensions.other_settings = most;
+        self
+    }
+
+    /// Whether the peer's unidirectional streams of types that have no meaning here are handed out (RFC 9114, section 6.2). Off by default: what
+    /// comes on them is thrown away. A stream of a reserved type (section 6.2.3) is never handed out, nor one of WebTransport if that is not
+    /// known here.
+    pub fn with_other_streams(mut self, handed_out: bool) -> Self
+        ensures { result ≡ record self {
+          choices = record self.choices { extensions = record self.choices.extensions { other_streams = handed_out } };
+        } }
+    {
+        self.choices.extensions.other_streams = handed_out;
         self
     }
 

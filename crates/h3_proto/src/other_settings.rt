@@ -7,8 +7,8 @@ use crate::frame::{SettingId, get_pair};
 use bytes::Buf;
 use std::alloc::{AllocError, Global};
 
-/// Whether an id is reserved as one without a meaning (RFC 9114, section 7.2.4.1).
-fn is_reserved(id: u64) -> bool
+/// Whether an id of a setting, or a type of a stream, is reserved as one without a meaning (RFC 9114, sections 6.2.3 and 7.2.4.1).
+pub fn is_reserved(id: u64) -> bool
     ensures { result ≡ is_reserved id }
 {
     id >= 0x21 && (id - 0x21) % 0x1f == 0
