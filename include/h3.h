@@ -558,6 +558,17 @@ typedef struct {
 static inline uint32_t h3_new_with(h3_endpoint *endpoint, const h3_config *config,
                                    const h3_setting *further, size_t count, uint64_t *detail);
 
+/* A client for a connection that sends 0-RTT data: it remembers settings of its server, which
+ * h3_remember_settings of an earlier connection copied (RFC 9114, section 7.2.4.2). Until the
+ * server's settings come it keeps to their limit of field sections (H3_TOO_LARGE) and, with
+ * `strict`, sends :protocol if they allow it; datagrams go by them too. It uses no dynamic table
+ * until then. Once they came ask h3_settings_kept. If the server rejected the 0-RTT data, free the
+ * endpoint and make one by h3_new. Refused as h3_new_with; also H3_ARGUMENT: `server` is set, or
+ * the bytes are no such settings. */
+static inline uint32_t h3_new_resumed(h3_endpoint *endpoint, const h3_config *config,
+                                      const h3_setting *further, size_t count,
+                                      const void *remembered, size_t len, uint64_t *detail);
+
 /* Frees an endpoint and all that it keeps; *endpoint then holds none. If it held none, nothing is
  * done. */
 static inline void h3_free(h3_endpoint *endpoint);
@@ -1111,6 +1122,20 @@ static inline uint32_t h3_next_event(h3_endpoint *endpoint, uint32_t *kind, uint
  * `other_settings` of h3_config had it kept; if its id came twice, this is the first value. */
 static inline uint32_t h3_peer_setting(h3_endpoint *endpoint, uint64_t setting, uint64_t *value);
 
+/* Copies the settings of the server, to be kept with its session ticket for h3_new_resumed: those
+ * with a known id, as the payload of a SETTINGS frame, of 128 bytes at most. H3_NONE before they
+ * came, H3_ROOM if they do not fit; *n is not written then. Refused: H3_MEMORY. */
+static inline uint32_t h3_remember_settings(h3_endpoint *endpoint, void *buffer, size_t room,
+                                            size_t *n);
+
+/* Whether the settings that came keep to those that were remembered (1), after H3_EVENT_SETTINGS:
+ * no known one is gone that was not its default, and none allows less; the capacity of the table is
+ * the same, unless it was 0 (RFC 9204, section 3.2.3). If not, and the server accepted the 0-RTT
+ * data, close the connection with H3_CODE_SETTINGS_ERROR (RFC 9114, section 7.2.4.2). H3_NONE
+ * before they came (*kept is not written then). Refused: H3_ARGUMENT: the bytes are no settings. */
+static inline uint32_t h3_settings_kept(h3_endpoint *endpoint, const void *remembered, size_t len,
+                                        uint32_t *kept);
+
 /* The ids of the local unidirectional streams. */
 static inline uint64_t h3_control_id(int server) { return server ? 3 : 2; }
 static inline uint64_t h3_encoder_id(int server) { return server ? 7 : 6; }
@@ -1121,8 +1146,8 @@ static inline uint64_t h3_decoder_id(int server) { return server ? 11 : 10; }
  * takes the handle by value and writes the handle for the next call through its last argument,
  * whatever it returns. The handle must hold an endpoint. No pointer may be NULL, even with a length
  * of 0: these do not test for it. A configuration is its numbers and how many they are; the first
- * is their size in bytes. Further settings are an id and a value in turn. h3_raw_new and
- * h3_raw_new_with write *out on H3_OK only. */
+ * is their size in bytes. Further settings are an id and a value in turn. h3_raw_new,
+ * h3_raw_new_with and h3_raw_new_resumed write *out on H3_OK only. */
 uint32_t h3_raw_version(void);
 uint32_t h3_raw_priority_read(const uint8_t *value, size_t len, uint32_t *urgency,
                               uint32_t *incremental);
@@ -1135,6 +1160,9 @@ void h3_raw_config_default(uint64_t *numbers, size_t count);
 uint32_t h3_raw_new(const uint64_t *numbers, size_t count, uint64_t *detail, h3_endpoint *out);
 uint32_t h3_raw_new_with(const uint64_t *numbers, size_t count, const uint64_t *further,
                          size_t further_count, uint64_t *detail, h3_endpoint *out);
+uint32_t h3_raw_new_resumed(const uint64_t *numbers, size_t count, const uint64_t *further,
+                            size_t further_count, const uint8_t *remembered, size_t len,
+                            uint64_t *detail, h3_endpoint *out);
 void h3_raw_free(h3_endpoint endpoint);
 uint32_t h3_raw_open_request(h3_endpoint endpoint, uint64_t *id, uint64_t *detail,
                              h3_endpoint *out);
@@ -1202,6 +1230,10 @@ uint32_t h3_raw_connection(h3_endpoint endpoint, h3_state *state, h3_endpoint *o
 uint32_t h3_raw_next_event(h3_endpoint endpoint, uint32_t *kind, uint64_t *number, h3_endpoint *out);
 uint32_t h3_raw_peer_setting(h3_endpoint endpoint, uint64_t setting, uint64_t *value,
                              h3_endpoint *out);
+uint32_t h3_raw_remember_settings(h3_endpoint endpoint, uint8_t *buffer, size_t room, size_t *n,
+                                  h3_endpoint *out);
+uint32_t h3_raw_settings_kept(h3_endpoint endpoint, const uint8_t *remembered, size_t len,
+                              uint32_t *kept, h3_endpoint *out);
 
 /* ---- the functions above, over the exports ---- */
 
@@ -1256,6 +1288,20 @@ static inline uint32_t h3_new_with(h3_endpoint *endpoint, const h3_config *confi
   uint32_t answer = h3_raw_new_with((const uint64_t *)config, h3_config_numbers(config),
                                     count ? (const uint64_t *)further : &none, 2 * count,
                                     detail ? detail : &none, endpoint);
+  if (answer && answer != H3_ARGUMENT) endpoint->at = NULL;
+  return answer;
+}
+static inline uint32_t h3_new_resumed(h3_endpoint *endpoint, const h3_config *config,
+                                      const h3_setting *further, size_t count,
+                                      const void *remembered, size_t len, uint64_t *detail) {
+  uint64_t none = 0;
+  uint8_t nothing = 0;
+  if (!endpoint || !config || (!further && count) || count > 8 || (!remembered && len))
+    return H3_ARGUMENT;
+  uint32_t answer = h3_raw_new_resumed((const uint64_t *)config, h3_config_numbers(config),
+                                       count ? (const uint64_t *)further : &none, 2 * count,
+                                       len ? (const uint8_t *)remembered : &nothing, len,
+                                       detail ? detail : &none, endpoint);
   if (answer && answer != H3_ARGUMENT) endpoint->at = NULL;
   return answer;
 }
@@ -1529,6 +1575,22 @@ static inline uint32_t h3_peer_setting(h3_endpoint *endpoint, uint64_t setting, 
   if (!endpoint || !endpoint->at) return H3_NO_ENDPOINT;
   if (!value) return H3_ARGUMENT;
   return h3_raw_peer_setting(*endpoint, setting, value, endpoint);
+}
+static inline uint32_t h3_remember_settings(h3_endpoint *endpoint, void *buffer, size_t room,
+                                            size_t *n) {
+  uint8_t nothing;
+  if (!endpoint || !endpoint->at) return H3_NO_ENDPOINT;
+  if (!n) return H3_ARGUMENT;
+  return h3_raw_remember_settings(*endpoint, buffer ? (uint8_t *)buffer : &nothing,
+                                  buffer ? room : 0, n, endpoint);
+}
+static inline uint32_t h3_settings_kept(h3_endpoint *endpoint, const void *remembered, size_t len,
+                                        uint32_t *kept) {
+  uint8_t nothing = 0;
+  if (!endpoint || !endpoint->at) return H3_NO_ENDPOINT;
+  if (!kept || (!remembered && len)) return H3_ARGUMENT;
+  return h3_raw_settings_kept(*endpoint, len ? (const uint8_t *)remembered : &nothing, len, kept,
+                              endpoint);
 }
 #ifdef __cplusplus
 }

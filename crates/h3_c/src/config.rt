@@ -1,11 +1,14 @@
 //! What an endpoint is made of: `h3_config` of the header.
 ghost use Rattle.std.specs.Prelude.{◌≡◌, ◌<◌, slice_get, unwrap_or};
+ghost use Rattle.h3_connection.specs.Remembering.{remembering};
 ghost use Rattle.h3_connection.specs.SendingContracts.{Creates, CreatesWith};
+ghost use Rattle.h3_proto.specs.declared.stream.Side.TheVariants.{Client};
 ghost use Rattle.h3_c.specs.Configs.{default_config, side_of, config_of, config_given, least_for, limit_of_given, announced_of, numbers_of};
 
 use h3_coding::varint::VarInt;
 use h3_connection::setup::{Limits, NewError};
 use h3_proto::config::Config;
+use h3_proto::frame::Settings;
 use h3_proto::stream::Side;
 use h3_session::endpoint::Endpoint;
 use std::alloc::Global;
@@ -179,7 +182,7 @@ fn number_or(numbers: &[u64], at: usize, default: u64) -> u64
     }
 }
 
-fn side_of(given: &GivenConfig) -> Side
+pub(crate) fn side_of(given: &GivenConfig) -> Side
     ensures { result ≡ side_of given.now }
 {
     if given.server != 0 {
@@ -235,6 +238,30 @@ pub(crate) fn endpoint_with(
         limits,
         given.grease,
         further,
+    )
+}
+
+/// The client that is asked for, with these further settings, that remembers those.
+pub(crate) fn endpoint_resumed(
+    alloc: Global,
+    given: &GivenConfig,
+    further: &[(u64, u64)],
+    remembered: Settings,
+) -> Result<Endpoint, NewError>
+    requires { given.now.grease < 0x210842108421083 }
+    ensures { CreatesWith Client (remembering (announced_of given.now) remembered) further.now result }
+{
+    let limits = Limits {
+        table: given.table,
+        blocked: given.blocked,
+    };
+    Endpoint::new_resumed(
+        alloc,
+        config_of(given),
+        limits,
+        given.grease,
+        further,
+        remembered,
     )
 }
 

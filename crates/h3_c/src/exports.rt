@@ -15,6 +15,7 @@ mod outgoing;
 mod priority;
 mod reading;
 mod receiving;
+mod remembered;
 mod sending;
 mod showing;
 mod shutdown;

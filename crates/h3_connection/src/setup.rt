@@ -1,10 +1,11 @@
 //! What an endpoint announces.
-ghost use Rattle.std.specs.Prelude.{◌≡◌, ◌<◌, ◌≤◌, ◌^◌, ◌&&◌, not};
+ghost use Rattle.std.specs.Prelude.{◌≡◌, ◌<◌, ◌≤◌, ◌^◌, ◌&&◌, not, option_copied};
 ghost use Rattle.h3_proto.specs.Config.{announced, is_enabled};
 ghost use Rattle.h3_proto.specs.OtherSettings.{is_reserved};
 ghost use Rattle.h3_connection.specs.Announcing.{announced_by, connects, is_below_announced, least_limit, section_of};
 ghost use Rattle.h3_connection.specs.StrictConnection.{announces_alone, have_bad_value, is_no_flag, is_no_session, judges_connect, kinds_of, knows_sessions, lacks_datagrams, refuses_settings};
 ghost use Rattle.h3_connection.specs.OtherSettings.{most_others};
+ghost use Rattle.h3_connection.specs.Remembering.{settings_known};
 ghost use Rattle.h3_connection.specs.Updates.{most_updates};
 
 use h3_coding::varint::VarInt;
@@ -57,6 +58,8 @@ pub struct Announced {
     pub limits: Limits,
     /// What it chooses for itself, which the peer does not learn.
     pub choices: Choices,
+    /// What a client remembers of its server's settings from an earlier connection (RFC 9114, section 7.2.4.2).
+    pub remembered: Option<Settings>,
 }
 
 impl Announced {
@@ -86,6 +89,7 @@ impl Announced {
             settings,
             limits,
             choices,
+            remembered: None,
         };
         if announced.announces_alone() {
             return Err(NewError::Settings(SettingsError::InvalidSettingValue(
@@ -97,6 +101,16 @@ impl Announced {
             return Err(NewError::UnfinishedLimit);
         }
         Ok(announced)
+    }
+
+    /// Which settings of the peer count: those that came, and until then those that it remembers.
+    pub fn settings_known<'a>(&'a self, came: Option<&'a Settings>) -> Option<&'a Settings>
+        ensures { option_copied result ≡ settings_known self.now (option_copied came) }
+    {
+        match came {
+            Some(settings) => Some(settings),
+            None => self.remembered.as_ref(),
+        }
     }
 
     /// Whether it asks for a strict connection, and announces WebTransport without datagrams, which no such endpoint takes of its peer.

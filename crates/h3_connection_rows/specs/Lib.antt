@@ -24,3 +24,4 @@ pub mod ServerCases6
 pub mod OrderRows
 pub mod UpdateRows
 pub mod SettingRows
+pub mod OtherStreamRows

@@ -14,6 +14,7 @@ pub mod kept_rows;
 pub mod limit_rows;
 pub mod message_rows;
 pub mod order_rows;
+pub mod other_stream_rows;
 pub mod sending_rows;
 pub mod server_cases_1;
 pub mod server_cases_2;

@@ -12,4 +12,5 @@ pub mod ReceivedLaws
 pub mod Settings
 pub mod OtherSettings
 pub mod Further
+pub mod Remembered
 pub mod StreamIds

@@ -8,5 +8,6 @@ pub mod further;
 pub mod laws;
 pub mod other_settings;
 pub mod push;
+pub mod remembered;
 pub mod stream;
 pub mod webtransport;

@@ -20,8 +20,8 @@ const MOST: usize = 8;
 /// Pairs of an id and a value, and how many there are.
 #[derive(Copy, Clone)]
 pub(crate) struct GivenPairs {
-    pairs: [(u64, u64); MOST],
-    len: usize,
+    pub(crate) pairs: [(u64, u64); MOST],
+    pub(crate) len: usize,
 }
 
 impl GivenPairs {
@@ -39,6 +39,14 @@ impl GivenPairs {
             pairs[at] = (numbers[2 * at], numbers[2 * at + 1]);
         }
         Some(GivenPairs { pairs, len })
+    }
+
+    /// The pairs.
+    pub(crate) fn as_slice(&self) -> &[(u64, u64)]
+        ensures { result.now ≡ take self.now.len self.now.pairs }
+    {
+        let count = self.len.min(MOST);
+        &self.pairs[..count]
     }
 }
 
@@ -58,8 +66,7 @@ pub(crate) fn made_with(
     if given.grease >= RESERVED_NUMBERS {
         return Err(ARGUMENT);
     }
-    let count = further.len.min(MOST);
-    match endpoint_with(alloc, given, &further.pairs[..count]) {
+    match endpoint_with(alloc, given, further.as_slice()) {
         Ok(endpoint) => match boxed(alloc, Connection::of(alloc, endpoint)) {
             Ok(connection) => Ok(connection),
             Err(_) => Err(MEMORY),

@@ -1,12 +1,14 @@
-//! Endpoints that announce further settings.
-ghost use Rattle.std.specs.Prelude.{◌<◌, ◌≡◌, OnOk};
+//! Endpoints that announce further settings, or remember those of an earlier connection.
+ghost use Rattle.std.specs.Prelude.{◌<◌, ◌^◌, OnOk, Ok};
 ghost use Rattle.h3_proto.specs.Config.{announced};
 ghost use Rattle.h3_connection.specs.Announcing.{announced_by};
 ghost use Rattle.h3_connection.specs.Endpoint.{new_endpoint, new_endpoint_with};
+ghost use Rattle.h3_connection.specs.Remembering.{remembering};
 ghost use Rattle.h3_connection.specs.SendingContracts.{CreatesWith};
 ghost use Rattle.h3_connection.specs.State.{StandsFor};
 ghost use Rattle.h3_connection.specs.declared.setup.Announced.{Announced};
 ghost use Rattle.h3_proto.specs.declared.stream.Side.{Side};
+ghost use Rattle.h3_proto.specs.declared.stream.Side.TheVariants.{Client};
 
 use super::Endpoint;
 use h3_connection::setup::{Announced, Limits, NewError};
@@ -34,6 +36,41 @@ impl Endpoint {
             Ok(announced) => announced,
             Err(e) => return Err(e),
         };
+        Endpoint::beginning_with(alloc, side, announced, further)
+    }
+
+    /// A client as `new_with` makes it, that remembers these settings of its server from an earlier connection, for what it sends before the
+    /// server's settings come (RFC 9114, section 7.2.4.2). It keeps to their limit of field sections and, if strict, sends `:protocol` if they
+    /// allow it; so it sends datagrams. Its encoder uses no table until the server's settings come (RFC 9204, section 3.2.3).
+    pub fn new_resumed(
+        alloc: Global,
+        config: Config,
+        limits: Limits,
+        grease: u64,
+        further: &[(u64, u64)],
+        remembered: Settings,
+    ) -> Result<Endpoint, NewError>
+        requires { grease < 0x210842108421083 }
+        ensures { CreatesWith Client (remembering (announced_by (announced config grease) limits config.choices) remembered) further.now result }
+    {
+        let mut announced = match Announced::new(config, limits, grease) {
+            Ok(announced) => announced,
+            Err(e) => return Err(e),
+        };
+        announced.remembered = Some(remembered);
+        Endpoint::beginning_with(alloc, Side::Client, announced, further)
+    }
+
+    // An endpoint of what is announced, with further settings.
+    fn beginning_with(
+        alloc: Global,
+        side: Side,
+        announced: Announced,
+        further: &[(u64, u64)],
+    ) -> Result<Endpoint, NewError>
+        requires { announced.limits.table < 2 ^ 30 }
+        ensures { CreatesWith side (Ok announced) further.now result }
+    {
         let settings = match announced.settings.further(further) {
             Ok(settings) => settings,
             Err(e) => return Err(NewError::Settings(e)),
