@@ -55,6 +55,23 @@ func NewWith(config Config, further ...Setting) (*Endpoint, error) {
 	return endpoint, nil
 }
 
+// NewResumed makes a client for a connection that sends 0-RTT data. It remembers settings of its server, as RememberSettings copied them in an
+// earlier connection (RFC 9114, section 7.2.4.2), and announces further settings as NewWith does.
+func NewResumed(config Config, remembered []byte, further ...Setting) (*Endpoint, error) {
+	var detail C.uint64_t
+	raw := config.raw()
+	pairs := make([]C.h3_setting, len(further)+1)
+	for at, setting := range further {
+		pairs[at] = C.h3_setting{id: C.uint64_t(setting.ID), value: C.uint64_t(setting.Value)}
+	}
+	endpoint := &Endpoint{}
+	answer := C.h3_new_resumed(&endpoint.raw, &raw, &pairs[0], C.size_t(len(further)), start(remembered), C.size_t(len(remembered)), &detail)
+	if err := refusal(answer, detail); err != nil {
+		return nil, err
+	}
+	return endpoint, nil
+}
+
 // Close frees the endpoint. A second one does nothing, and every other call after it returns NoEndpoint.
 func (e *Endpoint) Close() {
 	C.h3_free(&e.raw)

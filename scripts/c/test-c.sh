@@ -141,6 +141,7 @@ checks() {
   compile priority_updates priority_updates "${refusing[@]}"
   compile other_settings other_settings "${refusing[@]}"
   compile other_streams other_streams "${refusing[@]}"
+  compile remembered_settings remembered_settings "${refusing[@]}"
   compile streams streams "${refusing[@]}"
   compile drained drained "${refusing[@]}"
   compile datagrams datagrams
@@ -174,6 +175,7 @@ checks() {
     run "priority updates" "$out/priority_updates"
     run "other settings" "$out/other_settings"
     run "other streams" "$out/other_streams"
+    run "remembered settings" "$out/remembered_settings"
     run streams "$out/streams"
     run drained "$out/drained" 0 10000
     run datagrams "$out/datagrams"
@@ -202,6 +204,7 @@ checks() {
     compile priority_updates priority_updates_checked "${flags[@]}" "${refusing[@]}"
     compile other_settings other_settings_checked "${flags[@]}" "${refusing[@]}"
     compile other_streams other_streams_checked "${flags[@]}" "${refusing[@]}"
+    compile remembered_settings remembered_settings_checked "${flags[@]}" "${refusing[@]}"
     compile datagrams datagrams_checked "${flags[@]}"
     compile in_memory in_memory_checked "${flags[@]}"
     compile ../../examples/quickstart quickstart_checked "-I$lib" "${flags[@]}"
@@ -222,6 +225,7 @@ checks() {
       run "priority updates with sanitizers" "$out/priority_updates_checked"
       run "other settings with sanitizers" "$out/other_settings_checked"
       run "other streams with sanitizers" "$out/other_streams_checked"
+      run "remembered settings with sanitizers" "$out/remembered_settings_checked"
       run "datagrams with sanitizers" "$out/datagrams_checked"
       printed "$out/in_memory_checked" tests/c/in_memory.stdout "in_memory with sanitizers"
     printed "$out/quickstart_checked" examples/quickstart.stdout "quickstart with sanitizers"

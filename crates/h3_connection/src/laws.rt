@@ -391,3 +391,11 @@ pub fn without_other_streams_none_are_handed_out()
     ensures known { (own : Announced) → own.choices.extensions.other_streams ≡ false → (known_streams own).others ≡ false }
     ensures ignored { (kind : ℕ) → other_role false kind ≡ Ignored }
 {}
+
+ghost use Rattle.h3_connection.specs.Remembering.{settings_known};
+
+/// If an endpoint remembers no settings, those that came count alone (`came`). Once they came, they count in any case (`known`).
+pub fn without_remembered_settings_those_that_came_count()
+    ensures came { (own : Announced) (settings : Option (List (ℕ × ℕ))) → own.remembered ≡ None → settings_known own settings ≡ settings }
+    ensures known { (own : Announced) (pairs : List (ℕ × ℕ)) → settings_known own (Some pairs) ≡ Some pairs }
+{}

@@ -1,5 +1,5 @@
 -- Worked rows of settings that have no meaning here (RFC 9114, section 7.2.4), the peer's and own ones.
-use Rattle.std.specs.Prelude.{ℕ, List, [], ◌∷◌, Option, Result}
+use Rattle.std.specs.Prelude.{ℕ, List, [], ◌∷◌, Option, Some, Result}
 use Rattle.h3_proto.specs.Config.{no_choices, no_extensions}
 use Rattle.h3_proto.specs.Further.{further_from}
 use Rattle.h3_proto.specs.declared.frame.SettingsError.{SettingsError}
@@ -33,6 +33,10 @@ shown_apart most first second id = peer_setting (deliver (came most first).1 2 (
 -- what a client's control stream begins with that announces these further settings
 abbrev pub begins : List (ℕ × ℕ) → List ℕ
 begins further = own_waiting (new_endpoint_with Client (plain 65536 4096 16) further) 2
+
+-- a client that remembers a limit of 100 bytes for field sections
+abbrev pub resumed : Announced
+resumed = record (plain 1000 0 0) { remembered = Some ((6, 100) ∷ []) }
 
 -- these further settings beside those of such a client, or why they are refused
 abbrev pub beside : List (ℕ × ℕ) → Result (List (ℕ × ℕ)) SettingsError

@@ -1,11 +1,13 @@
 //! Worked rows of settings that have no meaning here (RFC 9114, section 7.2.4).
-ghost use Rattle.std.specs.Prelude.{◌≡◌, ◌^◌, [], ◌∷◌, codes, Some, None, Err};
+ghost use Rattle.std.specs.Prelude.{◌≡◌, ◌^◌, [], ◌∷◌, codes, true, false, Some, None, Err};
+ghost use Rattle.h3_proto.specs.Remembered.{keeps_to};
 ghost use Rattle.h3_proto.specs.declared.frame.SettingsError.TheVariants.{Exceeded, InvalidSettingId, InvalidSettingValue, Repeated};
+ghost use Rattle.h3_connection.specs.Remembering.{settings_known};
 ghost use Rattle.h3_connection.specs.declared.event.Refusal.TheVariants.{Connection};
-ghost use Rattle.h3_connection_rows.specs.SettingRows.{begins, beside, shown, shown_apart, told};
+ghost use Rattle.h3_connection_rows.specs.SettingRows.{begins, beside, keeping, resumed, shown, shown_apart, told};
 ghost use Rattle.h3_connection_rows.specs.Worked.{hex};
 
-/// Which of the peer's are kept, and which further ones an endpoint announces.
+/// Which of the peer's are kept, which further ones an endpoint announces, and what those that come keep to that were remembered.
 pub fn setting_rows_compute()
     ensures unasked { shown 0 (codes "000403409907") 0x99 ≡ None }
     ensures kept { shown 1 (codes "000403409907") 0x99 ≡ Some 7 }
@@ -27,4 +29,15 @@ pub fn setting_rows_compute()
     ensures twice { beside ((0x99, 1) ∷ (0x99, 1) ∷ []) ≡ Err (Repeated 0x99) }
     ensures wide { beside ((0x99, 2 ^ 62) ∷ []) ≡ Err (InvalidSettingValue 0x99 (2 ^ 62)) }
     ensures ninth { beside ((0x90, 0) ∷ (0x91, 0) ∷ (0x92, 0) ∷ (0x93, 0) ∷ (0x94, 0) ∷ (0x95, 0) ∷ (0x96, 0) ∷ (0x97, 0) ∷ (0x98, 0) ∷ []) ≡ Err Exceeded }
+    ensures keeps { keeps_to ((6, 1000) ∷ (8, 1) ∷ []) ((8, 1) ∷ (6, 1000) ∷ []) ≡ true }
+    ensures allows_more { keeps_to ((6, 1000) ∷ (7, 2) ∷ []) ((6, 1001) ∷ (7, 3) ∷ (8, 1) ∷ []) ≡ true }
+    ensures allows_less { keeps_to ((6, 1000) ∷ []) ((6, 999) ∷ []) ≡ false }
+    ensures is_gone { keeps_to ((6, 1000) ∷ []) [] ≡ false }
+    ensures limits_now { keeps_to [] ((6, 1000) ∷ []) ≡ false }
+    ensures default_is_gone { keeps_to ((8, 0) ∷ (7, 0) ∷ []) [] ≡ true }
+    ensures another_table { keeps_to ((1, 4096) ∷ []) ((1, 4097) ∷ []) ≡ false }
+    ensures a_table_now { keeps_to ((1, 0) ∷ []) ((1, 4096) ∷ []) ≡ true }
+    ensures remembered { settings_known resumed None ≡ Some ((6, 100) ∷ []) }
+    ensures those_that_came { settings_known resumed (Some ((6, 200) ∷ [])) ≡ Some ((6, 200) ∷ []) }
+    ensures remembers_none { settings_known (keeping 0) None ≡ None }
 {}

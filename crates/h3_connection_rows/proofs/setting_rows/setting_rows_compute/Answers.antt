@@ -88,3 +88,47 @@ returns-clause-wide c = refl
 pub returns-clause-ninth : goal.returns-clause-ninth
 unfolding encoding varint_at frame_by frame_of known_by unknown_size read_peer listen_up_to split_of
 returns-clause-ninth c = refl
+
+pub returns-clause-keeps : goal.returns-clause-keeps
+unfolding encoding varint_at frame_by frame_of known_by unknown_size read_peer listen_up_to split_of
+returns-clause-keeps c = refl
+
+pub returns-clause-allows_more : goal.returns-clause-allows_more
+unfolding encoding varint_at frame_by frame_of known_by unknown_size read_peer listen_up_to split_of
+returns-clause-allows_more c = refl
+
+pub returns-clause-allows_less : goal.returns-clause-allows_less
+unfolding encoding varint_at frame_by frame_of known_by unknown_size read_peer listen_up_to split_of
+returns-clause-allows_less c = refl
+
+pub returns-clause-is_gone : goal.returns-clause-is_gone
+unfolding encoding varint_at frame_by frame_of known_by unknown_size read_peer listen_up_to split_of
+returns-clause-is_gone c = refl
+
+pub returns-clause-limits_now : goal.returns-clause-limits_now
+unfolding encoding varint_at frame_by frame_of known_by unknown_size read_peer listen_up_to split_of
+returns-clause-limits_now c = refl
+
+pub returns-clause-default_is_gone : goal.returns-clause-default_is_gone
+unfolding encoding varint_at frame_by frame_of known_by unknown_size read_peer listen_up_to split_of
+returns-clause-default_is_gone c = refl
+
+pub returns-clause-another_table : goal.returns-clause-another_table
+unfolding encoding varint_at frame_by frame_of known_by unknown_size read_peer listen_up_to split_of
+returns-clause-another_table c = refl
+
+pub returns-clause-a_table_now : goal.returns-clause-a_table_now
+unfolding encoding varint_at frame_by frame_of known_by unknown_size read_peer listen_up_to split_of
+returns-clause-a_table_now c = refl
+
+pub returns-clause-remembered : goal.returns-clause-remembered
+unfolding encoding varint_at frame_by frame_of known_by unknown_size read_peer listen_up_to split_of
+returns-clause-remembered c = refl
+
+pub returns-clause-those_that_came : goal.returns-clause-those_that_came
+unfolding encoding varint_at frame_by frame_of known_by unknown_size read_peer listen_up_to split_of
+returns-clause-those_that_came c = refl
+
+pub returns-clause-remembers_none : goal.returns-clause-remembers_none
+unfolding encoding varint_at frame_by frame_of known_by unknown_size read_peer listen_up_to split_of
+returns-clause-remembers_none c = refl
