@@ -1268,16 +1268,13 @@ static inline uint32_t h3_capsule_head(uint64_t capsule_type, uint64_t length, v
 static inline void h3_config_default(h3_config *config) {
   if (config) h3_raw_config_default((uint64_t *)config, sizeof *config / sizeof(uint64_t));
 }
-static inline size_t h3_config_numbers(const h3_config *config) {
-  return config->size > sizeof *config || config->size % sizeof(uint64_t)
-             ? 0
-             : (size_t)config->size / sizeof(uint64_t);
-}
 static inline uint32_t h3_new(h3_endpoint *endpoint, const h3_config *config, uint64_t *detail) {
   uint64_t none;
   if (!endpoint || !config) return H3_ARGUMENT;
-  uint32_t answer = h3_raw_new((const uint64_t *)config, h3_config_numbers(config),
-                               detail ? detail : &none, endpoint);
+  size_t count = config->size > sizeof *config || config->size % sizeof(uint64_t)
+                     ? 0
+                     : (size_t)config->size / sizeof(uint64_t);
+  uint32_t answer = h3_raw_new((const uint64_t *)config, count, detail ? detail : &none, endpoint);
   if (answer && answer != H3_ARGUMENT) endpoint->at = NULL;
   return answer;
 }
@@ -1285,7 +1282,10 @@ static inline uint32_t h3_new_with(h3_endpoint *endpoint, const h3_config *confi
                                    const h3_setting *further, size_t count, uint64_t *detail) {
   uint64_t none = 0;
   if (!endpoint || !config || (!further && count) || count > 8) return H3_ARGUMENT;
-  uint32_t answer = h3_raw_new_with((const uint64_t *)config, h3_config_numbers(config),
+  size_t numbers = config->size > sizeof *config || config->size % sizeof(uint64_t)
+                       ? 0
+                       : (size_t)config->size / sizeof(uint64_t);
+  uint32_t answer = h3_raw_new_with((const uint64_t *)config, numbers,
                                     count ? (const uint64_t *)further : &none, 2 * count,
                                     detail ? detail : &none, endpoint);
   if (answer && answer != H3_ARGUMENT) endpoint->at = NULL;
@@ -1298,7 +1298,10 @@ static inline uint32_t h3_new_resumed(h3_endpoint *endpoint, const h3_config *co
   uint8_t nothing = 0;
   if (!endpoint || !config || (!further && count) || count > 8 || (!remembered && len))
     return H3_ARGUMENT;
-  uint32_t answer = h3_raw_new_resumed((const uint64_t *)config, h3_config_numbers(config),
+  size_t numbers = config->size > sizeof *config || config->size % sizeof(uint64_t)
+                       ? 0
+                       : (size_t)config->size / sizeof(uint64_t);
+  uint32_t answer = h3_raw_new_resumed((const uint64_t *)config, numbers,
                                        count ? (const uint64_t *)further : &none, 2 * count,
                                        len ? (const uint8_t *)remembered : &nothing, len,
                                        detail ? detail : &none, endpoint);
