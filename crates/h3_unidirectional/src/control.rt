@@ -339,9 +339,7 @@ impl PeerControl {
         if self.settings.is_some() || self.others.most == 0 {
             return Ok(None);
         }
-        let kept = self
-            .unread
-            .other_settings(alloc, kinds, self.others.most)?;
+        let kept = self.unread.other_settings(alloc, kinds, self.others.most)?;
         Ok(Some(kept))
     }
 

@@ -12,11 +12,7 @@ use h3_wire::proto::frame::FrameType;
 use std::alloc::{AllocError, Global};
 
 /// The type of the control stream, and one SETTINGS frame over both lists.
-fn start_with(
-    alloc: Global,
-    settings: &Settings,
-    further: &Settings,
-) -> Result<Vec<u8>, AllocError>
+fn start_with(alloc: Global, settings: &Settings, further: &Settings) -> Result<Vec<u8>, AllocError>
     ensures { IfOk result (λ bytes. bytes.items ≡ control_encoding (settings.now ++ further.now)) }
 {
     let mut bytes = Vec::new(alloc);
