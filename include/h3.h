@@ -516,13 +516,13 @@ typedef struct {
                                        * SETTINGS frame, at most 64, and a greater number is the
                                        * same. A reserved id (RFC 9114, section 7.2.4.1) is never
                                        * kept. With 0 all of them are ignored (section 7.2.4) */
-  uint64_t other_streams;             /* whether unidirectional streams of the peer are handed out
+  uint64_t other_streams;             /* whether unidirectional streams of the peer are delivered
                                        * whose types are not known here (1): h3_stream_kind returns
                                        * H3_STREAM_OTHER for such a stream, h3_other_type its type,
                                        * and h3_read and h3_pull H3_RAW, H3_END and H3_FAULT_RESET.
                                        * Grant credit for them by `unread` as for all streams. One
                                        * of a reserved type (RFC 9114, section 6.2.3) is never
-                                       * handed out, nor one of WebTransport without
+                                       * delivered, nor one of WebTransport without
                                        * `webtransport`. With 0 what comes on them is dropped */
 } h3_config;
 
@@ -550,11 +550,11 @@ typedef struct {
 } h3_setting;
 
 /* The same of an endpoint that announces further settings (RFC 9114, section 7.2.4), for an
- * extension that you speak: `count` of them, at most 8. They stand behind the others, in the same
- * SETTINGS frame. Refused, in this order: H3_ARGUMENT, also with more than 8, what h3_new refuses
- * except H3_MEMORY, H3_SETTING (detail: the first id that is 0, 2, 3, 4, 5 or 2^62 and more, that
- * h3_config announces, that came before, or whose value is 2^62 and more), H3_MEMORY. *endpoint is
- * written as by h3_new. */
+ * extension that you speak: `count` of them, at most 8. They stand after the others, in the same
+ * SETTINGS frame. Refused, in this order: H3_ARGUMENT (also more than 8), H3_TABLE_LIMIT,
+ * H3_BLOCKED_LIMIT, H3_SETTING, H3_UNFINISHED_LIMIT, H3_SETTING of a further one (detail: the first
+ * id that is 0, 2, 3, 4, 5 or 2^62 and more, that h3_config announces, that came before, or whose
+ * value is 2^62 and more), H3_MEMORY. *endpoint is written as by h3_new. */
 static inline uint32_t h3_new_with(h3_endpoint *endpoint, const h3_config *config,
                                    const h3_setting *further, size_t count, uint64_t *detail);
 
@@ -563,8 +563,9 @@ static inline uint32_t h3_new_with(h3_endpoint *endpoint, const h3_config *confi
  * server's settings come it keeps to their limit of field sections (H3_TOO_LARGE) and, with
  * `strict`, sends :protocol if they allow it; datagrams go by them too. It uses no dynamic table
  * until then. Once they came ask h3_settings_kept. If the server rejected the 0-RTT data, free the
- * endpoint and make one by h3_new. Refused as h3_new_with; also H3_ARGUMENT: `server` is set, or
- * the bytes are no such settings. */
+ * endpoint and make one by h3_new. Refused, in this order: H3_ARGUMENT (also if `server` is set, or
+ * the bytes are no such settings), H3_TABLE_LIMIT, H3_BLOCKED_LIMIT, H3_SETTING,
+ * H3_UNFINISHED_LIMIT, H3_SETTING as of h3_new_with, H3_MEMORY. */
 static inline uint32_t h3_new_resumed(h3_endpoint *endpoint, const h3_config *config,
                                       const h3_setting *further, size_t count,
                                       const void *remembered, size_t len, uint64_t *detail);
@@ -1069,7 +1070,7 @@ enum h3_stream_type {
   H3_STREAM_SESSION = 5, /* of a WebTransport session */
   H3_STREAM_UNKNOWN = 6, /* what comes on it is dropped. QUIC may send STOP_SENDING, with
                             H3_CODE_STREAM_CREATION_ERROR */
-  H3_STREAM_OTHER = 7    /* of another type, and handed out: with `other_streams` of h3_config */
+  H3_STREAM_OTHER = 7    /* of another type, and delivered: with `other_streams` of h3_config */
 };
 
 /* The h3_stream_type of a unidirectional stream of the peer, by what came on it. Ask after data on
@@ -1124,7 +1125,7 @@ static inline uint32_t h3_peer_setting(h3_endpoint *endpoint, uint64_t setting, 
 
 /* Copies the settings of the server, to be kept with its session ticket for h3_new_resumed: those
  * with a known id, as the payload of a SETTINGS frame, of 128 bytes at most. H3_NONE before they
- * came, H3_ROOM if they do not fit; *n is not written then. Refused: H3_MEMORY. */
+ * came. Refused: H3_ROOM (they do not fit), H3_MEMORY. *n is written on H3_OK alone. */
 static inline uint32_t h3_remember_settings(h3_endpoint *endpoint, void *buffer, size_t room,
                                             size_t *n);
 

@@ -46,7 +46,7 @@ type Config struct {
 	// OtherSettings: how many of the peer's settings are kept whose ids are not known here, for PeerSetting: the first ones, at most 64. With 0
 	// all of them are ignored (RFC 9114, section 7.2.4).
 	OtherSettings uint64
-	// OtherStreams: unidirectional streams of the peer whose types are not known here are handed out, as StreamOther. Without it what comes on
+	// OtherStreams: unidirectional streams of the peer whose types are not known here are delivered, as StreamOther. Without it what comes on
 	// them is dropped.
 	OtherStreams bool
 }

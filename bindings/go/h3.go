@@ -38,7 +38,7 @@ type Setting struct {
 	ID, Value uint64
 }
 
-// NewWith makes an endpoint that announces further settings behind those of the configuration, at most 8, for an extension that the caller
+// NewWith makes an endpoint that announces further settings after those of the configuration, at most 8, for an extension that the caller
 // speaks. Refused as Setting: an id of HTTP/2's, one that the configuration announces, one given twice, an id or a value of 2^62 or more.
 func NewWith(config Config, further ...Setting) (*Endpoint, error) {
 	var detail C.uint64_t

@@ -33,7 +33,7 @@ const (
 	StreamPush    StreamType = C.H3_STREAM_PUSH
 	StreamSession StreamType = C.H3_STREAM_SESSION // of a WebTransport session
 	StreamUnknown StreamType = C.H3_STREAM_UNKNOWN // what comes on it is dropped: QUIC may send STOP_SENDING
-	StreamOther   StreamType = C.H3_STREAM_OTHER   // of another type, and handed out: with Config.OtherStreams
+	StreamOther   StreamType = C.H3_STREAM_OTHER   // of another type, and delivered: with Config.OtherStreams
 )
 
 // StreamKind is the type of a unidirectional stream of the peer, by what came on it; false: it is another stream.

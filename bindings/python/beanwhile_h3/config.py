@@ -69,7 +69,7 @@ class Config:
     """How many of the peer's settings are kept whose ids are not known here, for `peer_setting`: the first ones, at most 64. With 0 all of them are
     ignored (RFC 9114, section 7.2.4)."""
     other_streams: bool
-    """Unidirectional streams of the peer whose types are not known here are handed out, as `StreamType.OTHER`. Without it what comes on them is
+    """Unidirectional streams of the peer whose types are not known here are delivered, as `StreamType.OTHER`. Without it what comes on them is
     dropped."""
 
     @classmethod

@@ -70,7 +70,7 @@ pub struct Config {
     /// How many of the peer's settings are kept whose ids are not known here, for `peer_setting`: the first ones, at most 64. With 0 all of
     /// them are ignored (RFC 9114, section 7.2.4).
     pub other_settings: u64,
-    /// Unidirectional streams of the peer whose types are not known here are handed out, as `StreamType::Other`. Without it what comes on them
+    /// Unidirectional streams of the peer whose types are not known here are delivered, as `StreamType::Other`. Without it what comes on them
     /// is dropped.
     pub other_streams: bool,
 }

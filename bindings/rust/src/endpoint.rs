@@ -64,7 +64,7 @@ impl Endpoint {
         Ok(Endpoint { handle })
     }
 
-    /// Makes an endpoint that announces further settings (an id and a value each) behind those of the configuration, at most 8, for an
+    /// Makes an endpoint that announces further settings (an id and a value each) after those of the configuration, at most 8, for an
     /// extension that the caller speaks.
     ///
     /// # Errors

@@ -45,7 +45,7 @@ pub enum StreamType {
     Session,
     /// What comes on it is dropped: QUIC may send STOP_SENDING with H3_STREAM_CREATION_ERROR.
     Unknown,
-    /// Of another type, and handed out: with `Config::other_streams`.
+    /// Of another type, and delivered: with `Config::other_streams`.
     Other,
 }
 

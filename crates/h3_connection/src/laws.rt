@@ -386,7 +386,7 @@ pub fn without_further_settings_nothing_more_is_announced()
 
 ghost use Rattle.h3_connection.specs.Unidirectional.{other_role};
 
-/// If an endpoint hands out no streams of other types, a stream of a type without a meaning is ignored (`ignored`, `known`).
+/// If an endpoint delivers no streams of other types, a stream of a type without a meaning is ignored (`ignored`, `known`).
 pub fn without_other_streams_none_are_handed_out()
     ensures known { (own : Announced) → own.choices.extensions.other_streams ≡ false → (known_streams own).others ≡ false }
     ensures ignored { (kind : ℕ) → other_role false kind ≡ Ignored }

@@ -153,7 +153,7 @@ impl Announced {
             || is_enabled(&self.settings, SettingId::ENABLE_WEBTRANSPORT)
     }
 
-    /// Whether a unidirectional stream of this type, which has no meaning, is handed out: the caller asks for it, and the type is not reserved
+    /// Whether a unidirectional stream of this type, which has no meaning, is delivered: the caller asks for it, and the type is not reserved
     /// (RFC 9114, section 6.2.3).
     pub fn hands_out(&self, kind: u64) -> bool
         ensures { result ≡ (self.now.choices.extensions.other_streams && not (is_reserved kind)) }

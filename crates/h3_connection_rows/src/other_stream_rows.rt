@@ -7,7 +7,7 @@ ghost use Rattle.h3_connection.specs.declared.event.Pull.TheVariants.{Fault, Ite
 ghost use Rattle.h3_connection.specs.declared.event.StreamFault.TheVariants.{Reset};
 ghost use Rattle.h3_connection_rows.specs.OtherStreamRows.{behind, came, cut_off, ended, more, pulled, role, waiting};
 
-/// Which streams are handed out, and what is pulled of them.
+/// Which streams are delivered, and what is pulled of them.
 pub fn other_stream_rows_compute()
     ensures off { role (came false (codes "40996162")) ≡ Ignored }
     ensures nothing_where_off { pulled (came false (codes "40996162")) ≡ NoMessages }

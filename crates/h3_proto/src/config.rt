@@ -126,7 +126,7 @@ pub struct Extensions {
     pub priority_updates: u64,
     /// So many of the peer's settings are kept that have no meaning here. More than `MAX_OTHER_SETTINGS` is the same as that.
     pub other_settings: u64,
-    /// Unidirectional streams of types that have no meaning here are handed out (RFC 9114, section 6.2).
+    /// Unidirectional streams of types that have no meaning here are delivered (RFC 9114, section 6.2).
     pub other_streams: bool,
 }
 
@@ -406,8 +406,8 @@ impl Config {
         self
     }
 
-    /// Whether the peer's unidirectional streams of types that have no meaning here are handed out (RFC 9114, section 6.2). Off by default: what
-    /// comes on them is thrown away. A stream of a reserved type (section 6.2.3) is never handed out, nor one of WebTransport if that is not
+    /// Whether the peer's unidirectional streams of types that have no meaning here are delivered (RFC 9114, section 6.2). Off by default: what
+    /// comes on them is thrown away. A stream of a reserved type (section 6.2.3) is never delivered, nor one of WebTransport if that is not
     /// known here.
     pub fn with_other_streams(mut self, handed_out: bool) -> Self
         ensures { result ≡ record self {

@@ -38,7 +38,7 @@ pub enum Kind {
     Push(u64),
     /// A type without a meaning.
     Ignored,
-    /// This type without a meaning, of a stream that is handed out.
+    /// This type without a meaning, of a stream that is delivered.
     Other(u64),
 }
 
@@ -65,7 +65,7 @@ pub struct UnidirectionalStream {
     kind: Kind,
     // the first bytes, while the type or the id is not whole
     front: Vec<u8>,
-    // what came of a session, or of a stream of another type that is handed out, and was not pulled
+    // what came of a session, or of a stream of another type that is delivered, and was not pulled
     unread: BufList<Bytes>,
     // the code of a reset; apart from `is_reset`, and the flags side by side, since the first stream takes room for 15 (104 bytes each)
     reset_code: u64,
@@ -89,7 +89,7 @@ impl Model for UnidirectionalStream {
 // RFC 9114 6.2: type of a unidirectional stream
 /// Reads what a stream begins with: its type, and the id after it if it is a push stream (RFC 9114, section 4.6) or one of a
 /// WebTransport session. `None` if that is not whole. If sessions are not known theirs is a type without a meaning (RFC 9114, section 9). A
-/// stream of such a type is ignored, or handed out if the caller asks for it.
+/// stream of such a type is ignored, or delivered if the caller asks for it.
 pub(crate) fn read_kind<B: Buf>(buf: &mut B, own: &Announced) -> Option<Kind>
     ensures { Tells (known_streams own.now) (B.unread buf.old) (B.unread buf.new) result }
 {
@@ -191,7 +191,7 @@ impl UnidirectionalStream {
         }
     }
 
-    /// Whether what it answers to each further pull is settled: the end of a stream that is handed out was pulled, or it was reset.
+    /// Whether what it answers to each further pull is settled: the end of a stream that is delivered was pulled, or it was reset.
     pub fn is_settled(&self) -> bool
         ensures { result ≡ is_settled_session self.now self.now.role }
     {
@@ -208,7 +208,7 @@ impl UnidirectionalStream {
         }
     }
 
-    /// How many bytes came that are handed out, and were not pulled.
+    /// How many bytes came that are delivered, and were not pulled.
     pub fn unread_len(&self) -> usize
         ensures { result ≡ length (concat self.now.unread) }
     {
@@ -230,7 +230,7 @@ impl UnidirectionalStream {
         self.is_reset = true;
     }
 
-    /// Stores the bytes of a stream that is handed out, without those that were passed.
+    /// Stores the bytes of a stream that is delivered, without those that were passed.
     fn keep(&mut self, kind: Kind, mut bytes: Bytes, passed: usize) -> Result<(), Bytes>
         requires handed_out { is_handed_out kind ≡ true }
         requires inside { passed ≤ length bytes }
@@ -393,7 +393,7 @@ impl UnidirectionalStream {
         Pull::Fault(Fault::Stream(StreamFault::Reset(self.reset_code)))
     }
 
-    /// What it gives next: of a session its id, the bytes that came in pieces, and its end. A stream of another type that is handed out has its
+    /// What it gives next: of a session its id, the bytes that came in pieces, and its end. A stream of another type that is delivered has its
     /// bytes and its end; any other stream no messages.
     /// While its type, or the id of a session, is not whole and it may come, that is pending. This takes no memory.
     pub fn pull(&mut self) -> Pull

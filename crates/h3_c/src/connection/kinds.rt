@@ -28,7 +28,7 @@ impl Connection {
 }
 
 impl Connection {
-    /// The type of a unidirectional stream of the peer that is handed out though its type has no meaning.
+    /// The type of a unidirectional stream of the peer that is delivered though its type has no meaning.
     pub(crate) fn other_type(&self, id: u64, number: &mut u64) -> Told
         ensures shows { OnStream id result self.now self.now (ShowsType self.now id result number.old number.new) }
         ensures unwritten { 2 ^ 62 ≤ id → number.new ≡ number.old }

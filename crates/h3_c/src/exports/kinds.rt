@@ -27,7 +27,7 @@ pub extern "C" fn h3_raw_stream_kind(
     told.number
 }
 
-/// The type of a unidirectional stream of the peer that is handed out though its type has no meaning.
+/// The type of a unidirectional stream of the peer that is delivered though its type has no meaning.
 #[unsafe(no_mangle)]
 pub extern "C" fn h3_raw_other_type(
     alloc: Global,

@@ -18,7 +18,7 @@ use h3_proto::stream::Side;
 use std::alloc::{AllocError, Global};
 
 impl Endpoint {
-    /// An endpoint as `new` makes it, whose SETTINGS frame has these pairs of an id and a value behind the other settings, at most eight. They are
+    /// An endpoint as `new` makes it, whose SETTINGS frame has these pairs of an id and a value after the other settings, at most eight. They are
     /// for an extension that the caller speaks. What `new` refuses comes first. Then the first pair is refused whose id is one of HTTP/2's or is
     /// announced already, as each id that has a meaning is, or came before; then a ninth one, and an id or a value of 2^62 or more.
     pub fn new_with(
