@@ -216,7 +216,7 @@ impl Settings {
     }
 
     // Whether there is a setting of this id.
-    fn contains(&self, id: SettingId) -> bool
+    pub(crate) fn contains(&self, id: SettingId) -> bool
         ensures { result ≡ has_id id self.now }
     {
         self.entries[..self.len].iter().any(|pair| pair.0 == id.0)

@@ -30,7 +30,7 @@ impl Settings {
         if id.is_forbidden() {
             return Err(SettingsError::InvalidSettingId(id.0));
         }
-        if self.get(id).is_some() {
+        if self.contains(id) {
             return Err(SettingsError::Repeated(id));
         }
         further.insert(id, value)
