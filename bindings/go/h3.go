@@ -33,14 +33,14 @@ func New(config Config) (*Endpoint, error) {
 	return endpoint, nil
 }
 
-// Setting is a setting of an extension (RFC 9114, section 7.2.4).
-type Setting struct {
+// FurtherSetting is a setting of an extension (RFC 9114, section 7.2.4).
+type FurtherSetting struct {
 	ID, Value uint64
 }
 
 // NewWith makes an endpoint that announces further settings after those of the configuration, at most 8, for an extension that the caller
 // speaks. Refused as Setting: an id of HTTP/2's, one that the configuration announces, one given twice, an id or a value of 2^62 or more.
-func NewWith(config Config, further ...Setting) (*Endpoint, error) {
+func NewWith(config Config, further ...FurtherSetting) (*Endpoint, error) {
 	var detail C.uint64_t
 	raw := config.raw()
 	pairs := make([]C.h3_setting, len(further)+1)
@@ -57,7 +57,7 @@ func NewWith(config Config, further ...Setting) (*Endpoint, error) {
 
 // NewResumed makes a client for a connection that sends 0-RTT data. It remembers settings of its server, as RememberSettings copied them in an
 // earlier connection (RFC 9114, section 7.2.4.2), and announces further settings as NewWith does.
-func NewResumed(config Config, remembered []byte, further ...Setting) (*Endpoint, error) {
+func NewResumed(config Config, remembered []byte, further ...FurtherSetting) (*Endpoint, error) {
 	var detail C.uint64_t
 	raw := config.raw()
 	pairs := make([]C.h3_setting, len(further)+1)

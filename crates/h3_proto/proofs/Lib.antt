@@ -1,2 +1,4 @@
 pub mod Received
 pub mod KeptSettings
+pub mod OthersRead
+pub mod FurtherSettings
