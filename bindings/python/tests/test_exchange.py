@@ -147,7 +147,7 @@ class Exchange(unittest.TestCase):
         self.assertEqual([server.peer_setting(id) for id in (0x99, 0x9A, 6)], [7, None, 65536])
         server.deliver(14, b"\x40\x99abc")
         self.assertEqual((server.stream_kind(14), server.other_type(14), server.other_type(2)), (StreamType.OTHER, 0x99, None))
-        self.assertEqual(server.pull(14), Raw(b"abc"))
+        self.assertEqual(server.next_item(14), Raw(b"abc"))
         with self.assertRaises(Refused) as known:
             Endpoint(Config.client(), [(6, 7)])
         self.assertEqual((known.exception.answer, known.exception.detail), (Answer.SETTING, 6))
