@@ -1,4 +1,3 @@
 pub mod Received
 pub mod KeptSettings
 pub mod OthersRead
-pub mod FurtherSettings
