@@ -1,11 +1,12 @@
 -- A pull that memory cut short loses nothing.
 use Rattle.std.proofs.Common.{◌≡◌, ℕ, zero, suc, ◌<◌, ◌≤◌, Bool, true, false, if◌then◌else◌, ◌&&◌, ◌==◌, List, [], ◌++◌, length, refl, ap, sym, ◌∙◌, subst, arith, inl, inr, ◌⊎◌}
-use Rattle.std.specs.Prelude.{None, Some, Option, nat_lt, ◌-◌}
+use Rattle.std.specs.Prelude.{None, Some, Option, ◌||◌, nat_lt, ◌-◌}
 use Rattle.h3_coding.specs.Varint.{varint_at}
 use Rattle.std.specs.List.{concat}
 use Rattle.std.proofs.lemmas.List.{length-drop}
 use Rattle.std.proofs.lemmas.List.Folds.{concat-append}
-use Rattle.h3_wire.specs.ExcessiveFrames.{is_excessive, says_too_much}
+use Rattle.h3_proto.specs.Config.{is_limit}
+use Rattle.h3_wire.specs.ExcessiveFrames.{is_excessive_by, says_long_update, says_too_much}
 use Rattle.h3_wire.specs.Frames.{Whole, frame_by}
 use Rattle.h3_wire.specs.Pieces.{IsRest, chunk_of}
 use Rattle.h3_wire.specs.PieceLaws.{rest_behind, concat-without}
@@ -126,9 +127,9 @@ passed_alike own old new b p skips = record { pulls = λ side id r pieces ends. 
         ap (λ (i : Incoming). left_with i bytes) (left_is o n behind)
         ∙ left_left o (concat n.unread) bytes short (rest_short o.unread n.unread behind.rest) in
         between_pull side own id r new pieces ends (between_passed old new p b)
-        ∙ ap (λ l. if is_excessive own.choices.unfinished_limit l then excess id n l else next_frame side own id r (left_with n l) l) same
-        ∙ ap (λ (i : Incoming). if is_excessive own.choices.unfinished_limit bytes then excess id n bytes else next_frame side own id r i bytes) left
-        ∙ ap (λ x. if is_excessive own.choices.unfinished_limit bytes then x else next_frame side own id r (left_with o bytes) bytes) (let_go_alike id bytes o n behind)
+        ∙ ap (λ l. if is_excessive_by (kinds_of own) own.choices.unfinished_limit l then excess id n l else next_frame side own id r (left_with n l) l) same
+        ∙ ap (λ (i : Incoming). if is_excessive_by (kinds_of own) own.choices.unfinished_limit bytes then excess id n bytes else next_frame side own id r i bytes) left
+        ∙ ap (λ x. if is_excessive_by (kinds_of own) own.choices.unfinished_limit bytes then x else next_frame side own id r (left_with o bytes) bytes) (let_go_alike id bytes o n behind)
         ∙ sym (between_pull side own id r old pieces ends b)
 
 pub resumes_passed : (own : Announced) (old new : Incoming) → IsBetween old → Passes old new → PassesFrames (kinds_of own) (is_body old.place) (concat old.unread) (concat new.unread) → Resumes own old new
@@ -183,6 +184,7 @@ begun_alike side own id r pieces ends mid new (frame.Data len) InSession b h som
 begun_alike side own id r pieces ends mid new (frame.CancelPush push) place b h some = absurd h
 begun_alike side own id r pieces ends mid new (frame.Settings settings) place b h some = absurd h
 begun_alike side own id r pieces ends mid new (frame.PushPromise promise) place b h some = absurd h
+begun_alike side own id r pieces ends mid new (frame.PriorityUpdate update) place b h some = absurd h
 begun_alike side own id r pieces ends mid new (frame.Goaway number) place b h some = absurd h
 begun_alike side own id r pieces ends mid new (frame.MaxPushId push) place b h some = absurd h
 begun_alike side own id r pieces ends mid new (frame.WebTransportStream session) place b h some = absurd h
@@ -212,6 +214,7 @@ is_begun mid new (frame.Data len) place none h = subst (λ x. IsBegun mid x) (sy
 is_begun mid new (frame.CancelPush push) place none h = absurd h
 is_begun mid new (frame.Settings settings) place none h = absurd h
 is_begun mid new (frame.PushPromise promise) place none h = absurd h
+is_begun mid new (frame.PriorityUpdate update) place none h = absurd h
 is_begun mid new (frame.Goaway number) place none h = absurd h
 is_begun mid new (frame.MaxPushId push) place none h = absurd h
 is_begun mid new (frame.WebTransportStream session) place none h = absurd h
@@ -247,6 +250,7 @@ begun_lists side own id r pieces ends mid new (frame.Data len) InSession b h som
 begun_lists side own id r pieces ends mid new (frame.CancelPush push) place b h some = absurd h
 begun_lists side own id r pieces ends mid new (frame.Settings settings) place b h some = absurd h
 begun_lists side own id r pieces ends mid new (frame.PushPromise promise) place b h some = absurd h
+begun_lists side own id r pieces ends mid new (frame.PriorityUpdate update) place b h some = absurd h
 begun_lists side own id r pieces ends mid new (frame.Goaway number) place b h some = absurd h
 begun_lists side own id r pieces ends mid new (frame.MaxPushId push) place b h some = absurd h
 begun_lists side own id r pieces ends mid new (frame.WebTransportStream session) place b h some = absurd h
@@ -275,7 +279,7 @@ begun_pulls own old mid new f b p finds small begins =
         begun_alike side own id r pieces ends mid new f mid.place here begins (subst (λ q. (is_body q && is_empty_data f) ≡ false) (sym place) some)
         ∙ ap (λ q. at_frame side own id r side m q f) place
         ∙ sym (between_frame side own id r o m f (passes_behind old mid pieces ends p) there
-        (ap (λ l. is_excessive own.choices.unfinished_limit (skipped (kinds_of own) (is_body old.place) l)) (concat-append old.unread pieces) ∙ small (concat pieces)))
+        (ap (λ l. is_excessive_by (kinds_of own) own.choices.unfinished_limit (skipped (kinds_of own) (is_body old.place) l)) (concat-append old.unread pieces) ∙ small (concat pieces)))
         ∙ sym (between_pull side own id r old pieces ends b)
 
     lists_alike : (side : Side) (id : ℕ) (r : DecoderState) (pieces : List (List ℕ)) (ends : Bool) → IsBetween mid
@@ -305,10 +309,19 @@ begins_unsaid place (frame.Data len) old new h = (h.0, ap unsaid h.1)
 begins_unsaid place (frame.CancelPush push) old new h = absurd h
 begins_unsaid place (frame.Settings settings) old new h = absurd h
 begins_unsaid place (frame.PushPromise promise) old new h = absurd h
+begins_unsaid place (frame.PriorityUpdate update) old new h = absurd h
 begins_unsaid place (frame.Goaway number) old new h = absurd h
 begins_unsaid place (frame.MaxPushId push) old new h = absurd h
 begins_unsaid place (frame.WebTransportStream session) old new h = absurd h
 begins_unsaid place (frame.Grease kind) old new h = absurd h
+
+none_too_long : (kinds : FrameKinds) (most : ℕ) (bytes : List ℕ) → is_limit most ≡ false → is_excessive_by kinds most bytes ≡ false
+none_too_long kinds most bytes none =
+    ap (λ b. (kinds.updates && (b && says_long_update kinds most (varint_at bytes))) || (b && says_too_much most (varint_at bytes))) none ∙ by_choice kinds.updates
+  where
+    by_choice : (b : Bool) → ((b && false) || false) ≡ false
+    by_choice true = refl
+    by_choice false = refl
 
 pub resumes_begun : (own : Announced) (old mid new : Incoming) (f : Frame PayloadLen) → IsBetween old → Passes old mid → FindsFrame (kinds_of own) (is_body old.place) f (concat old.unread) (concat mid.unread)
     → KeepsWithin (kinds_of own) own.choices.unfinished_limit (is_body old.place) (concat old.unread) → Begins mid.place f mid new → Resumes own old new
@@ -320,7 +333,7 @@ resumes_begun own old mid new f b p finds small begins =
       plainly = λ other known none.
           begun_pulls other (unsaid old) (unsaid mid) (unsaid new) f (between_unsaid old b) (passes_unsaid old mid p)
           (subst (λ (kinds : FrameKinds). FindsFrame kinds (is_body old.place) f (concat old.unread) (concat mid.unread)) (sym known) finds)
-          (λ more. ap (λ b. b && says_too_much other.choices.unfinished_limit (varint_at (skipped (kinds_of other) (is_body old.place) (concat old.unread ++ more)))) none)
+          (λ more. none_too_long (kinds_of other) other.choices.unfinished_limit (skipped (kinds_of other) (is_body old.place) (concat old.unread ++ more)) none)
           (begins_unsaid mid.place f mid new begins);
       gives_up = λ fault. begun.gives_up fault ∙ ap {A = Incoming} (λ i. given_up i fault) p.same;
       place = begun.place ∙ ap {A = Incoming} (λ i. i.place) p.same;

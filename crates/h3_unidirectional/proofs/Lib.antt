@@ -13,3 +13,4 @@ mod Heads
 mod Behind
 mod OwnLaws
 mod PeerLaws
+mod UpdatePlaces

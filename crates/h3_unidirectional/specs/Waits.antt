@@ -1,14 +1,17 @@
 -- Updates of priorities that wait, by their places.
-use Rattle.std.specs.Prelude.{◌≡◌, ℕ, ◌<◌, length, slice_get, vec_capacity, vec_len, Option, Some, None}
+use Rattle.std.specs.Prelude.{ℕ, ◌<◌, Bool, ◌==◌, length, vec_capacity, vec_len, Option}
+use Rattle.std.specs.List.{position}
 use Rattle.h3_priority.specs.Priority.{PriorityParameters}
-use Rattle.h3_connection.specs.StreamSets.{Streams, stream_at}
+use Rattle.h3_connection.specs.StreamSets.{Streams}
 use Rattle.h3_connection.specs.Updates.{Updates}
 use Rattle.h3_unidirectional.specs.declared.updates.WaitingUpdates.{WaitingUpdates}
 
+abbrev pub is_of : ℕ → ℕ × PriorityParameters → Bool
+is_of id update = update.0 == id
+
 -- the place of the first one of this stream
-abbrev pub IsPlaceOf : Streams PriorityParameters → ℕ → Option ℕ → Type 0
-IsPlaceOf waiting id None = stream_at waiting id ≡ None
-IsPlaceOf waiting id (Some place) = (p : PriorityParameters) × (slice_get waiting place ≡ Some (id, p)) × (stream_at waiting id ≡ Some p)
+abbrev pub place_of : Streams PriorityParameters → ℕ → Option ℕ
+place_of waiting id = position (is_of id) waiting
 
 -- what a contract sees of them
 abbrev pub updates_in : WaitingUpdates → Updates

@@ -333,9 +333,7 @@ impl PeerControl {
             return Ok(Progress::Ends(Some(Code::H3_EXCESSIVE_LOAD)));
         }
         self.goaways.reserve(1)?;
-        if kinds.updates {
-            self.updates.reserve()?;
-        }
+        self.updates.reserve()?;
         match self.unread.next_frame(alloc, kinds) {
             Ok(None) => Ok(Progress::Ends(None)),
             Ok(Some(frame)) => match self.judge(side, frame) {

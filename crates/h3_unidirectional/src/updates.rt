@@ -2,7 +2,7 @@
 ghost use Rattle.std.specs.Prelude.{◌≡◌, ◌<◌, ◌≤◌, ◌==◌, length, remove, slice_get, OnOk, OnErr};
 ghost use Rattle.h3_connection.specs.StreamSets.{stream_at};
 ghost use Rattle.h3_connection.specs.Updates.{no_updates, with_update};
-ghost use Rattle.h3_unidirectional.specs.Waits.{updates_in, HasSpare, IsPlaceOf};
+ghost use Rattle.h3_unidirectional.specs.Waits.{updates_in, HasSpare, place_of};
 
 use h3_priority::priority::Priority;
 use h3_proto::stream::StreamId;
@@ -45,23 +45,18 @@ impl WaitingUpdates {
         ensures { result ≡ stream_at self.now.waiting.items id }
     {
         let place = self.place_of(id)?;
-        let (_, priority) = self.at(place)?;
-        Some(priority)
+        let found = self.at(place)?;
+        Some(found.1)
     }
 
     // The place of the one of a stream.
     fn place_of(&self, id: StreamId) -> Option<usize>
-        ensures { IsPlaceOf self.now.waiting.items id result }
+        ensures { result ≡ place_of self.now.waiting.items id }
     {
         let number = id.into_inner();
-        let mut place = 0;
-        for (other, _) in self.waiting.iter() {
-            if other.into_inner() == number {
-                return Some(place);
-            }
-            place += 1;
-        }
-        None
+        self.waiting
+            .iter()
+            .position(|update| update.0.into_inner() == number)
     }
 
     /// Room for one more, if there may be one. An `Err` changes nothing.
