@@ -15,7 +15,7 @@ use Rattle.h3_connection.specs.declared.place.Place.TheVariants.{InSession}
 
 -- the types that have a meaning (RFC 9114, section 7.2; 0x41 if sessions of WebTransport are known, those of PRIORITY_UPDATE if it is)
 abbrev pub has_meaning : FrameKinds → ℕ → Bool
-has_meaning kinds kind = is_session kinds kind || is_update kinds kind || list_any (λ k. kind == k) (0 ∷ 1 ∷ 3 ∷ 4 ∷ 5 ∷ 7 ∷ 13 ∷ [])
+has_meaning kinds kind = is_session kinds kind || (is_update kinds kind || list_any (λ k. kind == k) (0 ∷ 1 ∷ 3 ∷ 4 ∷ 5 ∷ 7 ∷ 13 ∷ []))
 
 -- The bytes are one whole frame of another type (RFC 9114, section 7.1): its type and length in any encoding, and its payload. Reserved
 -- types (RFC 9114, section 7.2.8) are among them.

@@ -14,3 +14,4 @@ mod Behind
 mod OwnLaws
 mod PeerLaws
 mod UpdatePlaces
+mod UpdateTexts

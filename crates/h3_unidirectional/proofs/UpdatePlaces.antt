@@ -1,8 +1,9 @@
 -- Updates that wait, found by their streams.
-use Rattle.std.proofs.Common.{◌≡◌, ℕ, ◌+◌, Bool, true, false, ◌==◌, ◌||◌, List, [], ◌∷◌, ◌++◌, length, set, nat_lt, if◌then◌else◌, Option, Some, None, refl, ap, sym, subst, ◌∙◌, arith}
+use Rattle.std.proofs.Common.{◌≡◌, ℕ, ◌+◌, ◌<◌, suc, Bool, true, false, ◌==◌, ◌||◌, List, [], ◌∷◌, ◌++◌, length, set, nat_lt, if◌then◌else◌, Option, Some, None, refl, ap, sym, subst, ◌∙◌, arith}
 use Rattle.std.specs.Prelude.{slice_get, is_some, unwrap_or}
 use Rattle.std.specs.List.{position_from}
 use Rattle.std.proofs.lemmas.Bool.{eqb-true}
+use Rattle.std.proofs.lemmas.Option.{slice_get_within}
 use Rattle.std.proofs.lemmas.Iterator.Adapters.{position_from-zero}
 use Rattle.h3_priority.specs.Priority.{PriorityParameters}
 use Rattle.h3_connection.specs.StreamSets.{Streams, stream_at, set_stream}
@@ -60,6 +61,9 @@ one_there waiting id place update e there =
     let at = is_at waiting id place e in
     let same : Some update ≡ Some (id, at.priority) = sym there ∙ at.there in
     ap (λ o. Some (unwrap_or o update).1) same ∙ sym at.found
+
+pub place_within : (waiting : Streams PriorityParameters) (id place : ℕ) → place_of waiting id ≡ Some place → place < length waiting
+place_within waiting id place e = let at = is_at waiting id place e in slice_get_within waiting place (id, at.priority) at.there
 
 -- It takes the place of an earlier one, or comes last if there is room.
 pub put_there : (most : ℕ) (waiting : Streams PriorityParameters) (id place : ℕ) (p : PriorityParameters) → place_of waiting id ≡ Some place

@@ -41,6 +41,7 @@ impl WaitingUpdates {
     }
 
     /// The one of a stream.
+    #[tactic(auto, using(crate::proofs::UpdatePlaces::none_there, crate::proofs::UpdatePlaces::not_past, crate::proofs::UpdatePlaces::one_there))]
     pub(crate) fn get(&self, id: StreamId) -> Option<Priority>
         ensures { result ≡ stream_at self.now.waiting.items id }
     {
@@ -71,6 +72,7 @@ impl WaitingUpdates {
     }
 
     /// One came, for which room was taken. It takes no memory.
+    #[tactic(auto, using(crate::proofs::UpdatePlaces::place_within, crate::proofs::UpdatePlaces::put_there, crate::proofs::UpdatePlaces::put_last, crate::proofs::UpdatePlaces::put_nowhere))]
     pub(crate) fn put(&mut self, id: StreamId, priority: Priority)
         requires { HasSpare self.old }
         ensures { updates_in self.new ≡ with_update (updates_in self.old) id priority }
