@@ -1,11 +1,15 @@
 -- The reading of a control stream, cut anywhere, and the settings that stay.
-use Rattle.std.proofs.Common.{◌≡◌, ℕ, zero, suc, ◌<◌, ◌≤◌, Bool, true, false, if◌then◌else◌, List, [], ◌++◌, length, Option, Some, None, refl, ap, sym, ◌∙◌, subst, arith}
-use Rattle.std.specs.Prelude.{◌||◌}
+use Rattle.std.proofs.Common.{◌≡◌, ℕ, zero, suc, ◌<◌, ◌≤◌, Bool, true, false, if◌then◌else◌, List, [], ◌++◌, length, Option, Some, None, refl, ap, sym, ◌∙◌, subst, arith, inl, inr}
+use Rattle.std.specs.Prelude.{◌||◌, ◌&&◌, ◌⊎◌, nat_lt}
+use Rattle.std.proofs.lemmas.Bool.{and_parts}
+use Rattle.h3_coding.specs.Varint.{varint_at}
+use Rattle.h3_coding.specs.VarintLaws.{cases_number, reads_more}
+use Rattle.h3_proto.specs.Config.{is_limit}
 use Rattle.h3_proto.specs.declared.stream.Side.{Side}
 use Rattle.h3_proto.specs.declared.stream.Side.TheVariants.{Client, Server}
-use Rattle.h3_wire.specs.ExcessiveFrames.{is_excessive_by}
-use Rattle.h3_wire.specs.ExcessiveLaws.{excessive_known, excessive_more}
-use Rattle.h3_wire.specs.Frames.{Front, Whole, Unknown, Refused, Unfinished, frame_by}
+use Rattle.h3_wire.specs.ExcessiveFrames.{is_excessive_by, is_kept_whole, is_long_update, is_too_long, says_long_update, says_too_much}
+use Rattle.h3_wire.specs.ExcessiveLaws.{excessive_more, said_of, stays_kept, stays_update}
+use Rattle.h3_wire.specs.Frames.{Front, Whole, Unknown, Refused, Unfinished, frame_by, is_update}
 use Rattle.h3_wire.specs.FrameLaws.{frame_by-more}
 use Rattle.h3_wire.specs.Fronts.{IsFinished, with_more, IsKnown}
 use Rattle.h3_wire.specs.Known.{known_by}
@@ -18,7 +22,7 @@ use Rattle.h3_wire.specs.declared.proto.frame.Frame.TheVariants as frame
 use Rattle.h3_connection.specs.PeerReading.{Peer, PeerFound, with_unread, is_no_element, is_no_goaway, is_above, is_below, read_max_push, read_priority, read_update, read_frame, unless_fault, at_front, unless_excessive, read_peer}
 use Rattle.h3_connection.specs.Lasts.{last_id}
 use Rattle.h3_connection.specs.SkippingLaws.{rest_shorter, skipped_step}
-use Rattle.h3_connection.specs.PeerReadingLaws.{peer_step, step_excessive, step_within}
+use Rattle.h3_connection.specs.PeerReadingLaws.{no_length, peer_step, step_excessive, step_within}
 use Rattle.h3_connection.specs.Skipping.{skip_front, skipped}
 use Rattle.h3_wire.specs.declared.frame.kinds.FrameKinds.{FrameKinds}
 
@@ -90,8 +94,33 @@ known_longer kinds bytes more h =
     known-more kinds bytes more ∙ known-other kinds (known_by kinds bytes ++ more) (subst IsKnown (sym there) (more_known (frame_by kinds (known_by kinds bytes)) more (known_is kinds bytes)))
 
 -- a frame that is too long is so whatever comes behind its head
+said_more : (kinds : FrameKinds) (limit : ℕ) (bytes more : List ℕ) → is_excessive_by kinds limit bytes ≡ true → is_excessive_by kinds limit (known_by kinds (bytes ++ more)) ≡ true
+said_more kinds limit bytes more large = elim (cases_number bytes) [
+  | inl none ↦ absurd (no_head (no_length kinds limit bytes (ap (says_long_update kinds limit) none) (ap (says_too_much limit) none)))
+  | inr (kind, mid, e) ↦ by_number kind mid e (cases_number mid)
+]
+  where
+    no_head : is_excessive_by kinds limit bytes ≡ false → ⊥
+    no_head small = let wrong : true ≡ false = sym large ∙ small in cc
+
+    by_number : (kind : ℕ) (mid : List ℕ) → varint_at bytes ≡ Some (kind, mid) → (varint_at mid ≡ None) ⊎ ((v : ℕ) × (rest : List ℕ) × (varint_at mid ≡ Some (v, rest))) → is_excessive_by kinds limit (known_by kinds (bytes ++ more)) ≡ true
+    by_number kind mid e (inl none) =
+        absurd (no_head (no_length kinds limit bytes (ap (says_long_update kinds limit) e ∙ ap (is_long_update kinds limit kind) none) (ap (says_too_much limit) e ∙ ap (is_too_long limit kind) none)))
+    by_number kind mid e (inr (number, behind, k)) =
+        let there = reads_more kind bytes mid more e in
+        let length_there = reads_more number mid behind more k in
+        let said : (is_limit limit && ((is_kept_whole kind || is_update kinds kind) && nat_lt limit number)) ≡ true = sym (said_of kinds limit kind number bytes mid behind e k) ∙ large in
+        let kept = (and_parts (is_kept_whole kind || is_update kinds kind) (nat_lt limit number) (and_parts (is_limit limit) ((is_kept_whole kind || is_update kinds kind) && nat_lt limit number) said).1).0 in
+        ap (is_excessive_by kinds limit) (by_type (is_kept_whole kind) refl kept there length_there)
+        ∙ said_of kinds limit kind number (bytes ++ more) (mid ++ more) (behind ++ more) there length_there ∙ said
+      where
+        by_type : (b : Bool) → is_kept_whole kind ≡ b → (b || is_update kinds kind) ≡ true → varint_at (bytes ++ more) ≡ Some (kind, mid ++ more) → varint_at (mid ++ more) ≡ Some (number, behind ++ more)
+            → known_by kinds (bytes ++ more) ≡ bytes ++ more
+        by_type true is h there length_there = stays_kept kinds kind number (bytes ++ more) (mid ++ more) (behind ++ more) is there length_there
+        by_type false is h there length_there = stays_update kinds kind number (bytes ++ more) (mid ++ more) (behind ++ more) h there length_there
+
 excessive_behind : (kinds : FrameKinds) (limit : ℕ) (bytes more : List ℕ) → is_excessive_by kinds limit (known_by kinds bytes) ≡ true → is_excessive_by kinds limit (known_by kinds (bytes ++ more)) ≡ true
-excessive_behind kinds limit bytes more large = ap (is_excessive_by kinds limit) (known-more kinds bytes more) ∙ excessive_known kinds limit (known_by kinds bytes) more large
+excessive_behind kinds limit bytes more large = ap (is_excessive_by kinds limit) (known-more kinds bytes more) ∙ said_more kinds limit (known_by kinds bytes) more large
 
 -- What more bytes do behind a reading: a fault stays, and these are left then.
 abbrev pub then_peer : FrameKinds → ℕ → Side → List ℕ → List ℕ → PeerFound → PeerFound

@@ -1,10 +1,9 @@
 -- What the peer's control stream begins with, where SETTINGS has to come first (RFC 9114, section 6.2.1).
-use Rattle.std.proofs.Common.{◌≡◌, ℕ, ◌+◌, Bool, true, false, not, ◌&&◌, ◌==◌, if◌then◌else◌, ◌||◌, List, ◌++◌, length, take, drop, Option, Some, None, Result, Ok, Err, refl, ap, sym, ◌∙◌, subst, inl, inr}
+use Rattle.std.proofs.Common.{◌≡◌, ℕ, ◌+◌, Bool, true, false, not, ◌&&◌, ◌==◌, if◌then◌else◌, List, ◌++◌, length, take, drop, Some, None, Result, Ok, Err, refl, ap, sym, ◌∙◌, subst, inl, inr}
 use Rattle.std.specs.Prelude.{◌⊎◌, is_some, nat_lt}
 use Rattle.std.proofs.lemmas.Bool.{and_right, eqb-true}
 use Rattle.h3_coding.specs.Varint.{varint_at}
 use Rattle.h3_coding.specs.VarintLaws.{cases_number, reads_more}
-use Rattle.h3_proto.specs.Config.{is_limit}
 use Rattle.h3_proto.specs.Settings.{settings_of}
 use Rattle.h3_proto.specs.declared.frame.SettingsError.{SettingsError}
 use Rattle.h3_proto.specs.declared.stream.Side.{Side}
@@ -19,21 +18,8 @@ use Rattle.h3_wire.specs.declared.proto.frame.FrameError.{FrameError}
 use Rattle.h3_wire.specs.declared.proto.frame.Frame.TheVariants as frame
 use Rattle.h3_connection.specs.FirstSettings.{FirstRead, Fails, HasHead, NoHead, Nothing, Settings, SettingsFront, Bad, Came, Waits}
 use Rattle.h3_connection.specs.PeerReading.{Peer, PeerFound, with_unread, read_frame, refused_code, unless_fault, at_front, read_peer}
-use Rattle.h3_connection.specs.PeerReadingLaws.{settings_stay, step_excessive, step_within}
+use Rattle.h3_connection.specs.PeerReadingLaws.{no_length, settings_stay, step_excessive, step_within}
 use Rattle.h3_wire.specs.declared.frame.kinds.FrameKinds.{FrameKinds}
-
-neither : (updates limited : Bool) → ((updates && (limited && false)) || (limited && false)) ≡ false
-neither true true = refl
-neither true false = refl
-neither false true = refl
-neither false false = refl
-
--- what says no length is within the limit
-within : (kinds : FrameKinds) (limit : ℕ) (o : Option (ℕ × List ℕ)) → says_long_update kinds limit o ≡ false → says_too_much limit o ≡ false
-    → ((kinds.updates && (is_limit limit && says_long_update kinds limit o)) || (is_limit limit && says_too_much limit o)) ≡ false
-within kinds limit o long much =
-    ap (λ b. (kinds.updates && (is_limit limit && b)) || (is_limit limit && says_too_much limit o)) long
-    ∙ ap (λ b. (kinds.updates && (is_limit limit && false)) || (is_limit limit && b)) much ∙ neither kinds.updates (is_limit limit)
 
 no_number : (kinds : FrameKinds) (bytes : List ℕ) (kind : ℕ) (mid : List ℕ) → varint_at bytes ≡ Some (kind, mid) → varint_at mid ≡ None → NoHead kinds bytes
 no_number kinds bytes kind mid is none =
@@ -41,7 +27,7 @@ no_number kinds bytes kind mid is none =
       other = ap is_other is ∙ ap (λ o. not (kind == 4) && is_some o) none ∙ and_right (not (kind == 4)) false refl;
       least = length bytes + 1;
       waits = at_no_number kinds kind bytes mid is none;
-      small = λ limit. within kinds limit (varint_at bytes) (ap (says_long_update kinds limit) is ∙ ap (is_long_update kinds limit kind) none) (ap (says_too_much limit) is ∙ ap (is_too_long limit kind) none);
+      small = λ limit. no_length kinds limit bytes (ap (says_long_update kinds limit) is ∙ ap (is_long_update kinds limit kind) none) (ap (says_too_much limit) is ∙ ap (is_too_long limit kind) none);
     }
 
 pub cases_head : (kinds : FrameKinds) (bytes : List ℕ) → NoHead kinds bytes ⊎ HasHead bytes
@@ -50,7 +36,7 @@ cases_head kinds bytes = elim (cases_number bytes) [
     other = ap is_other none;
     least = length bytes + 1;
     waits = at_no_kind kinds bytes none;
-    small = λ limit. within kinds limit (varint_at bytes) (ap (says_long_update kinds limit) none) (ap (says_too_much limit) none);
+    small = λ limit. no_length kinds limit bytes (ap (says_long_update kinds limit) none) (ap (says_too_much limit) none);
   })
   | inr k ↦ elim (cases_number k.1) [
     | inl none ↦ inl (no_number kinds bytes k.0 k.1 k.2 none)

@@ -1,11 +1,13 @@
 -- The reading of a control stream, step by step.
 use Rattle.std.proofs.Common.{◌≡◌, ℕ, zero, suc, ◌≤◌, Bool, true, false, if◌then◌else◌, List, [], length, Option, Some, None, refl, ap, sym, ◌∙◌, arith}
-use Rattle.std.specs.Prelude.{◌||◌}
+use Rattle.std.specs.Prelude.{◌||◌, ◌&&◌}
+use Rattle.h3_coding.specs.Varint.{varint_at}
+use Rattle.h3_proto.specs.Config.{is_limit}
 use Rattle.std.proofs.lemmas.List.{nil_from_length}
 use Rattle.h3_coding.specs.VarintLaws.{none_at_end}
 use Rattle.h3_proto.specs.declared.stream.Side.{Side}
 use Rattle.h3_proto.specs.declared.stream.Side.TheVariants.{Client, Server}
-use Rattle.h3_wire.specs.ExcessiveFrames.{is_excessive_by}
+use Rattle.h3_wire.specs.ExcessiveFrames.{is_excessive_by, says_long_update, says_too_much}
 use Rattle.h3_wire.specs.ExcessiveLaws.{no_kind}
 use Rattle.h3_wire.specs.Frames.{Front, Whole, Unknown, Refused, Unfinished, frame_by}
 use Rattle.h3_wire.specs.FrameLaws.{frame_by-nil}
@@ -72,6 +74,18 @@ front_same go other side p bytes (Whole f rest) h =
 front_same go other side p bytes (Unknown kind rest) h = refl
 front_same go other side p bytes (Refused e) h = refl
 front_same go other side p bytes (Unfinished least) h = refl
+
+neither : (updates limited : Bool) → ((updates && (limited && false)) || (limited && false)) ≡ false
+neither true true = refl
+neither true false = refl
+neither false true = refl
+neither false false = refl
+
+-- where no length is there nothing is too long
+pub no_length : (kinds : FrameKinds) (limit : ℕ) (bytes : List ℕ) → says_long_update kinds limit (varint_at bytes) ≡ false → says_too_much limit (varint_at bytes) ≡ false → is_excessive_by kinds limit bytes ≡ false
+no_length kinds limit bytes long much =
+    ap (λ b. (kinds.updates && (is_limit limit && b)) || (is_limit limit && says_too_much limit (varint_at bytes))) long
+    ∙ ap (λ b. (kinds.updates && (is_limit limit && false)) || (is_limit limit && b)) much ∙ neither kinds.updates (is_limit limit)
 
 -- no bytes say a length
 none_said : (kinds : FrameKinds) (limit : ℕ) → is_excessive_by kinds limit [] ≡ false

@@ -1,12 +1,11 @@
 -- A pull that memory cut short loses nothing.
 use Rattle.std.proofs.Common.{◌≡◌, ℕ, zero, suc, ◌<◌, ◌≤◌, Bool, true, false, if◌then◌else◌, ◌&&◌, ◌==◌, List, [], ◌++◌, length, refl, ap, sym, ◌∙◌, subst, arith, inl, inr, ◌⊎◌}
-use Rattle.std.specs.Prelude.{None, Some, Option, ◌||◌, nat_lt, ◌-◌}
-use Rattle.h3_coding.specs.Varint.{varint_at}
+use Rattle.std.specs.Prelude.{None, Some, Option, nat_lt, ◌-◌}
 use Rattle.std.specs.List.{concat}
 use Rattle.std.proofs.lemmas.List.{length-drop}
 use Rattle.std.proofs.lemmas.List.Folds.{concat-append}
-use Rattle.h3_proto.specs.Config.{is_limit}
-use Rattle.h3_wire.specs.ExcessiveFrames.{is_excessive_by, says_long_update, says_too_much}
+use Rattle.h3_wire.specs.ExcessiveFrames.{is_excessive_by}
+use Rattle.h3_wire.specs.ExcessiveLaws.{none_excessive_by}
 use Rattle.h3_wire.specs.Frames.{Whole, frame_by}
 use Rattle.h3_wire.specs.Pieces.{IsRest, chunk_of}
 use Rattle.h3_wire.specs.PieceLaws.{rest_behind, concat-without}
@@ -315,14 +314,6 @@ begins_unsaid place (frame.MaxPushId push) old new h = absurd h
 begins_unsaid place (frame.WebTransportStream session) old new h = absurd h
 begins_unsaid place (frame.Grease kind) old new h = absurd h
 
-none_too_long : (kinds : FrameKinds) (most : ℕ) (bytes : List ℕ) → is_limit most ≡ false → is_excessive_by kinds most bytes ≡ false
-none_too_long kinds most bytes none =
-    ap (λ b. (kinds.updates && (b && says_long_update kinds most (varint_at bytes))) || (b && says_too_much most (varint_at bytes))) none ∙ by_choice kinds.updates
-  where
-    by_choice : (b : Bool) → ((b && false) || false) ≡ false
-    by_choice true = refl
-    by_choice false = refl
-
 pub resumes_begun : (own : Announced) (old mid new : Incoming) (f : Frame PayloadLen) → IsBetween old → Passes old mid → FindsFrame (kinds_of own) (is_body old.place) f (concat old.unread) (concat mid.unread)
     → KeepsWithin (kinds_of own) own.choices.unfinished_limit (is_body old.place) (concat old.unread) → Begins mid.place f mid new → Resumes own old new
 resumes_begun own old mid new f b p finds small begins =
@@ -333,7 +324,7 @@ resumes_begun own old mid new f b p finds small begins =
       plainly = λ other known none.
           begun_pulls other (unsaid old) (unsaid mid) (unsaid new) f (between_unsaid old b) (passes_unsaid old mid p)
           (subst (λ (kinds : FrameKinds). FindsFrame kinds (is_body old.place) f (concat old.unread) (concat mid.unread)) (sym known) finds)
-          (λ more. none_too_long (kinds_of other) other.choices.unfinished_limit (skipped (kinds_of other) (is_body old.place) (concat old.unread ++ more)) none)
+          (λ more. none_excessive_by (kinds_of other) other.choices.unfinished_limit (skipped (kinds_of other) (is_body old.place) (concat old.unread ++ more)) none)
           (begins_unsaid mid.place f mid new begins);
       gives_up = λ fault. begun.gives_up fault ∙ ap {A = Incoming} (λ i. given_up i fault) p.same;
       place = begun.place ∙ ap {A = Incoming} (λ i. i.place) p.same;
