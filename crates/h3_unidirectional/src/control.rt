@@ -311,7 +311,7 @@ impl PeerControl {
 
     /// Reads the next frame, unless it says a length above `most`: then it frees what came. If an allocation fails, it skips only unknown
     /// frames.
-    #[tactic(auto, using(crate::specs::PeerLaws::peer_waits, crate::proofs::ControlFronts::no_front, crate::proofs::ControlFronts::unknown_passed))]
+    #[tactic(auto, using(crate::specs::PeerLaws::peer_waits, crate::proofs::ControlFronts::no_front, crate::proofs::ControlFronts::no_room, crate::proofs::ControlFronts::unknown_passed))]
     fn read_one(
         &mut self,
         alloc: Global,
