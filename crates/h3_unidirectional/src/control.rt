@@ -196,7 +196,7 @@ impl PeerControl {
     /// The update at this place waits no longer.
     pub fn remove_update(&mut self, place: usize)
         requires { place < length self.old.updates.waiting }
-        ensures { self.new ≡ record self.old { updates = record self.old.updates { waiting = remove place self.old.updates.waiting } } }
+        ensures { self.new ≡ record self.old { updates = record self.old.updates { waiting = remove self.old.updates.waiting place } } }
     {
         self.updates.remove(place);
     }

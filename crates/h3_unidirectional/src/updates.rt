@@ -89,7 +89,7 @@ impl WaitingUpdates {
     /// The one at this place waits no longer.
     pub(crate) fn remove(&mut self, place: usize)
         requires { place < length self.old.waiting.items }
-        ensures { updates_in self.new ≡ record (updates_in self.old) { waiting = remove place self.old.waiting.items } }
+        ensures { updates_in self.new ≡ record (updates_in self.old) { waiting = remove self.old.waiting.items place } }
     {
         self.waiting.remove(place);
     }
