@@ -10,4 +10,5 @@ invariant_of-self c =
       c.self.invariant.0,
       decoded_fits c.args.kinds _ i.let_go.pieces i.kept.pieces c.decode_by.new.src.pieces (2 ^ 64) c.decode_by.ensures.gives c.self.invariant.1,
       none_spared i.passing i.gone c.decode_by.new.src.pieces none,
+      c.self.invariant.3,
     )

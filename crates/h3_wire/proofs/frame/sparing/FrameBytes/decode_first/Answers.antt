@@ -10,4 +10,5 @@ invariant_of-self c =
       c.self.invariant.0,
       rest_fits i.let_go.pieces i.kept.pieces c.decode_first.new.src.pieces (2 ^ 64) c.decode_first.ensures.rest c.self.invariant.1,
       none_spared i.passing i.gone c.decode_first.new.src.pieces none,
+      c.self.invariant.3,
     )
