@@ -12,7 +12,7 @@ use Rattle.h3_wire.specs.declared.proto.frame.Frame.{Frame}
 use Rattle.h3_wire.specs.declared.frame.errors.FrameStreamError.{FrameStreamError}
 use Rattle.h3_wire.specs.declared.frame.errors.FrameStreamError.TheVariants as stream
 use Rattle.h3_wire.proofs.FrameRows.{truth_apart}
-use Rattle.h3_wire.specs.Frames.{Unknown, frame_by}
+use Rattle.h3_wire.specs.Frames.{Unknown, frame_by, plain_frames}
 use Rattle.h3_wire.specs.Known.{known_by, Gives, IsWaiting}
 use Rattle.h3_wire.proofs.Gives.{gives_fewer}
 use Rattle.h3_wire.specs.KnownLaws.{known-other, known-unknown}
@@ -21,11 +21,11 @@ use Rattle.h3_wire.specs.PieceLaws.{concat-without, rest_is, rest_same, rest_the
 use Rattle.h3_wire.specs.Pieces.{without, with_piece, first_of, IsRest, ending}
 use Rattle.h3_wire.specs.Tries.{Decoding, Counts, Expects, no_try, finds_less, passes, needed, counted}
 use Rattle.h3_wire.proofs.Tries.{too_few, expects_next}
-use Rattle.h3_wire.specs.UnknownSize.{unknown_size, size_by, Sparing, AreLetGo, IsKnownTo, IsPassing, IsSpared, choices_for, is_longer, is_under_way, no_kinds, suits}
+use Rattle.h3_wire.specs.UnknownSize.{unknown_size, size_by, Sparing, AreLetGo, IsKnownTo, IsPassing, IsSpared, choices_for, is_longer, is_under_way, let_go_by, no_kinds, suits}
 use Rattle.h3_wire.specs.ExcessiveFrames.{SaysLength, head_said, length_said, number_said}
 use Rattle.h3_wire.specs.UnreadFrames.{UnreadFrames, IsStillUnderWay, IsPassed}
 use Rattle.h3_wire.proofs.LettingGo.{unknown_head, unknown_more, unknown_waits, unknown_whole, unknown_has_head}
-use Rattle.h3_wire.proofs.SuitingKinds.{known_more, let_go, unknown_suits}
+use Rattle.h3_wire.proofs.SuitingKinds.{expects_within, known_more, let_go, unknown_suits}
 use Rattle.h3_wire.specs.declared.frame.kinds.FrameKinds.{FrameKinds}
 
 abbrev first_in : Option (List ℕ) × List (List ℕ) → Option (List ℕ)
@@ -250,3 +250,17 @@ all_let_go front pieces gone kept is none = ap (λ k. gone ++ k) none ∙ append
 -- nothing is taken
 pub pieces_stay : (old new : List (List ℕ)) → new ≡ old → new ≡ ending (length (concat new)) old
 pieces_stay old new e = rest_is (length (concat new)) old new refl (rest_same old new e)
+
+-- With none under way what is expected is expected of what is kept, and the other way round.
+pub plain_expects : (known_to : FrameKinds) (passing gone : ℕ) (front kept : List (List ℕ)) (s : Sparing) (d : Decoding) → AreLetGo known_to passing gone front → record { pieces = front ++ kept; passing = passing; known_to = known_to } ≡ s → s.passing ≡ 0
+    → Expects (let_go_by s.known_to) d (concat s.pieces) → Expects plain_frames d (concat kept)
+plain_expects known_to passing gone front kept s d h is none expects =
+    let zero : passing ≡ 0 = ap (λ (x : Sparing). x.passing) is ∙ none in
+    let plain : s.known_to ≡ no_kinds = sym (ap (λ (x : Sparing). x.known_to) is) ∙ h.plain zero in
+    let all : concat kept ≡ concat s.pieces = none_in_front known_to passing gone front kept h zero ∙ ap (λ (x : Sparing). concat x.pieces) is in
+    subst (λ l. Expects plain_frames d l) (sym all)
+    (expects_within (let_go_by no_kinds) plain_frames d (concat s.pieces) (λ e. refl) (subst (λ (k : FrameKinds). Expects (let_go_by k) d (concat s.pieces)) plain expects))
+
+pub expects_plain : (known_to : FrameKinds) (passing gone : ℕ) (front kept : List (List ℕ)) (d : Decoding) → AreLetGo known_to passing gone front → passing ≡ 0 → Expects plain_frames d (concat kept) → Expects (let_go_by known_to) d (concat (front ++ kept))
+expects_plain known_to passing gone front kept d h zero expects =
+    subst (λ l. Expects (let_go_by known_to) d l) (none_in_front known_to passing gone front kept h zero) (expects_within plain_frames (let_go_by known_to) d (concat kept) (λ e. refl) expects)

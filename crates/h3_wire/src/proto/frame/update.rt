@@ -20,9 +20,9 @@ use std::marker::Model;
 #[derive(PartialEq, Debug, Drop)]
 pub struct PriorityUpdate {
     // whether it is for a push
-    is_push: bool,
-    id: VarInt,
-    value: Bytes,
+    pub(super) is_push: bool,
+    pub(super) id: VarInt,
+    pub(super) value: Bytes,
 }
 
 impl Model for PriorityUpdate {
@@ -63,18 +63,6 @@ impl PriorityUpdate {
     {
         self.value.as_slice()
     }
-
-    /// The same, to be taken from it.
-    pub(crate) fn value_mut(&mut self) -> &mut Bytes {
-        &mut self.value
-    }
-
-    /// The text alone.
-    pub(crate) fn into_value(self) -> Bytes
-        ensures { result ≡ self.value }
-    {
-        self.value
-    }
 }
 
 /// Whether a type is one of PRIORITY_UPDATE: 0xf0700 for a request stream, 0xf0701 for a push.
@@ -112,7 +100,7 @@ pub(crate) fn read_update<B: Buf>(
     let is_push = kind == FrameType::PUSH_PRIORITY_UPDATE.0;
     match buf.copy_to_bytes(alloc, left) {
         Ok(value) => Some(Ok(PriorityUpdate::new(is_push, VarInt::from_u64_unchecked(id), value))),
-        Err(e) => Some(Err(e)),
+        Err(_) => Some(Err(AllocError)),
     }
 }
 
@@ -127,8 +115,9 @@ pub(crate) fn write_update_front<W: BufMut>(
     ensures room { UsesRoom result (W.spare out.old) (W.spare out.new) (length (update_front update.now)) }
     ensures short { length (update_front update.now) ≤ 24 }
 {
+    let kind = type_of(update.is_push);
     let len = update.id.size() + update.value.len();
-    write_head(type_of(update.is_push), len as u64, out)?;
+    write_head(kind, len as u64, out)?;
     update.id.encode(out)
 }
 
