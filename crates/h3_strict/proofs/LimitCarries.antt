@@ -123,7 +123,7 @@ module _ (streams : StreamLaws) (setup X : Setup) (made : IsMadeSetup setup) (st
     decoder_is = subst (λ l. IsPeerStream own.decoder_taken Decoder (stream_at l (decoder_id (other s)))) reads.unidirectional hr.decoder_stream.stream_is;
     unread = sym (ap (λ (p : Peer). p.unread) reads.peer) ∙ hr.control.unread ∙ ap unread_by same;
     control_waits = sym (writes.waits_for (control_id (other s))) ∙ waiting_own X w (other s) (control_id (other s)) fw hw (own_outgoing X w (other s) (control_id (other s)) fw hw (own_control (other s)))
-        ∙ left_control (other s) own (announced_at X (other s)) ∙ ap (λ pairs. drop own.control_taken (control_encoding pairs ++ flat_map goaway_encoding own.goaways)) same;
+        ∙ left_control (other s) own (announced_at X (other s)) writable.updates ∙ ap (λ pairs. drop own.control_taken (control_encoding pairs ++ flat_map goaway_encoding own.goaways)) same;
     encoder_waits = sym (writes.waits_for (encoder_id (other s))) ∙ waiting_own X w (other s) (encoder_id (other s)) fw hw (own_outgoing X w (other s) (encoder_id (other s)) fw hw (own_encoder (other s)))
         ∙ left_encoder (other s) own (announced_at X (other s));
     decoder_waits = sym (writes.waits_for (decoder_id (other s))) ∙ waiting_own X w (other s) (decoder_id (other s)) fw hw (own_outgoing X w (other s) (decoder_id (other s)) fw hw (own_decoder (other s)))

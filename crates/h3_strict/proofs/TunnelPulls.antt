@@ -15,7 +15,7 @@ use Rattle.h3_proto.specs.declared.stream.Side.TheVariants.{Client, Server}
 use Rattle.h3_qpack.specs.DecodedSection.{BadSection, DecodedSection, Fields, Missing, decode_section}
 use Rattle.h3_qpack.specs.DecoderState.{DecoderState}
 use Rattle.h3_qpack.specs.Sizes.{last_value, told_size}
-use Rattle.h3_wire.specs.ExcessiveFrames.{begins_section, is_excessive}
+use Rattle.h3_wire.specs.ExcessiveFrames.{begins_section, is_excessive_by}
 use Rattle.h3_wire.specs.Frames.{Front, Refused, Unfinished, Unknown, Whole, frame_by}
 use Rattle.h3_wire.specs.Pieces.{chunk_of, first_of}
 use Rattle.h3_wire.specs.declared.proto.frame.Frame.{Frame}
@@ -213,7 +213,7 @@ module _ (side : Side) (before : Content) (known : Option Content) where
     between_stays : (i : Incoming) → Same i → Stay (between_frames side own id r i)
     between_stays i h =
         let bytes = skipped (kinds_of own) (is_body i.place) (concat i.unread) in
-        either Stay (is_excessive own.choices.unfinished_limit bytes) _ _ (either Stay (begins_section bytes) _ _ (gone id malformation.TooLong i [] h.1) (stays _ h.0 h.1)) (next_stays (left_with i bytes) bytes h)
+        either Stay (is_excessive_by (kinds_of own) own.choices.unfinished_limit bytes) _ _ (either Stay (begins_section bytes) _ _ (gone id malformation.TooLong i [] h.1) (stays _ h.0 h.1)) (next_stays (left_with i bytes) bytes h)
 
     message_stays : (i : Incoming) (section : Option (List ℕ)) → Same i → Stay (in_message side own id r i section)
     message_stays i (Some bytes) h = tried_stays i bytes h

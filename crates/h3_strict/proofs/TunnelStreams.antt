@@ -10,8 +10,8 @@ use Rattle.h3_proto.specs.declared.stream.Side.{Side}
 use Rattle.h3_proto.specs.declared.stream.Side.TheVariants.{Client, Server}
 use Rattle.h3_qpack.specs.DecoderState.{DecoderState}
 use Rattle.h3_qpack.specs.Sizes.{last_value}
-use Rattle.h3_wire.specs.ExcessiveFrames.{begins_section, is_excessive}
-use Rattle.h3_wire.specs.ExcessiveLaws.{none_excessive}
+use Rattle.h3_wire.specs.ExcessiveFrames.{begins_section, is_excessive_by}
+use Rattle.h3_wire.specs.ExcessiveLaws.{none_excessive_by}
 use Rattle.h3_connection.specs.Codes.{excessive_load}
 use Rattle.h3_connection.specs.Incoming.{Incoming, is_before_head, is_body}
 use Rattle.h3_connection.specs.Pulling.{Pulled, at_payload, between_frames, connection_fault, excess, in_message, just, left_with, malformed, next_frame, next_item, pull_stream, read_section}
@@ -123,7 +123,7 @@ module _ (lists : ListsAreTheirValue) (side : Side) (own : Announced) (id : ℕ)
 
   -- In front of the final head.
   front : DecodesNext lists side own id r came (next_part f) → place_after (take f.parts_out f.sent) ≡ BeforeHead → FrontPull side (limited (2 ^ 62 - 1) own) id r f i (pull_stream side own id r i)
-  front decodes at = by_excess (is_excessive own.choices.unfinished_limit (skipped (kinds_of own) (is_body i.place) (concat i.unread))) refl
+  front decodes at = by_excess (is_excessive_by (kinds_of own) own.choices.unfinished_limit (skipped (kinds_of own) (is_body i.place) (concat i.unread))) refl
     where
       place : i.place ≡ BeforeHead
       place = (same.reads alive).place ∙ at
@@ -131,7 +131,7 @@ module _ (lists : ListsAreTheirValue) (side : Side) (own : Announced) (id : ℕ)
       without : pull_stream side (limited (2 ^ 62 - 1) own) id r i ≡ pull_stream side own id r i → FrontPull side (limited (2 ^ 62 - 1) own) id r f i (pull_stream side own id r i)
       without is = subst (FrontPull side (limited (2 ^ 62 - 1) own) id r f i) is (front_pull lists side (limited (2 ^ 62 - 1) own) id r refl came p f i sound same alive more decodes at)
 
-      by_left : (b : Bool) → nat_lt 0 i.body_left ≡ b → i.section ≡ None → is_excessive own.choices.unfinished_limit (skipped (kinds_of own) (is_body i.place) (concat i.unread)) ≡ true
+      by_left : (b : Bool) → nat_lt 0 i.body_left ≡ b → i.section ≡ None → is_excessive_by (kinds_of own) own.choices.unfinished_limit (skipped (kinds_of own) (is_body i.place) (concat i.unread)) ≡ true
           → FrontPull side (limited (2 ^ 62 - 1) own) id r f i (pull_stream side own id r i)
       by_left true e none long = without (pull_same (2 ^ 62 - 1) side own id r i (λ a b c d. clash (nat_lt 0 i.body_left) e d))
       by_left false e none long =
@@ -141,12 +141,12 @@ module _ (lists : ListsAreTheirValue) (side : Side) (own : Announced) (id : ℕ)
           ∙ ap (λ b. if b then excess id i bytes else next_frame side own id r (left_with i bytes) bytes) long in
           subst (FrontPull side (limited (2 ^ 62 - 1) own) id r f i) (sym is) (FrontStays (too_long bytes).0 (too_long bytes).1)
 
-      by_section : (o : Option (List ℕ)) → i.section ≡ o → is_excessive own.choices.unfinished_limit (skipped (kinds_of own) (is_body i.place) (concat i.unread)) ≡ true → FrontPull side (limited (2 ^ 62 - 1) own) id r f i (pull_stream side own id r i)
+      by_section : (o : Option (List ℕ)) → i.section ≡ o → is_excessive_by (kinds_of own) own.choices.unfinished_limit (skipped (kinds_of own) (is_body i.place) (concat i.unread)) ≡ true → FrontPull side (limited (2 ^ 62 - 1) own) id r f i (pull_stream side own id r i)
       by_section (Some bytes) e long = without (pull_same (2 ^ 62 - 1) side own id r i (λ a b c d. absurd (let never : Some bytes ≡ None = sym e ∙ c in cc)))
       by_section None e long = by_left (nat_lt 0 i.body_left) refl e long
 
-      by_excess : (b : Bool) → is_excessive own.choices.unfinished_limit (skipped (kinds_of own) (is_body i.place) (concat i.unread)) ≡ b → FrontPull side (limited (2 ^ 62 - 1) own) id r f i (pull_stream side own id r i)
-      by_excess false e = without (pull_same (2 ^ 62 - 1) side own id r i (λ a b c d. none_excessive (2 ^ 62 - 1) (skipped (kinds_of own) (is_body i.place) (concat i.unread)) refl ∙ sym e))
+      by_excess : (b : Bool) → is_excessive_by (kinds_of own) own.choices.unfinished_limit (skipped (kinds_of own) (is_body i.place) (concat i.unread)) ≡ b → FrontPull side (limited (2 ^ 62 - 1) own) id r f i (pull_stream side own id r i)
+      by_excess false e = without (pull_same (2 ^ 62 - 1) side own id r i (λ a b c d. none_excessive_by (kinds_of own) (2 ^ 62 - 1) (skipped (kinds_of own) (is_body i.place) (concat i.unread)) refl ∙ sym e))
       by_excess true e = by_section i.section refl e
 
   -- **No fault of the connection comes of it**, where the same receiver that judges plainly comes to the next part.

@@ -1,5 +1,5 @@
 -- Frames that are longer than their reader takes (RFC 9114, section 10.5).
-use Rattle.std.specs.Prelude.{ℕ, Bool, false, ◌&&◌, ◌||◌, ◌==◌, List, nat_le, nat_lt, Option, Some, None}
+use Rattle.std.specs.Prelude.{◌≡◌, ◌<◌, ℕ, Bool, false, ◌&&◌, ◌||◌, ◌==◌, List, nat_le, nat_lt, Option, Some, None}
 use Rattle.h3_coding.specs.Varint.{varint_at}
 use Rattle.h3_proto.specs.Config.{is_limit}
 use Rattle.h3_wire.specs.Frames.{is_update}
@@ -34,13 +34,22 @@ head_said None = None
 head_said (Some p) = Some (p.0, length_said (varint_at p.1))
 
 -- by that it is one whose payload is kept, and longer; or it has this type
-abbrev pub tells_too_much : ℕ → Option (ℕ × ℕ) → Bool
-tells_too_much most None = false
-tells_too_much most (Some h) = is_kept_whole h.0 && nat_lt most h.1
+abbrev pub tells_too_much : FrameKinds → ℕ → Option (ℕ × ℕ) → Bool
+tells_too_much kinds most None = false
+tells_too_much kinds most (Some h) = (is_kept_whole h.0 || is_update kinds h.0) && nat_lt most h.1
 
 abbrev pub tells_type : ℕ → Option (ℕ × ℕ) → Bool
 tells_type kind None = false
 tells_type kind (Some h) = h.0 == kind
+
+-- the length alone
+abbrev pub number_said : Option (ℕ × ℕ) → ℕ
+number_said None = 0
+number_said (Some h) = h.1
+
+-- Where the bytes of a frame were let go, its head says this length.
+abbrev pub SaysLength : ℕ → ℕ → List ℕ → Type 0
+SaysLength passing number bytes = 0 < passing → number_said (head_said (varint_at bytes)) ≡ number
 
 -- The bytes begin with HEADERS (RFC 9114, section 7.2.2)
 abbrev pub begins_section : List ℕ → Bool

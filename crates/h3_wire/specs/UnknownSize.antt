@@ -10,7 +10,7 @@ use Rattle.h3_wire.specs.declared.frame.kinds.FrameKinds.{FrameKinds}
 -- those of HTTP/2, which are refused
 abbrev pub is_known_type : FrameKinds → ℕ → Bool
 is_known_type kinds kind =
-    is_session kinds kind || is_update kinds kind || ((kind == 0) || ((kind == 1) || ((kind == 3) || ((kind == 4) || ((kind == 5) || ((kind == 7) || ((kind == 13) || is_http2 kind)))))))
+    is_session kinds kind || (is_update kinds kind || ((kind == 0) || ((kind == 1) || ((kind == 3) || ((kind == 4) || ((kind == 5) || ((kind == 7) || ((kind == 13) || is_http2 kind))))))))
 
 abbrev pub size_with : ℕ → Option (ℕ × List ℕ) → Option ℕ
 size_with all None = None

@@ -242,9 +242,19 @@ fn decode_frame(alloc: Global, kinds: FrameKinds, src: &mut BufList<Bytes>) -> T
     ensures few { has_head (concat src.old.pieces) ≡ false → length (concat src.old.pieces) < 16 }
     ensures rest { IsRest src.old.pieces src.new.pieces }
 {
-    if let Some(tried) = decode_update(alloc, kinds, src) {
-        return tried;
+    match decode_update(alloc, kinds, src) {
+        Some(tried) => tried,
+        None => decode_known(alloc, kinds, src),
     }
+}
+
+// The same if it is no update.
+fn decode_known(alloc: Global, kinds: FrameKinds, src: &mut BufList<Bytes>) -> Tried
+    requires { frame_by kinds (concat src.old.pieces) ≡ frame_by (record kinds { updates = false }) (concat src.old.pieces) }
+    ensures tries { Tries result (frame_by kinds (concat src.old.pieces)) (concat src.old.pieces) (concat src.new.pieces) }
+    ensures few { has_head (concat src.old.pieces) ≡ false → length (concat src.old.pieces) < 16 }
+    ensures rest { IsRest src.old.pieces src.new.pieces }
+{
     match passed_size(src, kinds) {
         Some(size) => pass_unknown(src, size),
         None => decode_plain(alloc, src),
@@ -253,6 +263,7 @@ fn decode_frame(alloc: Global, kinds: FrameKinds, src: &mut BufList<Bytes>) -> T
 
 // RFC 9218 7.2: PRIORITY_UPDATE, read whole
 // If PRIORITY_UPDATE is known: takes such a frame at the front. One that is not whole is not taken. None, if it is no such frame, changes nothing.
+#[tactic(auto, using(crate::specs::PieceLaws::rest_same, crate::proofs::Updates::without_updates, crate::proofs::Updates::without_kind, crate::proofs::Updates::without_number, crate::proofs::Updates::other_type))]
 fn decode_update(alloc: Global, kinds: FrameKinds, src: &mut BufList<Bytes>) -> Option<Tried>
     ensures tries { IfSome result (λ tried. Tries tried (frame_by kinds (concat src.old.pieces)) (concat src.old.pieces) (concat src.new.pieces)) }
     ensures whole { IfSome result (λ tried. has_head (concat src.old.pieces) ≡ true) }
@@ -280,13 +291,13 @@ fn decode_update(alloc: Global, kinds: FrameKinds, src: &mut BufList<Bytes>) -> 
         return Some(Tried::Waits(all - behind + len));
     }
     match read_update(alloc, &mut cursor, kind, len) {
-        Ok(update) => {
+        Some(Ok(update)) => {
             let position = cursor.position();
             src.advance(position);
-            Some(Tried::Frame(update))
+            Some(Tried::Frame(Frame::PriorityUpdate(update)))
         }
-        Err(FrameError::OutOfMemory) => Some(Tried::OutOfMemory),
-        Err(_) => Some(Tried::Refused(FrameProtocolError::Malformed)),
+        Some(Err(_)) => Some(Tried::OutOfMemory),
+        None => Some(Tried::Refused(FrameProtocolError::Malformed)),
     }
 }
 

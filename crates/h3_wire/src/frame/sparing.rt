@@ -1,11 +1,11 @@
 //! The bytes of a stream of frames, of which those of an unknown frame that is under way are not kept.
-ghost use Rattle.std.specs.Prelude.{◌≡◌, ◌+◌, ◌^◌, ◌<◌, ◌≤◌, ◌++◌, [], None, Ok, true, length, drop, IfOk, IfErr, IfSome, OnOk, OnErr, IsNone, MatchOption};
+ghost use Rattle.std.specs.Prelude.{◌≡◌, ℕ, ◌+◌, ◌^◌, ◌<◌, ◌≤◌, ◌++◌, [], None, Ok, true, length, drop, IfOk, IfErr, IfSome, OnOk, OnErr, IsNone, MatchOption};
 ghost use Rattle.h3_coding.specs.Varint.{varint_at};
 ghost use Rattle.std.specs.List.{concat};
 ghost use Rattle.h3_proto.specs.Config.{is_limit};
 ghost use Rattle.h3_wire.specs.declared.frame.kinds.FrameKinds.{FrameKinds};
 ghost use Rattle.h3_wire.specs.Frames.{plain_frames};
-ghost use Rattle.h3_wire.specs.ExcessiveFrames.{begins_section, is_excessive_by};
+ghost use Rattle.h3_wire.specs.ExcessiveFrames.{SaysLength, begins_section, head_said, is_excessive_by, number_said};
 ghost use Rattle.h3_wire.specs.FirstFrames.{begins_other};
 ghost use Rattle.h3_wire.specs.Known.{Gives, known_by};
 ghost use Rattle.h3_wire.specs.MessageFrames.{any_frame};
@@ -37,11 +37,14 @@ pub(super) struct FrameBytes {
     passing: usize,
     // by which choices its type would be known: it is 0x41, or one of PRIORITY_UPDATE
     known_to: FrameKinds,
+    // the length that its head says
+    number: u64,
 }
 
 impl Model for FrameBytes {
     ghost use Rattle.std.specs.Prelude.{◌++◌, ◌<◌, ◌^◌, length};
     ghost use Rattle.std.specs.List.{concat};
+    ghost use Rattle.h3_wire.specs.ExcessiveFrames.{SaysLength};
     ghost use Rattle.h3_wire.specs.UnknownSize.{Sparing, AreLetGo, IsSpared};
 
     ghost Value = { Sparing };
@@ -50,7 +53,8 @@ impl Model for FrameBytes {
 
     ghost invariant = { λ b. AreLetGo b.known_to b.passing b.gone b.let_go.pieces
         × (length (concat (b.let_go.pieces ++ b.kept.pieces)) < 2 ^ 64)
-        × IsSpared b.passing b.gone b.kept.pieces };
+        × IsSpared b.passing b.gone b.kept.pieces
+        × SaysLength b.passing b.number (concat b.let_go.pieces) };
 }
 
 impl FrameBytes {
@@ -64,6 +68,7 @@ impl FrameBytes {
             gone: 0,
             passing: 0,
             known_to: FrameKinds::NONE,
+            number: 0,
         }
     }
 
@@ -93,7 +98,6 @@ impl FrameBytes {
         ensures pieces { self.new.pieces ≡ self.old.pieces }
         ensures same { 0 < self.old.passing → self.new ≡ self.old }
         ensures plain { self.old.passing ≡ 0 → self.old.known_to ≡ no_kinds }
-        ensures by { self.old.passing ≡ 0 → suits self.new.known_to kinds ≡ true }
         ensures is { IsPassing self.new }
         ensures spared { is_under_way kinds (concat self.new.pieces) ≡ true → 0 < self.new.passing }
     {
@@ -104,6 +108,7 @@ impl FrameBytes {
         match unknown_size(&self.kept, kinds) {
             Some(size) if len < size => {
                 self.known_to = choices_of(&self.kept);
+                self.number = number_of(&self.kept);
                 let_all_go(&mut self.kept, &mut self.let_go);
                 self.gone = len;
                 self.passing = size;
@@ -238,10 +243,11 @@ impl FrameBytes {
         if let Some(is_excessive) = self.is_first_excessive(most) {
             return is_excessive;
         }
-        if self.len() < self.passing {
-            return false;
-        }
+        // an update that was unknown as its bytes were freed
         if !self.suits(kinds) {
+            return self.known_to.updates && kinds.updates && self.number > most;
+        }
+        if self.len() < self.passing {
             return false;
         }
         excess::is_excessive_behind(&self.kept, self.passing - self.gone, most, kinds)
@@ -297,6 +303,7 @@ impl FrameBytes {
 fn release(kept: &mut BufList<Bytes>, let_go: &mut LetGo, gone: &mut usize, passing: usize)
     requires fits { gone.old + length (concat kept.old.pieces) < 2 ^ 64 }
     ensures front { (known_to : FrameKinds) → AreLetGo known_to passing gone.old let_go.old.pieces → AreLetGo known_to passing gone.new let_go.new.pieces }
+    ensures says { (known_to : FrameKinds) (number : ℕ) → AreLetGo known_to passing gone.old let_go.old.pieces → SaysLength passing number (concat let_go.old.pieces) → SaysLength passing number (concat let_go.new.pieces) }
     ensures pieces { let_go.new.pieces ++ kept.new.pieces ≡ let_go.old.pieces ++ kept.old.pieces }
     ensures spared { IsSpared passing gone.new kept.new.pieces }
 {
@@ -340,20 +347,6 @@ pub(super) fn unknown_size(pieces: &BufList<Bytes>, kinds: FrameKinds) -> Option
     unknown_size_anywhere(pieces, kinds)
 }
 
-// By which choices the type of the frame at the front would be known.
-fn choices_of(pieces: &BufList<Bytes>) -> FrameKinds
-    ensures { MatchOption (varint_at (concat pieces.now.pieces)) (result ≡ no_kinds) (λ p. result ≡ choices_for p.0) }
-{
-    let mut cursor = pieces.cursor();
-    let Ok(kind) = cursor.get_var() else {
-        return FrameKinds::NONE;
-    };
-    FrameKinds {
-        sessions: kind == 0x41,
-        updates: is_update_type(kind),
-    }
-}
-
 // The same, wherever type and length lie. It stays apart, so that a known type is found without a cursor.
 #[tactic(auto, unfolding(crate::specs::UnknownSize::unknown_size))]
 #[inline(never)]
@@ -372,6 +365,34 @@ fn unknown_size_anywhere(pieces: &BufList<Bytes>, kinds: FrameKinds) -> Option<u
         return None;
     };
     Some(all - cursor.remaining() + number as usize)
+}
+
+// By which choices the type of the frame at the front would be known.
+fn choices_of(pieces: &BufList<Bytes>) -> FrameKinds
+    ensures { MatchOption (varint_at (concat pieces.now.pieces)) (result ≡ no_kinds) (λ p. result ≡ choices_for p.0) }
+{
+    let mut cursor = pieces.cursor();
+    let Ok(kind) = cursor.get_var() else {
+        return FrameKinds::NONE;
+    };
+    FrameKinds {
+        sessions: kind == 0x41,
+        updates: is_update_type(kind),
+    }
+}
+
+// The length that the head of the frame at the front says, or 0 if its head is not whole.
+fn number_of(pieces: &BufList<Bytes>) -> u64
+    ensures { result ≡ number_said (head_said (varint_at (concat pieces.now.pieces))) }
+{
+    let mut cursor = pieces.cursor();
+    let Ok(_) = cursor.get_var() else {
+        return 0;
+    };
+    let Ok(number) = cursor.get_var() else {
+        return 0;
+    };
+    number
 }
 
 // Whether a type has a meaning, or is refused.

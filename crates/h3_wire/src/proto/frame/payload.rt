@@ -59,7 +59,7 @@ impl<B: Buf> Frame<B> {
             Frame::Data(payload) => Some(PayloadMut::Data(payload)),
             Frame::Headers(section) => Some(PayloadMut::Bytes(section)),
             Frame::PushPromise(promise) => Some(PayloadMut::Bytes(&mut promise.encoded)),
-            Frame::PriorityUpdate(update) => Some(PayloadMut::Bytes(update.value_mut())),
+            Frame::PriorityUpdate(update) => Some(PayloadMut::Bytes(&mut update.value)),
             _ => None,
         }
     }
@@ -76,7 +76,7 @@ impl<B: Buf> Frame<B> {
             Frame::Data(payload) => Lent::Data(payload),
             Frame::Headers(section) => Lent::Bytes(section),
             Frame::PushPromise(promise) => Lent::Bytes(promise.encoded),
-            Frame::PriorityUpdate(update) => Lent::Bytes(update.into_value()),
+            Frame::PriorityUpdate(update) => Lent::Bytes(update.value),
             _ => Lent::Nothing,
         }
     }

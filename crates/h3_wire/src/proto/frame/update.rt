@@ -1,26 +1,28 @@
 //! PRIORITY_UPDATE frames (RFC 9218, section 7.2).
-ghost use Rattle.std.specs.Prelude.{◌≡◌, ◌<◌, ◌≤◌, ◌^◌, ◌++◌, Some, false, length, drop, take, IfOk, IfErr, OnOk, OnErr};
+ghost use Rattle.std.specs.Prelude.{◌≡◌, ◌<◌, ◌≤◌, ◌^◌, ◌++◌, length, drop, take, IfOk, IfSome, IsNone, OnOk, OnErr};
 ghost use Rattle.h3_coding.specs.Varint.{varint_at};
 ghost use Rattle.h3_coding.specs.Writing.{AppendsFront, UsesRoom};
 ghost use Rattle.h3_wire.specs.Encoded.{frame_encoding, update_front, update_payload};
-ghost use Rattle.h3_wire.specs.Frames.{Decodes, TakesFront, update_frame};
+ghost use Rattle.h3_wire.specs.Frames.{Refused, Whole, TakesMemory, update_frame};
+ghost use Rattle.h3_wire.specs.declared.proto.frame.Frame.TheVariants as frame;
+ghost use Rattle.h3_wire.specs.declared.proto.frame.FrameError.TheVariants as error;
 ghost use Rattle.h3_wire.specs.Update.{is_update_type, type_of_update};
 
 use super::encode::{write_bytes, write_head};
-use super::{Frame, FrameError, FrameType, PayloadLen};
+use super::FrameType;
 use bytes::{Buf, BufMut, Bytes};
 use h3_coding::coding::{BufExt, Encode, WriteRefused};
 use h3_coding::varint::VarInt;
-use std::alloc::Global;
+use std::alloc::{AllocError, Global};
 use std::marker::Model;
 
 /// What a PRIORITY_UPDATE frame says: the priority of a response, or of a push.
 #[derive(PartialEq, Debug, Drop)]
 pub struct PriorityUpdate {
     // whether it is for a push
-    is_push: bool,
-    id: VarInt,
-    value: Bytes,
+    pub(super) is_push: bool,
+    pub(super) id: VarInt,
+    pub(super) value: Bytes,
 }
 
 impl Model for PriorityUpdate {
@@ -36,9 +38,7 @@ impl Model for PriorityUpdate {
 impl PriorityUpdate {
     /// An update for the request stream of this id, or for the push, with the text of a priority.
     pub fn new(is_push: bool, id: VarInt, value: Bytes) -> PriorityUpdate
-        ensures push { result.is_push ≡ is_push }
-        ensures id { result.id ≡ id }
-        ensures value { result.value ≡ value }
+        ensures { result ≡ record { is_push = is_push; id = id; value = value } }
     {
         PriorityUpdate { is_push, id, value }
     }
@@ -63,18 +63,6 @@ impl PriorityUpdate {
     {
         self.value.as_slice()
     }
-
-    /// The same, to be taken from it.
-    pub(crate) fn value_mut(&mut self) -> &mut Bytes {
-        &mut self.value
-    }
-
-    /// The text alone.
-    pub(crate) fn into_value(self) -> Bytes
-        ensures { result ≡ self.value }
-    {
-        self.value
-    }
 }
 
 /// Whether a type is one of PRIORITY_UPDATE: 0xf0700 for a request stream, 0xf0701 for a push.
@@ -95,27 +83,24 @@ fn type_of(is_push: bool) -> FrameType
     }
 }
 
-/// Takes the payload of an update: the id, then the text to the end.
-#[tactic(auto, using(crate::proofs::Fronts::front_within))]
+/// Takes the payload of an update: the id, then the text to the end. None: it does not begin with an id. An `Err`: an allocation failed.
 pub(crate) fn read_update<B: Buf>(
     alloc: Global,
     buf: &mut B,
     kind: u64,
     len: usize,
-) -> Result<Frame<PayloadLen>, FrameError>
+) -> Option<Result<PriorityUpdate, AllocError>>
     requires { len ≤ length (B.unread buf.old) }
-    ensures decodes { Decodes result (update_frame kind (varint_at (take len (B.unread buf.old))) (drop len (B.unread buf.old))) (B.unread buf.new) }
-    ensures front { OnErr result (TakesFront (B.unread buf.old) (B.unread buf.new)) }
+    ensures ok { IfSome result (λ r. IfOk r (λ u. update_frame kind (varint_at (take len (B.unread buf.old))) (drop len (B.unread buf.old)) ≡ Whole (frame.PriorityUpdate u) (B.unread buf.new))) }
+    ensures memory { IfSome result (λ r. OnErr r (TakesMemory (update_frame kind (varint_at (take len (B.unread buf.old))) (drop len (B.unread buf.old))))) }
+    ensures refused { IsNone result → update_frame kind (varint_at (take len (B.unread buf.old))) (drop len (B.unread buf.old)) ≡ Refused error.Malformed }
     ensures kept { B.kept buf.new ≡ B.kept buf.old }
 {
-    let Some((id, left)) = buf.get_var_within(len) else {
-        return Err(FrameError::Malformed);
-    };
-    let id = VarInt::from_u64_unchecked(id);
+    let (id, left) = buf.get_var_within(len)?;
     let is_push = kind == FrameType::PUSH_PRIORITY_UPDATE.0;
     match buf.copy_to_bytes(alloc, left) {
-        Ok(value) => Ok(Frame::PriorityUpdate(PriorityUpdate::new(is_push, id, value))),
-        Err(_) => Err(FrameError::OutOfMemory),
+        Ok(value) => Some(Ok(PriorityUpdate::new(is_push, VarInt::from_u64_unchecked(id), value))),
+        Err(_) => Some(Err(AllocError)),
     }
 }
 
@@ -130,8 +115,9 @@ pub(crate) fn write_update_front<W: BufMut>(
     ensures room { UsesRoom result (W.spare out.old) (W.spare out.new) (length (update_front update.now)) }
     ensures short { length (update_front update.now) ≤ 24 }
 {
+    let kind = type_of(update.is_push);
     let len = update.id.size() + update.value.len();
-    write_head(type_of(update.is_push), len as u64, out)?;
+    write_head(kind, len as u64, out)?;
     update.id.encode(out)
 }
 

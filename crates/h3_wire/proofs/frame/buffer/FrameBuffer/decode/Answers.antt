@@ -12,4 +12,4 @@ invariant_of-self c =
     let expects = subst (λ p. Expects c.args.kinds d.new.decoder (concat p)) (sym c.spare.ensures.pieces) d.ensures.expects in
     let there = waits_if c.args.kinds d.result _ (concat d.new.self.pieces) (sym c.is_waiting.ensures ∙ c.if-is_waiting.true) d.ensures.gives in
     let waits = subst (λ p. IsWaiting (frame_by c.args.kinds (concat p))) (sym c.spare.ensures.pieces) there in
-    spared_expects c.args.kinds c.spare.new.self d.new.decoder c.spare.ensures.is (c.spare.ensures.by d.ensures.none) expects waits c.spare.ensures.spared
+    spared_expects c.args.kinds c.spare.new.self d.new.decoder c.spare.ensures.is expects waits c.spare.ensures.spared
