@@ -38,7 +38,7 @@ frames_joined (id ∷ ids) more =
     ap (λ l. goaway_encoding id ++ l) (frames_joined ids more) ∙ sym (append_assoc (goaway_encoding id) (flat_map goaway_encoding ids) (flat_map goaway_encoding more))
 
 joined : (a b c more : List ℕ) → a ++ b ++ (c ++ more) ≡ (a ++ b ++ c) ++ more
-joined a b c more = sym (append_assoc a (b ++ c) more ∙ ap (λ l. a ++ l) (append_assoc b c more))
+joined a b c more = sym (append_assoc (a ++ b) c more)
 
 -- A GOAWAY frame
 pub goaway_last : (written : ℕ) (ids : List ℕ) (id all : ℕ) (updates : List OwnUpdate) → written + length ids ≡ all → All (IsBehind all) updates
@@ -63,7 +63,7 @@ update_last written ids all [] u same behind now =
     let enough : length ids ≤ k = omega (arith, same, now) in
     ap (λ l. flat_map goaway_encoding l ++ update_encoding u ++ flat_map goaway_encoding (drop k ids)) (take_whole k ids enough)
     ∙ ap (λ l. flat_map goaway_encoding ids ++ update_encoding u ++ flat_map goaway_encoding l) (drop_whole k ids enough)
-    ∙ ap (λ l. flat_map goaway_encoding ids ++ l) (append-nil (update_encoding u))
+    ∙ append-nil (flat_map goaway_encoding ids ++ update_encoding u)
 update_last written ids all (v ∷ updates) u same behind now =
     let k : ℕ = v.behind - written in
     let here : v.behind ≤ all = All-head (IsBehind all) v updates behind in

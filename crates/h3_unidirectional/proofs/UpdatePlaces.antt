@@ -19,25 +19,27 @@ record IsAt (waiting : Streams PriorityParameters) (id place : ℕ) : Type 0 whe
 
 at_from : (id i place : ℕ) (waiting : Streams PriorityParameters) → position_from (is_of id) i waiting ≡ Some place → (k : ℕ) × (place ≡ i + k) × IsAt waiting id k
 at_from id i place [] e = absurd (cc)
-at_from id i place ((q, x) ∷ waiting) e = by_test (q == id) refl e
+at_from id i place ((q, x) ∷ waiting) e = by_test (q == id) refl e (λ is. at_from id (i + 1) place waiting is)
   where
-    by_test : (b : Bool) → (q == id) ≡ b → (if b then Some i else position_from (is_of id) (i + 1) waiting) ≡ Some place → (k : ℕ) × (place ≡ i + k) × IsAt ((q, x) ∷ waiting) id k
-    by_test true same is =
+    by_test : (b : Bool) → (q == id) ≡ b → (if b then Some i else position_from (is_of id) (i + 1) waiting) ≡ Some place
+        → (position_from (is_of id) (i + 1) waiting ≡ Some place → (k : ℕ) × (place ≡ i + 1 + k) × IsAt waiting id k) → (k : ℕ) × (place ≡ i + k) × IsAt ((q, x) ∷ waiting) id k
+    by_test true same is later =
         let here : i ≡ place = ap (λ o. unwrap_or o 0) is in
         (0, omega (arith, here), record { priority = x; there = ap (λ n. Some (n, x)) (eqb-true q id same); found = rw same refl; sets = λ p. rw same refl })
-    by_test false other is =
-        let rest = at_from id (i + 1) place waiting is in
+    by_test false other is later =
+        let rest = later is in
         (suc rest.0, omega (arith, rest.1), record { priority = rest.2.priority; there = rest.2.there; found = rw other rest.2.found; sets = λ p. rw other (ap (λ l. (q, x) ∷ l) (rest.2.sets p)) })
 
 none_from : (id i : ℕ) (waiting : Streams PriorityParameters) → position_from (is_of id) i waiting ≡ None → (stream_at waiting id ≡ None) × ((p : PriorityParameters) → set_stream waiting id p ≡ waiting ++ (id, p) ∷ [])
 none_from id i [] e = (refl, λ p. refl)
-none_from id i ((q, x) ∷ waiting) e = by_test (q == id) refl e
+none_from id i ((q, x) ∷ waiting) e = by_test (q == id) refl e (λ is. none_from id (i + 1) waiting is)
   where
     by_test : (b : Bool) → (q == id) ≡ b → (if b then Some i else position_from (is_of id) (i + 1) waiting) ≡ None
+        → (position_from (is_of id) (i + 1) waiting ≡ None → (stream_at waiting id ≡ None) × ((p : PriorityParameters) → set_stream waiting id p ≡ waiting ++ (id, p) ∷ []))
         → (stream_at ((q, x) ∷ waiting) id ≡ None) × ((p : PriorityParameters) → set_stream ((q, x) ∷ waiting) id p ≡ ((q, x) ∷ waiting) ++ (id, p) ∷ [])
-    by_test true same is = absurd (cc)
-    by_test false other is =
-        let rest = none_from id (i + 1) waiting is in
+    by_test true same is later = absurd (cc)
+    by_test false other is later =
+        let rest = later is in
         (rw other rest.0, λ p. rw other (ap (λ l. (q, x) ∷ l) (rest.1 p)))
 
 is_at : (waiting : Streams PriorityParameters) (id place : ℕ) → place_of waiting id ≡ Some place → IsAt waiting id place
@@ -53,8 +55,11 @@ is_none waiting id e = none_from id 0 waiting (sym (position_from-zero (is_of id
 pub none_there : (waiting : Streams PriorityParameters) (id : ℕ) → place_of waiting id ≡ None → None ≡ stream_at waiting id
 none_there waiting id e = sym (is_none waiting id e).0
 
+some_differs : {X : Type 0} (x : X) → Some x ≡ None → ⊥
+some_differs x e = cc
+
 pub not_past : (waiting : Streams PriorityParameters) (id place : ℕ) → place_of waiting id ≡ Some place → slice_get waiting place ≡ None → ⊥
-not_past waiting id place e none = let wrong : Some (id, (is_at waiting id place e).priority) ≡ None = sym (is_at waiting id place e).there ∙ none in cc
+not_past waiting id place e none = some_differs _ (sym (is_at waiting id place e).there ∙ none)
 
 pub one_there : (waiting : Streams PriorityParameters) (id place : ℕ) (update : ℕ × PriorityParameters) → place_of waiting id ≡ Some place → slice_get waiting place ≡ Some update → Some update.1 ≡ stream_at waiting id
 one_there waiting id place update e there =

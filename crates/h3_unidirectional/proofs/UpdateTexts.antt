@@ -1,12 +1,8 @@
--- The text of an update that a client writes.
-use Rattle.std.proofs.Common.{◌≡◌, ℕ, ◌+◌, ◌≤◌, Bool, true, false, List, [], ◌∷◌, ◌++◌, length, if◌then◌else◌, arith}
-use Rattle.std.specs.Prelude.{codes}
-use Rattle.h3_priority.specs.Priority.{PriorityParameters, value_that_says}
+-- What a client writes of the priorities of its requests.
+use Rattle.std.proofs.Common.{ℕ, Result, Ok, Err}
+use Rattle.std.specs.Prelude.{OnOk}
 
--- what says a priority is short
-pub short_value : (p : PriorityParameters) → length (value_that_says p) ≤ 6
-short_value p = by_choice p.incremental
-  where
-    by_choice : (b : Bool) → length (codes "u=" ++ (48 + p.urgency) ∷ (if b then codes ", i" else [])) ≤ 6
-    by_choice true = omega arith
-    by_choice false = omega arith
+-- what is known if a call succeeds gives what holds however many GOAWAY frames stand before an update
+pub behind_any : {A E : Type 0} (r : Result A E) (P : ℕ → Type 0) (Q : Type 0) → OnOk r Q → (Q → (behind : ℕ) → P behind) → OnOk r ((behind : ℕ) → P behind)
+behind_any (Ok value) P Q h each = each h
+behind_any (Err e) P Q h each = tt
