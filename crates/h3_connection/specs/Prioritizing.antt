@@ -1,5 +1,5 @@
 -- What a client says of priorities counts at its server (RFC 9218, sections 5 and 7), if that says nothing itself. And what a client writes of it.
-use Rattle.std.specs.Prelude.{◌≡◌, ℕ, Bool, true, false, not, ◌||◌, List, [], ◌∷◌, ◌++◌, drop, filter, length, slice_get, take, IfSome, if◌then◌else◌, Option, Some, None, is_some, option_map, unwrap_or, Result}
+use Rattle.std.specs.Prelude.{◌≡◌, ℕ, Bool, true, not, ◌||◌, [], ◌∷◌, ◌++◌, drop, filter, length, slice_get, take, IfSome, if◌then◌else◌, Option, Some, None, is_some, option_map, Result}
 use Rattle.h3_priority.specs.Priority.{PriorityParameters}
 use Rattle.h3_proto.specs.StreamIds.{is_request_stream}
 use Rattle.h3_connection.specs.Answers.{call_refused}
@@ -18,7 +18,7 @@ use Rattle.h3_connection.specs.StreamSets.{Streams, stream_at}
 use Rattle.h3_connection.specs.declared.event.Refusal.{Refusal}
 use Rattle.h3_connection.specs.declared.event.Refusal.TheVariants as refusal
 use Rattle.h3_connection.specs.declared.order.PrioritySource.{PrioritySource}
-use Rattle.h3_connection.specs.declared.order.PrioritySource.TheVariants.{Field, Own, Update}
+use Rattle.h3_connection.specs.declared.order.PrioritySource.TheVariants.{Field, Update}
 
 -- somebody says this of the priority of a stream: it counts unless something was said that counts before it
 abbrev pub said : PrioritySource → PriorityParameters → Outgoing → Outgoing

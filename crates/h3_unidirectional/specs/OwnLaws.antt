@@ -1,5 +1,5 @@
 -- What waits on the own streams stands for what a history wrote and did not hand over.
-use Rattle.std.proofs.Common.{◌≡◌, ℕ, ◌==◌, if◌then◌else◌, List, [], refl, drop, ◌∙◌, sym, Bool, true, false, Some, None, zero, suc, ◌+◌, ◌≤◌, ◌∷◌, ◌++◌, length, arith, flat_map, append_assoc, ap, length-append, append-nil, subst}
+use Rattle.std.proofs.Common.{◌≡◌, ℕ, ◌==◌, if◌then◌else◌, List, [], refl, drop, ◌∙◌, sym, Bool, true, false, Some, None, zero, suc, ◌+◌, ◌≤◌, ◌∷◌, ◌++◌, length, arith, flat_map, append_assoc, ap, length-append, subst}
 use Rattle.std.specs.Prelude.{All}
 use Rattle.h3_proto.specs.declared.stream.Side.{Side}
 use Rattle.h3_proto.specs.declared.stream.Side.TheVariants.{Client, Server}

@@ -1,5 +1,5 @@
 //! What PRIORITY_UPDATE frames said that waits to be used (RFC 9218, section 7.2).
-ghost use Rattle.std.specs.Prelude.{◌≡◌, ◌<◌, ◌≤◌, ◌==◌, length, remove, slice_get, OnOk, OnErr};
+ghost use Rattle.std.specs.Prelude.{◌≡◌, ◌<◌, length, remove, slice_get, OnOk};
 ghost use Rattle.h3_connection.specs.StreamSets.{stream_at};
 ghost use Rattle.h3_connection.specs.Updates.{no_updates, with_update};
 ghost use Rattle.h3_unidirectional.specs.Waits.{updates_in, HasSpare, place_of};

@@ -7,7 +7,7 @@ use Rattle.h3_wire.specs.ExcessiveFrames.{is_excessive, says_long_update}
 use Rattle.h3_wire.specs.Frames.{Front, frame_of, update_frame}
 use Rattle.h3_wire.specs.Update.{is_update_type}
 use Rattle.h3_connection.specs.Endpoint.{EndpointHistory}
-use Rattle.h3_connection.specs.Prioritizing.{is_unopened, use_updates, used, with_waiting}
+use Rattle.h3_connection.specs.Prioritizing.{is_unopened, used, with_waiting}
 use Rattle.h3_connection.proofs.laws.without_updates_nothing_of_them_is_read.Goals as goal
 
 none_used : (e : EndpointHistory) (count : ℕ) → with_waiting (used e (take count [])) (filter (is_unopened e) (take count []) ++ drop count []) ≡ with_waiting e []
