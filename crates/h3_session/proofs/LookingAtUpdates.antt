@@ -14,6 +14,8 @@ use Rattle.h3_connection.specs.StreamSetLaws.{other_id, set-here, set-other}
 use Rattle.h3_connection.specs.declared.event.Refusal.{Refusal}
 use Rattle.h3_connection.specs.declared.order.PrioritySource.TheVariants.{Update}
 use Rattle.h3_session.proofs.Opened.{stands_same}
+use Rattle.h3_session.specs.Refused.{streams_of}
+use Rattle.h3_streams.specs.Placed.{StreamsState, placed}
 use Rattle.h3_session.specs.Prioritized.{having_waiting, looked_at, ChangesTurns, Looks, LooksAt, UsesOne}
 
 -- Other updates wait in both.
@@ -61,17 +63,26 @@ stands_waiting s e waiting h =
 waiting_same : (s : EndpointState) (e : EndpointHistory) → StandsFor s e → s.peer.updates.waiting ≡ e.peer.updates.waiting
 waiting_same s e h = ap (λ (p : Peer). p.updates.waiting) h.peer
 
+wait_in : (s n : EndpointState) → ChangesTurns s n → n.peer.updates.waiting ≡ s.peer.updates.waiting
+wait_in s n rest = ap (λ (v : EndpointState). v.peer.updates.waiting) rest
+
+-- The one at a place waits no longer.
+pub removed_there : (s now : EndpointState) (x : StreamsState) (place : ℕ) → s ≡ now
+    → x ≡ record (streams_of s) { peer = record s.peer { updates = record s.peer.updates { waiting = remove s.peer.updates.waiting place } } }
+    → placed s x ≡ having_waiting now (remove now.peer.updates.waiting place)
+removed_there s now x place view same = ap (placed s) same ∙ ap (λ (v : EndpointState). having_waiting v (remove v.peer.updates.waiting place)) view
+
+pub still_within : (s n : EndpointState) (place : ℕ) → ChangesTurns s n → place < length s.peer.updates.waiting → place < length n.peer.updates.waiting
+still_within s n place rest within = subst (λ l. place < length l) (sym (wait_in s n rest)) within
+
 -- One update is looked at
 shorter : {X : Type 0} (xs : List X) (place : ℕ) → place < length xs → length (remove xs place) + 1 ≡ length xs
 shorter [] place h = absurd (omega (arith, h))
 shorter (x ∷ xs) zero h = omega arith
 shorter (x ∷ xs) (suc place) h = let rest = shorter xs place (omega (arith, h)) in omega (arith, rest)
 
-wait_in : (s n : EndpointState) → ChangesTurns s n → n.peer.updates.waiting ≡ s.peer.updates.waiting
-wait_in s n rest = ap (λ (v : EndpointState). v.peer.updates.waiting) rest
-
 -- and waits no longer,
-pub looks_used : (s n m : EndpointState) (id place : ℕ) (p : PriorityParameters) → Some (id, p) ≡ slice_get s.peer.updates.waiting place → place < length s.peer.updates.waiting
+looks_used : (s n m : EndpointState) (id place : ℕ) (p : PriorityParameters) → Some (id, p) ≡ slice_get s.peer.updates.waiting place → place < length s.peer.updates.waiting
     → UsesOne s n id p (Ok true) → ChangesTurns s n → m ≡ having_waiting n (remove n.peer.updates.waiting place) → LooksAt s m place (Ok place)
 looks_used s n m id place p at within uses rest now =
     record {
@@ -89,7 +100,7 @@ looks_used s n m id place p at within uses rest now =
     }
 
 -- or waits on,
-pub looks_past : (s n : EndpointState) (id place next : ℕ) (p : PriorityParameters) → Some (id, p) ≡ slice_get s.peer.updates.waiting place
+looks_past : (s n : EndpointState) (id place next : ℕ) (p : PriorityParameters) → Some (id, p) ≡ slice_get s.peer.updates.waiting place
     → UsesOne s n id p (Ok false) → ChangesTurns s n → next ≡ place + 1 → LooksAt s n place (Ok next)
 looks_past s n id place next p at uses rest is =
     record {
@@ -104,6 +115,13 @@ looks_past s n id place next p at uses rest is =
       left = omega (arith, ap (λ (v : EndpointState). length v.peer.updates.waiting) rest, is);
       near = omega (arith, is);
     }
+
+-- so as it is used or not,
+pub looks_done : (s n m : EndpointState) (id place next : ℕ) (p : PriorityParameters) (is_used : Bool) → Some (id, p) ≡ slice_get s.peer.updates.waiting place → place < length s.peer.updates.waiting
+    → UsesOne s n id p (Ok is_used) → ChangesTurns s n → m ≡ (if is_used then having_waiting n (remove n.peer.updates.waiting place) else n) → next ≡ (if is_used then place else place + 1)
+    → LooksAt s m place (Ok next)
+looks_done s n m id place next p true at within uses rest now is = subst (λ x. LooksAt s m place (Ok x)) (sym is) (looks_used s n m id place p at within uses rest now)
+looks_done s n m id place next p false at within uses rest now is = subst (λ v. LooksAt s v place (Ok next)) (sym now) (looks_past s n id place next p at uses rest is)
 
 -- or finds no memory.
 pub looks_refused : (s n : EndpointState) (id place : ℕ) (p : PriorityParameters) (r : Refusal) → Some (id, p) ≡ slice_get s.peer.updates.waiting place
@@ -128,6 +146,9 @@ between (x ∷ xs) zero h = record { one = x; got = refl; front = refl; behind =
 between (x ∷ xs) (suc place) h =
     let rest = between xs place (omega (arith, h)) in
     record { one = rest.one; got = rest.got; front = ap (λ l. x ∷ l) rest.front; behind = rest.behind }
+
+pub is_there : {X : Type 0} (xs : List X) (place : ℕ) → place < length xs → slice_get xs place ≢ None
+is_there xs place h none = let b = between xs place h in absurd (cc (none, b.got))
 
 none_past : {X : Type 0} (xs : List X) (place : ℕ) → length xs ≤ place → slice_get xs place ≡ None
 none_past [] place h = refl
@@ -188,8 +209,8 @@ used_waiting e waiting id p None = refl
 used_waiting e waiting id p (Some o) = waiting_if (is_sent o) e waiting id p
 
 -- what waits then
-left_if : (open : Bool) (front : Streams PriorityParameters) (u : ℕ × PriorityParameters) (behind : Streams PriorityParameters)
-    → (if open then remove (front ++ u ∷ behind) (length front) else front ++ u ∷ behind) ≡ (front ++ (if not open then u ∷ [] else [])) ++ behind
+left_if : (opened : Bool) (front : Streams PriorityParameters) (u : ℕ × PriorityParameters) (behind : Streams PriorityParameters)
+    → (if opened then remove (front ++ u ∷ behind) (length front) else front ++ u ∷ behind) ≡ (front ++ (if not opened then u ∷ [] else [])) ++ behind
 left_if true front u behind = removed front u behind ∙ ap (λ l. l ++ behind) (sym (append-nil front))
 left_if false front u behind = sym (append_assoc front (u ∷ []) behind)
 
@@ -217,8 +238,8 @@ looked_next e count b =
     ∙ ap (λ l. with_waiting (used e (take (suc count) e.peer.updates.waiting)) l) (left_waiting e count b)
 
 -- and where the next one stands
-place_if : (open : Bool) (front : Streams PriorityParameters) (u : ℕ × PriorityParameters)
-    → (if open then length front else length front + 1) ≡ length (front ++ (if not open then u ∷ [] else []))
+place_if : (opened : Bool) (front : Streams PriorityParameters) (u : ℕ × PriorityParameters)
+    → (if opened then length front else length front + 1) ≡ length (front ++ (if not opened then u ∷ [] else []))
 place_if true front u = ap length (sym (append-nil front))
 place_if false front u = omega (arith, length-append front (u ∷ []))
 
@@ -270,6 +291,9 @@ looked_more s n m count place next l within looks =
           here ∙ ap (λ at. if is_open (use_updates e count) b.one.0 then at else at + 1) (l.front e h) ∙ next_place e count b;
     })
 
+pub room_left : (s n : EndpointState) (count place most : ℕ) → Looked s n count place → most ≡ length s.peer.updates.waiting → count < most → place < length n.peer.updates.waiting
+room_left s n count place most l all within = omega (arith, l.left, l.near, all, within)
+
 -- One finds no memory, and the others wait with it.
 pub looked_part : (s n m : EndpointState) (count place : ℕ) (r : Refusal) → Looked s n count place → count < length s.peer.updates.waiting → LooksAt n m place (Err r) → UsesUpdates s m
 looked_part s n m count place r l within looks =
@@ -291,3 +315,6 @@ looked_all s n count place l all =
       stops = λ e h. subst (λ o. IfSome o (λ u. is_open e u.0 ≡ true)) (sym (none_past e.peer.updates.waiting count (subst (λ l. length l ≤ count) (waiting_same s e h) all))) tt;
       stands = l.stands;
     }
+
+pub none_waits : (s : EndpointState) → length s.peer.updates.waiting ≤ 0 → UsesUpdates s s
+none_waits s none = looked_all s s 0 0 (looked_none s) none

@@ -80,6 +80,11 @@ pub shows_none : (s : EndpointState) (id : ℕ) (there : Option RequestState) �
 shows_none s id None was none e h = sym (ap (option_map (counting (stream_at e.peer.updates.waiting id))) (not_found s e id h (ap (option_map (λ r. r.outgoing)) was)))
 shows_none s id (Some r) was none e h = absurd (cc)
 
+pub shows_no_end : (s : EndpointState) (id : ℕ) (there : Option RequestState) → kept_at s.requests id ≡ there → option_map (λ r. stored.is_sent r.outgoing) there ≡ None
+    → ShowsPriority s id None
+shows_no_end s id None was none = shows_none s id None was refl
+shows_no_end s id (Some r) was none = absurd (cc)
+
 shows_by : (s : EndpointState) (id : ℕ) (r : RequestState) → kept_at s.requests id ≡ Some r
     → ShowsPriority s id (Some (counting_in (stream_at s.peer.updates.waiting id) (stored.is_sent r.outgoing) r.outgoing.precedence))
 shows_by s id r was e h =

@@ -1,5 +1,5 @@
 -- What a client says of priorities, by what is stored.
-use Rattle.std.specs.Prelude.{◌≡◌, ℕ, ◌+◌, Bool, true, false, not, ◌||◌, [], ◌∷◌, length, remove, slice_get, if◌then◌else◌, IfSome, Option, Some, None, is_some, option_map, unwrap_or, Result, Ok, Err}
+use Rattle.std.specs.Prelude.{◌≡◌, ◌≤◌, ℕ, ◌+◌, Bool, true, false, not, ◌||◌, [], ◌∷◌, length, remove, slice_get, if◌then◌else◌, IfSome, Option, Some, None, is_some, option_map, unwrap_or, Result, Ok, Err}
 use Rattle.h3_priority.specs.Priority.{PriorityParameters}
 use Rattle.h3_proto.specs.StreamIds.{is_request_stream}
 use Rattle.h3_connection.specs.Answers.{call_refused}

@@ -34,6 +34,7 @@ impl Endpoint {
 
     // What PRIORITY_UPDATE frames said since the last call is used. (a function of its own: the next call is made once)
     #[inline(always)]
+    #[tactic(auto, using(crate::proofs::LookingAtUpdates::none_waits))]
     fn use_any_updates(&mut self)
         ensures { UsesUpdates self.old self.new }
     {

@@ -1,5 +1,5 @@
 //! What a client says of priorities (RFC 9218, sections 5 and 7).
-ghost use Rattle.std.specs.Prelude.{◌≡◌, ◌<◌, ◌+◌, ◌^◌, ◌++◌, ℕ, None, Some, length, remove, slice_get, IfErr, OnErr, OnOk};
+ghost use Rattle.std.specs.Prelude.{if◌then◌else◌, ◌≡◌, ◌<◌, ◌+◌, ◌^◌, ◌++◌, ℕ, None, Some, length, remove, slice_get, IfErr, OnErr, OnOk};
 ghost use Rattle.h3_connection.specs.OwnUpdates.{update_encoding};
 ghost use Rattle.h3_connection.specs.Prioritizing.{SendsPriority, SetsInitialPriority, ShowsPriority, UsesUpdates};
 ghost use Rattle.h3_session.specs.Prioritized.{counting_in, having_waiting, judged_in, send_refused, ChangesTurns, IsSaid, LooksAt, UsesOne};
@@ -62,6 +62,7 @@ impl Endpoint {
     /// What PRIORITY_UPDATE frames said is used of the streams that are open, and dropped of those on which sending has ended. What they said
     /// of others waits on. If an allocation fails, so does what was not looked at.
     #[inline(never)]
+    #[tactic(auto, using(crate::proofs::LookingAtUpdates::room_left, crate::proofs::LookingAtUpdates::looked_part))]
     pub(super) fn use_updates(&mut self)
         ensures { UsesUpdates self.old self.new }
     {
@@ -82,23 +83,33 @@ impl Endpoint {
     }
 
     // The update at a place is looked at, and this returns the place of the next one: the same if this one waits no longer.
+    #[tactic(auto, using(crate::proofs::LookingAtUpdates::still_within))]
     fn use_update_at(&mut self, place: usize) -> Result<usize, Refusal>
         requires there { place < length self.old.peer.updates.waiting }
         requires few { place + 1 < 2 ^ 64 }
         ensures { LooksAt self.old self.new place result }
     {
-        let Some((id, priority)) = self.update_at(place) else {
+        let Some(update) = self.update_at(place) else {
             unreachable!();
         };
-        let is_used = match self.use_update(id, priority) {
-            Ok(is_used) => is_used,
-            Err(refusal) => return Err(refusal),
-        };
+        match self.use_update(update.0, update.1) {
+            Ok(is_used) => Ok(self.pass_update(place, is_used)),
+            Err(refusal) => Err(refusal),
+        }
+    }
+
+    // The update at a place waits no longer, or it waits on, and this returns the place of the next one.
+    fn pass_update(&mut self, place: usize, is_used: bool) -> usize
+        requires there { place < length self.old.peer.updates.waiting }
+        requires few { place + 1 < 2 ^ 64 }
+        ensures waits { self.new ≡ (if is_used then having_waiting self.old (remove self.old.peer.updates.waiting place) else self.old) }
+        ensures next { result ≡ (if is_used then place else place + 1) }
+    {
         if is_used {
             self.remove_update(place);
-            return Ok(place);
+            return place;
         }
-        Ok(place + 1)
+        place + 1
     }
 
     // The update at a place.
@@ -224,5 +235,8 @@ fn write_update(
     }) }
     ensures err { OnErr result (streams.new ≡ streams.old) }
 {
-    streams.own.update(alloc, id, priority)
+    let Ok(()) = streams.own.update(alloc, id, priority) else {
+        return Err(AllocError);
+    };
+    Ok(())
 }
