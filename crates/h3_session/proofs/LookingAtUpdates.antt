@@ -127,8 +127,7 @@ looks_done s n m id place next p false at within uses rest now is = subst (λ v.
 pub looks_refused : (s n : EndpointState) (id place : ℕ) (p : PriorityParameters) (r : Refusal) → Some (id, p) ≡ slice_get s.peer.updates.waiting place
     → UsesOne s n id p (Err r) → ChangesTurns s n → LooksAt s n place (Err r)
 looks_refused s n id place p r at refused rest e h =
-    let same : n ≡ record s { requests = n.requests } = rest ∙ ap (λ o. record s { requests = n.requests; order = o }) refused.0.rest.order in
-    (
+    let same : n ≡ record s { requests = n.requests } = rest ∙ ap (λ o. record s { requests = n.requests; order = o }) refused.0.rest.order in (
       subst (λ v. StandsFor v e) (sym same) (stands_same s e n.requests h refused.0.requests),
       subst (λ o. IfSome o (λ u. is_open e u.0 ≡ true)) (at ∙ ap (λ w. slice_get w place) (waiting_same s e h)) (refused.1 e h),
     )
