@@ -294,8 +294,9 @@ pub room_left : (s n : EndpointState) (count place most : ℕ) → Looked s n co
 room_left s n count place most l all within = omega (arith, l.left, l.near, all, within)
 
 -- One finds no memory, and the others wait with it.
-pub looked_part : (s n m : EndpointState) (count place : ℕ) (r : Refusal) → Looked s n count place → count < length s.peer.updates.waiting → LooksAt n m place (Err r) → UsesUpdates s m
-looked_part s n m count place r l within looks =
+pub looked_part : (s n m : EndpointState) (count place : ℕ) → Looked s n count place → count < length s.peer.updates.waiting
+    → ((e : EndpointHistory) → StandsFor n e → StandsFor m e × WantsMemory e place) → UsesUpdates s m
+looked_part s n m count place l within looks =
     record {
       count = count;
       stops = λ e h.

@@ -1,23 +1,19 @@
--- What an update said is used of a stream that is open, or dropped, or waits on. And which priority counts.
+-- What an update said is used of a stream that is open, or dropped, or waits on.
 use Rattle.std.proofs.Common.{◌≡◌, ℕ, Bool, true, false, ◌||◌, if◌then◌else◌, [], ◌∷◌, Option, Some, None, Ok, Err, refl, ap, sym, subst, ◌∙◌}
 use Rattle.std.specs.Prelude.{not, is_some, option_map}
 use Rattle.h3_priority.specs.Priority.{PriorityParameters}
 use Rattle.h3_connection.specs.Endpoint.{EndpointHistory}
 use Rattle.h3_connection.specs.Outgoing.{Outgoing}
-use Rattle.h3_connection.specs.Order.{gives_way}
-use Rattle.h3_connection.specs.PeerReading.{Peer}
-use Rattle.h3_connection.specs.Prioritizing.{counting, is_sent, said, saying, used_at, ShowsPriority}
+use Rattle.h3_connection.specs.Prioritizing.{is_sent, saying, used_at}
 use Rattle.h3_connection.specs.Refusals.{first_of}
 use Rattle.h3_connection.specs.Sending.{does}
 use Rattle.h3_connection.specs.State.{EndpointState, RequestState, OutgoingState, StandsFor, IsOfOutgoing, kept_at}
-use Rattle.h3_connection.specs.StreamSets.{stream_at}
 use Rattle.h3_connection.specs.declared.event.Refusal.{Refusal}
 use Rattle.h3_connection.specs.declared.event.Refusal.TheVariants as refusal
-use Rattle.h3_connection.specs.declared.order.Precedence.{Precedence}
 use Rattle.h3_connection.specs.declared.order.PrioritySource.TheVariants.{Update}
 use Rattle.h3_requests.specs.Ordered as stored
 use Rattle.h3_session.proofs.Taking.{found, not_found}
-use Rattle.h3_session.specs.Prioritized.{counting_in, said_if_open, IsSaid, UsesOne}
+use Rattle.h3_session.specs.Prioritized.{said_if_open, IsSaid, UsesOne}
 
 sent_same : (o : Outgoing) (w : OutgoingState) → IsOfOutgoing o w → is_sent o ≡ stored.is_sent w
 sent_same o w h = ap (λ b. b || o.end_taken) (sym h.is_reset) ∙ ap (λ b. w.is_reset || b) (sym h.end_taken)
@@ -60,51 +56,3 @@ pub is_refused : (s n : EndpointState) (id : ℕ) (p : PriorityParameters) (r : 
 is_refused s n id p r None was going said = absurd (cc)
 is_refused s n id p r (Some x) was going said =
     (said.same (λ none. absurd (cc)), λ e h. ap is_some (found s e id x.outgoing h (ap (option_map (λ r. r.outgoing)) was)).there)
-
--- Which priority counts
-said_is : (counts : Bool) (p : PriorityParameters) (o : Outgoing)
-    → (if counts then record o { precedence = record o.precedence { priority = p; source = Update } } else o).precedence.priority ≡ (if false || not counts then o.precedence.priority else p)
-said_is true p o = refl
-said_is false p o = refl
-
-counts_if : (sent : Bool) (p : PriorityParameters) (o : Outgoing)
-    → (if sent then o.precedence.priority else (said Update p o).precedence.priority) ≡ (if sent || not (gives_way o.precedence.source Update) then o.precedence.priority else p)
-counts_if true p o = refl
-counts_if false p o = said_is (gives_way o.precedence.source Update) p o
-
-counting_same : (update : Option PriorityParameters) (o : Outgoing) → counting update o ≡ counting_in update (is_sent o) o.precedence
-counting_same None o = refl
-counting_same (Some p) o = counts_if (is_sent o) p o
-
-pub shows_none : (s : EndpointState) (id : ℕ) (there : Option RequestState) → kept_at s.requests id ≡ there → stored.precedence_at there ≡ None → ShowsPriority s id None
-shows_none s id None was none e h = sym (ap (option_map (counting (stream_at e.peer.updates.waiting id))) (not_found s e id h (ap (option_map (λ r. r.outgoing)) was)))
-shows_none s id (Some r) was none e h = absurd (cc)
-
-pub shows_no_end : (s : EndpointState) (id : ℕ) (there : Option RequestState) → kept_at s.requests id ≡ there → option_map (λ r. stored.is_sent r.outgoing) there ≡ None
-    → ShowsPriority s id None
-shows_no_end s id None was none = shows_none s id None was refl
-shows_no_end s id (Some r) was none = absurd (cc)
-
-shows_by : (s : EndpointState) (id : ℕ) (r : RequestState) → kept_at s.requests id ≡ Some r
-    → ShowsPriority s id (Some (counting_in (stream_at s.peer.updates.waiting id) (stored.is_sent r.outgoing) r.outgoing.precedence))
-shows_by s id r was e h =
-    let f = found s e id r.outgoing h (ap (option_map (λ r. r.outgoing)) was) in
-    let update = stream_at e.peer.updates.waiting id in
-    ap Some (
-    ap (λ (q : Peer). counting_in (stream_at q.updates.waiting id) (stored.is_sent r.outgoing) r.outgoing.precedence) h.peer
-    ∙ ap (λ sent. counting_in update sent r.outgoing.precedence) (sym (sent_same f.o r.outgoing f.is))
-    ∙ ap (counting_in update (is_sent f.o)) f.is.precedence
-    ∙ sym (counting_same update f.o)
-    )
-    ∙ sym (ap (option_map (counting update)) f.there)
-
-pub shows_counting : (s : EndpointState) (id : ℕ) (there : Option RequestState) (precedence : Precedence) (sent : Bool) (p : PriorityParameters) → kept_at s.requests id ≡ there
-    → stored.precedence_at there ≡ Some precedence → option_map (λ r. stored.is_sent r.outgoing) there ≡ Some sent → p ≡ counting_in (stream_at s.peer.updates.waiting id) sent precedence
-    → ShowsPriority s id (Some p)
-shows_counting s id None precedence sent p was is over counts = absurd (cc)
-shows_counting s id (Some r) precedence sent p was is over counts =
-    let same : r.outgoing.precedence ≡ precedence = cc in
-    let ended : stored.is_sent r.outgoing ≡ sent = cc in
-    let now : p ≡ counting_in (stream_at s.peer.updates.waiting id) (stored.is_sent r.outgoing) r.outgoing.precedence
-    = counts ∙ sym (ap (λ x. counting_in (stream_at s.peer.updates.waiting id) x precedence) ended ∙ ap (counting_in (stream_at s.peer.updates.waiting id) (stored.is_sent r.outgoing)) same) in
-    subst (λ x. ShowsPriority s id (Some x)) (sym now) (shows_by s id r was)

@@ -62,7 +62,7 @@ impl Endpoint {
     /// What PRIORITY_UPDATE frames said is used of the streams that are open, and dropped of those on which sending has ended. What they said
     /// of others waits on. If an allocation fails, so does what was not looked at.
     #[inline(never)]
-    #[tactic(auto, using(crate::proofs::LookingAtUpdates::room_left, crate::proofs::LookingAtUpdates::looked_part))]
+    #[tactic(auto, using(crate::proofs::LookingAtUpdates::room_left))]
     pub(super) fn use_updates(&mut self)
         ensures { UsesUpdates self.old self.new }
     {
