@@ -16,7 +16,7 @@ use Rattle.h3_connection.specs.declared.order.PrioritySource.TheVariants.{Update
 use Rattle.h3_session.proofs.Opened.{stands_same}
 use Rattle.h3_session.specs.Refused.{streams_of}
 use Rattle.h3_streams.specs.Placed.{StreamsState, placed}
-use Rattle.h3_session.specs.Prioritized.{having_waiting, looked_at, ChangesTurns, Looks, LooksAt, UsesOne}
+use Rattle.h3_session.specs.Prioritized.{having_waiting, looked_at, ChangesTurns, LooksAt, UsesOne}
 
 -- Other updates wait in both.
 pub stands_waiting : (s : EndpointState) (e : EndpointHistory) (waiting : Streams PriorityParameters) → StandsFor s e → StandsFor (having_waiting s waiting) (with_waiting e waiting)
