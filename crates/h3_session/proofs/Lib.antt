@@ -15,6 +15,7 @@ pub mod Ordering
 pub mod OrderingCalls
 pub mod TellingPriorities
 pub mod UsingUpdates
+pub mod LookingAtUpdates
 pub mod Held
 pub mod Inserting
 pub mod SendingSections

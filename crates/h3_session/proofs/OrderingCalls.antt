@@ -30,7 +30,7 @@ use Rattle.h3_requests.specs.Ordered as stored
 use Rattle.h3_session.proofs.Ordering.{stands_order}
 use Rattle.h3_session.proofs.SendingCalls.{acts, alike, lacks, refuses, sends}
 use Rattle.h3_session.proofs.Taking.{found, not_found}
-use Rattle.h3_session.specs.Prioritized.{judged_in, said_if_open, IsSaid}
+use Rattle.h3_session.specs.Prioritized.{judged_in, said_if_open, ChangesTurns, IsSaid}
 
 -- A stream is open in the history where it is stored.
 same_there : (o : Option Outgoing) (r : Option RequestState) → SameAt IsOfOutgoing o (option_map (λ r. r.outgoing) r) → is_some r ≡ is_some o
@@ -111,6 +111,16 @@ said_now s n m id source p rest some sets begun =
     let same : m ≡ now = begun ∙ ap (λ (v : EndpointState). record v { order = record v.order { rounds = rounds_begun v.order.rounds } }) rest in
     subst (λ v. IsSaid s v id source p (Ok tt)) (sym same)
     (acts (λ e. unless_open (is_open e id)) (λ e. saying e id source p) s now (λ e h. open_is s e id true h there) (said_stands s n.requests id source p there sets))
+
+-- and nothing else has changed
+pub changes_requests : (s n : EndpointState) → n ≡ record s { requests = n.requests } → ChangesTurns s n
+changes_requests s n rest = rest ∙ ap (λ o. record s { requests = n.requests; order = o }) (sym (ap (λ (v : EndpointState). v.order) rest))
+
+pub changes_turns : (s n m : EndpointState) (order : SendOrder) → n ≡ record s { requests = n.requests } → m ≡ record n { order = order } → ChangesTurns s m
+changes_turns s n m order rest begun =
+    begun ∙ ap (λ (v : EndpointState). record v { order = order }) rest
+    ∙ ap (λ r. record s { requests = r; order = order }) (sym (ap (λ (v : EndpointState). v.requests) begun))
+    ∙ ap (λ o. record s { requests = m.requests; order = o }) (sym (ap (λ (v : EndpointState). v.order) begun))
 
 -- `set_priority` and `set_initial_priority`: a rule comes first, whatever is stored of the stream
 abbrev unless_request : Bool → Bool → Option Refusal

@@ -1,5 +1,5 @@
 -- What an update said is used of a stream that is open, or dropped, or waits on.
-use Rattle.std.proofs.Common.{◌≡◌, ℕ, Bool, true, false, ◌||◌, if◌then◌else◌, [], ◌∷◌, Option, Some, None, Ok, Err, refl, ap, sym, subst, ◌∙◌}
+use Rattle.std.proofs.Common.{◌≡◌, ℕ, true, false, ◌||◌, if◌then◌else◌, [], ◌∷◌, Option, Some, None, Ok, Err, refl, ap, sym, subst, ◌∙◌}
 use Rattle.std.specs.Prelude.{not, is_some, option_map}
 use Rattle.h3_priority.specs.Priority.{PriorityParameters}
 use Rattle.h3_connection.specs.Endpoint.{EndpointHistory}

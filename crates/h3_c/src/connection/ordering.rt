@@ -1,5 +1,6 @@
 //! Which stream sends next, by priority.
 ghost use Rattle.std.specs.Prelude.{◌≡◌};
+ghost use Rattle.h3_c.specs.Numbers.{number};
 ghost use Rattle.h3_c.specs.Ordering.{HoldsOn, SendsByPriority, SendsPriorityOn, SetsInitialPriorityOn, SetsPriorityOn, ShowsPriorityOf, flag_given, priority_given};
 
 use super::Connection;
@@ -48,9 +49,9 @@ impl Connection {
         called(self.endpoint.send_priority(stream, priority))
     }
 
-    /// The priority that counts of a request stream.
+    /// The priority that counts of a request stream. What it tells has no detail.
     pub(crate) fn priority(&self, id: u64, urgency: &mut u32, incremental: &mut u32) -> Told
-        ensures { ShowsPriorityOf self.now id result urgency.old urgency.new incremental.old incremental.new }
+        ensures { ShowsPriorityOf self.now id (number result.number 0) urgency.old urgency.new incremental.old incremental.new }
     {
         let Ok(stream) = StreamId::try_from(id) else {
             return ARGUMENT;

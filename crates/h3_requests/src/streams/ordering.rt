@@ -13,6 +13,7 @@ use crate::class::{PLAIN, class_of};
 use crate::ready::Waits;
 use h3_connection::event::Refusal;
 use h3_connection::order::{Precedence, PrioritySource};
+use h3_outgoing::OutgoingStream;
 use h3_priority::priority::Priority;
 use h3_proto::stream::StreamId;
 use h3_scheduler::round::Rounds;
@@ -34,7 +35,7 @@ impl RequestStreams {
         ensures { result ≡ option_map (λ r. is_sent r.outgoing) (kept_at self.now id) }
     {
         match self.streams.get_alike(id) {
-            Some(stream) => Some(stream.outgoing.is_reset() || stream.outgoing.end_taken()),
+            Some(stream) => Some(is_sent(stream.outgoing())),
             None => None,
         }
     }
@@ -144,4 +145,11 @@ impl RequestStreams {
         };
         Some(id)
     }
+}
+
+// Whether sending has ended, and its end was taken.
+fn is_sent(stream: &OutgoingStream) -> bool
+    ensures { result ≡ is_sent stream.now }
+{
+    stream.is_reset() || stream.end_taken()
 }

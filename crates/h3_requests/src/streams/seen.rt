@@ -69,7 +69,7 @@ impl RequestStreams {
         ensures { result ≡ unwrap_or (option_map (λ r. takes_no_response r.incoming) (kept_at self.now id)) false }
     {
         match self.streams.get_alike(id) {
-            Some(stream) => stream.has_ended() || stream.incoming().fault().is_some(),
+            Some(stream) => takes_no_response(stream.incoming()),
             None => false,
         }
     }
@@ -109,6 +109,13 @@ fn is_settled(stream: &IncomingStream) -> bool
     ensures { result ≡ is_settled_request (Some stream.now) }
 {
     stream.fault().is_some() || stream.is_over()
+}
+
+// Whether its end or its reset came, or it was given up.
+fn takes_no_response(stream: &IncomingStream) -> bool
+    ensures { result ≡ takes_no_response stream.now }
+{
+    stream.ended() || stream.was_reset() || stream.fault().is_some()
 }
 
 // Whether this is known, and is a tunnel.

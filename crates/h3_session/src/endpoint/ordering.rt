@@ -2,7 +2,7 @@
 ghost use Rattle.std.specs.Prelude.{◌≡◌, ◌<◌, ◌^◌, is_some, IfErr, IfSome, IsSome, OnErr, OnOk};
 ghost use Rattle.h3_connection.specs.ByPriority.{Holds, SetsPriority, ShowsNextByPriority};
 ghost use Rattle.h3_connection.specs.Calls.{AllSame, Sets};
-ghost use Rattle.h3_connection.specs.Prioritizing.{SendsNext};
+ghost use Rattle.h3_connection.specs.Prioritizing.{SendsNext, UsesUpdates};
 ghost use Rattle.h3_connection.specs.Order.{own_held, rounds_begun, turn_over};
 ghost use Rattle.h3_connection.specs.OwnIds.{is_own};
 ghost use Rattle.h3_connection.specs.State.{kept_at};
@@ -28,10 +28,19 @@ impl Endpoint {
     pub fn next_by_priority(&mut self) -> Option<StreamId>
         ensures { SendsNext self.old self.new result }
     {
-        if self.streams.peer.updates_waiting() > 0 {
+        self.use_any_updates();
+        self.first_by_priority()
+    }
+
+    // What PRIORITY_UPDATE frames said since the last call is used. (a function of its own: the next call is made once)
+    #[inline(always)]
+    #[tactic(auto, using(crate::proofs::LookingAtUpdates::none_waits))]
+    fn use_any_updates(&mut self)
+        ensures { UsesUpdates self.old self.new }
+    {
+        if self.updates_waiting() > 0 {
             self.use_updates();
         }
-        self.first_by_priority()
     }
 
     // The same, by what counts already.

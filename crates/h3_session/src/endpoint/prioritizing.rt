@@ -1,13 +1,13 @@
 //! What a client says of priorities (RFC 9218, sections 5 and 7).
-ghost use Rattle.std.specs.Prelude.{◌≡◌, ◌++◌, ℕ, IfErr, OnErr, OnOk};
+ghost use Rattle.std.specs.Prelude.{if◌then◌else◌, ◌≡◌, ◌<◌, ◌+◌, ◌^◌, ◌++◌, ℕ, None, Some, length, remove, slice_get, IfErr, OnErr, OnOk};
 ghost use Rattle.h3_connection.specs.OwnUpdates.{update_encoding};
 ghost use Rattle.h3_connection.specs.Prioritizing.{SendsPriority, SetsInitialPriority, ShowsPriority, UsesUpdates};
-ghost use Rattle.h3_session.specs.Prioritized.{judged_in, send_refused, IsSaid, UsesOne};
+ghost use Rattle.h3_session.specs.Prioritized.{counting_in, having_waiting, judged_in, send_refused, ChangesTurns, IsSaid, LooksAt, UsesOne};
 
 use super::Endpoint;
 use super::sending::is_server;
 use h3_connection::event::Refusal;
-use h3_connection::order::PrioritySource;
+use h3_connection::order::{Precedence, PrioritySource};
 use h3_priority::priority::Priority;
 use h3_proto::stream::StreamId;
 use h3_streams::streams::ConnectionStreams;
@@ -47,7 +47,8 @@ impl Endpoint {
         source: PrioritySource,
         priority: Priority,
     ) -> Result<(), Refusal>
-        ensures { IsSaid self.old self.new id source priority result }
+        ensures said { IsSaid self.old self.new id source priority result }
+        ensures rest { ChangesTurns self.old self.new }
     {
         match self.prioritize(id, source, priority) {
             Ok(()) => {
@@ -61,33 +62,85 @@ impl Endpoint {
     /// What PRIORITY_UPDATE frames said is used of the streams that are open, and dropped of those on which sending has ended. What they said
     /// of others waits on. If an allocation fails, so does what was not looked at.
     #[inline(never)]
+    #[tactic(auto, using(crate::proofs::LookingAtUpdates::room_left))]
     pub(super) fn use_updates(&mut self)
         ensures { UsesUpdates self.old self.new }
     {
         let mut place = 0;
-        for _ in 0..self.streams.peer.updates_waiting() {
-            let Some((id, priority)) = self.streams.peer.update_at(place) else {
+        for looked in 0..self.updates_waiting() {
+            let Ok(next) = self.use_update_at(place) else {
                 return;
             };
-            match self.use_update(id, priority) {
-                Ok(true) => self.streams.peer.remove_update(place),
-                Ok(false) => place += 1,
-                Err(_) => return,
-            }
+            place = next;
         }
+    }
+
+    // How many updates wait.
+    pub(super) fn updates_waiting(&self) -> usize
+        ensures { result ≡ length self.now.peer.updates.waiting }
+    {
+        self.streams.peer.updates_waiting()
+    }
+
+    // The update at a place is looked at, and this returns the place of the next one: the same if this one waits no longer.
+    #[tactic(auto, using(crate::proofs::LookingAtUpdates::still_within))]
+    fn use_update_at(&mut self, place: usize) -> Result<usize, Refusal>
+        requires there { place < length self.old.peer.updates.waiting }
+        requires few { place + 1 < 2 ^ 64 }
+        ensures { LooksAt self.old self.new place result }
+    {
+        let Some(update) = self.update_at(place) else {
+            unreachable!();
+        };
+        match self.use_update(update.0, update.1) {
+            Ok(is_used) => Ok(self.pass_update(place, is_used)),
+            Err(refusal) => Err(refusal),
+        }
+    }
+
+    // The update at a place waits no longer, or it waits on, and this returns the place of the next one.
+    fn pass_update(&mut self, place: usize, is_used: bool) -> usize
+        requires there { place < length self.old.peer.updates.waiting }
+        requires few { place + 1 < 2 ^ 64 }
+        ensures waits { self.new ≡ (if is_used then having_waiting self.old (remove self.old.peer.updates.waiting place) else self.old) }
+        ensures next { result ≡ (if is_used then place else place + 1) }
+    {
+        if is_used {
+            self.remove_update(place);
+            return place;
+        }
+        place + 1
+    }
+
+    // The update at a place.
+    fn update_at(&self, place: usize) -> Option<(StreamId, Priority)>
+        ensures { result ≡ slice_get self.now.peer.updates.waiting place }
+    {
+        self.streams.peer.update_at(place)
+    }
+
+    // The update at a place waits no longer.
+    fn remove_update(&mut self, place: usize)
+        requires { place < length self.old.peer.updates.waiting }
+        ensures { self.new ≡ having_waiting self.old (remove self.old.peer.updates.waiting place) }
+    {
+        remove_update(&mut self.streams, place);
     }
 
     // What an update said of a stream is used, if that is open, and this returns whether the update waits no longer.
     fn use_update(&mut self, id: StreamId, priority: Priority) -> Result<bool, Refusal>
-        ensures { UsesOne self.old self.new id priority result }
+        ensures used { UsesOne self.old self.new id priority result }
+        ensures rest { ChangesTurns self.old self.new }
     {
-        match self.requests.is_sent(id) {
-            None => Ok(false),
-            Some(true) => Ok(true),
-            Some(false) => match self.say_priority(id, PrioritySource::Update, priority) {
-                Ok(()) => Ok(true),
-                Err(refusal) => Err(refusal),
-            },
+        let Some(is_sent) = self.requests.is_sent(id) else {
+            return Ok(false);
+        };
+        if is_sent {
+            return Ok(true);
+        }
+        match self.say_priority(id, PrioritySource::Update, priority) {
+            Ok(()) => Ok(true),
+            Err(refusal) => Err(refusal),
         }
     }
 
@@ -97,15 +150,14 @@ impl Endpoint {
     pub fn priority(&self, id: StreamId) -> Option<Priority>
         ensures { ShowsPriority self.now id result }
     {
-        let there = self.requests.precedence(id)?;
-        let is_sent = self.requests.is_sent(id)?;
-        let Some(update) = self.streams.peer.update_of(id) else {
-            return Some(there.priority);
+        let Some(there) = self.requests.precedence(id) else {
+            return None;
         };
-        if is_sent || !there.source.gives_way(PrioritySource::Update) {
-            return Some(there.priority);
-        }
-        Some(update)
+        let Some(is_sent) = self.requests.is_sent(id) else {
+            return None;
+        };
+        let update = self.streams.peer.update_of(id);
+        Some(counting(update, is_sent, &there))
     }
 
     /// Tells the server the priority of a response from now on, by a PRIORITY_UPDATE frame on the local control stream (RFC 9218, section
@@ -146,6 +198,29 @@ impl Endpoint {
     }
 }
 
+// Which priority counts of a stream: that which was said, or an update that waits and counts before it.
+fn counting(update: Option<Priority>, is_sent: bool, there: &Precedence) -> Priority
+    ensures { result ≡ counting_in update is_sent there.now }
+{
+    let Some(update) = update else {
+        return there.priority;
+    };
+    if is_sent || !there.source.gives_way(PrioritySource::Update) {
+        return there.priority;
+    }
+    update
+}
+
+// The update at a place waits no longer.
+fn remove_update(streams: &mut ConnectionStreams, place: usize)
+    requires { place < length streams.old.peer.updates.waiting }
+    ensures { streams.new ≡ record streams.old {
+      peer = record streams.old.peer { updates = record streams.old.peer.updates { waiting = remove streams.old.peer.updates.waiting place } };
+    } }
+{
+    streams.peer.remove_update(place);
+}
+
 // Writes a PRIORITY_UPDATE frame on the local control stream. A refusal changes nothing.
 fn write_update(
     streams: &mut ConnectionStreams,
@@ -160,5 +235,8 @@ fn write_update(
     }) }
     ensures err { OnErr result (streams.new ≡ streams.old) }
 {
-    streams.own.update(alloc, id, priority)
+    let Ok(()) = streams.own.update(alloc, id, priority) else {
+        return Err(AllocError);
+    };
+    Ok(())
 }

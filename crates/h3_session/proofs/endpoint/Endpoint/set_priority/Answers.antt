@@ -6,4 +6,4 @@ pub returns-in-Err : goal.returns-in-Err
 returns-in-Err c = priority_judged c.args.self.now c.args.id c.args.priority c.in-Err.refusal c.in-Err.ensures.err
 
 pub returns-in-Ok : goal.returns-in-Ok
-returns-in-Ok c = priority_said c.args.self.now c.say_priority.new.self c.args.id c.args.priority c.say_priority.result c.in-Ok.ensures.ok c.say_priority.ensures
+returns-in-Ok c = priority_said c.args.self.now c.say_priority.new.self c.args.id c.args.priority c.say_priority.result c.in-Ok.ensures.ok c.say_priority.ensures.said
