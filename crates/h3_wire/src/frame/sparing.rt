@@ -37,7 +37,7 @@ pub(super) struct FrameBytes {
     passing: usize,
     // by which choices its type would be known: it is 0x41, or one of PRIORITY_UPDATE
     known_to: FrameKinds,
-    // the length that its head says
+    // the length behind its type
     number: u64,
 }
 
@@ -381,7 +381,7 @@ fn choices_of(pieces: &BufList<Bytes>) -> FrameKinds
     }
 }
 
-// The length that the head of the frame at the front says, or 0 if its head is not whole.
+// The length of the frame at the front, as it stands behind its type, or 0 if it did not come.
 fn number_of(pieces: &BufList<Bytes>) -> u64
     ensures { result ≡ number_said (head_said (varint_at (concat pieces.now.pieces))) }
 {
