@@ -1,5 +1,5 @@
 //! The bytes of a stream of frames, of which those of an unknown frame that is under way are not kept.
-ghost use Rattle.std.specs.Prelude.{◌≡◌, ℕ, ◌+◌, ◌^◌, ◌<◌, ◌≤◌, ◌++◌, [], None, Ok, true, length, drop, IfOk, IfErr, IfSome, OnOk, OnErr, IsNone, MatchOption};
+ghost use Rattle.std.specs.Prelude.{◌≡◌, ℕ, ◌&&◌, ◌+◌, ◌^◌, ◌<◌, ◌≤◌, ◌++◌, [], None, Ok, true, nat_lt, length, drop, IfOk, IfErr, IfSome, OnOk, OnErr, IsNone, MatchOption};
 ghost use Rattle.h3_coding.specs.Varint.{varint_at};
 ghost use Rattle.std.specs.List.{concat};
 ghost use Rattle.h3_proto.specs.Config.{is_limit};
@@ -245,7 +245,7 @@ impl FrameBytes {
         }
         // an update that was unknown as its bytes were freed
         if !self.suits(kinds) {
-            return self.known_to.updates && kinds.updates && self.number > most;
+            return is_long_update(self.known_to, kinds, self.number, most);
         }
         if self.len() < self.passing {
             return false;
@@ -323,6 +323,13 @@ fn let_all_go(kept: &mut BufList<Bytes>, let_go: &mut LetGo)
     while let Some(piece) = kept.take_first_chunk() {
         *let_go = LetGo::with(let_go, &piece);
     }
+}
+
+// Whether a frame of a type that is known to these choices is an update to those kinds, and longer than this.
+fn is_long_update(known_to: FrameKinds, kinds: FrameKinds, number: u64, most: u64) -> bool
+    ensures { result ≡ ((known_to.updates && kinds.updates) && nat_lt most number) }
+{
+    known_to.updates && kinds.updates && number > most
 }
 
 // Whether a frame of this size has more bytes.
