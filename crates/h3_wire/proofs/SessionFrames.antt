@@ -45,7 +45,7 @@ now_known s kinds is other = record {
 
     some : 0 < s.passing
     some = elim (cases_lt 0 s.passing) [
-      | inl some ↦ some
+      | inl more ↦ more
       | inr few ↦ absurd (none_suit (is.plain (omega (arith, few))))
     ]
 

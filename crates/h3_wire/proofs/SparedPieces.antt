@@ -262,5 +262,5 @@ plain_expects known_to passing gone front kept s d h is none expects =
     (expects_within (let_go_by no_kinds) plain_frames d (concat s.pieces) (λ e. refl) (subst (λ (k : FrameKinds). Expects (let_go_by k) d (concat s.pieces)) plain expects))
 
 pub expects_plain : (known_to : FrameKinds) (passing gone : ℕ) (front kept : List (List ℕ)) (d : Decoding) → AreLetGo known_to passing gone front → passing ≡ 0 → Expects plain_frames d (concat kept) → Expects (let_go_by known_to) d (concat (front ++ kept))
-expects_plain known_to passing gone front kept d h zero expects =
-    subst (λ l. Expects (let_go_by known_to) d l) (none_in_front known_to passing gone front kept h zero) (expects_within plain_frames (let_go_by known_to) d (concat kept) (λ e. refl) expects)
+expects_plain known_to passing gone front kept d h none expects =
+    subst (λ l. Expects (let_go_by known_to) d l) (none_in_front known_to passing gone front kept h none) (expects_within plain_frames (let_go_by known_to) d (concat kept) (λ e. refl) expects)

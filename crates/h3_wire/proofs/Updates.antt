@@ -1,5 +1,5 @@
 -- PRIORITY_UPDATE frames at the front of bytes.
-use Rattle.std.proofs.Common.{◌≡◌, ℕ, ◌+◌, ◌-◌, ◌<◌, ◌≤◌, ◌==◌, ◌||◌, ◌&&◌, Bool, true, false, List, length, take, drop, refl, sym, subst, ◌∙◌, ap, inl, inr, Some, None}
+use Rattle.std.proofs.Common.{◌≡◌, ℕ, ◌+◌, ◌-◌, ◌<◌, ◌≤◌, ◌==◌, ◌||◌, ◌&&◌, Bool, true, false, not, List, [], ◌∷◌, length, take, drop, refl, sym, subst, ◌∙◌, ap, inl, inr, Some, None}
 use Rattle.std.proofs.lemmas.Bool.{and_parts, eqb-true, lt-ltb, le-ltb}
 use Rattle.h3_coding.specs.Varint.{varint_at}
 use Rattle.h3_coding.specs.VarintLaws.{cases_number}
@@ -21,6 +21,10 @@ no_session kinds kind is = none_other (λ n. is_session kinds n ≡ false) kind 
 
 no_data : (kind : ℕ) → is_update_type kind ≡ true → (kind == 0) ≡ false
 no_data kind is = none_other (λ n. (n == 0) ≡ false) kind is refl refl
+
+pub is_on : (b : Bool) → not b ≡ false → b ≡ true
+is_on true e = refl
+is_on false e = sym e
 
 chosen : (kinds : FrameKinds) (kind : ℕ) → kinds.updates ≡ true → is_update_type kind ≡ true → is_update kinds kind ≡ true
 chosen kinds kind on is = ap (λ b. b && is_update_type kind) on ∙ is
@@ -53,3 +57,8 @@ other_type kinds kind bytes mid e other = elim (cases_number mid) [
   | inr (number, behind, k) ↦
       at_head kinds kind number bytes mid behind e k ∙ rw (no_update kinds kind other) refl ∙ sym (at_head (record kinds { updates = false }) kind number bytes mid behind e k)
 ]
+
+-- What no read of a cursor changes has all its bytes.
+abbrev pub all_of : List (List ℕ × ℕ) → List ℕ
+all_of [] = []
+all_of (kept ∷ others) = kept.0

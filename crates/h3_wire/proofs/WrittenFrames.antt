@@ -1,5 +1,5 @@
 -- Each frame that was written is read as it was.
-use Rattle.std.proofs.Common.{◌≡◌, ◌≢◌, ◌&&◌, false, ℕ, ◌<◌, ◌≤◌, ◌^◌, List, ◌++◌, length, codes, arith, lit<, sym, subst, ◌∙◌, ap, refl, zero, suc, inl, inr, append_assoc, length-append}
+use Rattle.std.proofs.Common.{◌≡◌, ◌≢◌, ◌==◌, ◌&&◌, false, ℕ, ◌<◌, ◌≤◌, ◌^◌, List, ◌++◌, length, codes, arith, lit<, sym, subst, ◌∙◌, ap, refl, zero, suc, inl, inr, append_assoc, length-append}
 use Rattle.std.proofs.lemmas.Bool.{cases_lt, ne_eqb, or_from}
 use Rattle.h3_coding.specs.Encodings.{encoding}
 use Rattle.h3_coding.specs.VarintLaws.{reads_shortest}

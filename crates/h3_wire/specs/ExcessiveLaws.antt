@@ -1,6 +1,6 @@
 -- What holds of frames that are longer than their reader takes, and of the unknown ones in front of them.
 use Rattle.std.proofs.Common.{◌≡◌, ℕ, ◌+◌, ◌-◌, ◌<◌, ◌≤◌, Bool, true, false, ◌&&◌, ◌||◌, ◌==◌, List, [], ◌∷◌, ◌++◌, length, take, drop, nat_lt, nat_le, if◌then◌else◌, arith, ap, sym, subst, ◌∙◌, refl, inl, inr, ◌⊎◌, Option, Some, None, Result, Ok, Err, zero, suc}
-use Rattle.std.proofs.lemmas.Bool.{and_parts, and_right, or_parts, or_right, le-ltb, le-leb, lt-ltb, eqb-true, leb-true, leb-false, ne_eqb}
+use Rattle.std.proofs.lemmas.Bool.{and_parts, and_right, or_parts, or_right, true≢false, le-ltb, le-leb, lt-ltb, eqb-true, leb-true, leb-false, ne_eqb}
 use Rattle.h3_coding.specs.Varint.{varint_at}
 use Rattle.h3_coding.specs.VarintLaws.{cases_number, reads_more}
 use Rattle.h3_proto.specs.Config.{is_limit}
@@ -17,13 +17,6 @@ use Rattle.h3_wire.specs.declared.proto.frame.PayloadLen.{PayloadLen}
 use Rattle.h3_wire.specs.declared.proto.frame.Frame.{Frame}
 use Rattle.h3_wire.specs.declared.proto.frame.Frame.TheVariants as frame
 use Rattle.h3_wire.specs.declared.frame.kinds.FrameKinds.{FrameKinds}
-
-abbrev holds : Bool → Type 0
-holds true = Unit {0}
-holds false = ⊥
-
-apart : true ≡ false → ⊥
-apart e = subst holds e tt
 
 -- **With no limit nothing is too long.**
 pub none_excessive : (most : ℕ) (bytes : List ℕ) → is_limit most ≡ false → is_excessive most bytes ≡ false
@@ -64,6 +57,10 @@ excess_by kinds most bytes = by_kind (varint_at bytes)
 
 pub none_excessive_by : (kinds : FrameKinds) (most : ℕ) (bytes : List ℕ) → is_limit most ≡ false → is_excessive_by kinds most bytes ≡ false
 none_excessive_by kinds most bytes none = excess_by kinds most bytes ∙ ap (λ b. b && tells_too_much kinds most (head_said (varint_at bytes))) none
+
+-- What is too long is so by a limit.
+pub excessive_limited : (kinds : FrameKinds) (most : ℕ) (bytes : List ℕ) → is_excessive_by kinds most bytes ≡ true → is_limit most ≡ true
+excessive_limited kinds most bytes e = (and_parts (is_limit most) (tells_too_much kinds most (head_said (varint_at bytes))) (sym (excess_by kinds most bytes) ∙ e)).0
 
 -- Where no updates are known, and where they are, a frame of RFC 9114 is too long alike.
 pub excess_with : (kinds : FrameKinds) (most : ℕ) (bytes : List ℕ) → is_excessive most bytes ≡ true → is_excessive_by kinds most bytes ≡ true
@@ -175,12 +172,12 @@ handed_known kinds size kind number behind handed = by_test (is_session kinds ki
 update_known : (kinds : FrameKinds) (size kind number : ℕ) (behind : List ℕ) → is_update kinds kind ≡ true → IsKept (with_head kinds size kind number behind)
 update_known kinds size kind number behind update =
     test (is_session kinds kind) _ _ (λ t. tt) (λ session. test (kind == 0) _ _ (λ t. absurd (no_data_update kinds kind update t)) (λ other.
-    test (nat_lt (length behind) number) _ _ (λ t. tt) (λ there. test (is_update kinds kind) _ _ (λ t. update_kept kind (varint_at (take number behind)) (drop number behind)) (λ none. absurd (apart (sym update ∙ none))))))
+    test (nat_lt (length behind) number) _ _ (λ t. tt) (λ there. test (is_update kinds kind) _ _ (λ t. update_kept kind (varint_at (take number behind)) (drop number behind)) (λ none. absurd (true≢false (sym update ∙ none))))))
   where
     no_data_update : (kinds : FrameKinds) (kind : ℕ) → is_update kinds kind ≡ true → (kind == 0) ≡ true → ⊥
     no_data_update kinds kind is zero_is =
         let none : is_update kinds kind ≡ false = subst (λ n. is_update kinds n ≡ false) (sym (eqb-true kind 0 zero_is)) (no_update kinds 0 refl) in
-        apart (sym is ∙ none)
+        true≢false (sym is ∙ none)
 
 -- and all others are not.
 frame_unknown : (kind : ℕ) (payload rest : List ℕ) → is_kept_whole kind ≡ false → (kind == 0) ≡ false → frame_of kind payload rest ≡ Unknown kind rest
@@ -278,12 +275,18 @@ section_told bytes o e = ap (tells_type 1) e ∙ by_kind (varint_at bytes)
     by_kind (Some p) = refl
 
 -- A head that is not there is of no frame that is too long,
-none_told : (kinds : FrameKinds) (most : ℕ) (bytes : List ℕ) → varint_at bytes ≡ None → is_excessive_by kinds most bytes ≡ false
+pub none_told : (kinds : FrameKinds) (most : ℕ) (bytes : List ℕ) → varint_at bytes ≡ None → is_excessive_by kinds most bytes ≡ false
 none_told kinds most bytes e =
     excess_by kinds most bytes ∙ ap (λ o. is_limit most && tells_too_much kinds most (head_said o)) e ∙ and_right (is_limit most) false refl
 
 pub no_kind : (kinds : FrameKinds) (most : ℕ) (bytes : List ℕ) → varint_at bytes ≡ None → is_excessive_by kinds most (known_by kinds bytes) ≡ false
 no_kind kinds most bytes e = ap (is_excessive_by kinds most) (stays_none kinds bytes e) ∙ none_told kinds most bytes e
+
+pub begun_told : (kinds : FrameKinds) (most kind : ℕ) (bytes mid : List ℕ) → varint_at bytes ≡ Some (kind, mid) → varint_at mid ≡ None → is_excessive_by kinds most bytes ≡ false
+begun_told kinds most kind bytes mid e none =
+    excess_by kinds most bytes ∙ ap (λ o. is_limit most && tells_too_much kinds most (head_said o)) e
+    ∙ ap (λ o. is_limit most && ((is_kept_whole kind || is_update kinds kind) && nat_lt most (length_said o))) none
+    ∙ and_right (is_limit most) _ (and_right (is_kept_whole kind || is_update kinds kind) (nat_lt most 0) (le-ltb most 0 (omega arith)))
 
 -- Where a head is there, its type and length tell.
 pub said_of : (kinds : FrameKinds) (most kind number : ℕ) (bytes mid behind : List ℕ) → varint_at bytes ≡ Some (kind, mid) → varint_at mid ≡ Some (number, behind)
@@ -353,7 +356,7 @@ excessive_more kinds most bytes more there = elim (cases_number bytes) [
 -- What is too long has its type, and no byte behind it matters.
 pub section_more : (kinds : FrameKinds) (most : ℕ) (bytes more : List ℕ) → is_excessive_by kinds most bytes ≡ true → begins_section (bytes ++ more) ≡ begins_section bytes
 section_more kinds most bytes more e = elim (cases_number bytes) [
-  | inl none ↦ absurd (apart (sym e ∙ none_told kinds most bytes none))
+  | inl none ↦ absurd (true≢false (sym e ∙ none_told kinds most bytes none))
   | inr (kind, mid, k) ↦ ap (is_of_type 1) (reads_more kind bytes mid more k) ∙ sym (ap (is_of_type 1) k)
 ]
 

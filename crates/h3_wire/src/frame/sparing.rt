@@ -1,5 +1,5 @@
 //! The bytes of a stream of frames, of which those of an unknown frame that is under way are not kept.
-ghost use Rattle.std.specs.Prelude.{◌≡◌, ℕ, ◌+◌, ◌^◌, ◌<◌, ◌≤◌, ◌++◌, [], None, Ok, true, length, drop, IfOk, IfErr, IfSome, OnOk, OnErr, IsNone, MatchOption};
+ghost use Rattle.std.specs.Prelude.{◌≡◌, ℕ, ◌&&◌, ◌+◌, ◌^◌, ◌<◌, ◌≤◌, ◌++◌, [], None, Ok, true, nat_lt, length, drop, IfOk, IfErr, IfSome, OnOk, OnErr, IsNone, MatchOption};
 ghost use Rattle.h3_coding.specs.Varint.{varint_at};
 ghost use Rattle.std.specs.List.{concat};
 ghost use Rattle.h3_proto.specs.Config.{is_limit};
@@ -37,7 +37,7 @@ pub(super) struct FrameBytes {
     passing: usize,
     // by which choices its type would be known: it is 0x41, or one of PRIORITY_UPDATE
     known_to: FrameKinds,
-    // the length that its head says
+    // the length behind its type
     number: u64,
 }
 
@@ -245,7 +245,7 @@ impl FrameBytes {
         }
         // an update that was unknown as its bytes were freed
         if !self.suits(kinds) {
-            return self.known_to.updates && kinds.updates && self.number > most;
+            return is_long_update(self.known_to, kinds, self.number, most);
         }
         if self.len() < self.passing {
             return false;
@@ -325,6 +325,13 @@ fn let_all_go(kept: &mut BufList<Bytes>, let_go: &mut LetGo)
     }
 }
 
+// Whether a frame of a type that is known to these choices is an update to those kinds, and longer than this.
+fn is_long_update(known_to: FrameKinds, kinds: FrameKinds, number: u64, most: u64) -> bool
+    ensures { result ≡ ((known_to.updates && kinds.updates) && nat_lt most number) }
+{
+    known_to.updates && kinds.updates && number > most
+}
+
 // Whether a frame of this size has more bytes.
 fn is_longer(len: usize, size: Option<usize>) -> bool
     ensures { result ≡ is_longer len size }
@@ -381,7 +388,7 @@ fn choices_of(pieces: &BufList<Bytes>) -> FrameKinds
     }
 }
 
-// The length that the head of the frame at the front says, or 0 if its head is not whole.
+// The length of the frame at the front, as it stands behind its type, or 0 if it did not come.
 fn number_of(pieces: &BufList<Bytes>) -> u64
     ensures { result ≡ number_said (head_said (varint_at (concat pieces.now.pieces))) }
 {

@@ -21,7 +21,8 @@ returns-then-not-suits c =
     let is = subst IsPassing c.self.view_is (is_passing i.known_to i.passing i.gone i.let_go.pieces i.kept.pieces c.self.invariant.0) in
     let says = says_with_more (let_go_by i.known_to) i.let_go.pieces i.kept.pieces i.passing i.number c.self.invariant.0.unknown c.self.invariant.3 in
     let there = subst (λ (s : Sparing). SaysLength s.passing i.number (concat s.pieces)) c.self.view_is says in
-    ap (λ (s : Sparing). (s.known_to.updates && c.args.kinds.updates) && nat_lt c.args.most i.number) c.self.view_is
+    c.is_long_update.ensures
+    ∙ ap (λ (s : Sparing). (s.known_to.updates && c.args.kinds.updates) && nat_lt c.args.most i.number) c.self.view_is
     ∙ unsuited_long c.args.most i.number c.args.self.now c.args.kinds c.requires is there (sym c.suits.ensures ∙ c.if-not-suits.true)
 
 pub is_excessive_behind-requires-clause-there : goal.is_excessive_behind-requires-clause-there
