@@ -32,17 +32,6 @@ impl Endpoint {
         self.first_by_priority()
     }
 
-    // What PRIORITY_UPDATE frames said since the last call is used. (a function of its own: the next call is made once)
-    #[inline(always)]
-    #[tactic(auto, using(crate::proofs::LookingAtUpdates::none_waits))]
-    fn use_any_updates(&mut self)
-        ensures { UsesUpdates self.old self.new }
-    {
-        if self.updates_waiting() > 0 {
-            self.use_updates();
-        }
-    }
-
     // The same, by what counts already.
     fn first_by_priority(&self) -> Option<StreamId>
         ensures { ShowsNextByPriority self.now result }
@@ -53,6 +42,17 @@ impl Endpoint {
         match &self.order.rounds {
             Some(rounds) => self.requests.next_by_priority(rounds),
             None => self.requests.next_by_priority(&Rounds::new()),
+        }
+    }
+
+    // What PRIORITY_UPDATE frames said since the last call is used. (a function of its own: no call follows where its branches join)
+    #[inline(always)]
+    #[tactic(auto, using(crate::proofs::LookingAtUpdates::none_waits))]
+    fn use_any_updates(&mut self)
+        ensures { UsesUpdates self.old self.new }
+    {
+        if self.updates_waiting() > 0 {
+            self.use_updates();
         }
     }
 
