@@ -57,7 +57,10 @@ mod LimitEarly
 mod AnyhowMessages
 mod TunnelParts
 mod TunnelPulls
-mod TunnelHeads
+mod BehindPulls
+mod KeepsAny
+mod TunnelSees
+mod TunnelBeside
 mod TunnelFaults
 mod TunnelSends
 mod TunnelCalls

@@ -16,3 +16,5 @@ pub mod Accounts
 pub mod AdvanceLaws
 pub mod GivingUpLaws
 pub mod MalformedLaws
+pub mod StandsBehind
+pub mod WorldSteps
