@@ -18,3 +18,4 @@ pub mod GivingUpLaws
 pub mod MalformedLaws
 pub mod StandsBehind
 pub mod WorldSteps
+pub mod ReadsBehind
