@@ -90,3 +90,4 @@ pub mod Unfinished
 pub mod UnsettledPull
 pub mod WorldsWritten
 pub mod Written
+pub mod KeptInOrder

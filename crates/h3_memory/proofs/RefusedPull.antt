@@ -65,7 +65,7 @@ hands_nothing setup k side id mid v left unsettled read is =
     }
 
 -- where nothing came nothing is kept
-none_left : (text : ℕ → List ℕ) (came : ℕ → ℕ) (held : ℕ → List ℕ) (ds : List Delivery) (arrivals : List Arrival) → arrivals ≡ [] → AreKept text came held ds arrivals → ds ≡ []
+pub none_left : (text : ℕ → List ℕ) (came : ℕ → ℕ) (held : ℕ → List ℕ) (ds : List Delivery) (arrivals : List Arrival) → arrivals ≡ [] → AreKept text came held ds arrivals → ds ≡ []
 none_left text came held [] arrivals none h = refl
 none_left text came held (Bytes id count ∷ ds) [] none h = absurd h
 none_left text came held (End id ∷ ds) [] none h = absurd h

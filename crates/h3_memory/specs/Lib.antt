@@ -5,3 +5,4 @@ pub mod Refused
 pub mod SoundKeeping
 pub mod Theorem
 pub mod Writing
+pub mod ReadsNext

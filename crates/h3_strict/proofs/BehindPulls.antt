@@ -49,9 +49,9 @@ use Rattle.h3_headline.specs.PartLaws.{part_at}
 use Rattle.h3_headline.specs.Pulling.{ComesTo, HandsOut, Pauses}
 use Rattle.h3_headline.specs.Pulls.{IsListOf}
 use Rattle.h3_headline.specs.Standing.{place_after}
-use Rattle.h3_strict.proofs.TunnelParts.{marked}
 use Rattle.h3_strict.proofs.TunnelPulls.{Stays, either, stays}
 use Rattle.h3_strict.specs.Plainly.{plain, plain_incoming}
+use Rattle.h3_strict.specs.Tunnels.{marked}
 
 -- it hands something out
 abbrev pub is_item : Pull → Bool

@@ -10,7 +10,7 @@ use Rattle.h3_qpack.specs.Encodings.{IsWrittenInstruction}
 use Rattle.h3_qpack.specs.WholeInstructions.{rest_in, whole_in}
 use Rattle.h3_connection.specs.Arrivals.{Arrival, BytesCame, EndCame, ResetCame}
 use Rattle.h3_connection.specs.Control.{Found, read_decoder}
-use Rattle.h3_connection.specs.Endpoint.{EndpointHistory, Own, bytes_waiting, goaway_encoding, kind_of, limit_of}
+use Rattle.h3_connection.specs.Endpoint.{EndpointHistory, Own, goaway_encoding, kind_of, limit_of}
 use Rattle.h3_connection.specs.Endpoint.Kind.{PeerUnidirectional}
 use Rattle.h3_connection.specs.ExcessiveInstructions.{hear_up_to}
 use Rattle.h3_connection.specs.Keeping.{read_arrival}
@@ -25,6 +25,7 @@ use Rattle.h3_connection.specs.Delivering.{with_unidirectional}
 use Rattle.h3_connection.specs.declared.setup.Announced.{Announced}
 use Rattle.h3_world.specs.Ends.{end_at}
 use Rattle.h3_world.specs.OwnStreams.{settings_bytes}
+use Rattle.h3_world.specs.Pulling.{own_delivered}
 use Rattle.h3_world.specs.Setup.{IsMadeSetup, announced_at}
 use Rattle.h3_world.specs.World.{World, party}
 use Rattle.h3_world.specs.declared.setup.Setup.{Setup}
@@ -49,7 +50,7 @@ use Rattle.h3_strict.proofs.SentTallies.{plain_settings}
 use Rattle.h3_strict.specs.Limits.{limit_at}
 use Rattle.h3_strict.specs.PlainEnds.{plain_setup}
 use Rattle.h3_strict.specs.Plainly.{is_excess, plainly}
-use Rattle.h3_strict.specs.ReadsBehind.{Follows, Held, IsOfDecoder, ReadsBehind, held_of}
+use Rattle.h3_strict.specs.ReadsBehind.{Follows, Held, IsOfDecoder, ReadsBehind, held_of, own_text}
 
 role_told : (role : Role) (n : ℕ) → 0 < n → role_by n role ≡ role
 role_told role n h = ap (λ b. if b then Untold [] else role) (not_none n h)
@@ -104,7 +105,7 @@ module _ (a : Announced) (limit : ℕ) (writer : Side) (own : Own) (er ew : Endp
       ap (λ k. is_excess false (told_bytes f id bytes k).1) there ∙ ap (λ (z : Found). is_excess false z.1) x.is
       ∙ heard_fits (reading count id came role) id (role_by (came + count) role) x.rest (told_fits a limit writer own er ew c (came + count == 0) (reading count id came role) id role x.rest fits)
 
-  control_ahead : (count : ℕ) (bytes : List ℕ) → held.control ++ bytes ≡ take count (bytes_waiting ew (control_id writer)) → (own.control_taken ≡ 0 → held.control ≡ []) → (er.peer.settings ≡ None → held.decoder ≡ [])
+  control_ahead : (count : ℕ) (bytes : List ℕ) → held.control ++ bytes ≡ take count (drop own.control_taken (settings_bytes a ++ flat_map goaway_encoding own.goaways)) → (own.control_taken ≡ 0 → held.control ≡ []) → (er.peer.settings ≡ None → held.decoder ≡ [])
       → FoundFits (told_bytes f (control_id writer) bytes (kind_of f.side (control_id writer)))
   control_ahead count bytes all untold none =
       let id = control_id writer in
@@ -113,7 +114,7 @@ module _ (a : Announced) (limit : ℕ) (writer : Side) (own : Own) (er ew : Endp
       let text : settings_bytes a ++ flat_map goaway_encoding own.goaways ≡ 0 ∷ units =
       append_assoc (encoding 0) (settings_frame_of a) (flat_map goaway_encoding own.goaways) ∙ ap (λ k. k ++ units) type_of_control in
       let stream : IsPeerStream came Control (stream_at f.unidirectional id) = subst (λ l. IsPeerStream came Control (stream_at l id)) (sym streams) c.control_is in
-      let x = told_rest f id 0 came count Control units held.control bytes typed_control stream untold (all ∙ ap (take count) (c.control_waits ∙ ap (drop came) text)) in
+      let x = told_rest f id 0 came count Control units held.control bytes typed_control stream untold (all ∙ ap (λ l. take count (drop came l)) text) in
       let e : EndpointHistory = loose (record (reading count id came Control) { control_on = Some id }) in
       let found : (with_unread f.peer (f.peer.unread ++ x.rest)) ≡ with_unread er.peer (er.peer.unread ++ behind_type came count units) =
       ap (λ (p : Peer). with_unread p (p.unread ++ x.rest)) peer
@@ -131,7 +132,7 @@ module _ (a : Announced) (limit : ℕ) (writer : Side) (own : Own) (er ew : Endp
       kind_here Server = refl
 
   -- what is held and what comes begins the instructions that are not whole yet
-  encoder_ahead : (count : ℕ) (bytes : List ℕ) → held.encoder ++ bytes ≡ take count (bytes_waiting ew (encoder_id writer)) → (own.encoder_taken ≡ 0 → held.encoder ≡ [])
+  encoder_ahead : (count : ℕ) (bytes : List ℕ) → held.encoder ++ bytes ≡ take count (drop own.encoder_taken (encoding 2 ++ flat_map encoder_bytes own.instructions)) → (own.encoder_taken ≡ 0 → held.encoder ≡ [])
       → FoundFits (told_bytes f (encoder_id writer) bytes (kind_of f.side (encoder_id writer)))
   encoder_ahead count bytes all untold =
       let id = encoder_id writer in
@@ -139,7 +140,7 @@ module _ (a : Announced) (limit : ℕ) (writer : Side) (own : Own) (er ew : Endp
       let is = own.instructions in
       let units = flat_map encoder_bytes is in
       let stream : IsPeerStream came Encoder (stream_at f.unidirectional id) = subst (λ l. IsPeerStream came Encoder (stream_at l id)) (sym streams) c.encoder_is in
-      let x = told_rest f id 2 came count Encoder units held.encoder bytes typed_encoder stream untold (all ∙ ap (take count) (c.encoder_waits ∙ ap (λ k. drop came (k ++ flat_map encoder_bytes is)) type_of_encoder)) in
+      let x = told_rest f id 2 came count Encoder units held.encoder bytes typed_encoder stream untold (all ∙ ap (λ k. take count (drop came (k ++ flat_map encoder_bytes is))) type_of_encoder) in
       let whole = whole_in encoder_bytes (came - 1) is in
       let g = goes_on encoder_bytes (came - 1) (came + count - 1) is (omega arith) in
       let left = drop whole is in
@@ -156,7 +157,7 @@ module _ (a : Announced) (limit : ℕ) (writer : Side) (own : Own) (er ew : Endp
       kind_here Client = refl
       kind_here Server = refl
 
-  decoder_ahead : (count : ℕ) (bytes : List ℕ) → held.decoder ++ bytes ≡ take count (bytes_waiting ew (decoder_id writer)) → (own.decoder_taken ≡ 0 → held.decoder ≡ [])
+  decoder_ahead : (count : ℕ) (bytes : List ℕ) → held.decoder ++ bytes ≡ take count (drop own.decoder_taken (encoding 3 ++ flat_map decoder_bytes own.replies)) → (own.decoder_taken ≡ 0 → held.decoder ≡ [])
       → FoundFits (told_bytes f (decoder_id writer) bytes (kind_of f.side (decoder_id writer)))
   decoder_ahead count bytes all untold =
       typed_ahead count id 3 came Decoder units held.decoder bytes (ap (λ s. kind_of s id) side_is ∙ kind_here writer) x (by_settings (is_some er.peer.settings) refl)
@@ -176,7 +177,7 @@ module _ (a : Announced) (limit : ℕ) (writer : Side) (own : Own) (er ew : Endp
       x : TellsRest f (decoder_id writer) own.decoder_taken count Decoder (flat_map decoder_bytes own.replies) held.decoder bytes
       x = told_rest f (decoder_id writer) 3 own.decoder_taken count Decoder (flat_map decoder_bytes own.replies) held.decoder bytes typed_decoder
           (subst (λ l. IsPeerStream own.decoder_taken Decoder (stream_at l (decoder_id writer))) (sym streams) c.decoder_is) untold
-          (all ∙ ap (take count) (c.decoder_waits ∙ ap (λ k. drop own.decoder_taken (k ++ flat_map decoder_bytes own.replies)) type_of_decoder))
+          (all ∙ ap (λ k. take count (drop own.decoder_taken (k ++ flat_map decoder_bytes own.replies))) type_of_decoder)
 
       e : EndpointHistory
       e = record (loose (reading count (decoder_id writer) own.decoder_taken Decoder)) { decoder_on = Some (decoder_id writer) }
@@ -215,6 +216,22 @@ held_decoder : (s : Side) (h : Held) → held_of s h (decoder_id s) ≡ h.decode
 held_decoder Client h = refl
 held_decoder Server h = refl
 
+-- what comes of each of them
+text_control : (setup : Setup) (w : World) (s : Side) (count : ℕ)
+    → take count (drop (own_delivered w s (control_id s)) (own_text setup w s (control_id s))) ≡ take count (drop (party w s).own.control_taken (settings_bytes (announced_at setup s) ++ flat_map goaway_encoding (party w s).own.goaways))
+text_control setup w Client count = refl
+text_control setup w Server count = refl
+
+text_encoder : (setup : Setup) (w : World) (s : Side) (count : ℕ)
+    → take count (drop (own_delivered w s (encoder_id s)) (own_text setup w s (encoder_id s))) ≡ take count (drop (party w s).own.encoder_taken (encoding 2 ++ flat_map encoder_bytes (party w s).own.instructions))
+text_encoder setup w Client count = refl
+text_encoder setup w Server count = refl
+
+text_decoder : (setup : Setup) (w : World) (s : Side) (count : ℕ)
+    → take count (drop (own_delivered w s (decoder_id s)) (own_text setup w s (decoder_id s))) ≡ take count (drop (party w s).own.decoder_taken (encoding 3 ++ flat_map decoder_bytes (party w s).own.replies))
+text_decoder setup w Client count = refl
+text_decoder setup w Server count = refl
+
 apart : (s : Side) → control_id s ≡ decoder_id s → ⊥
 apart Client e = omega (arith, e)
 apart Server e = omega (arith, e)
@@ -252,26 +269,26 @@ module _ (streams : StreamLaws) (setup : Setup) (made : IsMadeSetup setup) (w : 
   side_same = b.side_is ∙ sym (other-other side)
 
   -- bytes of an own stream of the writer
-  own_fits : (id : ℕ) (bytes : List ℕ) → x ≡ BytesCame id bytes → is_own (other side) id ≡ true → (count : ℕ) → held_of (other side) b.held id ++ bytes ≡ take count (bytes_waiting (end_at b.behind (other side)) id)
+  own_fits : (id : ℕ) (bytes : List ℕ) → x ≡ BytesCame id bytes → is_own (other side) id ≡ true → (count : ℕ) → held_of (other side) b.held id ++ bytes ≡ take count (drop (own_delivered w (other side) id) (own_text setup w (other side) id))
       → FoundFits (told_bytes e id bytes (kind_of e.side id))
   own_fits id bytes is own count all =
-      each_own (λ i. x ≡ BytesCame i bytes → held_of (other side) b.held i ++ bytes ≡ take count (bytes_waiting (end_at b.behind (other side)) i) → FoundFits (told_bytes e i bytes (kind_of e.side i))) (other side) id own
+      each_own (λ i. x ≡ BytesCame i bytes → held_of (other side) b.held i ++ bytes ≡ take count (drop (own_delivered w (other side) i) (own_text setup w (other side) i)) → FoundFits (told_bytes e i bytes (kind_of e.side i))) (other side) id own
       (λ at_it follows.
       control_ahead (announced_at setup (other side)) (limit_at setup side) (other side) (party w (other side)).own er (end_at b.behind (other side)) c e b.held side_same limit_same b.unidirectional b.peer b.encoder_unread b.decoder_unread
-      count bytes (ap (λ l. l ++ bytes) (sym (held_control (other side) b.held)) ∙ follows) b.control_untold (λ unknown. early at_it (b.early unknown)))
+      count bytes (ap (λ l. l ++ bytes) (sym (held_control (other side) b.held)) ∙ follows ∙ text_control setup w (other side) count) b.control_untold (λ unknown. early at_it (b.early unknown)))
       (λ at_it follows.
       encoder_ahead (announced_at setup (other side)) (limit_at setup side) (other side) (party w (other side)).own er (end_at b.behind (other side)) c e b.held side_same limit_same b.unidirectional b.peer b.encoder_unread b.decoder_unread
-      count bytes (ap (λ l. l ++ bytes) (sym (held_encoder (other side) b.held)) ∙ follows) b.encoder_untold)
+      count bytes (ap (λ l. l ++ bytes) (sym (held_encoder (other side) b.held)) ∙ follows ∙ text_encoder setup w (other side) count) b.encoder_untold)
       (λ at_it follows.
       decoder_ahead (announced_at setup (other side)) (limit_at setup side) (other side) (party w (other side)).own er (end_at b.behind (other side)) c e b.held side_same limit_same b.unidirectional b.peer b.encoder_unread b.decoder_unread
-      count bytes (ap (λ l. l ++ bytes) (sym (held_decoder (other side) b.held)) ∙ follows) b.decoder_untold)
+      count bytes (ap (λ l. l ++ bytes) (sym (held_decoder (other side) b.held)) ∙ follows ∙ text_decoder setup w (other side) count) b.decoder_untold)
       is all
     where
       early : x ≡ BytesCame (control_id (other side)) bytes → (b.held.decoder ≡ []) ⊎ IsOfDecoder (other side) x → b.held.decoder ≡ []
       early at_it (inl none) = none
       early at_it (inr of_decoder) = absurd (apart (other side) (subst (IsOfDecoder (other side)) at_it of_decoder))
 
-  arrival_fits : (y : Arrival) → x ≡ y → Follows (other side) e (end_at b.behind (other side)) b.held y → FoundFits (told_arrival e y)
+  arrival_fits : (y : Arrival) → x ≡ y → Follows setup w (other side) e b.held y → FoundFits (told_arrival e y)
   arrival_fits (BytesCame id bytes) is follows = by_own (is_own (other side) id) refl
     where
       by_own : (own : Bool) → is_own (other side) id ≡ own → FoundFits (told_bytes e id bytes (kind_of e.side id))

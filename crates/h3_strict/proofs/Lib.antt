@@ -59,6 +59,7 @@ mod TunnelParts
 mod TunnelPulls
 mod BehindPulls
 mod KeepsAny
+mod TunnelKept
 mod BehindReads
 mod TunnelSees
 mod TunnelBeside

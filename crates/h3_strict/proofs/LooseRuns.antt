@@ -39,7 +39,6 @@ use Rattle.h3_strict.proofs.PullsAnyhow.{listed_is, pulled_is}
 use Rattle.h3_strict.proofs.StepsAnyhow.{EveryStep}
 use Rattle.h3_strict.proofs.TunnelBeside.{anyhow_stands, none_kept, stands_itself}
 use Rattle.h3_strict.proofs.TunnelFaultless.{PullsSafely, event_faultless, malformed_stays}
-use Rattle.h3_strict.proofs.TunnelParts.{marked}
 use Rattle.h3_strict.proofs.TunnelPull.{pulls_so, safe_where}
 use Rattle.h3_strict.proofs.TunnelPulls.{leaves_loose, pull_stays}
 use Rattle.h3_strict.proofs.TunnelQuiet.{cancel_event, deliver_event, end_event, goaway_event, lost_event, open_event, reset_event}
@@ -48,26 +47,28 @@ use Rattle.h3_strict.proofs.TunnelSends.{kept_at}
 use Rattle.h3_strict.proofs.UnkeptRuns.{Holds}
 use Rattle.h3_strict.proofs.TunnelStreams.{no_trailer_marked}
 use Rattle.h3_strict.specs.WorldSteps.{KeepsNone, WorldStep}
+use Rattle.h3_strict.specs.Tunnels.{AreBare, marked}
 
 -- A receiver that counts no tunnel, unless it was given up.
-abbrev IsBare : Side → Incoming → Type 0
+abbrev pub IsBare : Side → Incoming → Type 0
 IsBare side i = i.fault ≡ None → marked side i.content ≡ true → ⊥
-
--- Both ends receive so.
-pub record AreBare (setup : Setup) (ends : Ends) : Type 0 where
-  pub bare : (side : Side) (id : ℕ) → (incoming_at (end_at ends side) id).fault ≡ None → marked side (incoming_at (end_at ends side) id).content ≡ true → ⊥
-  pub announced : (side : Side) → (end_at ends side).announced ≡ announced_at setup side
 
 bare_keeps : (side : Side) (i j : Incoming) → KeepsAt i j → IsBare side i → IsBare side j
 bare_keeps side i j (inl k) h = λ alive mark. h (sym k.fault ∙ alive) (ap (marked side) (sym k.content) ∙ mark)
 bare_keeps side i j (inr k) h = λ alive mark. k.lost alive
+
+pub quiet_bare : (setup : Setup) (ends next : Ends) (only : Side → ℕ → Bool) → ((side : Side) → KeepsBut (only side) (end_at ends side) (end_at next side)) → AreBare setup ends → AreBare setup next
+quiet_bare setup ends next only keeps t = record {
+  bare = λ side id. bare_keeps side (incoming_at (end_at ends side) id) (incoming_at (end_at next side) id) (kept_at (only side) (end_at ends side) (end_at next side) id (keeps side)) (t.bare side id);
+  announced = λ side. (keeps side).announced ∙ t.announced side;
+}
 
 -- An end that receives the same.
 record ReceivesSame (e f : EndpointHistory) : Type 0 where
   incoming : f.incoming ≡ e.incoming
   announced : f.announced ≡ e.announced
 
-end_bare : (setup : Setup) (ends : Ends) (s : Side) (f : EndpointHistory) → ((id : ℕ) → IsBare s (incoming_at f id)) → f.announced ≡ (end_at ends s).announced → AreBare setup ends → AreBare setup (with_end ends s f)
+pub end_bare : (setup : Setup) (ends : Ends) (s : Side) (f : EndpointHistory) → ((id : ℕ) → IsBare s (incoming_at f id)) → f.announced ≡ (end_at ends s).announced → AreBare setup ends → AreBare setup (with_end ends s f)
 end_bare setup ends Client f bare same h = record { bare = bares; announced = told }
   where
     bares : (side : Side) (id : ℕ) → (incoming_at (end_at (with_end ends Client f) side) id).fault ≡ None → marked side (incoming_at (end_at (with_end ends Client f) side) id).content ≡ true → ⊥
@@ -108,10 +109,7 @@ module _ (setup : Setup) (loose : (side : Side) → (announced_at setup side).ch
   loose_end s = ap (λ (a : Announced). a.choices.strict_messages) (t.announced s) ∙ loose s
 
   quiet : (v : World) (next : Ends) (only : Side → ℕ → Bool) → KeepsParts w v → ((side : Side) → KeepsBut (only side) (end_at ends side) (end_at next side)) → AreBare setup next
-  quiet v next only parts keeps = record {
-    bare = λ side id. bare_keeps side (incoming_at (end_at ends side) id) (incoming_at (end_at next side) id) (kept_at (only side) (end_at ends side) (end_at next side) id (keeps side)) (t.bare side id);
-    announced = λ side. (keeps side).announced ∙ t.announced side;
-  }
+  quiet v next only parts keeps = quiet_bare setup ends next only keeps t
 
   pub safely : PullsSafely ends
   safely side id i here =

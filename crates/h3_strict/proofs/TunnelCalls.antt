@@ -48,11 +48,12 @@ use Rattle.h3_strict.proofs.OneStatus.{one_status}
 use Rattle.h3_strict.proofs.SendEvents.{flows_with_party, sends_part}
 use Rattle.h3_strict.proofs.SentLaws.{TakesHead, asked_first, head_is_open, unsent_no_head}
 use Rattle.h3_strict.proofs.SentTallies.{after_head, client_incoming, head_out, known_is, said_head, server_in}
-use Rattle.h3_strict.proofs.TunnelParts.{AsksOther, AwaitsTunnel, NoTrailer, TunnelAt, any_more, asks_tunnel, is_tunnel, marked, opens_tunnel, response_keeps, server_keeps, trails, tunnel_grows, tunnel_same, tunnels, unsent_opens}
+use Rattle.h3_strict.proofs.TunnelParts.{any_more, response_keeps, server_keeps, tunnel_grows, tunnel_same, unsent_opens}
 use Rattle.h3_strict.proofs.TunnelSees.{Sees}
-use Rattle.h3_strict.proofs.TunnelSends.{SendsFine, TunnelsStand, by_id, itself, sends_tunnels}
+use Rattle.h3_strict.proofs.TunnelSends.{SendsFine, by_id, itself, sends_tunnels}
 use Rattle.h3_strict.specs.PlainEnds.{plain_setup}
 use Rattle.h3_strict.specs.Tallies.{asked_in, has_head}
+use Rattle.h3_strict.specs.Tunnels.{AsksOther, AwaitsTunnel, NoTrailer, TunnelAt, TunnelsStand, asks_tunnel, is_tunnel, marked, opens_tunnel, trails, tunnels}
 
 pub tunnel_is : (content : Content) → is_tunnel content ≡ true → content ≡ Tunnel
 tunnel_is Tunnel h = refl

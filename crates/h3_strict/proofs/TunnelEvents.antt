@@ -46,8 +46,9 @@ use Rattle.h3_strict.proofs.SentLaws.{TakesBody, TakesHead, TakesTrailer, body_i
 use Rattle.h3_strict.proofs.SentTallies.{after_head}
 use Rattle.h3_strict.proofs.TunnelCalls.{all_last, behind_tunnels, body_trails, end_trails, interim_tunnels, no_trailer_trails, request_tunnels, response_tunnels}
 use Rattle.h3_strict.proofs.TunnelSees.{Sees}
-use Rattle.h3_strict.proofs.TunnelSends.{TunnelsStand, itself}
+use Rattle.h3_strict.proofs.TunnelSends.{itself}
 use Rattle.h3_strict.specs.PlainEnds.{plain_setup}
+use Rattle.h3_strict.specs.Tunnels.{TunnelsStand}
 
 -- what an endpoint is after a trailer
 abbrev after_trailer : EndpointHistory → ℕ → List Field → EndpointHistory

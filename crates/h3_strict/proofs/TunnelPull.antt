@@ -64,13 +64,14 @@ use Rattle.h3_strict.proofs.PulledTallies.{answer_is, answer_streams, pulled_in,
 use Rattle.h3_strict.proofs.TunnelQuiet.{keeps_one, only_at}
 use Rattle.h3_strict.proofs.TunnelFaults.{ends_all}
 use Rattle.h3_strict.proofs.BehindPulls.{is_item}
-use Rattle.h3_strict.proofs.TunnelParts.{AsksOther, AwaitsTunnel, NoTrailer, TunnelAt, asks_tunnel, marked, opens_tunnel, trails, tunnel_same}
-use Rattle.h3_strict.proofs.TunnelSends.{Tunnels, TunnelsStand, by_id, itself, quiet_tunnels}
+use Rattle.h3_strict.proofs.TunnelParts.{tunnel_same}
+use Rattle.h3_strict.proofs.TunnelSends.{by_id, itself, quiet_tunnels}
 use Rattle.h3_strict.proofs.TunnelSees.{SeenStream, Sees}
 use Rattle.h3_strict.proofs.TunnelStreams.{Along, Moved, clash, client_left, in_front, no_fault, no_trailer_marked, server_left}
 use Rattle.h3_strict.specs.GivesUp.{AtOnce, BehindPart, GivesMessageUp, GivesUp}
 use Rattle.h3_strict.specs.PlainEnds.{plain_setup}
 use Rattle.h3_strict.specs.Tallies.{asked_in, has_head}
+use Rattle.h3_strict.specs.Tunnels.{AsksOther, AwaitsTunnel, NoTrailer, TunnelAt, Tunnels, TunnelsStand, asks_tunnel, marked, opens_tunnel, trails}
 
 -- What a pull leaves of the flows: the one that is pulled moves, and the others are the same.
 pub record PullMoves (w v : World) (side : Side) (id : ℕ) (a : Pull) : Type 0 where
@@ -245,12 +246,12 @@ none_of None h = refl
 none_of (Some why) h = absurd (cc)
 
 -- What is left of the receiver of the side.
-abbrev LeftAt : Side → World → World → ℕ → Incoming → Type 0
+abbrev pub LeftAt : Side → World → World → ℕ → Incoming → Type 0
 LeftAt Client w v id j = j.fault ≡ None → marked Client j.content ≡ true → AwaitsTunnel (flow w Client id).sent (flow v Server id)
 LeftAt Server w v id j =
     (j.fault ≡ None → marked Server j.content ≡ true → list_any asks_tunnel (flow w Client id).sent ≡ true) × ((c : Content) → j.response ≡ Some c → (has_head (flow w Client id).sent ≡ true) × (c ≡ asked_in (flow w Client id).sent))
 
-changes_at : (side : Side) (w v : World) (ends : Ends) (x : EndpointHistory) (id : ℕ) (j : Incoming) → Changes (end_at ends side) x id j → ((writer : Side) (k : ℕ) → is_on writer k (other side) id ≡ false → flow v writer k ≡ flow w writer k)
+pub changes_at : (side : Side) (w v : World) (ends : Ends) (x : EndpointHistory) (id : ℕ) (j : Incoming) → Changes (end_at ends side) x id j → ((writer : Side) (k : ℕ) → is_on writer k (other side) id ≡ false → flow v writer k ≡ flow w writer k)
     → (flow v (other side) id).sent ≡ (flow w (other side) id).sent → LeftAt side w v id j → Tunnels w ends → Tunnels v (with_end ends side x)
 changes_at Client w v ends x id j c others sent left t = client_changes w v ends x id j c others sent left t
 changes_at Server w v ends x id j c others sent left t = server_changes w v ends x id j c others sent left.0 left.1 t

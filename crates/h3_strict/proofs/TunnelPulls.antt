@@ -36,7 +36,7 @@ use Rattle.h3_connection.specs.declared.event.StreamFault.{StreamFault}
 use Rattle.h3_connection.specs.declared.place.Place.{Place}
 use Rattle.h3_connection.specs.declared.place.Place.TheVariants.{AfterTrailer, BeforeHead, InBody, InSession}
 use Rattle.h3_connection.specs.declared.setup.Announced.{Announced}
-use Rattle.h3_strict.proofs.TunnelParts.{is_tunnel, marked, may_be_tunnel, tunnels}
+use Rattle.h3_strict.specs.Tunnels.{is_tunnel, marked, may_be_tunnel, tunnels}
 
 -- The receiver is marked only if the content was, and knows as much of a response.
 pub record Stays (side : Side) (before : Content) (known : Option Content) (p : Pulled) : Type 0 where

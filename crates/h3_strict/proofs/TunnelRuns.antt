@@ -35,15 +35,16 @@ use Rattle.h3_strict.proofs.PullsAnyhow.{listed_is, pulled_is}
 use Rattle.h3_strict.proofs.StepsAnyhow.{EveryStep}
 use Rattle.h3_strict.proofs.TunnelEvents.{body_event, fields_event, finish_event, head_event, trailer_event, trailer_fields_event}
 use Rattle.h3_strict.proofs.TunnelFaultless.{PullsSafely, event_faultless, items_same, malformed_stays}
-use Rattle.h3_strict.proofs.TunnelParts.{TunnelAt, tunnel_same}
+use Rattle.h3_strict.proofs.TunnelParts.{tunnel_same}
 use Rattle.h3_strict.proofs.TunnelPull.{pull_tunnels, safe}
 use Rattle.h3_strict.proofs.TunnelQuiet.{cancel_event, deliver_event, end_event, goaway_event, keeps_one, lost_event, only_at, open_event, reset_event}
 use Rattle.h3_strict.proofs.TunnelBeside.{anyhow_stands, none_kept, stands_itself}
 use Rattle.h3_strict.proofs.TunnelSees.{Sees, sees_behind}
-use Rattle.h3_strict.proofs.TunnelSends.{TunnelsStand, quiet_tunnels}
+use Rattle.h3_strict.proofs.TunnelSends.{quiet_tunnels}
 use Rattle.h3_strict.specs.GivesUp.{GivesMessageUp, GivesUpBy}
 use Rattle.h3_strict.specs.PlainEnds.{plain_setup}
 use Rattle.h3_strict.specs.WorldSteps.{KeepsNone, WorldStep}
+use Rattle.h3_strict.specs.Tunnels.{TunnelAt, TunnelsStand}
 
 -- Of what holds if both ends are seen in their world.
 module _ (setup : Setup) (strict : (side : Side) → (announced_at setup side).choices.strict_messages ≡ true) (w : World) (ends : Ends) (sees : Sees setup w ends) (t : TunnelsStand setup w ends) where

@@ -35,10 +35,11 @@ use Rattle.h3_headline.specs.Standing.{IsReadableBy, place_after}
 use Rattle.h3_strict.proofs.BehindPulls.{FrontPull, FrontReads, FrontStays, front_behind, is_item, pull_walks}
 use Rattle.h3_strict.proofs.PulledTallies.{head_asks}
 use Rattle.h3_strict.proofs.TunnelFaults.{InTunnel, NoFault, SameAnswer, TooLong, Why, comes_faultless, ends_all, pull_why, trailer_comes}
-use Rattle.h3_strict.proofs.TunnelParts.{AwaitsTunnel, any_at, asks_tunnel, is_tunnel, marked, may_be_tunnel, may_begin, opens_tunnel, trails, tunnels}
+use Rattle.h3_strict.proofs.TunnelParts.{any_at}
 use Rattle.h3_strict.proofs.TunnelPulls.{Stays, leaves_behind, payload_stays, pull_stays, request_tunnel, section_marked, section_response, status_tunnel}
 use Rattle.h3_strict.specs.Plainly.{plain, plain_incoming}
 use Rattle.h3_strict.specs.Tallies.{asked_in, has_head}
+use Rattle.h3_strict.specs.Tunnels.{AwaitsTunnel, asks_tunnel, is_tunnel, marked, may_be_tunnel, may_begin, opens_tunnel, trails, tunnels}
 
 -- The flow after a pull of it.
 pub record Moved (f g : Flow) (a : Pull) : Type 0 where

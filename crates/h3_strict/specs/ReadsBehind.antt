@@ -1,12 +1,14 @@
 -- An end in front of what it reads next, beside the one behind: what it holds of its peer's own streams and what comes follow what that one read.
-use Rattle.std.specs.Prelude.{◌≡◌, ◌⊎◌, ℕ, true, false, List, [], ◌++◌, take, None, if◌then◌else◌, ◌==◌}
+use Rattle.std.specs.Prelude.{◌≡◌, ◌⊎◌, ℕ, true, false, List, [], ◌++◌, drop, take, None, if◌then◌else◌, ◌==◌}
 use Rattle.h3_proto.specs.declared.stream.Side.{Side}
 use Rattle.h3_connection.specs.Arrivals.{Arrival, BytesCame, EndCame, ResetCame}
-use Rattle.h3_connection.specs.Endpoint.{EndpointHistory, bytes_waiting, kind_of}
+use Rattle.h3_connection.specs.Endpoint.{EndpointHistory, kind_of}
 use Rattle.h3_connection.specs.Endpoint.Kind.{Request}
 use Rattle.h3_connection.specs.OwnIds.{control_id, decoder_id, encoder_id, is_own, other}
 use Rattle.h3_connection.specs.PeerReading.{with_unread}
 use Rattle.h3_world.specs.Ends.{Ends, end_at}
+use Rattle.h3_world.specs.OwnStreams.{control_stream, decoder_stream, encoder_stream}
+use Rattle.h3_world.specs.Pulling.{own_delivered}
 use Rattle.h3_world.specs.Setup.{announced_at}
 use Rattle.h3_world.specs.World.{World, party}
 use Rattle.h3_world.specs.declared.setup.Setup.{Setup}
@@ -25,12 +27,19 @@ held_of writer held id =
     if id == encoder_id writer then held.encoder else (
     if id == decoder_id writer then held.decoder else []))
 
--- What comes is what its writer sent, behind what is held: so many bytes that wait there of its own stream, or those of a request.
-abbrev pub Follows : Side → EndpointHistory → EndpointHistory → Held → Arrival → Type 0
-Follows writer reader ew held (BytesCame id bytes) =
-    (is_own writer id ≡ true → (count : ℕ) × (held_of writer held id ++ bytes ≡ take count (bytes_waiting ew id))) × (is_own writer id ≡ false → kind_of reader.side id ≡ Request)
-Follows writer reader ew held (EndCame id) = Unit {0}
-Follows writer reader ew held (ResetCame id code) = Unit {0}
+-- all bytes of an own stream of the writer
+abbrev pub own_text : Setup → World → Side → ℕ → List ℕ
+own_text setup w writer id =
+    if id == control_id writer then control_stream (announced_at (plain_setup setup) writer) (party w writer) else (
+    if id == encoder_id writer then encoder_stream (party w writer) else (
+    if id == decoder_id writer then decoder_stream (party w writer) else []))
+
+-- What comes is what its writer sent, behind what is held: so many bytes of its own stream behind those that came, or bytes of a request.
+abbrev pub Follows : Setup → World → Side → EndpointHistory → Held → Arrival → Type 0
+Follows setup w writer reader held (BytesCame id bytes) =
+    (is_own writer id ≡ true → (count : ℕ) × (held_of writer held id ++ bytes ≡ take count (drop (own_delivered w writer id) (own_text setup w writer id)))) × (is_own writer id ≡ false → kind_of reader.side id ≡ Request)
+Follows setup w writer reader held (EndCame id) = Unit {0}
+Follows setup w writer reader held (ResetCame id code) = Unit {0}
 
 -- the decoder stream is what comes
 abbrev pub IsOfDecoder : Side → Arrival → Type 0
@@ -48,7 +57,7 @@ pub record ReadsBehind (setup : Setup) (w : World) (side : Side) (e : EndpointHi
   pub peer : e.peer ≡ with_unread (end_at behind side).peer ((end_at behind side).peer.unread ++ held.control)
   pub encoder_unread : e.decoding.unread ≡ (end_at behind side).decoding.unread ++ held.encoder
   pub decoder_unread : e.decoder_unread ≡ (end_at behind side).decoder_unread ++ held.decoder
-  pub follows : Follows (other side) e (end_at behind (other side)) held a
+  pub follows : Follows setup w (other side) e held a
   -- nothing is held of a stream that has not told its type
   pub control_untold : (party w (other side)).own.control_taken ≡ 0 → held.control ≡ []
   pub encoder_untold : (party w (other side)).own.encoder_taken ≡ 0 → held.encoder ≡ []

@@ -1,0 +1,16 @@
+use Rattle.h3_memory.proofs.KeptInOrder.{caught_already, first_kept}
+use Rattle.h3_memory.proofs.KeptLaws.{KeptLaws}
+use Rattle.h3_memory.proofs.reading.what_is_kept_is_read_in_order.Goals as goal
+
+pub returns-clause-first : goal.returns-clause-first
+returns-clause-first c =
+    let q : KeptLaws = record {
+      worlds = c.what_is_cited_holds.ensures.worlds;
+      insertions = c.what_refused_memory_leaves_is_sound.ensures.insertions;
+      held = c.what_refused_memory_leaves_is_sound.ensures.held;
+      bytes = c.what_refused_memory_leaves_is_sound.ensures.bytes;
+    } in
+    λ setup k ends side a arrivals made h kept. first_kept q c.what_is_cited_holds.ensures setup k ends side a arrivals made h kept
+
+pub returns-clause-none : goal.returns-clause-none
+returns-clause-none c = λ setup k ends side h kept. caught_already setup k ends side h kept
