@@ -11,3 +11,4 @@ mod Ordered
 mod Telling
 mod Delivered
 mod Joined
+mod BehindBoth

@@ -1,19 +1,24 @@
 -- The first of what an end keeps is read without a fault, and both ends stand in a world with the rest.
-use Rattle.std.proofs.Common.{◌≡◌, List, [], ◌∷◌, refl, sym, ap, ◌∙◌, subst}
+use Rattle.std.proofs.Common.{◌≡◌, ℕ, ◌≤◌, true, List, [], ◌∷◌, drop, take, refl, sym, ap, ◌∙◌, subst, arith}
 use Rattle.h3_proto.specs.declared.stream.Side.{Side}
 use Rattle.h3_proto.specs.declared.stream.Side.TheVariants.{Client, Server}
 use Rattle.h3_connection.specs.declared.arrival.Arrival.{Arrival}
+use Rattle.h3_connection.specs.Endpoint.{bytes_waiting}
 use Rattle.h3_connection.specs.Keeping.{unkept}
 use Rattle.h3_connection.specs.OwnIds.{other}
+use Rattle.h3_connection.specs.Shown as shown
 use Rattle.h3_world.specs.Ends.{Ends, end_at}
 use Rattle.h3_world.specs.Setup.{IsMadeSetup}
+use Rattle.h3_world.specs.Streams.{has_outgoing}
 use Rattle.h3_world.specs.World.{World}
 use Rattle.h3_world.specs.declared.setup.Setup.{Setup}
 use Rattle.h3_headline.specs.Cited.{Laws}
+use Rattle.h3_headline.specs.DeliverLaws.{has_outgoing_is}
 use Rattle.h3_memory.specs.Kept.{Delivery, KeepingWorld, caught_up, kept_at, read_deliveries, read_delivery}
-use Rattle.h3_memory.specs.Keeping.{StandsKeeping}
+use Rattle.h3_memory.specs.Keeping.{StandsKeeping, ahead, came_of, text_of}
 use Rattle.h3_memory.specs.ReadsNext.{ReadsNext}
 use Rattle.h3_memory.proofs.CatchesUp.{keeping_so, reading_of, standing_of}
+use Rattle.h3_memory.proofs.Judged.{Waits, outgoing_ahead, waits_at}
 use Rattle.h3_memory.proofs.KeptLaws.{KeptLaws}
 use Rattle.h3_memory.proofs.ReadingState.{Reading}
 use Rattle.h3_memory.proofs.ReadsWhole.{reads_first}
@@ -55,3 +60,16 @@ pub caught_already : (setup : Setup) (k : KeepingWorld) (ends : Ends) (side : Si
 caught_already setup k ends side h kept =
     let r = reading_of setup k ends side h in
     ap (read_deliveries setup k.world (other side)) (none_left _ _ _ (kept_at k side) (end_at ends side).kept kept r.here.kept)
+
+-- What waits for it at the other side stands in the texts of that one, behind what came.
+pub waits_so : (setup : Setup) (k : KeepingWorld) (ends : Ends) (side : Side) (id count : ℕ) → StandsKeeping setup k ends → (end_at ends side).kept ≡ [] → shown.has_outgoing (end_at ends (other side)) id ≡ true
+    → count ≤ shown.waiting (end_at ends (other side)) id
+    → (has_outgoing k.world (other side) id ≡ true) × (take count (bytes_waiting (end_at ends (other side)) id) ≡ take count (drop (came_of k.world (other side) id) (text_of setup k.world (other side) id)))
+waits_so setup k ends side id count h kept has fits =
+    let r = reading_of setup k ends side h in
+    let none : kept_at k side ≡ [] = none_left _ _ _ (kept_at k side) (end_at ends side).kept kept r.here.kept in
+    let is : end_at ends (other side) ≡ ahead r.ew [] r.there.held r.there.incoming r.there.arrivals = r.there.is ∙ ap (λ ds. ahead r.ew ds r.there.held r.there.incoming r.there.arrivals) none in
+    let there : has_outgoing k.world (other side) id ≡ true =
+    sym (has_outgoing_is setup k.world (other side) id r.ew r.two.both.there) ∙ sym (ap (λ x. shown.has_outgoing x id) is ∙ outgoing_ahead r.ew [] r.there.held r.there.incoming r.there.arrivals id) ∙ has in
+    let w = subst (λ x. Waits setup k.world (other side) x id) (sym is) (waits_at setup k.world (other side) r.ew r.there.held r.there.incoming r.there.arrivals id r.two.both.there there) in
+    (there, w.front count (omega (arith, fits, w.waits)))

@@ -1,4 +1,4 @@
-use Rattle.h3_memory.proofs.KeptInOrder.{caught_already, first_kept}
+use Rattle.h3_memory.proofs.KeptInOrder.{caught_already, first_kept, waits_so}
 use Rattle.h3_memory.proofs.KeptLaws.{KeptLaws}
 use Rattle.h3_memory.proofs.reading.what_is_kept_is_read_in_order.Goals as goal
 
@@ -14,3 +14,6 @@ returns-clause-first c =
 
 pub returns-clause-none : goal.returns-clause-none
 returns-clause-none c = λ setup k ends side h kept. caught_already setup k ends side h kept
+
+pub returns-clause-waits : goal.returns-clause-waits
+returns-clause-waits c = λ setup k ends side id count h kept has fits. waits_so setup k ends side id count h kept has fits
