@@ -1,5 +1,6 @@
 -- What an end reads next, of which it may hold some already, is not too long for it: so it is read as by the same end that judges plainly.
-use Rattle.std.proofs.Common.{◌≡◌, ◌⊎◌, inl, inr, ℕ, zero, suc, ◌+◌, ◌-◌, ◌<◌, ◌≤◌, Bool, true, false, List, [], ◌∷◌, ◌++◌, append-nil, append_assoc, length, refl, sym, ap, ◌∙◌, subst, Some, None, take, drop, take-append-drop, arith, common_steps, if◌then◌else◌}
+use Rattle.std.proofs.Common.{◌≡◌, ◌⊎◌, inl, inr, ℕ, zero, suc, ◌+◌, ◌-◌, ◌<◌, ◌≤◌, Bool, true, false, List, [], ◌∷◌, ◌++◌, append-nil, append_assoc, length, refl, sym, ap, ◌∙◌, subst, Some, None, take, drop, take-append-drop, arith, if◌then◌else◌}
+use Rattle.std.proofs.lemmas.Grind.{common_steps}
 use Rattle.std.specs.Prelude.{◌==◌, flat_map, is_some, nat_le}
 use Rattle.h3_coding.specs.Encodings.{encoding}
 use Rattle.h3_field.specs.Instruction.{DecoderInstruction, decoder_bytes, encoder_bytes}
@@ -8,7 +9,8 @@ use Rattle.h3_proto.specs.declared.stream.Side.{Side}
 use Rattle.h3_proto.specs.declared.stream.Side.TheVariants.{Client, Server}
 use Rattle.h3_qpack.specs.Encodings.{IsWrittenInstruction}
 use Rattle.h3_qpack.specs.WholeInstructions.{rest_in, whole_in}
-use Rattle.h3_connection.specs.Arrivals.{Arrival, BytesCame, EndCame, ResetCame}
+use Rattle.h3_connection.specs.declared.arrival.Arrival.{Arrival}
+use Rattle.h3_connection.specs.declared.arrival.Arrival.TheVariants.{BytesCame, EndCame, ResetCame}
 use Rattle.h3_connection.specs.Control.{Found, read_decoder}
 use Rattle.h3_connection.specs.Endpoint.{EndpointHistory, Own, goaway_encoding, kind_of, limit_of}
 use Rattle.h3_connection.specs.Endpoint.Kind.{PeerUnidirectional}

@@ -1,7 +1,9 @@
 -- What comes on any streams, whatever is kept, leaves what is counted of request streams: any of them may be given up.
 use Rattle.std.proofs.Common.{◌≡◌, inl, inr, ℕ, Bool, true, List, [], ◌∷◌, ◌++◌, refl, sym, ap, ◌∙◌, subst, Some, None}
 use Rattle.std.specs.Prelude.{fold}
-use Rattle.h3_connection.specs.Arrivals.{Arrival, BytesCame, stream_of}
+use Rattle.h3_connection.specs.Arrivals.{stream_of}
+use Rattle.h3_connection.specs.declared.arrival.Arrival.{Arrival}
+use Rattle.h3_connection.specs.declared.arrival.Arrival.TheVariants.{BytesCame}
 use Rattle.h3_connection.specs.Control.{Found}
 use Rattle.h3_connection.specs.Delivering.{delivery_refusal, incoming_at, unidirectional_at, with_unidirectional}
 use Rattle.h3_connection.specs.Endpoint.{EndpointHistory, Kind, kind_of}

@@ -92,7 +92,7 @@ module _ (laws : Laws) (setup : Setup) (made : IsMadeSetup (plain_setup setup)) 
   behind_there : (side : Side) (id : ℕ) (j : Incoming) → stream_at (end_at b.behind side).incoming id ≡ Some j → (is_open w side id ≡ true) × ReceivesFlow (flow w (other side) id) j
   behind_there side id j here = by_open (is_open w side id) refl
     where
-      by_open : (open : Bool) → is_open w side id ≡ open → (is_open w side id ≡ true) × ReceivesFlow (flow w (other side) id) j
+      by_open : (b : Bool) → is_open w side id ≡ b → (is_open w side id ≡ true) × ReceivesFlow (flow w (other side) id) j
       by_open false k = absurd (let never : None ≡ Some j = sym (incoming_none (plain_setup setup) w side id (end_at b.behind side) (at side) k) ∙ here in cc)
       by_open true k =
           let there = incoming_there (plain_setup setup) w side id (end_at b.behind side) (at side) k in
