@@ -3,8 +3,8 @@ use Rattle.std.proofs.Common.{◌≡◌, ℕ, ◌≤◌, true, List, [], ◌∷�
 use Rattle.h3_proto.specs.declared.stream.Side.{Side}
 use Rattle.h3_proto.specs.declared.stream.Side.TheVariants.{Client, Server}
 use Rattle.h3_connection.specs.declared.arrival.Arrival.{Arrival}
-use Rattle.h3_connection.specs.Endpoint.{bytes_waiting}
-use Rattle.h3_connection.specs.Keeping.{unkept}
+use Rattle.h3_connection.specs.Endpoint.{EndpointHistory, bytes_waiting}
+use Rattle.h3_connection.specs.Keeping.{settles, unkept}
 use Rattle.h3_connection.specs.OwnIds.{other}
 use Rattle.h3_connection.specs.Shown as shown
 use Rattle.h3_world.specs.Ends.{Ends, end_at}
@@ -14,15 +14,20 @@ use Rattle.h3_world.specs.World.{World}
 use Rattle.h3_world.specs.declared.setup.Setup.{Setup}
 use Rattle.h3_headline.specs.Cited.{Laws}
 use Rattle.h3_headline.specs.DeliverLaws.{has_outgoing_is}
-use Rattle.h3_memory.specs.Kept.{Delivery, KeepingWorld, caught_up, kept_at, read_deliveries, read_delivery}
-use Rattle.h3_memory.specs.Keeping.{StandsKeeping, ahead, came_of, text_of}
+use Rattle.h3_headline.specs.SendingLaws.{both_of}
+use Rattle.h3_headline.specs.Standing.{StandsAt}
+use Rattle.h3_memory.specs.Kept.{Delivery, KeepingWorld, caught_up, is_settled, kept_at, read_deliveries, read_delivery}
+use Rattle.h3_memory.specs.Keeping.{EachResumes, StandsKeeping, ahead, came_of, text_of}
 use Rattle.h3_memory.specs.ReadsNext.{ReadsNext}
+use Rattle.h3_memory.proofs.AheadPulls.{settles_ahead}
 use Rattle.h3_memory.proofs.CatchesUp.{keeping_so, reading_of, standing_of}
 use Rattle.h3_memory.proofs.Judged.{Waits, outgoing_ahead, waits_at}
 use Rattle.h3_memory.proofs.KeptLaws.{KeptLaws}
 use Rattle.h3_memory.proofs.ReadingState.{Reading}
 use Rattle.h3_memory.proofs.ReadsWhole.{reads_first}
 use Rattle.h3_memory.proofs.RefusedPull.{none_left}
+use Rattle.h3_memory.proofs.SendingEvents.{keeps_at}
+use Rattle.h3_memory.proofs.Settling.{settles_there}
 use Rattle.h3_memory.proofs.UnsettledPull.{ends_are}
 
 -- what a side keeps, and the world
@@ -49,6 +54,7 @@ first_kept qpack laws setup k ends side a arrivals made h kept =
         record {
           next = first.next;
           reads = first.reads;
+          none = ap (λ (e : EndpointHistory). e.kept) first.then_reads.here.is;
           world = keeping_so side v mine ds;
           stands = subst (StandsKeeping setup (keeping_so side v mine ds)) (ends_are ends side x) (standing_of setup v side mine ds first.next (end_at ends (other side)) x arrivals first.then_reads refl);
           caught = ap (λ l. read_deliveries setup (keeping_so side v mine ds).world (other side) l) (kept_so side v mine ds) ∙ ap (λ u. read_deliveries setup u (other side) ds) (world_so side v mine ds)
@@ -73,3 +79,12 @@ waits_so setup k ends side id count h kept has fits =
     sym (has_outgoing_is setup k.world (other side) id r.ew r.two.both.there) ∙ sym (ap (λ x. shown.has_outgoing x id) is ∙ outgoing_ahead r.ew [] r.there.held r.there.incoming r.there.arrivals id) ∙ has in
     let w = subst (λ x. Waits setup k.world (other side) x id) (sym is) (waits_at setup k.world (other side) r.ew r.there.held r.there.incoming r.there.arrivals id r.two.both.there there) in
     (there, w.front count (omega (arith, fits, w.waits)))
+
+-- A pull's answer is settled where it is in the world, whatever is kept.
+pub settles_so : (setup : Setup) (k : KeepingWorld) (ends : Ends) (side : Side) (id : ℕ) → StandsKeeping setup k ends → settles (end_at ends side) id ≡ is_settled k.world side id
+settles_so setup k ends side id h =
+    let c = keeps_at setup k ends side h in
+    let b = end_at h.behind side in
+    let here : StandsAt setup k.world side (end_at h.behind side) = (both_of setup k.world side h.behind h.stands).here in
+    ap (λ x. settles x id) c.is ∙ settles_ahead (kept_at k (other side)) c.held c.arrivals b c.incoming id (subst (λ s. EachResumes s b.announced b.incoming c.incoming) (sym here.side_is) c.resumes)
+    ∙ settles_there setup k.world side id b here h.stands.sound

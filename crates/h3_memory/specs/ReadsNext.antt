@@ -1,5 +1,5 @@
 -- The first of what an end keeps is read, and the rest is kept.
-use Rattle.std.specs.Prelude.{◌≡◌, List, None}
+use Rattle.std.specs.Prelude.{◌≡◌, List, [], None}
 use Rattle.h3_proto.specs.declared.stream.Side.{Side}
 use Rattle.h3_connection.specs.declared.arrival.Arrival.{Arrival}
 use Rattle.h3_connection.specs.Endpoint.{EndpointHistory}
@@ -14,6 +14,7 @@ use Rattle.h3_memory.specs.Keeping.{StandsKeeping}
 pub record ReadsNext (setup : Setup) (k : KeepingWorld) (ends : Ends) (side : Side) (a : Arrival) (arrivals : List Arrival) : Type 0 where
   pub next : EndpointHistory
   pub reads : read_arrival (unkept (end_at ends side)) a ≡ (next, None)
+  pub none : next.kept ≡ []
   pub world : KeepingWorld
   pub stands : StandsKeeping setup world (with_end ends side (record next { kept = arrivals }))
   pub caught : caught_up setup world side ≡ caught_up setup k side

@@ -12,7 +12,7 @@ use Rattle.h3_qpack.specs.WholeInstructions.{rest_in, whole_in}
 use Rattle.h3_connection.specs.declared.arrival.Arrival.{Arrival}
 use Rattle.h3_connection.specs.declared.arrival.Arrival.TheVariants.{BytesCame, EndCame, ResetCame}
 use Rattle.h3_connection.specs.Control.{Found, read_decoder}
-use Rattle.h3_connection.specs.Endpoint.{EndpointHistory, Own, goaway_encoding, kind_of, limit_of}
+use Rattle.h3_connection.specs.Endpoint.{EndpointHistory, Own, bytes_waiting, goaway_encoding, kind_of, limit_of}
 use Rattle.h3_connection.specs.Endpoint.Kind.{PeerUnidirectional}
 use Rattle.h3_connection.specs.ExcessiveInstructions.{hear_up_to}
 use Rattle.h3_connection.specs.Keeping.{read_arrival}
@@ -238,6 +238,11 @@ apart : (s : Side) → control_id s ≡ decoder_id s → ⊥
 apart Client e = omega (arith, e)
 apart Server e = omega (arith, e)
 
+-- an end that judges plainly has the same to hand over
+waits_same : (setup : Setup) (side : Side) (e : EndpointHistory) (id : ℕ) → bytes_waiting (record e { announced = announced_at (plain_setup setup) side }) id ≡ bytes_waiting (record e { announced = announced_at setup side }) id
+waits_same setup Client e id = refl
+waits_same setup Server e id = refl
+
 -- **What comes next is not too long.**
 module _ (streams : StreamLaws) (setup : Setup) (made : IsMadeSetup setup) (w : World) (side : Side) (e : EndpointHistory) (x : Arrival) (b : ReadsBehind setup w side e x) where
   abbrev er : EndpointHistory
@@ -260,7 +265,16 @@ module _ (streams : StreamLaws) (setup : Setup) (made : IsMadeSetup setup) (w : 
 
   c : Carries (announced_at setup (other side)) (limit_at setup side) (other side) (party w (other side)).own (record (end_at b.behind side) { announced = announced_at setup side }) (end_at b.behind (other side))
   c = carries streams setup (plain_setup setup) made (setup_plainly setup made) w side er (end_at b.behind (other side)) (end_at b.behind side) (end_at b.behind (other side))
-      (record { side = refl; kept = refl; unidirectional = refl; peer = refl; decoding = refl; decoder_unread = refl; waits_for = λ id. refl; has = λ id. refl })
+      (record {
+        side = refl;
+        kept = refl;
+        unidirectional = refl;
+        peer = refl;
+        decoding = refl;
+        decoder_unread = refl;
+        waits_for = λ id. ap (λ a. bytes_waiting (record (end_at b.behind side) { announced = a }) id) (at side).announced ∙ waits_same setup side (end_at b.behind side) id;
+        has = λ id. refl;
+      })
       (record { side = refl; kept = refl; unidirectional = refl; peer = refl; decoding = refl; decoder_unread = refl; waits_for = λ id. refl; has = λ id. refl })
       (at side) (at (other side)) (writable (other side)) refl (plain_settings setup (other side)) (tables side) b.stands.sound
 

@@ -71,6 +71,7 @@ mod TunnelEvents
 mod TunnelLimits
 mod TunnelStreams
 mod TunnelPull
+mod SettledCalm
 mod TunnelFaultless
 mod UnkeptRuns
 mod TunnelRuns

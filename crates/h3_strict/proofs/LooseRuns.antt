@@ -150,8 +150,8 @@ module _ (setup : Setup) (loose : (side : Side) → (announced_at setup side).ch
             left : (b : Bool) → IsBare side (if_too_many b x).incoming
             left b = by_test b
               where
-                kept : x.incoming.fault ≡ None → marked side x.incoming.content ≡ true → ⊥
-                kept alive mark =
+                not_marked : x.incoming.fault ≡ None → marked side x.incoming.content ≡ true → ⊥
+                not_marked alive mark =
                     t.bare side id (ap (λ o. (unwrap_or o nothing_came).fault) here ∙ alive_before i.fault refl alive)
                     (ap (λ o. marked side (unwrap_or o nothing_came).content) here
                     ∙ subst (λ s. marked s i.content ≡ true) (sees.side_is side)
@@ -159,8 +159,8 @@ module _ (setup : Setup) (loose : (side : Side) → (announced_at setup side).ch
                     (subst (λ s. marked s x.incoming.content ≡ true) (sym (sees.side_is side)) mark)))
 
                 by_test : (b : Bool) → IsBare side (if_too_many b x).incoming
-                by_test true = λ alive mark. kept alive mark
-                by_test false = λ alive mark. kept alive mark
+                by_test true = λ alive mark. not_marked alive mark
+                by_test false = λ alive mark. not_marked alive mark
 
             by_many : (b : Bool) → AreBare setup (with_end ends side (pulled (end_at ends side) id (if_too_many b x)).1)
             by_many b =

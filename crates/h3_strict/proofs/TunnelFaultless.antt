@@ -1,5 +1,5 @@
 -- An event finds no fault of the connection at ends of which each pull of a receiver finds none, whatever both limit.
-use Rattle.std.proofs.Common.{◌≡◌, ℕ, Bool, true, false, List, refl, sym, ap, ◌∙◌, Option, Some, None, if◌then◌else◌}
+use Rattle.std.proofs.Common.{◌≡◌, ℕ, Bool, true, false, List, [], refl, sym, ap, ◌∙◌, Option, Some, None, if◌then◌else◌}
 use Rattle.std.specs.Prelude.{nat_lt, ◌||◌, ◌&&◌}
 use Rattle.h3_field.specs.Field.{Field}
 use Rattle.h3_proto.specs.Config.{is_limit}

@@ -35,6 +35,7 @@ use Rattle.h3_strict.proofs.LooseRuns.{IsBare, end_bare, event_bare, new_bare, q
 use Rattle.h3_strict.proofs.PlainSetups.{setup_plainly}
 use Rattle.h3_strict.proofs.PullEvents.{given_up_again, over_again}
 use Rattle.h3_strict.proofs.PulledTallies.{pulled_keeps}
+use Rattle.h3_strict.proofs.SettledCalm.{settled_calm}
 use Rattle.h3_strict.proofs.TunnelFaultless.{PullsSafely, judged_faultless}
 use Rattle.h3_strict.proofs.TunnelPull.{LeftAt, changes_at}
 use Rattle.h3_strict.proofs.TunnelPulls.{left_marked}
@@ -179,6 +180,7 @@ module _ (laws : Laws) (setup : Setup) (made : IsMadeSetup setup) where
     goes = λ w v ends e t before behind step none faultless. goes_so b choice w v ends e t before behind step none faultless;
     judged = λ w ends side id t before none judges finds. judged_faultless setup w ends (seen w ends before) (told_so b setup w ends t) (safely_so b choice w ends t before) side id none judges finds;
     settled = λ w ends side id t settles. one_so setup w w ends side (pull_at (end_at ends side) id (kind_of (end_at ends side).side id)).1 no_stream (keeps_same w) (settled_pull (end_at ends side) id (kind_of (end_at ends side).side id) settles) b t;
+    calm = λ e id bounded settles. settled_calm e id (kind_of e.side id) bounded.waiting settles;
     reads = λ w ends side a kept t. one_so setup w w ends side (having_read (end_at ends side) a kept) any_stream (keeps_same w) (read_keeps (end_at ends side) a kept) b t;
     reads_part = λ w ends side arrivals after t part. one_so setup w w ends side after any_stream (keeps_same w) (part_of (end_at ends side) after arrivals part) b t;
     hands = λ w ends side id count t. one_so setup w w ends side (advance (end_at ends side) id count) no_stream (keeps_same w) (advance_keeps (end_at ends side) id count) b t;

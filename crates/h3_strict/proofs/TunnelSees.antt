@@ -225,12 +225,12 @@ module _ (laws : Laws) (setup : Setup) (made : IsMadeSetup (plain_setup setup)) 
   there_seen : (side : Side) (id : ℕ) → is_open w side id ≡ true → (i : Incoming) × (stream_at (end_at ends side).incoming id ≡ Some i)
   there_seen side id opened =
       let there = incoming_there (plain_setup setup) w side id (end_at b.behind side) (at side) opened in
-      by_here (stream_at (end_at ends side).incoming id) refl (subst (λ o. GoesOnAt side (announced_at setup side) id o (stream_at (end_at ends side).incoming id)) there.1 (b.received side id))
+      by_here there.0 (stream_at (end_at ends side).incoming id) refl (subst (λ o. GoesOnAt side (announced_at setup side) id o (stream_at (end_at ends side).incoming id)) there.1 (b.received side id))
     where
-      by_here : {j : Incoming} → (o : Option Incoming) → stream_at (end_at ends side).incoming id ≡ o → GoesOnAt side (announced_at setup side) id (Some j) (stream_at (end_at ends side).incoming id)
+      by_here : (j : Incoming) → (o : Option Incoming) → stream_at (end_at ends side).incoming id ≡ o → GoesOnAt side (announced_at setup side) id (Some j) (stream_at (end_at ends side).incoming id)
           → (i : Incoming) × (stream_at (end_at ends side).incoming id ≡ Some i)
-      by_here {j} None e goes = absurd (subst (GoesOnAt side (announced_at setup side) id (Some j)) e goes)
-      by_here {j} (Some i) e goes = (i, e)
+      by_here j None e goes = absurd (subst (GoesOnAt side (announced_at setup side) id (Some j)) e goes)
+      by_here j (Some i) e goes = (i, e)
 
   parts_seen : (side : Side) (id : ℕ) → is_open w side id ≡ true → (outgoing_at (end_at ends side) id).parts ≡ flat_map own_part (flow w side id).sent
   parts_seen side id opened =

@@ -3,6 +3,7 @@ use Rattle.std.specs.Prelude.{◌≡◌, ℕ, true, false, List, [], Some}
 use Rattle.h3_field.specs.Field.{Field}
 use Rattle.h3_proto.specs.declared.stream.Side.{Side}
 use Rattle.h3_connection.specs.declared.arrival.Arrival.{Arrival}
+use Rattle.h3_connection.specs.Bounds.{IsBounded}
 use Rattle.h3_connection.specs.Delivering.{with_incoming}
 use Rattle.h3_connection.specs.Endpoint.{EndpointHistory, kind_of}
 use Rattle.h3_connection.specs.Incoming.{Incoming}
@@ -44,6 +45,8 @@ pub record HoldsBehind (setup : Setup) (P : World → Ends → Type 0) : Type 0 
       → finds_fault (asks_strictly ends) (answer.Pulled (pulls (end_at ends side) id).0) ≡ true → is_connection_fault (answer.Pulled (pulls (end_at ends side) id).0) ≡ false
   -- a pull whose answer is settled, whatever is kept
   pub settled : (w : World) (ends : Ends) (side : Side) (id : ℕ) → P w ends → settles (end_at ends side) id ≡ true → P w (with_end ends side (pull_at (end_at ends side) id (kind_of (end_at ends side).side id)).1)
+  -- it finds no fault of the connection
+  pub calm : (e : EndpointHistory) (id : ℕ) → IsBounded e → settles e id ≡ true → is_connection_fault (answer.Pulled (pull_at e id (kind_of e.side id)).0) ≡ false
   -- what came is read, whole or in part
   pub reads : (w : World) (ends : Ends) (side : Side) (a : Arrival) (kept : List Arrival) → P w ends → P w (with_end ends side (having_read (end_at ends side) a kept))
   pub reads_part : (w : World) (ends : Ends) (side : Side) (arrivals : List Arrival) (after : EndpointHistory) → P w ends → ReadsPart (unkept (end_at ends side)) arrivals after → P w (with_end ends side after)

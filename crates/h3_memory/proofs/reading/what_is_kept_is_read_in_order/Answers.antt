@@ -1,4 +1,4 @@
-use Rattle.h3_memory.proofs.KeptInOrder.{caught_already, first_kept, waits_so}
+use Rattle.h3_memory.proofs.KeptInOrder.{caught_already, first_kept, settles_so, waits_so}
 use Rattle.h3_memory.proofs.KeptLaws.{KeptLaws}
 use Rattle.h3_memory.proofs.reading.what_is_kept_is_read_in_order.Goals as goal
 
@@ -17,3 +17,6 @@ returns-clause-none c = λ setup k ends side h kept. caught_already setup k ends
 
 pub returns-clause-waits : goal.returns-clause-waits
 returns-clause-waits c = λ setup k ends side id count h kept has fits. waits_so setup k ends side id count h kept has fits
+
+pub returns-clause-settles : goal.returns-clause-settles
+returns-clause-settles c = λ setup k ends side id h. settles_so setup k ends side id h
