@@ -70,7 +70,7 @@ plain_at : (setup : Setup) (side : Side) → announced_at (plain_setup setup) si
 plain_at setup Client = refl
 plain_at setup Server = refl
 
-module _ (setup : Setup) (k : KeepingWorld) (ends : Ends) (h : StandsKeeping (plain_setup setup) k (plain_ends ends)) (told : (side : Side) → (end_at ends side).announced ≡ announced_at setup side) where
+module _ (setup : Setup) (k : KeepingWorld) (ends : Ends) (h : StandsKeeping (plain_setup setup) k (plain_ends ends)) where
   keeps_at : (side : Side) → Keeps (plain_setup setup) k side (end_at h.behind side) (end_at (plain_ends ends) side)
   keeps_at Client = h.client
   keeps_at Server = h.server
@@ -103,7 +103,7 @@ module _ (setup : Setup) (k : KeepingWorld) (ends : Ends) (h : StandsKeeping (pl
   }
 
   -- What a side reads next, where its end is this one but for what it keeps.
-  module _ (side : Side) (a : Arrival) where
+  module _ (told : (side : Side) → (end_at ends side).announced ≡ announced_at setup side) (side : Side) (a : Arrival) where
     abbrev c : Keeps (plain_setup setup) k side (end_at h.behind side) (end_at (plain_ends ends) side)
     c = keeps_at side
 
@@ -199,7 +199,7 @@ first_behind setup k ends h told side a arrivals kept =
     (λ unknown. by_early (c.early unknown))
   where
     c : Keeps (plain_setup setup) k side (end_at h.behind side) (end_at (plain_ends ends) side)
-    c = keeps_at setup k ends h told side
+    c = keeps_at setup k ends h side
 
     kept_is : c.arrivals ≡ a ∷ arrivals
     kept_is = sym (ap (λ (e : EndpointHistory). e.kept) c.is) ∙ ap (λ (e : EndpointHistory). e.kept) (at_end ends side) ∙ kept
@@ -236,7 +236,7 @@ pub offered_behind : (setup : Setup) (k : KeepingWorld) (ends : Ends) (h : Stand
 offered_behind setup k ends h told side a kept offered = reads_behind setup k ends h told side a (follows a refl) (λ unknown. inl (ap (λ (x : keeping.Held). x.decoder) (all_none (other side) c.held none)))
   where
     c : Keeps (plain_setup setup) k side (end_at h.behind side) (end_at (plain_ends ends) side)
-    c = keeps_at setup k ends h told side
+    c = keeps_at setup k ends h side
 
     kept_is : c.arrivals ≡ []
     kept_is = sym (ap (λ (e : EndpointHistory). e.kept) c.is) ∙ ap (λ (e : EndpointHistory). e.kept) (at_end ends side) ∙ kept

@@ -12,3 +12,4 @@ mod Telling
 mod Delivered
 mod Joined
 mod BehindBoth
+mod CaughtUpEnds
