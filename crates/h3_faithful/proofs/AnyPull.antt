@@ -170,7 +170,7 @@ module _ (laws : StepLaws) (moves : MemoryMoves) (setup : Setup) (made : IsMadeS
     other_pull : answered pe (event.Pull side id) ≡ (answer.Pulled (pulls (plainly e) id).0, with_end pe side (pulls (plainly e) id).1)
     other_pull = pulled_is pe side (pulls (end_at pe side) id) ∙ ap (λ z. let x : Answer × Ends = (answer.Pulled (pulls z id).0, with_end pe side (pulls z id).1) in x) (at_end ends side)
 
-    unsettled_before : settled u side id ≡ None → is_settled k.world side id ≡ false
+    pub unsettled_before : settled u side id ≡ None → is_settled k.world side id ≡ false
     unsettled_before unsettled =
         let c = moves.caught ps k side sound in
         let f = flow k.world (other side) id in

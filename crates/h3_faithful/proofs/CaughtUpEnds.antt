@@ -48,22 +48,23 @@ same_unkept ends Server none = ap (λ l. record ends { server = record ends.serv
 kept_plainly : (ends : Ends) (side : Side) → (end_at (plain_ends ends) side).kept ≡ (end_at ends side).kept
 kept_plainly ends side = ap (λ (e : EndpointHistory). e.kept) (at_end ends side)
 
+-- The end once it has read them, where P holds in the world before that.
+pub record CaughtUp (setup : Setup) (P : World → Ends → Type 0) (side : Side) (w : World) (k : KeepingWorld) (ends : Ends) (arrivals : List Arrival) : Type 0 where
+  pub next : EndpointHistory
+  pub none : next.kept ≡ []
+  pub reads : read_all arrivals (unkept (end_at ends side)) ≡ (next, None)
+  pub reads_plainly : read_all arrivals (unkept (plainly (end_at ends side))) ≡ (plainly next, None)
+  pub after : KeepingWorld
+  pub stands : StandsKeeping (plain_setup setup) after (plain_ends (with_end ends side next))
+  pub world : after.world ≡ caught_up (plain_setup setup) k side
+  pub keeps : P w (with_end ends side next)
+
 module _ (laws : KeptLaws) (setup : Setup) (made : IsMadeSetup setup) (made_plainly : IsMadeSetup (plain_setup setup)) (P : World → Ends → Type 0) (holds : HoldsBehind setup P) (side : Side) where
   abbrev ps : Setup
   ps = plain_setup setup
 
-  pub record CaughtUp (w : World) (k : KeepingWorld) (ends : Ends) (arrivals : List Arrival) : Type 0 where
-    pub next : EndpointHistory
-    pub none : next.kept ≡ []
-    pub reads : read_all arrivals (unkept (end_at ends side)) ≡ (next, None)
-    pub reads_plainly : read_all arrivals (unkept (plainly (end_at ends side))) ≡ (plainly next, None)
-    pub after : KeepingWorld
-    pub stands : StandsKeeping (plain_setup setup) after (plain_ends (with_end ends side next))
-    pub world : after.world ≡ caught_up (plain_setup setup) k side
-    pub keeps : P w (with_end ends side next)
-
   -- **All that is kept.**
-  pub catches_up : (arrivals : List Arrival) (w : World) (k : KeepingWorld) (ends : Ends) → (end_at ends side).kept ≡ arrivals → StandsKeeping ps k (plain_ends ends) → P w ends → CaughtUp w k ends arrivals
+  pub catches_up : (arrivals : List Arrival) (w : World) (k : KeepingWorld) (ends : Ends) → (end_at ends side).kept ≡ arrivals → StandsKeeping ps k (plain_ends ends) → P w ends → CaughtUp setup P side w k ends arrivals
   catches_up [] w k ends kept stands p = record {
     next = unkept (end_at ends side);
     none = refl;
@@ -116,7 +117,7 @@ module _ (laws : KeptLaws) (setup : Setup) (made : IsMadeSetup setup) (made_plai
       later_stands : StandsKeeping (plain_setup setup) first.world (plain_ends (with_end ends side (having_read (end_at ends side) a arrivals)))
       later_stands = subst (StandsKeeping ps first.world) (sym (sets_end ends side (having_read e a arrivals) ∙ ap (λ x. with_end (plain_ends ends) side (record x { kept = arrivals })) found.1)) first.stands
 
-      rest : CaughtUp w first.world (with_end ends side (having_read (end_at ends side) a arrivals)) arrivals
+      rest : CaughtUp setup P side w first.world (with_end ends side (having_read (end_at ends side) a arrivals)) arrivals
       rest = catches_up arrivals w first.world later (ap (λ (x : EndpointHistory). x.kept) (end_set ends side (having_read e a arrivals))) later_stands (holds.reads w ends side a arrivals p)
 
       rest_reads : read_all arrivals (unkept (read_arrival (unkept (end_at ends side)) a).0) ≡ (rest.next, None)

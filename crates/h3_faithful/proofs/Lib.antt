@@ -13,3 +13,8 @@ mod Delivered
 mod Joined
 mod BehindBoth
 mod CaughtUpEnds
+mod PullsNext
+mod ArrivesNext
+mod AlikeFaultless
+mod AlikeSteps
+mod AlikeRuns

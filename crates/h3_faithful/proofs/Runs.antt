@@ -49,12 +49,12 @@ pub record RanTo (setup : Setup) (k : KeepingWorld) (n : ℕ) (events : List Eve
   pub rest : EndsRun ends (drop n events) (drop n answers) last
 
 -- two that are none
-neither : (x y : Bool) → (x || y) ≡ false → (x ≡ false) × (y ≡ false)
+pub neither : (x y : Bool) → (x || y) ≡ false → (x ≡ false) × (y ≡ false)
 neither true y h = absurd (cc)
 neither false y h = (refl, h)
 
 -- what is told of memory is no fault of the connection
-memory_faultless : (a : Answer) → is_out_of_memory a ≡ true → is_connection_fault a ≡ false
+pub memory_faultless : (a : Answer) → is_out_of_memory a ≡ true → is_connection_fault a ≡ false
 memory_faultless (answer.Refused refusal.OutOfMemory) h = refl
 memory_faultless (answer.Refused refusal.Kept) h = refl
 memory_faultless (answer.Pulled (pull.Fault fault.Memory)) h = refl
@@ -62,12 +62,12 @@ memory_faultless (answer.Listed (list.Fault fault.Memory)) h = refl
 memory_faultless a h = absurd (cc)
 
 -- nor is a malformed send
-malformed_faultless : (a : Answer) → is_malformed_refusal a ≡ true → is_connection_fault a ≡ false
+pub malformed_faultless : (a : Answer) → is_malformed_refusal a ≡ true → is_connection_fault a ≡ false
 malformed_faultless (answer.Refused (refusal.Malformed why)) h = refl
 malformed_faultless a h = absurd (cc)
 
 -- a send judges nothing
-send_judges : (ends : Ends) (e : Event) → is_send e ≡ true → judges ends e ≡ false
+pub send_judges : (ends : Ends) (e : Event) → is_send e ≡ true → judges ends e ≡ false
 send_judges ends (event.Head side id head) h = refl
 send_judges ends (event.Fields side id fields) h = refl
 send_judges ends (event.Body side id bytes) h = refl
@@ -114,11 +114,11 @@ module _ (laws : RunLaws) (setup : Setup) (made : IsMadeSetup setup) where
   send_faultless k ends new e a stands sendable step sends =
       unjudged_faultless k ends new e a stands sendable step (λ judged. absurd (let never : true ≡ false = sym judged ∙ send_judges ends e sends in cc))
 
-  abbrev first : KeepingWorld
+  abbrev pub first : KeepingWorld
   first = nothing_kept (empty_world ps)
 
   -- two new ends stand in the empty world
-  new_stand : StandsKeeping ps first (plain_ends (new_ends setup))
+  pub new_stand : StandsKeeping ps first (plain_ends (new_ends setup))
   new_stand =
       let r = laws.runs ps [] [] (new_ends ps) (laws.steps.made setup made) (laws.steps.judges setup) tt refl in
       subst (StandsKeeping ps first) (sym (laws.new_plain setup)) (subst (λ k. StandsKeeping ps k (new_ends ps)) r.run r.stands)

@@ -91,3 +91,4 @@ pub mod UnsettledPull
 pub mod WorldsWritten
 pub mod Written
 pub mod KeptInOrder
+pub mod PartsStay

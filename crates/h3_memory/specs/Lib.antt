@@ -6,3 +6,4 @@ pub mod SoundKeeping
 pub mod Theorem
 pub mod Writing
 pub mod ReadsNext
+pub mod QuietEvents
