@@ -3,7 +3,6 @@ mod AnyPull
 mod AnyStep
 mod Quiet
 mod Runs
-mod UntilMemory
 mod SoundSteps
 mod Accounts
 mod Takes

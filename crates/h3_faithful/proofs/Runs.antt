@@ -22,7 +22,6 @@ use Rattle.h3_memory.specs.Keeping.{StandsKeeping}
 use Rattle.h3_memory.specs.Refused.{AnswerOf, EndsRun, EndsStep}
 use Rattle.h3_memory.specs.Theorem.{RunsWithMemory}
 use Rattle.h3_strict.specs.PlainEnds.{Alike, Judges, RefusesMalformed as RefusedSo, StepsPlainly, is_malformed_refusal, judges, plain_ends, plain_setup}
-use Rattle.h3_faithful.specs.FaultFree.{JudgesNoFault}
 use Rattle.h3_faithful.specs.Faithful.{is_without_fault}
 use Rattle.h3_faithful.specs.Steps.{HappensAnywhere, RunsUntilFault, is_send}
 use Rattle.h3_faithful.proofs.Accounts.{MemoryMoves}
@@ -136,19 +135,3 @@ module _ (laws : RunLaws) (setup : Setup) (made : IsMadeSetup setup) where
     where
       front : (n : ℕ) → is_without_fault n answers → RanTo setup first n events answers ends
       front n none = ran n first (new_ends setup) events answers ends new_stand (new_quiet laws.quiet setup) sendable run none
-
-  -- **And no answer is a fault where no event that judges finds one.**
-  pub fault_free : (events : List Event) (answers : List Answer) (ends : Ends) → AllByRecursion (IsSendable setup) events → (run : EndsRun (new_ends setup) events answers ends) → JudgesNoFault (new_ends setup) events answers ends run
-      → list_any is_connection_fault answers ≡ false
-  fault_free events answers last sendable run free = from events answers first (new_ends setup) new_stand (new_quiet laws.quiet setup) sendable run free
-    where
-      from : (events : List Event) (answers : List Answer) (k : KeepingWorld) (ends : Ends) → StandsKeeping ps k (plain_ends ends) → QuietSides setup ends → AllByRecursion (IsSendable setup) events
-          → (run : EndsRun ends events answers last) → JudgesNoFault ends events answers last run → list_any is_connection_fault answers ≡ false
-      from [] [] k ends stands quiet sendable run free = refl
-      from (e ∷ events) (a ∷ answers) k ends stands quiet sendable run free =
-          let faultless = unjudged_faultless k ends run.0 e a stands sendable.0 run.1 free.0 in
-          let on = any_step laws.steps laws.moves setup made k ends stands run.0 e a sendable.0 (refuses_plainly laws.quiet setup ends e quiet) run.1 faultless in
-          let rest = from events answers on.after run.0 on.stands (quiet_step laws.quiet setup ends run.0 e a quiet run.1) sendable.1 run.2 free.1 in
-          ap (λ b. b || list_any is_connection_fault answers) faultless ∙ rest
-      from [] (a ∷ answers) k ends stands quiet sendable run free = absurd run
-      from (e ∷ events) [] k ends stands quiet sendable run free = absurd run

@@ -84,15 +84,3 @@ pub record UntilFault (setup : Setup) (events : List Event) (answers : List Answ
 pub record Faithful (setup : Setup) (events : List Event) (answers : List Answer) : Type 0 where
   pub until_fault : UntilFault setup events answers
   pub no_connection_fault : JudgeAlike setup → list_any is_connection_fault answers ≡ false
-
--- What was handed over is kept until there is memory, or a pull waits for it.
-abbrev pub waits_for_memory : Answer → Bool
-waits_for_memory (answer.Refused refusal.Kept) = true
-waits_for_memory (answer.Pulled (pull.Fault fault.Memory)) = true
-waits_for_memory (answer.Listed (list.Fault fault.Memory)) = true
-waits_for_memory _ = false
-
--- Between sides that judge alike there is no such fault up to the first answer that tells so. An allocation for what is sent, opened, cancelled or handed
--- over may fail.
-abbrev pub NoFaultUntilKept : Setup → List Answer → Type 0
-NoFaultUntilKept setup answers = JudgeAlike setup → (n : ℕ) → list_any waits_for_memory (take n answers) ≡ false → list_any is_connection_fault (take n answers) ≡ false

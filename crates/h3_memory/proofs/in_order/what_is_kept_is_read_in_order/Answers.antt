@@ -1,6 +1,6 @@
 use Rattle.h3_memory.proofs.KeptInOrder.{caught_already, first_kept, settles_so, waits_so}
 use Rattle.h3_memory.proofs.KeptLaws.{KeptLaws}
-use Rattle.h3_memory.proofs.reading.what_is_kept_is_read_in_order.Goals as goal
+use Rattle.h3_memory.proofs.in_order.what_is_kept_is_read_in_order.Goals as goal
 
 pub returns-clause-first : goal.returns-clause-first
 returns-clause-first c =

@@ -1,6 +1,6 @@
 use Rattle.h3_memory.proofs.KeptLaws.{KeptLaws}
 use Rattle.h3_memory.proofs.PartsStay.{lacks_parts, quiet_parts}
-use Rattle.h3_memory.proofs.reading.quiet_events_move_no_part.Goals as goal
+use Rattle.h3_memory.proofs.in_order.quiet_events_move_no_part.Goals as goal
 
 cited : goal.After-what_is_cited_holds → KeptLaws
 cited c =
