@@ -1,5 +1,5 @@
 -- An event finds no fault of the connection between sides that judge alike, whatever both keep.
-use Rattle.std.proofs.Common.{◌≡◌, ℕ, ◌≤◌, Bool, true, false, if◌then◌else◌, List, [], ◌∷◌, drop, take, length, refl, sym, ap, ◌∙◌, subst, arith, Option, Some, None}
+use Rattle.std.proofs.Common.{◌≡◌, ℕ, ◌≤◌, Bool, true, false, if◌then◌else◌, List, [], drop, take, length, refl, sym, ap, ◌∙◌, subst, arith, Option, Some, None}
 use Rattle.std.specs.Prelude.{◌||◌, ◌&&◌, not, nat_lt, ◌==◌}
 use Rattle.std.proofs.lemmas.Grind.{common_steps}
 use Rattle.h3_field.specs.Field.{Field}
@@ -247,9 +247,6 @@ module _ (laws : AlikeLaws) (setup : Setup) (made : IsMadeSetup setup) (P : Worl
         where
           c : CaughtUp setup P (other writer) k.world k ends (end_at ends (other writer)).kept
           c = caught (other writer)
-
-          reader_side : Side
-          reader_side = other writer
 
           there : end_at (plain_ends (with_end ends (other writer) c.next)) (other (other writer)) ≡ plainly (end_at ends writer)
           there = writer_is ends writer c.next

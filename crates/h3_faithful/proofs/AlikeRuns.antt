@@ -1,5 +1,5 @@
 -- A run of two ends that judge alike finds no fault of the connection, whichever allocations fail.
-use Rattle.std.proofs.Common.{◌≡◌, ℕ, Bool, true, false, List, [], ◌∷◌, refl, sym, ap, ◌∙◌}
+use Rattle.std.proofs.Common.{◌≡◌, Bool, true, false, List, [], ◌∷◌, refl, sym, ap, ◌∙◌}
 use Rattle.std.specs.Prelude.{◌||◌}
 use Rattle.std.specs.List.{AllByRecursion, list_any}
 use Rattle.h3_proto.specs.declared.stream.Side.{Side}
@@ -18,7 +18,7 @@ use Rattle.h3_strict.specs.HoldsBehind.{HoldsBehind}
 use Rattle.h3_strict.specs.Tunnels.{StandsSo}
 use Rattle.h3_faithful.specs.Faithful.{JudgeAlike}
 use Rattle.h3_faithful.proofs.AlikeFaultless.{AlikeLaws, Standing, faultless}
-use Rattle.h3_faithful.proofs.AlikeSteps.{GoesOn, goes_on}
+use Rattle.h3_faithful.proofs.AlikeSteps.{goes_on}
 use Rattle.h3_faithful.proofs.Quiet.{new_quiet}
 use Rattle.h3_faithful.proofs.Runs.{first, memory_faultless, new_stand}
 

@@ -1,31 +1,28 @@
 -- What holds of two ends that judge alike stays so over each event, memory refused or not.
 use Rattle.std.proofs.Common.{◌≡◌, ◌⊎◌, inl, inr, ℕ, Bool, true, false, List, [], ◌∷◌, ◌++◌, refl, sym, ap, ◌∙◌, subst, Option, Some, None}
-use Rattle.std.specs.Prelude.{◌×◌, ◌||◌, take}
+use Rattle.std.specs.Prelude.{take}
 use Rattle.h3_field.specs.Field.{Field}
-use Rattle.h3_header.specs.Head.{head_fields}
 use Rattle.h3_proto.specs.declared.stream.Side.{Side}
 use Rattle.h3_proto.specs.declared.stream.Side.TheVariants.{Client, Server}
 use Rattle.h3_connection.specs.Bounds.{IsBounded}
 use Rattle.h3_connection.specs.Coming.{fields_behind}
 use Rattle.h3_connection.specs.Delivering.{with_incoming}
-use Rattle.h3_connection.specs.Endpoint.{EndpointHistory, kind_of}
+use Rattle.h3_connection.specs.Endpoint.{EndpointHistory}
 use Rattle.h3_connection.specs.Incoming.{Incoming}
 use Rattle.h3_connection.specs.Keeping.{pulls, settles, unkept}
 use Rattle.h3_connection.specs.OwnIds.{other}
 use Rattle.h3_connection.specs.PartReading.{ReadsPart}
 use Rattle.h3_connection.specs.Sections as section
 use Rattle.h3_connection.specs.Sending as sender
-use Rattle.h3_connection.specs.Sending.{pull_at}
 use Rattle.h3_connection.specs.StreamSets.{stream_at}
 use Rattle.h3_connection.specs.declared.arrival.Arrival.{Arrival}
-use Rattle.h3_connection.specs.declared.arrival.Arrival.TheVariants.{BytesCame, EndCame, ResetCame}
+use Rattle.h3_connection.specs.declared.arrival.Arrival.TheVariants.{EndCame, ResetCame}
 use Rattle.h3_connection.specs.declared.event.Fault.TheVariants as fault
 use Rattle.h3_connection.specs.declared.event.Pull.{Pull}
 use Rattle.h3_connection.specs.declared.event.Pull.TheVariants as pull
 use Rattle.h3_connection.specs.declared.event.Refusal.{Refusal}
 use Rattle.h3_connection.specs.declared.event.Refusal.TheVariants as refusal
 use Rattle.h3_world.specs.Delivering.{reset_code}
-use Rattle.h3_world.specs.EndLists.{send_fields, send_trailer_fields}
 use Rattle.h3_world.specs.Ends.{Ends, answered, end_at, with_end}
 use Rattle.h3_world.specs.Headline.{is_connection_fault, is_out_of_memory}
 use Rattle.h3_world.specs.Lists.{listed_pull}
@@ -44,9 +41,8 @@ use Rattle.h3_world.specs.declared.setup.Setup.{Setup}
 use Rattle.h3_headline.specs.Contents.{KeepsParts}
 use Rattle.h3_headline.specs.KeepsPartsLaws.{keeps_with_party}
 use Rattle.h3_memory.specs.Kept.{KeepingWorld, caught_up, is_settled}
-use Rattle.h3_memory.specs.Keeping.{StandsKeeping}
 use Rattle.h3_memory.specs.MemoryStep as memory
-use Rattle.h3_memory.specs.MemoryStep.{Answers, HappensWithMemory, StepOf, StepWithMemory}
+use Rattle.h3_memory.specs.MemoryStep.{Answers, StepOf, StepWithMemory}
 use Rattle.h3_memory.specs.QuietEvents.{is_quiet}
 use Rattle.h3_memory.specs.Refused.{AnswerOf, CutsList, CutsOff, CutsSection, EndsStep, IsAsked, LosesNothing, Stores, handed_over}
 use Rattle.h3_memory.specs.Refused as refused

@@ -1,7 +1,6 @@
 -- A pull of an end that keeps something is that of the same end once it has read all of it, unless its answer is settled.
-use Rattle.std.proofs.Common.{◌≡◌, ℕ, Bool, true, false, List, [], ◌∷◌, refl, sym, ap, ◌∙◌, if◌then◌else◌, Option, Some, None}
+use Rattle.std.proofs.Common.{◌≡◌, ℕ, true, false, List, [], ◌∷◌, refl, sym, ap, ◌∙◌, if◌then◌else◌, None}
 use Rattle.std.specs.Prelude.{◌||◌}
-use Rattle.h3_field.specs.Field.{Field}
 use Rattle.h3_proto.specs.declared.stream.Side.{Side}
 use Rattle.h3_connection.specs.Coming.{fields_behind, fields_item}
 use Rattle.h3_connection.specs.Control.{Found}

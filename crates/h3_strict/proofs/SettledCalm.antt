@@ -1,5 +1,5 @@
 -- A pull whose answer is settled finds no fault of the connection.
-use Rattle.std.proofs.Common.{◌≡◌, ℕ, ◌≤◌, Bool, true, false, [], ◌∷◌, refl, sym, ap, ◌∙◌, subst, Option, Some, None, nat_lt, if◌then◌else◌}
+use Rattle.std.proofs.Common.{◌≡◌, ℕ, ◌≤◌, Bool, true, false, refl, ap, ◌∙◌, subst, Option, Some, None, nat_lt}
 use Rattle.std.specs.Prelude.{◌||◌, is_some}
 use Rattle.std.proofs.lemmas.Bool.{le-ltb}
 use Rattle.h3_connection.specs.Endpoint.{EndpointHistory, Kind, heads_waiting}
