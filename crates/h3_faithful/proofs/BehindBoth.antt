@@ -170,9 +170,11 @@ kept_follows setup w writer e held [] a arrivals kept may = absurd kept
 kept_follows setup w writer e held (Bytes id count ∷ ds) (BytesCame i bytes) arrivals kept may = (
   λ own.
       let same : id ≡ i = sym kept.0 in
-      let own_id : is_own writer id ≡ true = ap (is_own writer) same ∙ own in
-      (count, subst (λ n. held_of writer (record { control = held.control; encoder = held.encoder; decoder = held.decoder }) n ++ bytes ≡ take count (drop (own_delivered w writer n) (own_text setup w writer n))) same
-      (kept.1 ∙ ap (λ n. take count (drop n (text_of (plain_setup setup) w writer id))) (own_came w writer id own_id) ∙ ap (λ l. take count (drop (own_delivered w writer id) l)) (own_is_text setup w writer id own_id))),
+      let own_id : is_own writer id ≡ true = ap (is_own writer) same ∙ own in (
+        count,
+        subst (λ n. held_of writer (record { control = held.control; encoder = held.encoder; decoder = held.decoder }) n ++ bytes ≡ take count (drop (own_delivered w writer n) (own_text setup w writer n))) same
+            (kept.1 ∙ ap (λ n. take count (drop n (text_of (plain_setup setup) w writer id))) (own_came w writer id own_id) ∙ ap (λ l. take count (drop (own_delivered w writer id) l)) (own_is_text setup w writer id own_id)),
+      ),
   λ off. request_of w writer e.side i (ap (has_outgoing w writer) kept.0 ∙ may.0) off,
 )
 kept_follows setup w writer e held (End id ∷ ds) (EndCame i) arrivals kept may = tt
@@ -247,8 +249,11 @@ offered_behind setup k ends h told side a kept offered = reads_behind setup k en
     follows : (x : Arrival) → a ≡ x → Follows setup k.world (other side) (unkept (end_at ends side)) (record { control = c.held.control; encoder = c.held.encoder; decoder = c.held.decoder }) x
     follows (BytesCame id bytes) is =
         let o = offered id bytes is in (
-          λ own. (o.1.0, ap (λ l. l ++ bytes) (nothing_of (other side) c.held none id) ∙ o.1.1 ∙ ap (λ n. take o.1.0 (drop n (text_of (plain_setup setup) k.world (other side) id))) (own_came k.world (other side) id own)
-          ∙ ap (λ l. take o.1.0 (drop (own_delivered k.world (other side) id) l)) (own_is_text setup k.world (other side) id own)),
+          λ own. (
+            o.1.0,
+            ap (λ l. l ++ bytes) (nothing_of (other side) c.held none id) ∙ o.1.1 ∙ ap (λ n. take o.1.0 (drop n (text_of (plain_setup setup) k.world (other side) id))) (own_came k.world (other side) id own)
+                ∙ ap (λ l. take o.1.0 (drop (own_delivered k.world (other side) id) l)) (own_is_text setup k.world (other side) id own),
+          ),
           λ off. request_of k.world (other side) (end_at ends side).side id o.0 off,
         )
     follows (EndCame id) is = tt
