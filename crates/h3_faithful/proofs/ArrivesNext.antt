@@ -56,11 +56,11 @@ just_one (f, Some code) = refl
 
 read_last : (l : List Arrival) (a : Arrival) (x : EndpointHistory) → read_all (l ++ a ∷ []) x ≡ unless_faulty (λ f. read_arrival f a) (read_all l x)
 read_last [] a x = just_one (read_arrival x a)
-read_last (k ∷ l) a x = by_first (read_arrival x k)
+read_last (k ∷ l) a x = by_first (read_arrival x k) (λ f. read_last l a f)
   where
-    by_first : (y : Found) → unless_faulty (read_all (l ++ a ∷ [])) y ≡ unless_faulty (λ f. read_arrival f a) (unless_faulty (read_all l) y)
-    by_first (f, None) = read_last l a f
-    by_first (f, Some code) = refl
+    by_first : (y : Found) → ((f : EndpointHistory) → read_all (l ++ a ∷ []) f ≡ unless_faulty (λ f. read_arrival f a) (read_all l f)) → unless_faulty (read_all (l ++ a ∷ [])) y ≡ unless_faulty (λ f. read_arrival f a) (unless_faulty (read_all l) y)
+    by_first (f, None) later = later f
+    by_first (f, Some code) later = refl
 
 reads_last : (e next : EndpointHistory) (a : Arrival) → read_all e.kept (unkept e) ≡ (next, None) → read_all (e.kept ++ a ∷ []) (unkept e) ≡ read_arrival next a
 reads_last e next a reads = read_last e.kept a (unkept e) ∙ ap (unless_faulty (λ f. read_arrival f a)) reads

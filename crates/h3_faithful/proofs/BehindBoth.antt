@@ -71,7 +71,7 @@ plain_at setup Client = refl
 plain_at setup Server = refl
 
 module _ (setup : Setup) (k : KeepingWorld) (ends : Ends) (h : StandsKeeping (plain_setup setup) k (plain_ends ends)) where
-  keeps_at : (side : Side) → Keeps (plain_setup setup) k side (end_at h.behind side) (end_at (plain_ends ends) side)
+  pub keeps_at : (side : Side) → Keeps (plain_setup setup) k side (end_at h.behind side) (end_at (plain_ends ends) side)
   keeps_at Client = h.client
   keeps_at Server = h.server
 
@@ -107,7 +107,7 @@ module _ (setup : Setup) (k : KeepingWorld) (ends : Ends) (h : StandsKeeping (pl
     abbrev c : Keeps (plain_setup setup) k side (end_at h.behind side) (end_at (plain_ends ends) side)
     c = keeps_at side
 
-    held_so : Held
+    abbrev pub held_so : Held
     held_so = record { control = (keeps_at side).held.control; encoder = (keeps_at side).held.encoder; decoder = (keeps_at side).held.decoder }
 
     control_none : (s : Side) (held : keeping.Held) → ((id : ℕ) → came_of k.world s id ≡ 0 → keeping.held_of s held id ≡ []) → (party k.world s).own.control_taken ≡ 0 → held.control ≡ []
@@ -146,21 +146,21 @@ own_came : (w : World) (writer : Side) (id : ℕ) → is_own writer id ≡ true 
 own_came w writer id own = ap (λ b. if b then own_delivered w writer id else (flow w writer id).delivered) own
 
 own_is_text : (setup : Setup) (w : World) (writer : Side) (id : ℕ) → is_own writer id ≡ true → text_of (plain_setup setup) w writer id ≡ own_text setup w writer id
-own_is_text setup w writer id own = by_tests (id == control_id writer) (id == encoder_id writer) (id == decoder_id writer) own
+own_is_text setup w writer id own = by_tests _ _ _ _ _ (id == control_id writer) (id == encoder_id writer) (id == decoder_id writer) own
   where
-    by_tests : (a b c : Bool) → (a || b || c) ≡ true → {x y z u v : List ℕ} → (if a then x else (if b then y else (if c then z else u))) ≡ (if a then x else (if b then y else (if c then z else v)))
-    by_tests true b c h = refl
-    by_tests false true c h = refl
-    by_tests false false true h = refl
-    by_tests false false false h = absurd (cc)
+    by_tests : (x y z u v : List ℕ) (a b t : Bool) → (a || b || t) ≡ true → (if a then x else (if b then y else (if t then z else u))) ≡ (if a then x else (if b then y else (if t then z else v)))
+    by_tests x y z u v true b t h = refl
+    by_tests x y z u v false true t h = refl
+    by_tests x y z u v false false true h = refl
+    by_tests x y z u v false false false h = absurd (cc)
 
 -- a stream that is sent, and is no own one, is a request's
 request_of : (w : World) (writer : Side) (s : Side) (id : ℕ) → has_outgoing w writer id ≡ true → is_own writer id ≡ false → kind_of s id ≡ Request
 request_of w writer s id has off = kind_is s id (open_there w writer id (behind_own (is_own writer id) (is_open w writer id) off has)).request
   where
-    behind_own : (b c : Bool) → b ≡ false → (b || c) ≡ true → c ≡ true
-    behind_own true c off has = absurd (cc)
-    behind_own false c off has = has
+    behind_own : (b t : Bool) → b ≡ false → (b || t) ≡ true → t ≡ true
+    behind_own true t off has = absurd (cc)
+    behind_own false t off has = has
 
 -- What stands next among what is kept follows what came.
 pub kept_follows : (setup : Setup) (w : World) (writer : Side) (e : EndpointHistory) (held : keeping.Held) (ds : List Delivery) (a : Arrival) (arrivals : List Arrival)
@@ -212,7 +212,7 @@ first_behind setup k ends h told side a arrivals kept =
 
 -- nothing is held where nothing is kept
 none_came : (text : ℕ → List ℕ) (came : ℕ → ℕ) (held : ℕ → List ℕ) (ds : List Delivery) → AreKept text came held ds [] → (id : ℕ) → held id ≡ []
-none_came text came held [] h id = h id
+none_came text came held [] h = λ id. h id
 none_came text came held (Bytes id count ∷ ds) h = absurd h
 none_came text came held (End id ∷ ds) h = absurd h
 none_came text came held (Reset id ∷ ds) h = absurd h

@@ -59,32 +59,32 @@ pub record CaughtUp (setup : Setup) (P : World → Ends → Type 0) (side : Side
   pub world : after.world ≡ caught_up (plain_setup setup) k side
   pub keeps : P w (with_end ends side next)
 
+-- The end once it has read the first of them.
+record ReadsOne (setup : Setup) (P : World → Ends → Type 0) (side : Side) (w : World) (k : KeepingWorld) (ends : Ends) (a : Arrival) (arrivals : List Arrival) : Type 0 where
+  none : (read_arrival (unkept (end_at ends side)) a).0.kept ≡ []
+  read : read_arrival (unkept (end_at ends side)) a ≡ ((read_arrival (unkept (end_at ends side)) a).0, None)
+  read_plainly : read_arrival (unkept (plainly (end_at ends side))) a ≡ (plainly (read_arrival (unkept (end_at ends side)) a).0, None)
+  world : KeepingWorld
+  stands : StandsKeeping (plain_setup setup) world (plain_ends (with_end ends side (having_read (end_at ends side) a arrivals)))
+  caught : caught_up (plain_setup setup) world side ≡ caught_up (plain_setup setup) k side
+  keeps : P w (with_end ends side (having_read (end_at ends side) a arrivals))
+
+unkept_then : (x : EndpointHistory) → x.kept ≡ [] → unkept x ≡ x
+unkept_then x none = ap (λ l. record x { kept = l }) (sym none)
+
 module _ (laws : KeptLaws) (setup : Setup) (made : IsMadeSetup setup) (made_plainly : IsMadeSetup (plain_setup setup)) (P : World → Ends → Type 0) (holds : HoldsBehind setup P) (side : Side) where
   abbrev ps : Setup
   ps = plain_setup setup
 
-  -- **All that is kept.**
-  pub catches_up : (arrivals : List Arrival) (w : World) (k : KeepingWorld) (ends : Ends) → (end_at ends side).kept ≡ arrivals → StandsKeeping ps k (plain_ends ends) → P w ends → CaughtUp setup P side w k ends arrivals
-  catches_up [] w k ends kept stands p = record {
-    next = unkept (end_at ends side);
-    none = refl;
-    reads = refl;
-    reads_plainly = refl;
-    after = k;
-    stands = subst (λ x. StandsKeeping (plain_setup setup) k (plain_ends x)) (sym (same_unkept ends side kept)) stands;
-    world = sym (laws.none ps k (plain_ends ends) side stands (kept_plainly ends side ∙ kept));
-    keeps = subst (P w) (sym (same_unkept ends side kept)) p;
-  }
-  catches_up (a ∷ arrivals) w k ends kept stands p = record {
-    next = rest.next;
-    none = rest.none;
-    reads = reads_then arrivals (read_arrival (unkept e) a) n rest.next read_so (ap (read_all arrivals) (sym (unkept_then n n_none)) ∙ rest_reads);
-    reads_plainly = reads_then arrivals (read_arrival (unkept (plainly e)) a) (plainly n) (plainly rest.next) (first_plainly ∙ ap (λ x. let y : Found = (x, None) in y) (sym found.1))
-        (ap (λ x. read_all arrivals (plainly x)) (sym (unkept_then n n_none)) ∙ rest_plainly);
-    after = rest.after;
-    stands = subst (λ x. StandsKeeping (plain_setup setup) rest.after (plain_ends x)) (set_twice ends side (having_read e a arrivals) rest.next) rest.stands;
-    world = rest.world ∙ first.caught;
-    keeps = subst (P w) (set_twice ends side (having_read e a arrivals) rest.next) rest.keeps;
+  reads_one : (a : Arrival) (arrivals : List Arrival) (w : World) (k : KeepingWorld) (ends : Ends) → (end_at ends side).kept ≡ a ∷ arrivals → StandsKeeping ps k (plain_ends ends) → P w ends → ReadsOne setup P side w k ends a arrivals
+  reads_one a arrivals w k ends kept stands p = record {
+    none = ap (λ (x : EndpointHistory). x.kept) found.1 ∙ first.none;
+    read = ap (λ c. let y : Found = ((read_arrival (unkept e) a).0, c) in y) found.0;
+    read_plainly = first_plainly ∙ ap (λ x. let y : Found = (x, None) in y) (sym found.1);
+    world = first.world;
+    stands = subst (StandsKeeping ps first.world) (sym (sets_end ends side (having_read e a arrivals) ∙ ap (λ x. with_end (plain_ends ends) side (record x { kept = arrivals })) found.1)) first.stands;
+    caught = first.caught;
+    keeps = holds.reads w ends side a arrivals p;
   }
     where
       e : EndpointHistory
@@ -99,29 +99,40 @@ module _ (laws : KeptLaws) (setup : Setup) (made : IsMadeSetup setup) (made_plai
       found : ((read_arrival (unkept (end_at ends side)) a).1 ≡ None) × (plainly (read_arrival (unkept (end_at ends side)) a).0 ≡ first.next)
       found = laws.reads setup k.world side (unkept e) first.next a made (first_behind setup k ends stands (holds.announced w ends p) side a arrivals kept) first_plainly
 
+  -- and then the rest
+  extends : (a : Arrival) (arrivals : List Arrival) (w : World) (k : KeepingWorld) (ends : Ends) (one : ReadsOne setup P side w k ends a arrivals)
+      → CaughtUp setup P side w one.world (with_end ends side (having_read (end_at ends side) a arrivals)) arrivals → CaughtUp setup P side w k ends (a ∷ arrivals)
+  extends a arrivals w k ends one rest = record {
+    next = rest.next;
+    none = rest.none;
+    reads = reads_then arrivals (read_arrival (unkept e) a) n rest.next one.read (ap (read_all arrivals) (sym (unkept_then n one.none)) ∙ ap (λ x. read_all arrivals (unkept x)) (sym (end_set ends side (having_read e a arrivals))) ∙ rest.reads);
+    reads_plainly = reads_then arrivals (read_arrival (unkept (plainly e)) a) (plainly n) (plainly rest.next) one.read_plainly
+        (ap (λ x. read_all arrivals (plainly x)) (sym (unkept_then n one.none)) ∙ ap (λ x. read_all arrivals (unkept (plainly x))) (sym (end_set ends side (having_read e a arrivals))) ∙ rest.reads_plainly);
+    after = rest.after;
+    stands = subst (λ x. StandsKeeping (plain_setup setup) rest.after (plain_ends x)) (set_twice ends side (having_read e a arrivals) rest.next) rest.stands;
+    world = rest.world ∙ one.caught;
+    keeps = subst (P w) (set_twice ends side (having_read e a arrivals) rest.next) rest.keeps;
+  }
+    where
+      e : EndpointHistory
+      e = end_at ends side
+
       n : EndpointHistory
       n = (read_arrival (unkept e) a).0
 
-      read_so : read_arrival (unkept (end_at ends side)) a ≡ ((read_arrival (unkept (end_at ends side)) a).0, None)
-      read_so = ap (λ c. let y : Found = ((read_arrival (unkept e) a).0, c) in y) found.0
-
-      n_none : (read_arrival (unkept (end_at ends side)) a).0.kept ≡ []
-      n_none = ap (λ (x : EndpointHistory). x.kept) found.1 ∙ first.none
-
-      unkept_then : (x : EndpointHistory) → x.kept ≡ [] → unkept x ≡ x
-      unkept_then x none = ap (λ l. record x { kept = l }) (sym none)
-
-      later : Ends
-      later = with_end ends side (having_read e a arrivals)
-
-      later_stands : StandsKeeping (plain_setup setup) first.world (plain_ends (with_end ends side (having_read (end_at ends side) a arrivals)))
-      later_stands = subst (StandsKeeping ps first.world) (sym (sets_end ends side (having_read e a arrivals) ∙ ap (λ x. with_end (plain_ends ends) side (record x { kept = arrivals })) found.1)) first.stands
-
-      rest : CaughtUp setup P side w first.world (with_end ends side (having_read (end_at ends side) a arrivals)) arrivals
-      rest = catches_up arrivals w first.world later (ap (λ (x : EndpointHistory). x.kept) (end_set ends side (having_read e a arrivals))) later_stands (holds.reads w ends side a arrivals p)
-
-      rest_reads : read_all arrivals (unkept (read_arrival (unkept (end_at ends side)) a).0) ≡ (rest.next, None)
-      rest_reads = ap (λ x. read_all arrivals (unkept x)) (sym (end_set ends side (having_read e a arrivals))) ∙ rest.reads
-
-      rest_plainly : read_all arrivals (plainly (unkept (read_arrival (unkept (end_at ends side)) a).0)) ≡ (plainly rest.next, None)
-      rest_plainly = ap (λ x. read_all arrivals (unkept (plainly x))) (sym (end_set ends side (having_read e a arrivals))) ∙ rest.reads_plainly
+  -- **All that is kept.**
+  pub catches_up : (arrivals : List Arrival) (w : World) (k : KeepingWorld) (ends : Ends) → (end_at ends side).kept ≡ arrivals → StandsKeeping ps k (plain_ends ends) → P w ends → CaughtUp setup P side w k ends arrivals
+  catches_up [] w k ends kept stands p = record {
+    next = unkept (end_at ends side);
+    none = refl;
+    reads = refl;
+    reads_plainly = refl;
+    after = k;
+    stands = subst (λ x. StandsKeeping (plain_setup setup) k (plain_ends x)) (sym (same_unkept ends side kept)) stands;
+    world = sym (laws.none ps k (plain_ends ends) side stands (kept_plainly ends side ∙ kept));
+    keeps = subst (P w) (sym (same_unkept ends side kept)) p;
+  }
+  catches_up (a ∷ arrivals) w k ends kept stands p =
+      let one = reads_one a arrivals w k ends kept stands p in
+      extends a arrivals w k ends one
+      (catches_up arrivals w one.world (with_end ends side (having_read (end_at ends side) a arrivals)) (ap (λ (x : EndpointHistory). x.kept) (end_set ends side (having_read (end_at ends side) a arrivals))) one.stands one.keeps)
