@@ -22,8 +22,8 @@ ghost use Rattle.h3_memory.specs.ReadsNext.{ReadsNext};
 ghost use Rattle.h3_memory.specs.SoundKeeping.{IsSoundKeeping};
 
 /// Of two endpoints that stand in a world with what they keep, one reads the first of that without a fault, and both stand in a world with the
-/// rest (`first`). With nothing kept a side has caught up (`none`), and what waits for it at the other one stands in the other one's texts, behind
-/// what came (`waits`). A pull's answer is settled where it is so in the world, whatever is kept (`settles`).
+/// rest (`first`). With nothing kept a side has caught up (`none`), and what waits for it at the other one stands in the other one's texts, after
+/// what came (`waits`). A pull's answer is settled if it is so in the world, whatever is kept (`settles`).
 pub fn what_is_kept_is_read_in_order()
     ensures first { (setup : Setup) (k : KeepingWorld) (ends : Ends) (side : Side) (a : Arrival) (arrivals : List Arrival) → IsMadeSetup setup → StandsKeeping setup k ends → (end_at ends side).kept ≡ a ∷ arrivals → ReadsNext setup k ends side a arrivals }
     ensures none { (setup : Setup) (k : KeepingWorld) (ends : Ends) (side : Side) → StandsKeeping setup k ends → (end_at ends side).kept ≡ [] → caught_up setup k side ≡ k.world }
@@ -36,7 +36,7 @@ pub fn what_is_kept_is_read_in_order()
     h3_headline::laws::what_is_cited_holds();
 }
 
-/// No part of a message is sent or handed out where memory was refused (`lacks`), nor by an event that neither sends nor pulls (`quiet`).
+/// No part of a message is sent or pulled if an allocation fails (`lacks`), nor by an event that neither sends nor pulls (`quiet`).
 pub fn quiet_events_move_no_part()
     ensures lacks { (setup : Setup) (k new : KeepingWorld) (e : Event) (a : Answer) → IsSoundKeeping setup k → is_out_of_memory a ≡ true → StepWithMemory setup k e a new → KeepsParts k.world new.world }
     ensures quiet { (setup : Setup) (k new : KeepingWorld) (e : Event) (a : Answer) → IsSoundKeeping setup k → is_quiet e ≡ true → StepWithMemory setup k e a new → KeepsParts k.world new.world }

@@ -38,7 +38,7 @@ pub fn endpoints_that_judge_alike_find_no_fault()
 }
 
 /// What stands of tunnels between two ends that judge alike stays so, whatever both keep and whichever allocations fail, and a pull finds no
-/// fault of the connection then (`holds`). What an end reads next is not too long for it, also where it holds the beginning of that: it is
+/// fault of the connection then (`holds`). What an end reads next is not too long for it, even if it holds the beginning of that: it is
 /// read as by the same end that judges plainly (`reads`).
 pub fn tunnels_stand_whatever_is_kept()
     ensures holds { (setup : Setup) (strict : Bool) → IsMadeSetup setup → ((side : Side) → (announced_at setup side).choices.strict_messages ≡ strict) → HoldsBehind setup (StandsSo strict setup) }
