@@ -58,7 +58,7 @@ pub fn a_connection_fault_stays()
 ghost use Rattle.h3_connection.specs.Arrivals.{Arrival};
 ghost use Rattle.h3_field.specs.Field.{Field};
 ghost use Rattle.h3_connection.specs.Bounds.{IsBounded, StandsBounded};
-ghost use Rattle.h3_connection.specs.PartReading.{ReadsPart};
+ghost use Rattle.h3_connection.specs.PartReading.{ReadsPart, Resumes};
 ghost use Rattle.h3_connection.specs.ReceivingContracts.{StoresArrival, LosesNothing};
 ghost use Rattle.h3_connection.specs.SendingContracts.{CutsOff};
 ghost use Rattle.h3_connection.specs.Shown.{block_tries, waiting_heads};
@@ -76,6 +76,7 @@ pub fn tries_and_waiting_streams_are_bounded()
     ensures lost { (e : EndpointHistory) (id : ℕ) (new : EndpointState) → IsBounded e → LosesNothing e id new → StandsBounded new }
     ensures cut_off { (e : EndpointHistory) (id : ℕ) (fields : List Field) (new : EndpointState) → IsBounded e → CutsOff e id fields new → StandsBounded new }
     ensures part { (e after : EndpointHistory) (arrivals : List Arrival) → IsBounded e → ReadsPart e arrivals after → IsBounded after }
+    ensures asked { (e : EndpointHistory) (id : ℕ) (old new : Incoming) → stream_at e.incoming id ≡ Some old → Resumes e.side e.announced id old new → IsBounded e → IsBounded (with_incoming e id new) }
     ensures tries { (e : EndpointHistory) (id : ℕ) → IsBounded e → block_tries e id ≤ 2 }
     ensures waiting { (e : EndpointHistory) → IsBounded e → waiting_heads e ≤ e.announced.limits.blocked }
 {}

@@ -45,15 +45,15 @@ use Rattle.h3_strict.specs.PlainEnds.{plain_ends, plain_setup}
 use Rattle.h3_strict.specs.Plainly.{plainly}
 
 -- The endpoint has of its peer's streams, and sends, what the other one does.
-record SameStreams (e f : EndpointHistory) : Type 0 where
-  side : f.side ≡ e.side
-  kept : f.kept ≡ e.kept
-  unidirectional : f.unidirectional ≡ e.unidirectional
-  peer : f.peer ≡ e.peer
-  decoding : f.decoding ≡ e.decoding
-  decoder_unread : f.decoder_unread ≡ e.decoder_unread
-  waits_for : (id : ℕ) → bytes_waiting f id ≡ bytes_waiting e id
-  has : (id : ℕ) → has_outgoing f id ≡ has_outgoing e id
+pub record SameStreams (e f : EndpointHistory) : Type 0 where
+  pub side : f.side ≡ e.side
+  pub kept : f.kept ≡ e.kept
+  pub unidirectional : f.unidirectional ≡ e.unidirectional
+  pub peer : f.peer ≡ e.peer
+  pub decoding : f.decoding ≡ e.decoding
+  pub decoder_unread : f.decoder_unread ≡ e.decoder_unread
+  pub waits_for : (id : ℕ) → bytes_waiting f id ≡ bytes_waiting e id
+  pub has : (id : ℕ) → has_outgoing f id ≡ has_outgoing e id
 
 unlimited_same : (e : EndpointHistory) → SameStreams e (limited_end (2 ^ 62 - 1) e)
 unlimited_same e = record { side = refl; kept = refl; unidirectional = refl; peer = refl; decoding = refl; decoder_unread = refl; waits_for = λ id. refl; has = λ id. refl }
@@ -113,7 +113,7 @@ module _ (streams : StreamLaws) (setup X : Setup) (made : IsMadeSetup setup) (st
   request_id id off has =
       (open_there w (other s) id (behind_own (is_own (other s) id) (is_open w (other s) id) off (sym (has_outgoing_is X w (other s) id fw hw) ∙ writes.has id ∙ has))).request
 
-  carries : Carries a (limit_at setup s) (other s) own er ew
+  pub carries : Carries a (limit_at setup s) (other s) own er ew
   carries = record {
     side_is = sym reads.side ∙ hr.side_is ∙ sym (other-other s);
     nothing_kept = sym reads.kept ∙ hr.nothing_kept;

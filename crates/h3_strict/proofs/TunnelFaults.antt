@@ -49,8 +49,9 @@ use Rattle.h3_world.specs.declared.event.Answer.TheVariants as answer
 use Rattle.h3_headline.specs.PartLaws.{part_at}
 use Rattle.h3_headline.specs.Pulling.{ComesTo, HandsOut, Pauses}
 use Rattle.h3_headline.specs.Standing.{place_after}
-use Rattle.h3_strict.proofs.TunnelParts.{any_at, trails}
+use Rattle.h3_strict.proofs.TunnelParts.{any_at}
 use Rattle.h3_strict.specs.Plainly.{plain, plain_incoming}
+use Rattle.h3_strict.specs.Tunnels.{trails}
 
 -- it ends the connection
 abbrev pub ends_all : Pull → Bool

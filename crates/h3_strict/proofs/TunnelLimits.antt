@@ -115,7 +115,7 @@ module _ (kinds : FrameKinds) (most : ℕ) (in_body : Bool) where
   front_next (Body body own ∷ parts) bytes more framed e = body_next body (flat_map part_bytes parts) bytes more framed.0.0 framed.0.1 e
   front_next (End ∷ parts) bytes more framed e = front_next parts bytes more framed.1 e
 
-none_left : (n : ℕ) → nat_lt 0 n ≡ false → n ≡ 0
+pub none_left : (n : ℕ) → nat_lt 0 n ≡ false → n ≡ 0
 none_left n e = elim (cases_lt 0 n) [
   | inl some ↦ absurd (let never : true ≡ false = sym (lt-ltb 0 n some) ∙ e in cc)
   | inr none ↦ omega (arith, none)

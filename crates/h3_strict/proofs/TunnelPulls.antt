@@ -36,7 +36,7 @@ use Rattle.h3_connection.specs.declared.event.StreamFault.{StreamFault}
 use Rattle.h3_connection.specs.declared.place.Place.{Place}
 use Rattle.h3_connection.specs.declared.place.Place.TheVariants.{AfterTrailer, BeforeHead, InBody, InSession}
 use Rattle.h3_connection.specs.declared.setup.Announced.{Announced}
-use Rattle.h3_strict.proofs.TunnelParts.{is_tunnel, marked, may_be_tunnel, tunnels}
+use Rattle.h3_strict.specs.Tunnels.{is_tunnel, marked, may_be_tunnel, tunnels}
 
 -- The receiver is marked only if the content was, and knows as much of a response.
 pub record Stays (side : Side) (before : Content) (known : Option Content) (p : Pulled) : Type 0 where
@@ -123,7 +123,7 @@ module _ (side : Side) (before : Content) (known : Option Content) where
     body_stays i (None, pieces) h k = stays _ h k
     body_stays i (Some bytes, pieces) h k = stays _ h k
 
-    payload_stays : (i : Incoming) → (marked side i.content ≡ true → marked side before ≡ true) → i.response ≡ known → Stay (at_payload id i)
+    pub payload_stays : (i : Incoming) → (marked side i.content ≡ true → marked side before ≡ true) → i.response ≡ known → Stay (at_payload id i)
     payload_stays i h k =
         either Stay (is_exceeded i.content) (malformed id malformation.ContentLength i []) (in_payload i) (gone id malformation.ContentLength i [] k)
         (either Stay (i.ended && nat_lt (length (concat i.unread)) i.body_left) _ _ (stays _ h k) (body_stays i (chunk_of i.body_left i.unread) h k))
