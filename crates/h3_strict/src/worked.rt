@@ -1,10 +1,11 @@
 //! Worked schedules of two sides that ask for strict messages, or limit what is unfinished: these laws compute. The answers were worked out
 //! from the standards.
 
-ghost use Rattle.std.specs.Prelude.{◌≡◌};
+ghost use Rattle.std.specs.Prelude.{◌≡◌, true, false, [], ◌∷◌};
+ghost use Rattle.std.specs.List.{list_any};
 ghost use Rattle.h3_world.specs.Ends.{answers_of_ends, new_ends};
-ghost use Rattle.h3_strict.specs.PlainEnds.{answers_without_malformed, before_judged, plain_setup, without_malformed};
-ghost use Rattle.h3_strict.specs.WorkedStrict.{early_answers, early_front, early_run, left_answers, left_run, refused_answers, refused_run, strict_setup};
+ghost use Rattle.h3_strict.specs.PlainEnds.{answers_without_malformed, before_judged, finds_fault, plain_setup, without_malformed};
+ghost use Rattle.h3_strict.specs.WorkedStrict.{early, early_answers, early_front, early_run, judged, left_answers, left_run, one_strict, refused_answers, refused_run, strict_setup, tunnel_answers, tunnel_run};
 
 /// A header section without a path, more content than was said and an end before all of it are refused. What is sent comes out: as without
 /// strict messages and these three sends.
@@ -17,10 +18,18 @@ pub fn worked_refusals()
 {}
 
 /// A server that answers HEAD with content before it reads the request: the client's second pull finds the response malformed, and the
-/// schedule up to there is the front.
+/// schedule up to there is the front. Both heads go out before the settings came.
 pub fn worked_judgment()
     ensures answers { answers_of_ends (new_ends strict_setup) early_run ≡ early_answers }
+    ensures early { early (new_ends strict_setup) early_run ≡ false ∷ true ∷ false ∷ true ∷ false ∷ false ∷ false ∷ false ∷ [] }
     ensures front { before_judged (new_ends strict_setup) early_run ≡ early_front }
+{}
+
+/// A strict client's second pull judges a trailer in a tunnel of a server that is not strict, and tells so.
+pub fn worked_tunnel()
+    ensures answers { answers_of_ends (new_ends one_strict) tunnel_run ≡ tunnel_answers }
+    ensures judged { judged (new_ends one_strict) tunnel_run ≡ false ∷ false ∷ false ∷ false ∷ false ∷ false ∷ false ∷ false ∷ true ∷ [] }
+    ensures told { list_any (finds_fault false) tunnel_answers ≡ true }
 {}
 
 ghost use Rattle.h3_strict.specs.Limits.{LimitsTakeWhatIsSent};
@@ -35,7 +44,8 @@ pub fn worked_cancellations()
 {}
 
 /// A server inserts a field of bytes that are rare ones for a client whose limit is as long as the lists that it announces. The insertion
-/// is longer, since every string is written in the Huffman code, and is refused as soon as that is known.
+/// is longer, since every string is written in the Huffman code, and is refused as soon as that is known: that delivery judges it.
 pub fn worked_insertion()
-    ensures { answers_of_ends (new_ends close_client) inserting_run ≡ inserting_answers }
+    ensures answers { answers_of_ends (new_ends close_client) inserting_run ≡ inserting_answers }
+    ensures judged { judged (new_ends close_client) inserting_run ≡ false ∷ false ∷ false ∷ false ∷ false ∷ true ∷ [] }
 {}
