@@ -7,7 +7,6 @@
 #include "table.h"
 #include "timers.h"
 #include "tls.h"
-#include "turns.h"
 #include <sys/queue.h>
 #include <sys/socket.h>
 
@@ -21,10 +20,13 @@ enum {
 /* One stream that is open: what is sent on it. */
 typedef struct stream {
   entry entry;
-  turn turn;    /* in no list if nothing of it is to be sent */
-  bool offered; /* the owner has more for it */
+  TAILQ_ENTRY(stream) order; /* of those in the list `list`, if any */
+  struct streams *list;
+  bool is_owners; /* its bytes are answers to `more`: the owner says when it is next */
   buffer out;
 } stream;
+
+typedef TAILQ_HEAD(streams, stream) stream_list;
 
 /* An id by which packets name a connection. */
 typedef struct known_id {
@@ -46,11 +48,13 @@ struct quic_connection {
   ngtcp2_crypto_conn_ref ref;
   void *owner;
   table streams;
-  turns turns;            /* streams that have something for a packet; blocked are those of which nothing more goes into one in this round */
+  stream_list ready;      /* streams that are not the owner's, and have something for a packet */
+  stream_list blocked;    /* those of all streams of which nothing more goes into one in this round */
   uint64_t kept, untaken; /* bytes in the buffers of all streams, and those of them that QUIC has not taken */
   bool close_asked, gone, told, shook; /* `shook`: the handshake is done */
   bool more;              /* could go out, but for what a burst may have, or the socket */
   bool asking;            /* the owner gives more of a stream whose turn it is */
+  bool owners_turn;       /* its streams and the others take turns */
   bool due;               /* it stands among those that are due */
   ngtcp2_ccerr close;
   quic_ending ending;

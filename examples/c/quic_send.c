@@ -5,7 +5,6 @@
 #include <string.h>
 
 enum {
-  USUAL = 3,               /* the urgency of streams of which the owner says nothing (RFC 9218, section 4.1): they take turns */
   KEPT_LIMIT = 256 * 1024, /* bytes of a stream that may wait for their acknowledgment */
   FIRST_PIECE = 16 * 1024  /* of a stream that has none, however many the others have */
 };
@@ -17,7 +16,7 @@ stream *quic_find(const quic_connection *connection, int64_t id) { return table_
 static stream *find_or_add(quic_connection *connection, int64_t id) {
   stream *found = quic_find(connection, id);
   if (found || !(found = malloc(sizeof *found))) return found;
-  *found = (stream){.turn = {.of = found, .id = (uint64_t)id, .urgency = USUAL, .incremental = true}};
+  *found = (stream){0};
   table_add(&connection->streams, &found->entry, (uint64_t)id);
   return found;
 }
@@ -25,6 +24,26 @@ static stream *find_or_add(quic_connection *connection, int64_t id) {
 /* Something of the stream is here, for a packet. */
 static bool has_bytes(const stream *stream) {
   return stream->out.taken < stream->out.given || (stream->out.ended && !stream->out.end_taken);
+}
+
+/* The stream is in this list behind the others, or (NULL) in none. */
+static void move_to(stream *stream, stream_list *list) {
+  if (stream->list) TAILQ_REMOVE(stream->list, stream, order);
+  stream->list = list;
+  if (list) TAILQ_INSERT_TAIL(list, stream, order);
+}
+
+/* Nothing more of the stream goes into a packet in this round. */
+static void block(quic_connection *connection, stream *stream) {
+  move_to(stream, &connection->blocked);
+  if (stream->is_owners) connection->socket->events->held(connection->owner, (int64_t)stream->entry.id, true);
+}
+
+static void unblock_all(quic_connection *connection) {
+  for (stream *stream; (stream = TAILQ_FIRST(&connection->blocked));) {
+    move_to(stream, stream->is_owners || !has_bytes(stream) ? NULL : &connection->ready);
+    if (stream->is_owners) connection->socket->events->held(connection->owner, (int64_t)stream->entry.id, false);
+  }
 }
 
 /* QUIC took so many bytes, or nobody will. */
@@ -35,8 +54,7 @@ static void taken(quic_connection *connection, stream *stream, uint64_t count) {
 
 /* Nothing more of the stream goes out. What was sent is kept until the stream is closed. */
 static void abandon(quic_connection *connection, stream *stream) {
-  turns_remove(&connection->turns, &stream->turn);
-  stream->offered = false;
+  move_to(stream, NULL);
   taken(connection, stream, stream->out.given - stream->out.taken);
   stream->out.ended = stream->out.end_taken = true;
 }
@@ -82,23 +100,9 @@ bool quic_is_read(const quic_connection *connection, int64_t id) {
 static void given(quic_connection *connection, stream *stream, size_t count) {
   connection->kept += count;
   connection->untaken += count;
-  if (!connection->asking) quic_due(connection);
-  if (has_bytes(stream)) turns_add(&connection->turns, &stream->turn);
-}
-
-bool quic_offer(quic_connection *connection, int64_t id) {
-  stream *stream = find_or_add(connection, id);
-  if (!stream) return false;
-  if (stream->out.ended) return true;
-  stream->offered = true;
-  turns_add(&connection->turns, &stream->turn);
-  return true;
-}
-
-bool quic_prefer(quic_connection *connection, int64_t id, int urgency, bool incremental) {
-  stream *stream = find_or_add(connection, id);
-  if (stream) turns_prefer(&connection->turns, &stream->turn, urgency, incremental);
-  return stream;
+  if (connection->asking) return;
+  quic_due(connection);
+  if (!stream->list && has_bytes(stream)) move_to(stream, &connection->ready);
 }
 
 bool quic_send(quic_connection *connection, int64_t id, const uint8_t *bytes, size_t count, bool end) {
@@ -196,40 +200,53 @@ static ngtcp2_ssize write_stream(quic_connection *connection, stream *stream, ng
                                                 last ? flags | NGTCP2_WRITE_STREAM_FLAG_FIN : flags,
                                                 stream ? (int64_t)stream->entry.id : -1, pieces, count, time);
   if (count_taken < 0) return done;
+  bool end = last && (size_t)count_taken == total;
   taken(connection, stream, (uint64_t)count_taken);
-  if (last && (size_t)count_taken == total) stream->out.end_taken = true;
+  if (end) stream->out.end_taken = true;
+  if (stream->is_owners) connection->socket->events->taken(connection->owner, (int64_t)stream->entry.id, (size_t)count_taken, end);
   return done;
 }
 
-/* The place of a stream after what ngtcp2 returned: it has its next turn after the others if something of it was taken, else it keeps its
- * place, or it has none. Returns whether this was an error of this stream alone. */
-static bool next_turn(quic_connection *connection, stream *stream, ngtcp2_ssize done, bool was_taken) {
+/* The place of a stream after what ngtcp2 returned: one that is not the owner's has its next turn after the others, or it has none. Returns whether
+ * this was an error of this stream alone. */
+static bool next_turn(quic_connection *connection, stream *stream, ngtcp2_ssize done) {
   switch (done) {
-  case NGTCP2_ERR_STREAM_DATA_BLOCKED: turns_block(&connection->turns, &stream->turn); return true;
-  case NGTCP2_ERR_STREAM_NOT_FOUND: abandon(connection, stream); return true;
+  case NGTCP2_ERR_STREAM_DATA_BLOCKED: block(connection, stream); return true;
+  case NGTCP2_ERR_STREAM_NOT_FOUND:
   case NGTCP2_ERR_STREAM_SHUT_WR: /* STOP_SENDING came: ngtcp2 has reset the stream, and says so here alone */
     abandon(connection, stream);
-    if (!connection->close_asked) connection->socket->events->was_stopped(connection->owner, (int64_t)stream->entry.id);
+    if (connection->close_asked) block(connection, stream);
+    else connection->socket->events->was_stopped(connection->owner, (int64_t)stream->entry.id);
     return true;
   default:
-    if (!has_bytes(stream) && !stream->offered) turns_remove(&connection->turns, &stream->turn);
-    else if (done > 0 && was_taken) turns_pass(&connection->turns, &stream->turn);
+    if (stream->list && done != 0) move_to(stream, has_bytes(stream) ? stream->list : NULL);
     return false;
   }
 }
 
-/* The stream whose turn it is. One of which nothing is here gets its next piece from the owner. */
-static stream *next_stream(quic_connection *connection) {
-  for (turn *turn; (turn = turns_next(&connection->turns));) {
-    stream *stream = turn->of;
+/* The owner's stream that is next. One of which nothing is here gets its next piece. */
+static stream *next_of_owner(quic_connection *connection) {
+  const quic_events *events = connection->socket->events;
+  for (int64_t id; connection->owner && events->next(connection->owner, &id);) {
+    stream *stream = find_or_add(connection, id);
+    if (!stream || stream->list) return quic_close(connection, 0x102), NULL; /* H3_INTERNAL_ERROR: there is no memory for it, or to hold it */
+    stream->is_owners = true;
     if (has_bytes(stream)) return stream;
-    connection->asking = stream->offered && !connection->close_asked;
-    stream->offered = false;
-    if (connection->asking && !connection->socket->events->more(connection->owner, (int64_t)turn->id)) abandon(connection, stream);
+    connection->asking = !connection->close_asked && !stream->out.ended;
+    if (connection->asking && !events->more(connection->owner, id)) abandon(connection, stream);
     connection->asking = false;
-    if (!has_bytes(stream)) turns_remove(&connection->turns, turn);
+    if (has_bytes(stream)) return stream;
+    block(connection, stream);
   }
   return NULL;
+}
+
+/* The stream whose turn it is. */
+static stream *next_stream(quic_connection *connection) {
+  stream *other = TAILQ_FIRST(&connection->ready), *owners = NULL;
+  connection->owners_turn = !connection->owners_turn || !other;
+  if (connection->owners_turn) owners = next_of_owner(connection);
+  return owners ? owners : other;
 }
 
 void quic_write_packets(quic_connection *connection) {
@@ -238,13 +255,12 @@ void quic_write_packets(quic_connection *connection) {
   ngtcp2_tstamp time = quic_now(); /* of all packets of a burst */
   size_t total = 0, burst = ngtcp2_conn_get_send_quantum(connection->conn);
   connection->more = !quic_flush(connection->socket);
-  turns_unblock(&connection->turns);
+  unblock_all(connection);
   while (!connection->more) {
     stream *stream = next_stream(connection);
-    uint64_t before = stream ? stream->out.taken : 0;
     ngtcp2_path_storage_zero(&path);
     ngtcp2_ssize done = write_stream(connection, stream, &path.path, batch->bytes + batch->count, time);
-    if ((stream && next_turn(connection, stream, done, stream->out.taken != before)) || done == NGTCP2_ERR_WRITE_MORE) continue;
+    if ((stream && next_turn(connection, stream, done)) || done == NGTCP2_ERR_WRITE_MORE) continue;
     if (done < 0) return quic_fail(connection, (int)done);
     if (done == 0) break;
     total += (size_t)done;

@@ -322,8 +322,7 @@ static int send_some(side *at, uint64_t id) {
   if (past > room - n) past = room - n, fin = 0; /* of the body that we hold, as much as there is room for */
   if (n + past == 0 && !fin) return 0;
   quic_send(at, id, bytes, n, fin && past == 0);
-  if (past > 0) quic_send(at, id, at->streams[id].body, past, (int)fin);
-  if (past > 0) at->streams[id].body += past;
+  if (past > 0) quic_send(at, id, at->streams[id].body, past, (int)fin), at->streams[id].body += past;
   h3_advance(&at->h3, id, n + past); /* QUIC took these bytes */
   if (fin) h3_end_taken(&at->h3, id); /* and the FIN: the stream is named no longer */
   return 1;

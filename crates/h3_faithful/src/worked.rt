@@ -79,7 +79,7 @@ pub fn trailers_in_tunnels_end_the_connection()
     ensures handed { pulled Client 0 (take 8 tunnel_run) (take 8 tunnel_answers) ≡ status_pulled }
 {}
 
-/// A client that asks for a strict connection begins no request behind its server's GOAWAY, on a stream that it opened before either.
+/// A client that asks for a strict connection begins no request after its server's GOAWAY, on a stream that it opened before either.
 pub fn requests_behind_a_goaway_are_late()
     ensures answers { answers_of_ends (new_ends careful_client) late_run ≡ late_answers }
     ensures before { begins_late careful_client (take 1 late_run) (take 1 late_answers) (event.Head Client 0 home) ≡ false }

@@ -18,7 +18,7 @@ pub fn worked_refusals()
 {}
 
 /// A server that answers HEAD with content before it reads the request: the client's second pull finds the response malformed, and the
-/// schedule up to there is the front. Both heads go out before the settings came.
+/// schedule up to there is the front. Both header sections go out before the settings came.
 pub fn worked_judgment()
     ensures answers { answers_of_ends (new_ends strict_setup) early_run ≡ early_answers }
     ensures early { early (new_ends strict_setup) early_run ≡ false ∷ true ∷ false ∷ true ∷ false ∷ false ∷ false ∷ false ∷ [] }
