@@ -4,7 +4,7 @@
 #include <string.h>
 
 enum {
-  PIECE = 16 * 1024,         /* bytes that are moved at once */
+  PIECE = 8 * 1024,          /* bytes that are moved at once: so many go out before a response that is more urgent */
   WAITING_LIMIT = 64 * 1024, /* bytes of a body that may wait in the endpoint */
   HELD_LIMIT = 256 * 1024 - 16, /* bytes of a request that the endpoint may hold, just below the window: what fills that never becomes whole. A
                                  * header section of 64 KiB has up to 240 KiB in the Huffman code */
@@ -469,7 +469,12 @@ static bool move_piece(http3 *h, uint64_t id, http3_request *request) {
   if (h3_outgoing(&h->endpoint, id, bytes, room, &count, &past, &end) != H3_OK) return true;
   if (past > room - count) past = room - count, end = 0;
   if (count == 0 && past == 0 && !end) return true;
-  return move(h, id, bytes, count, end && past == 0) && (past == 0 || move_body(request, past, end));
+  if (!move(h, id, bytes, count, end && past == 0) || (past > 0 && !move_body(request, past, end))) return false;
+  h3_advance(&h->endpoint, id, count + past);
+  if (!end) return true;
+  h3_end_taken(&h->endpoint, id); /* the stream is named no longer */
+  if (request) request->sent = true;
+  return true;
 }
 
 static bool next(void *owner, int64_t *stream) {
@@ -486,16 +491,6 @@ static bool more(void *owner, int64_t stream) {
   bool moved = move_piece(h, (uint64_t)stream, request);
   if (request && request->sending) request->unsent = http3_waiting(request);
   return moved;
-}
-
-static void taken(void *owner, int64_t stream, size_t count, bool end) {
-  http3 *h = owner;
-  uint64_t id = (uint64_t)stream;
-  http3_request *request = find(h, id);
-  h3_advance(&h->endpoint, id, count);
-  if (end) h3_end_taken(&h->endpoint, id); /* the stream is named no longer */
-  if (request) request->unsent -= count < request->unsent ? count : request->unsent;
-  if (request && end) request->sent = true;
 }
 
 static void held(void *owner, int64_t stream, bool held) {
@@ -596,7 +591,7 @@ static void closed(void *owner, const quic_ending *ending) {
   free(h);
 }
 
-const quic_events http3_over_quic = {opened, received, was_reset, was_stopped, stream_closed, fill, next, more, taken, held, closed};
+const quic_events http3_over_quic = {opened, received, was_reset, was_stopped, stream_closed, fill, next, more, held, closed};
 
 void http3_leave(void *owner) {
   http3 *h = owner;

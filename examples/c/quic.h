@@ -35,7 +35,6 @@ typedef struct {
   bool (*next)(void *owner, int64_t *stream);                              /* which stream is sent next, while packets are written. false: none */
   bool (*more)(void *owner, int64_t stream);                               /* its next piece, by quic_send; none: it has to wait. Other calls here
                                                                             * have to wait. false: nothing more of it can be sent */
-  void (*taken)(void *owner, int64_t stream, size_t count, bool end);      /* so many of those bytes are in a packet, and (end) the end */
   void (*held)(void *owner, int64_t stream, bool held);                    /* it is not to be next, or it may be again */
   void (*closed)(void *owner, const quic_ending *ending);                  /* the last call; the owner frees itself */
 } quic_events;

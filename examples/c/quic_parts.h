@@ -22,7 +22,6 @@ typedef struct stream {
   entry entry;
   TAILQ_ENTRY(stream) order; /* of those in the list `list`, if any */
   struct streams *list;
-  bool is_owners; /* its bytes are answers to `more`: the owner says when it is next */
   buffer out;
 } stream;
 
@@ -48,13 +47,13 @@ struct quic_connection {
   ngtcp2_crypto_conn_ref ref;
   void *owner;
   table streams;
-  stream_list ready;      /* streams that are not the owner's, and have something for a packet */
-  stream_list blocked;    /* those of all streams of which nothing more goes into one in this round */
+  stream_list ready;      /* streams that have something for a packet, by turns */
+  stream_list blocked;    /* those of which nothing more goes into one in this round */
+  stream *piece;          /* one of `ready`, whose bytes answer `more`: the owner is asked for the next piece behind them. NULL: none */
   uint64_t kept, untaken; /* bytes in the buffers of all streams, and those of them that QUIC has not taken */
   bool close_asked, gone, told, shook; /* `shook`: the handshake is done */
   bool more;              /* could go out, but for what a burst may have, or the socket */
   bool asking;            /* the owner gives more of a stream whose turn it is */
-  bool owners_turn;       /* its streams and the others take turns */
   bool due;               /* it stands among those that are due */
   ngtcp2_ccerr close;
   quic_ending ending;

@@ -27,22 +27,23 @@ static bool has_bytes(const stream *stream) {
 }
 
 /* The stream is in this list behind the others, or (NULL) in none. */
-static void move_to(stream *stream, stream_list *list) {
+static void move_to(quic_connection *connection, stream *stream, stream_list *list) {
   if (stream->list) TAILQ_REMOVE(stream->list, stream, order);
   stream->list = list;
   if (list) TAILQ_INSERT_TAIL(list, stream, order);
+  if (connection->piece == stream && list != &connection->ready) connection->piece = NULL;
 }
 
 /* Nothing more of the stream goes into a packet in this round. */
 static void block(quic_connection *connection, stream *stream) {
-  move_to(stream, &connection->blocked);
-  if (stream->is_owners) connection->socket->events->held(connection->owner, (int64_t)stream->entry.id, true);
+  move_to(connection, stream, &connection->blocked);
+  connection->socket->events->held(connection->owner, (int64_t)stream->entry.id, true);
 }
 
 static void unblock_all(quic_connection *connection) {
   for (stream *stream; (stream = TAILQ_FIRST(&connection->blocked));) {
-    move_to(stream, stream->is_owners || !has_bytes(stream) ? NULL : &connection->ready);
-    if (stream->is_owners) connection->socket->events->held(connection->owner, (int64_t)stream->entry.id, false);
+    move_to(connection, stream, has_bytes(stream) ? &connection->ready : NULL);
+    connection->socket->events->held(connection->owner, (int64_t)stream->entry.id, false);
   }
 }
 
@@ -54,7 +55,7 @@ static void taken(quic_connection *connection, stream *stream, uint64_t count) {
 
 /* Nothing more of the stream goes out. What was sent is kept until the stream is closed. */
 static void abandon(quic_connection *connection, stream *stream) {
-  move_to(stream, NULL);
+  move_to(connection, stream, NULL);
   taken(connection, stream, stream->out.given - stream->out.taken);
   stream->out.ended = stream->out.end_taken = true;
 }
@@ -100,9 +101,8 @@ bool quic_is_read(const quic_connection *connection, int64_t id) {
 static void given(quic_connection *connection, stream *stream, size_t count) {
   connection->kept += count;
   connection->untaken += count;
-  if (connection->asking) return;
-  quic_due(connection);
-  if (!stream->list && has_bytes(stream)) move_to(stream, &connection->ready);
+  if (!connection->asking) quic_due(connection);
+  if (!stream->list && has_bytes(stream)) move_to(connection, stream, &connection->ready);
 }
 
 bool quic_send(quic_connection *connection, int64_t id, const uint8_t *bytes, size_t count, bool end) {
@@ -200,53 +200,39 @@ static ngtcp2_ssize write_stream(quic_connection *connection, stream *stream, ng
                                                 last ? flags | NGTCP2_WRITE_STREAM_FLAG_FIN : flags,
                                                 stream ? (int64_t)stream->entry.id : -1, pieces, count, time);
   if (count_taken < 0) return done;
-  bool end = last && (size_t)count_taken == total;
   taken(connection, stream, (uint64_t)count_taken);
-  if (end) stream->out.end_taken = true;
-  if (stream->is_owners) connection->socket->events->taken(connection->owner, (int64_t)stream->entry.id, (size_t)count_taken, end);
+  if (last && (size_t)count_taken == total) stream->out.end_taken = true;
   return done;
 }
 
-/* The place of a stream after what ngtcp2 returned: one that is not the owner's has its next turn after the others, or it has none. Returns whether
- * this was an error of this stream alone. */
+/* The place of a stream after what ngtcp2 returned: it has its next turn after the others if something of it was taken, or it has none. Returns
+ * whether this was an error of this stream alone. */
 static bool next_turn(quic_connection *connection, stream *stream, ngtcp2_ssize done) {
   switch (done) {
   case NGTCP2_ERR_STREAM_DATA_BLOCKED: block(connection, stream); return true;
-  case NGTCP2_ERR_STREAM_NOT_FOUND:
+  case NGTCP2_ERR_STREAM_NOT_FOUND: abandon(connection, stream); return true;
   case NGTCP2_ERR_STREAM_SHUT_WR: /* STOP_SENDING came: ngtcp2 has reset the stream, and says so here alone */
     abandon(connection, stream);
-    if (connection->close_asked) block(connection, stream);
-    else connection->socket->events->was_stopped(connection->owner, (int64_t)stream->entry.id);
+    if (!connection->close_asked) connection->socket->events->was_stopped(connection->owner, (int64_t)stream->entry.id);
     return true;
   default:
-    if (stream->list && done != 0) move_to(stream, has_bytes(stream) ? stream->list : NULL);
+    if (done != 0) move_to(connection, stream, has_bytes(stream) ? &connection->ready : NULL);
     return false;
   }
 }
 
-/* The owner's stream that is next. One of which nothing is here gets its next piece. */
-static stream *next_of_owner(quic_connection *connection) {
+/* The owner gives a piece of the stream that is next, or of the one behind it if nothing of that can go out. */
+static void ask(quic_connection *connection) {
   const quic_events *events = connection->socket->events;
-  for (int64_t id; connection->owner && events->next(connection->owner, &id);) {
+  for (int64_t id; !connection->piece && !connection->close_asked && connection->owner && events->next(connection->owner, &id);) {
     stream *stream = find_or_add(connection, id);
-    if (!stream || stream->list) return quic_close(connection, 0x102), NULL; /* H3_INTERNAL_ERROR: there is no memory for it, or to hold it */
-    stream->is_owners = true;
-    if (has_bytes(stream)) return stream;
-    connection->asking = !connection->close_asked && !stream->out.ended;
-    if (connection->asking && !events->more(connection->owner, id)) abandon(connection, stream);
+    if (!stream || stream->list == &connection->blocked) return quic_close(connection, 0x102); /* H3_INTERNAL_ERROR: no memory for it, or to hold it */
+    connection->asking = true;
+    if (!has_bytes(stream) && !stream->out.ended && !events->more(connection->owner, id)) abandon(connection, stream);
     connection->asking = false;
-    if (has_bytes(stream)) return stream;
-    block(connection, stream);
+    if (has_bytes(stream)) connection->piece = stream;
+    else block(connection, stream);
   }
-  return NULL;
-}
-
-/* The stream whose turn it is. */
-static stream *next_stream(quic_connection *connection) {
-  stream *other = TAILQ_FIRST(&connection->ready), *owners = NULL;
-  connection->owners_turn = !connection->owners_turn || !other;
-  if (connection->owners_turn) owners = next_of_owner(connection);
-  return owners ? owners : other;
 }
 
 void quic_write_packets(quic_connection *connection) {
@@ -257,7 +243,8 @@ void quic_write_packets(quic_connection *connection) {
   connection->more = !quic_flush(connection->socket);
   unblock_all(connection);
   while (!connection->more) {
-    stream *stream = next_stream(connection);
+    ask(connection);
+    stream *stream = TAILQ_FIRST(&connection->ready);
     ngtcp2_path_storage_zero(&path);
     ngtcp2_ssize done = write_stream(connection, stream, &path.path, batch->bytes + batch->count, time);
     if ((stream && next_turn(connection, stream, done)) || done == NGTCP2_ERR_WRITE_MORE) continue;

@@ -1,5 +1,5 @@
 -- Worked schedules of two sides that ask for strict messages.
-use Rattle.std.specs.Prelude.{Bool, true, List, [], ◌∷◌, codes, Some, None}
+use Rattle.std.specs.Prelude.{true, List, [], ◌∷◌, codes, Some, None}
 use Rattle.http_header.specs.FieldValue.{plain_value}
 use Rattle.http_header.specs.HeaderMap.{append}
 use Rattle.h3_header.specs.Head.{Head as Fields}
@@ -14,15 +14,12 @@ use Rattle.h3_connection.specs.declared.event.Pull.TheVariants as pull
 use Rattle.h3_connection.specs.declared.event.Refusal.TheVariants as refusal
 use Rattle.h3_connection.specs.declared.event.StreamFault.TheVariants as stream_fault
 use Rattle.h3_connection.specs.declared.setup.Announced.{Announced}
-use Rattle.h3_world.specs.Ends.{Ends, answered}
 use Rattle.h3_world.specs.WorkedHeads.{between, home, plain, status, trailer_of, with_one}
 use Rattle.h3_world.specs.declared.event.Answer.{Answer}
 use Rattle.h3_world.specs.declared.event.Answer.TheVariants as answer
 use Rattle.h3_world.specs.declared.event.Event.{Event}
 use Rattle.h3_world.specs.declared.event.Event.TheVariants as event
 use Rattle.h3_world.specs.declared.setup.Setup.{Setup}
-use Rattle.h3_strict.specs.Limits.{is_early}
-use Rattle.h3_strict.specs.PlainEnds.{judges}
 
 abbrev pub strict : Announced
 strict = record (plain 1000 0 0) { choices = record no_choices { strict_messages = true } }
@@ -108,13 +105,3 @@ tunnel_answers =
     answer.Opened 0 ∷ answer.Done ∷ answer.Delivered 0 ∷ answer.Done ∷
     answer.Done ∷ answer.Delivered 5 ∷ answer.Pulled (pull.Item (item.Head (status 200))) ∷ answer.Delivered 10 ∷
     answer.Pulled (pull.Fault (fault.Connection frame_unexpected)) ∷ []
-
--- Of each event of a schedule: does it judge a message, or what is delivered?
-abbrev pub judged : Ends → List Event → List Bool
-judged ends [] = []
-judged ends (e ∷ events) = judges ends e ∷ judged (answered ends e).1 events
-
--- Does it send a list before the other side's settings came?
-abbrev pub early : Ends → List Event → List Bool
-early ends [] = []
-early ends (e ∷ events) = is_early ends e ∷ early (answered ends e).1 events
