@@ -32,7 +32,8 @@ typedef struct {
   void (*was_stopped)(void *owner, int64_t stream);                        /* STOP_SENDING came, and more was to be sent: QUIC has reset its side */
   void (*stream_closed)(void *owner, int64_t stream);                      /* both sides are done, all is acknowledged */
   void (*fill)(void *owner);                                               /* packets will be written: what is to be sent? */
-  bool (*next)(void *owner, int64_t *stream);                              /* which stream is sent next, while packets are written. false: none */
+  bool (*next)(void *owner, int64_t *stream);                              /* which stream is sent next, while packets are written. false: none.
+                                                                            * NULL (and the two below): all is given by quic_send */
   bool (*more)(void *owner, int64_t stream);                               /* its next piece, by quic_send; none: it has to wait. Other calls here
                                                                             * have to wait. false: nothing more of it can be sent */
   void (*held)(void *owner, int64_t stream, bool held);                    /* it is not to be next, or it may be again */

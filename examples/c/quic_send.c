@@ -34,17 +34,18 @@ static void move_to(quic_connection *connection, stream *stream, stream_list *li
   if (connection->piece == stream && list != &connection->ready) connection->piece = NULL;
 }
 
-/* Nothing more of the stream goes into a packet in this round. */
-static void block(quic_connection *connection, stream *stream) {
-  move_to(connection, stream, &connection->blocked);
-  connection->socket->events->held(connection->owner, (int64_t)stream->entry.id, true);
+/* The stream has another place, and the owner learns whether that is among those of which nothing more goes into a packet in this round. */
+static void move_held(quic_connection *connection, stream *stream, stream_list *list) {
+  const quic_events *events = connection->socket->events;
+  move_to(connection, stream, list);
+  if (events->held) events->held(connection->owner, (int64_t)stream->entry.id, list == &connection->blocked);
 }
 
+static void block(quic_connection *connection, stream *stream) { move_held(connection, stream, &connection->blocked); }
+
 static void unblock_all(quic_connection *connection) {
-  for (stream *stream; (stream = TAILQ_FIRST(&connection->blocked));) {
-    move_to(connection, stream, has_bytes(stream) ? &connection->ready : NULL);
-    connection->socket->events->held(connection->owner, (int64_t)stream->entry.id, false);
-  }
+  for (stream *stream; (stream = TAILQ_FIRST(&connection->blocked));)
+    move_held(connection, stream, has_bytes(stream) ? &connection->ready : NULL);
 }
 
 /* QUIC took so many bytes, or nobody will. */
@@ -224,9 +225,10 @@ static bool next_turn(quic_connection *connection, stream *stream, ngtcp2_ssize 
 /* The owner gives a piece of the stream that is next, or of the one behind it if nothing of that can go out. */
 static void ask(quic_connection *connection) {
   const quic_events *events = connection->socket->events;
-  for (int64_t id; !connection->piece && !connection->close_asked && connection->owner && events->next(connection->owner, &id);) {
-    stream *stream = find_or_add(connection, id);
-    if (!stream || stream->list == &connection->blocked) return quic_close(connection, 0x102); /* H3_INTERNAL_ERROR: no memory for it, or to hold it */
+  if (!events->next || !connection->owner) return;
+  for (int64_t id; !connection->piece && !connection->close_asked && events->next(connection->owner, &id);) {
+    stream *stream = find_or_add(connection, id); /* none, or one that is named though it is held: there is no memory (H3_INTERNAL_ERROR) */
+    if (!stream || stream->list == &connection->blocked) return quic_close(connection, 0x102);
     connection->asking = true;
     if (!has_bytes(stream) && !stream->out.ended && !events->more(connection->owner, id)) abandon(connection, stream);
     connection->asking = false;
