@@ -12,7 +12,7 @@ enum {
   SECTION_GRACE = 2000,      /* the same for one whose header section is too long, and who may read no answer until it is sent */
   LINGER = 5000,             /* milliseconds of silence behind which a connection that takes no more requests is closed */
   NOTICE = 1000,             /* milliseconds between the first GOAWAY and the last: requests that were on their way come */
-  USUAL = 3                  /* the urgency of a request of which the program says nothing (RFC 9218, section 4.1): it takes turns with others */
+  USUAL = 3                  /* the urgency of a request that says nothing (RFC 9218, section 4.1) */
 };
 
 static const uint64_t ANY_ID = (UINT64_C(1) << 62) - 4;
@@ -143,7 +143,6 @@ static void hurry(http3_request *request) { prefer(request, 0, 0); }
 static void tell_section(http3_request *request, const h3_item *item) {
   http3 *h = request->connection;
   if (h->setup->server && item->kind == H3_TOO_LARGE_HEAD) hurry(request);
-  else if (h->setup->server && !request->has_head) prefer(request, USUAL, 1);
   http3_list *list = h->log && item->kind != H3_TOO_LARGE_HEAD ? http3_fields(h, item) : NULL;
   qlog_section(h->log, false, request->entry.id, list);
   free(list);
@@ -621,7 +620,8 @@ http3_request *http3_open(http3 *h, bool *going_away) {
 
 void http3_prefer(http3_request *request, const http3_list *list) {
   uint32_t urgency, incremental;
-  if (http3_priority(list, &urgency, &incremental)) prefer(request, urgency, incremental);
+  if (list && http3_priority(list, &urgency, &incremental)) prefer(request, urgency, incremental);
+  else prefer(request, USUAL, 1);
 }
 
 bool http3_has_to_wait(const http3_request *request, uint64_t silence) {
