@@ -59,10 +59,11 @@ static void free_all(void *of_thread) {
 
 static void make_key(void) { has_key = pthread_key_create(&key, free_all) == 0; }
 
-/* Where the library is unloaded threads may go on, and no code of it is there at their end. */
+/* Where the library is unloaded threads may go on, and no code of it is there at their end: no more blocks are kept. */
 __attribute__((destructor)) static void unload(void) {
   if (spare) free_all(spare);
   if (has_key) pthread_key_delete(key);
+  has_key = false;
 }
 
 /* Places for the spare blocks of this thread, if they are freed at its end; else NULL. */
