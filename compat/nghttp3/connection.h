@@ -82,6 +82,7 @@ typedef struct stream {
   int holders; /* calls that use it now, which a callback may interrupt: it is freed after the last one */
   bool is_read_shut, is_closed;
   bool may_be_held; /* the endpoint may hold bytes that came: of a frame that is not whole, or after a head that waits */
+  bool awaits_head; /* the header section of the message did not come, interim ones aside */
   bool is_waiting, is_ready;
   bool is_closing; /* QUIC closed it while a head waited: it is closed after that message */
   bool is_untaken; /* the endpoint may have bytes of the stream */
@@ -121,6 +122,7 @@ struct nghttp3_conn {
   int64_t end_id;  /* a server takes no request from here on */
   stream control, encoder, decoder;
   struct stream_row ready[NGHTTP3_URGENCY_LEVELS]; /* request streams that may have something to send, by urgency */
+  unsigned urgencies;                              /* a bit for each of these rows that has a stream */
   struct stream_row waiting;                       /* request streams whose head waits for the peer's encoder */
   uint32_t round;                                  /* of trying all of these */
   stream **table;                                  /* request streams by id */
@@ -200,8 +202,8 @@ static inline void block_give(block_pool *pool, void *block) {
 }
 #endif
 
-/* A client opens the streams 0, 4, 8, .. (RFC 9000, section 2.1). */
-static inline bool is_request(int64_t id) { return id >= 0 && id % 4 == 0; }
+/* A client opens the streams 0, 4, 8, .. (RFC 9000, section 2.1): neither these bits nor the sign are set. */
+static inline bool is_request(int64_t id) { return ((uint64_t)id & (UINT64_C(1) << 63 | 3)) == 0; }
 
 /* A request stream, or a local unidirectional stream that is bound to this id; else NULL. */
 static inline stream *stream_find(nghttp3_conn *connection, int64_t id) {

@@ -50,11 +50,12 @@ static inline void copy_down(uint8_t *to, const uint8_t *from, size_t size) {
     memmove(to, from, size);
     return;
   }
-  for (size_t at = 0; at < size; at += STEP) {
+  size_t at = 0;
+  do {
     uint64_t some[STEP / sizeof(uint64_t)];
     memcpy(some, from + at, STEP);
     memcpy(to + at, some, STEP);
-  }
+  } while ((at += STEP) < size);
 }
 
 /* Names and values move down from `from`, to make room for the NULs. */

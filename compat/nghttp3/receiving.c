@@ -100,7 +100,7 @@ static int tell_item(nghttp3_conn *connection, stream *s, const h3_item *item) {
   stream_set_waiting(connection, s, item->kind == H3_WAITING);
   if (connection->has_own_table) may_have_bytes(connection, &connection->decoder); /* for a section (RFC 9204, section 4.4.1) */
   switch (item->kind) {
-    case H3_HEAD:
+    case H3_HEAD: s->awaits_head = false; return tell_fields(connection, s, item);
     case H3_INTERIM:
     case H3_TRAILER: return tell_fields(connection, s, item);
     case H3_BODY: return tell_copied_body(connection, s, item);
@@ -150,9 +150,6 @@ static int next_item(nghttp3_conn *connection, stream *s, input *in, reading *no
 
 /* ---- the type and length of a DATA frame whose payload comes later ---- */
 
-/* How many bytes a variable-length integer has that begins with this one (RFC 9000, section 16). */
-static size_t number_length(uint8_t first) { return (size_t)1 << (first >> 6); }
-
 /* Are these bytes the type and length of a DATA frame that has a payload, and no more? */
 static bool is_data_head(const uint8_t *bytes, size_t length) {
   if (length < 2 || bytes[0] != 0 || length != 1 + number_length(bytes[1])) return false;
@@ -170,10 +167,16 @@ static bool keep_head(stream *s, input *in, uint32_t before) {
   return true;
 }
 
+/* Reads the next item of `in`, from its front on. */
+static inline void read_front(nghttp3_conn *connection, stream *s, const input *in, reading *to) {
+  if (is_at_end(s, in)) read_end(connection, s, *in, to);
+  else read_on(connection, s, (input){in->bytes, first_length(s, in), in->has_fin}, false, to);
+}
+
 /* Passes all items that are there, of what came before and of `in`, from what was read of it on. */
 static int tell_items(nghttp3_conn *connection, stream *s, input *in, reading *now) {
   uint32_t before = 0; /* the kind of the item before, if that is a header or trailer section */
-  for (;; read_on(connection, s, *in, is_at_end(s, in), now)) {
+  for (;; read_front(connection, s, in, now)) {
     int error = next_item(connection, s, in, now);
     uint32_t kind = now->item.kind;
     if (!error && before) error = tell_end_of_fields(connection, s, before, kind == H3_END);
@@ -190,7 +193,7 @@ static int tell_items(nghttp3_conn *connection, stream *s, input *in, reading *n
 /* Passes all items of `in` from its front on. */
 static int tell_from_front(nghttp3_conn *connection, stream *s, input *in) {
   reading now;
-  read_on(connection, s, *in, is_at_end(s, in), &now);
+  read_front(connection, s, in, &now);
   return tell_items(connection, s, in, &now);
 }
 
@@ -258,8 +261,8 @@ static APART nghttp3_ssize pass_items(nghttp3_conn *connection, stream *s, const
   return error ? error : (nghttp3_ssize)credit;
 }
 
-/* Bytes of a request stream, without the end. Most packets are a piece of a body and nothing else: the stream is not looked at after the
- * callback then, so it need not be held. */
+/* Bytes of a request stream after the header section, without the end. Most packets are a piece of a body and nothing else: the stream is
+ * not looked at after the callback then, so it need not be held. */
 static nghttp3_ssize read_bytes(nghttp3_conn *connection, stream *s, const uint8_t *bytes, size_t length) {
   reading now;
   read_on(connection, s, (input){bytes, length, false}, false, &now);
@@ -396,7 +399,7 @@ static int reject(nghttp3_conn *connection, stream *s) {
 /* What came on a request stream that is there. */
 static inline nghttp3_ssize read_there(nghttp3_conn *connection, stream *s, const uint8_t *bytes, size_t length, int fin) {
   if (is_shut(s)) return (nghttp3_ssize)length;
-  bool is_more = length == 0 || fin || s->head_length > 0;
+  bool is_more = length == 0 || fin || (s->head_length | s->awaits_head);
   return is_more ? pass_items(connection, s, bytes, length, fin, NULL) : read_bytes(connection, s, bytes, length);
 }
 

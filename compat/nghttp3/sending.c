@@ -129,8 +129,10 @@ EXPORT nghttp3_ssize nghttp3_conn_writev_stream(nghttp3_conn *connection, int64_
   *id = -1, *fin = 0;
   if (room == 0) return 0;
   int error = connection->has_own_work ? next_own(connection, &next) : 0;
-  for (int urgency = 0; urgency < NGHTTP3_URGENCY_LEVELS && !error && !next; urgency++)
+  for (unsigned urgency = 0, rows; !error && !next && (rows = connection->urgencies >> urgency); urgency++) {
+    urgency += (unsigned)__builtin_ctz(rows);
     error = next_of_row(connection, &connection->ready[urgency], &next);
+  }
   if (error) return error;
   return next ? hand_out(next, id, fin, vectors, room) : 0;
 }

@@ -40,7 +40,7 @@ bool table_grow(nghttp3_conn *connection) {
 
 void stream_init(stream *s, int64_t id, uint64_t endpoint_id) {
   memset(s, 0, sizeof *s);
-  s->id = id, s->endpoint_id = endpoint_id, s->priority.urgency = NGHTTP3_DEFAULT_URGENCY;
+  s->id = id, s->endpoint_id = endpoint_id, s->priority.urgency = NGHTTP3_DEFAULT_URGENCY, s->awaits_head = true;
   STAILQ_INIT(&s->chunks);
 }
 
@@ -111,11 +111,15 @@ bool stream_has_work(const stream *s) {
 void stream_schedule(nghttp3_conn *connection, stream *s) {
   if (s->is_ready || !stream_has_work(s) || !is_request(s->id)) return;
   TAILQ_INSERT_TAIL(&connection->ready[s->priority.urgency], s, ready);
+  connection->urgencies |= 1u << s->priority.urgency;
   s->is_ready = true;
 }
 
 void stream_unschedule(nghttp3_conn *connection, stream *s) {
-  if (s->is_ready) TAILQ_REMOVE(&connection->ready[s->priority.urgency], s, ready);
+  if (!s->is_ready) return;
+  struct stream_row *row = &connection->ready[s->priority.urgency];
+  TAILQ_REMOVE(row, s, ready);
+  if (TAILQ_EMPTY(row)) connection->urgencies &= ~(1u << s->priority.urgency);
   s->is_ready = false;
 }
 

@@ -4,14 +4,15 @@
 #include <string.h>
 
 enum {
-  PIECE = 16 * 1024,         /* bytes that are moved at once */
+  PIECE = 8 * 1024,          /* bytes that are moved at once: so many go out before a response that is more urgent */
   WAITING_LIMIT = 64 * 1024, /* bytes of a body that may wait in the endpoint */
   HELD_LIMIT = 256 * 1024 - 16, /* bytes of a request that the endpoint may hold, just below the window: what fills that never becomes whole. A
                                  * header section of 64 KiB has up to 240 KiB in the Huffman code */
   GRACE = 100,               /* milliseconds that a client has for an answer before it is told to send no more */
   SECTION_GRACE = 2000,      /* the same for one whose header section is too long, and who may read no answer until it is sent */
   LINGER = 5000,             /* milliseconds of silence behind which a connection that takes no more requests is closed */
-  NOTICE = 1000              /* milliseconds between the first GOAWAY and the last: requests that were on their way come */
+  NOTICE = 1000,             /* milliseconds between the first GOAWAY and the last: requests that were on their way come */
+  USUAL = 3                  /* the urgency of a request that says nothing (RFC 9218, section 4.1) */
 };
 
 static const uint64_t ANY_ID = (UINT64_C(1) << 62) - 4;
@@ -131,11 +132,13 @@ static void cut_off(http3_request *request, uint64_t code) {
 
 /* ---- what came ---- */
 
-/* Of a section that is too large nobody knows the `priority`: its answer is short, and sent before others. */
-static void hurry(http3_request *request) {
-  quic_connection *quic = request->connection->quic;
-  if (!request->closed && !quic_prefer(quic, (int64_t)request->entry.id, 0, false)) quic_close(quic, H3_CODE_INTERNAL_ERROR);
+static void prefer(http3_request *request, uint32_t urgency, uint32_t incremental) {
+  http3 *h = request->connection;
+  if (h3_set_priority(&h->endpoint, request->entry.id, urgency, incremental, NULL) == H3_MEMORY) quic_close(h->quic, H3_CODE_INTERNAL_ERROR);
 }
+
+/* Of a section that is too large nobody knows the `priority`: its answer is short, and sent before others. */
+static void hurry(http3_request *request) { prefer(request, 0, 0); }
 
 static void tell_section(http3_request *request, const h3_item *item) {
   http3 *h = request->connection;
@@ -427,6 +430,7 @@ static void was_stopped(void *owner, int64_t stream) {
 static void stream_closed(void *owner, int64_t stream) {
   http3 *h = owner;
   http3_request *request = find(h, (uint64_t)stream);
+  if (request && !request->sent) h3_reset(&h->endpoint, request->entry.id, NULL); /* nothing more of it goes out */
   if (request) request->closed = true;
   for (other *at = h->others; at < h->others + QUIC_OTHERS; at++)
     if (at->id == (uint64_t)stream) at->owed = 0; /* what is still held of it gets no credit */
@@ -466,9 +470,17 @@ static bool move_piece(http3 *h, uint64_t id, http3_request *request) {
   if (count == 0 && past == 0 && !end) return true;
   if (!move(h, id, bytes, count, end && past == 0) || (past > 0 && !move_body(request, past, end))) return false;
   h3_advance(&h->endpoint, id, count + past);
-  if (!end) return quic_offer(h->quic, (int64_t)id); /* perhaps there is more */
-  h3_end_taken(&h->endpoint, id); /* h3_next_to_send names the stream no longer */
+  if (!end) return true;
+  h3_end_taken(&h->endpoint, id); /* the stream is named no longer */
   if (request) request->sent = true;
+  return true;
+}
+
+static bool next(void *owner, int64_t *stream) {
+  http3 *h = owner;
+  uint64_t id;
+  if (h3_next_by_priority(&h->endpoint, &id) != H3_OK) return false;
+  *stream = (int64_t)id;
   return true;
 }
 
@@ -480,13 +492,9 @@ static bool more(void *owner, int64_t stream) {
   return moved;
 }
 
-/* QUIC learns of all streams on which bytes or an end wait, but for those that it has forgotten. */
-static void offer_all(http3 *h) {
-  for (uint64_t id = 0; h3_next_to_send(&h->endpoint, id, &id) == H3_OK; id++) {
-    const http3_request *request = find(h, id);
-    if (request && request->closed) continue;
-    if (!quic_offer(h->quic, (int64_t)id)) return quic_close(h->quic, H3_CODE_INTERNAL_ERROR);
-  }
+static void held(void *owner, int64_t stream, bool held) {
+  http3 *h = owner;
+  if (h3_hold(&h->endpoint, (uint64_t)stream, held, NULL) == H3_MEMORY) quic_close(h->quic, H3_CODE_INTERNAL_ERROR);
 }
 
 /* Asks for more of the bodies that are being sent. */
@@ -532,7 +540,6 @@ static void fill(void *owner) {
   http3_request *resumed;
   TAILQ_FOREACH(resumed, &h->requests, order) resume(resumed);
   ask_for_bodies(h);
-  offer_all(h);
   for (http3_request *request = TAILQ_FIRST(&h->requests), *next; request; request = next) {
     next = TAILQ_NEXT(request, order);
     if (request->closed && request->sending) was_stopped(h, (int64_t)request->entry.id); /* while nothing was to be sent QUIC does not say so */
@@ -560,7 +567,7 @@ static void *opened(quic_connection *quic, void *user) {
   config.max_webtransport_sessions = setup->sessions;
   bool made = h3_new(&h->endpoint, &config, NULL) == H3_OK;
   for (int64_t id = (int64_t)h3_control_id(setup->server), i = 0; made && i < 3; i++, id += 4) /* the peer's heads may wait for them */
-    made = quic_open(quic, true) == id && quic_prefer(quic, id, TURNS_FIRST, false);
+    made = quic_open(quic, true) == id;
   if (!made) {
     h3_free(&h->endpoint);
     free(h);
@@ -583,7 +590,7 @@ static void closed(void *owner, const quic_ending *ending) {
   free(h);
 }
 
-const quic_events http3_over_quic = {opened, received, was_reset, was_stopped, stream_closed, fill, more, closed};
+const quic_events http3_over_quic = {opened, received, was_reset, was_stopped, stream_closed, fill, next, more, held, closed};
 
 void http3_leave(void *owner) {
   http3 *h = owner;
@@ -607,14 +614,14 @@ http3_request *http3_open(http3 *h, bool *going_away) {
   if (answer != H3_OK) return NULL;
   http3_request *request = quic_open(h->quic, false) == (int64_t)id ? add(h, id) : NULL;
   if (!request) quic_close(h->quic, H3_CODE_INTERNAL_ERROR);
+  else prefer(request, USUAL, 1);
   return request;
 }
 
 void http3_prefer(http3_request *request, const http3_list *list) {
-  quic_connection *quic = request->connection->quic;
   uint32_t urgency, incremental;
-  if (request->closed || !http3_priority(list, &urgency, &incremental)) return;
-  if (!quic_prefer(quic, (int64_t)request->entry.id, (int)urgency, incremental)) quic_close(quic, H3_CODE_INTERNAL_ERROR);
+  if (list && http3_priority(list, &urgency, &incremental)) prefer(request, urgency, incremental);
+  else prefer(request, USUAL, 1);
 }
 
 bool http3_has_to_wait(const http3_request *request, uint64_t silence) {

@@ -4,7 +4,6 @@
 #define EXAMPLES_HTTP3_H
 #include "quic.h"
 #include "table.h"
-#include "turns.h"
 #include <h3.h>
 #include <sys/queue.h>
 
@@ -136,8 +135,8 @@ bool http3_values(http3 *, const h3_item *head, http3_wanted *wanted, size_t cou
 bool http3_head(http3_request *, const http3_list *);
 /* Sends a header section that is sent but once. */
 bool http3_head_of(http3_request *, const http3_field *fields, size_t count);
-/* A server's answer is sent in the order that the request's header section asks for (RFC 9218, section 10; turns.h). If this is not called, or if
- * the request came through a proxy, it has the usual urgency, and takes turns with others. */
+/* A server's answer is sent in the order that the request's header section asks for (RFC 9218, section 10). If the request came through a
+ * proxy, or for NULL, it has the usual urgency, and takes turns with others. Before, it has that urgency, and has its turn by its id. */
 void http3_prefer(http3_request *, const http3_list *head);
 /* Whether a body stands still since others are sent before it: the peer granted credit for it, and was not silent for so many milliseconds. */
 bool http3_has_to_wait(const http3_request *, uint64_t silence);

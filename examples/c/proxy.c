@@ -210,7 +210,7 @@ static const char *read_request(exchange *exchange, const http3_list *list) {
   if (is_connect && !exchange->is_tunnel) return "501";
   if (strcmp(method, "OPTIONS") == 0 && strcmp(hops, "0") == 0) return "204"; /* RFC 9110, section 7.6.2 */
   if (forward_is_loop(list)) return "508";
-  if (!exchange->is_tunnel) http3_prefer(exchange->front, list); /* tunnels take turns with others (RFC 9218, section 11) */
+  http3_prefer(exchange->front, exchange->is_tunnel ? NULL : list); /* tunnels take turns with others (RFC 9218, section 11) */
   http3_peer(exchange->front->connection, peer);
   exchange->head = forward_request(list, peer);
   return exchange->head ? NULL : "500";

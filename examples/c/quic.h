@@ -32,8 +32,11 @@ typedef struct {
   void (*was_stopped)(void *owner, int64_t stream);                        /* STOP_SENDING came, and more was to be sent: QUIC has reset its side */
   void (*stream_closed)(void *owner, int64_t stream);                      /* both sides are done, all is acknowledged */
   void (*fill)(void *owner);                                               /* packets will be written: what is to be sent? */
-  bool (*more)(void *owner, int64_t stream);                               /* a stream of quic_offer has its turn: its next piece, by quic_send.
-                                                                            * Other calls here have to wait. false: nothing more of it can be sent */
+  bool (*next)(void *owner, int64_t *stream);                              /* which stream is sent next, while packets are written. false: none.
+                                                                            * NULL (and the two below): all is given by quic_send */
+  bool (*more)(void *owner, int64_t stream);                               /* its next piece, by quic_send; none: it has to wait. Other calls here
+                                                                            * have to wait. false: nothing more of it can be sent */
+  void (*held)(void *owner, int64_t stream, bool held);                    /* it is not to be next, or it may be again */
   void (*closed)(void *owner, const quic_ending *ending);                  /* the last call; the owner frees itself */
 } quic_events;
 
@@ -114,12 +117,8 @@ int64_t quic_open(quic_connection *, bool unidirectional);
 size_t quic_room(const quic_connection *, int64_t stream);
 /* Whether the peer has granted credit for more of a stream. */
 bool quic_is_read(const quic_connection *, int64_t stream);
-/* There is more to be sent on a stream: `more` is asked for it when the stream has its turn. false: out of memory. */
-bool quic_offer(quic_connection *, int64_t stream);
-/* The order in which streams are sent (turns.h): TURNS_FIRST, or an urgency. Before, a stream has the usual urgency and is incremental. false: out
- * of memory. */
-bool quic_prefer(quic_connection *, int64_t stream, int urgency, bool incremental);
-/* Gives bytes to be sent, copied, and with `end` the end of the stream. false: out of memory, nothing was taken. */
+/* Gives bytes to be sent, copied, and with `end` the end of the stream. Bytes that are no answer to `more` take turns with all that `next` names.
+ * false: out of memory, nothing was taken. */
 bool quic_send(quic_connection *, int64_t stream, const uint8_t *bytes, size_t count, bool end);
 /* The same with no copy: the next `count` bytes (not 0) are those that the caller writes here, before any other call. NULL: out of memory. */
 uint8_t *quic_send_here(quic_connection *, int64_t stream, size_t count);

@@ -191,7 +191,8 @@ static quic_connection *make_connection(quic_socket *socket, const char *host) {
   connection->wake_at = UINT64_MAX;
   connection->credentials = socket->credentials;
   connection->credentials->users++;
-  turns_begin(&connection->turns);
+  TAILQ_INIT(&connection->ready);
+  TAILQ_INIT(&connection->blocked);
   LIST_INSERT_HEAD(&socket->connections, connection, others);
   socket->count++;
   socket->open++;

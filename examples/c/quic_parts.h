@@ -7,7 +7,6 @@
 #include "table.h"
 #include "timers.h"
 #include "tls.h"
-#include "turns.h"
 #include <sys/queue.h>
 #include <sys/socket.h>
 
@@ -21,10 +20,12 @@ enum {
 /* One stream that is open: what is sent on it. */
 typedef struct stream {
   entry entry;
-  turn turn;    /* in no list if nothing of it is to be sent */
-  bool offered; /* the owner has more for it */
+  TAILQ_ENTRY(stream) order; /* of those in the list `list`, if any */
+  struct streams *list;
   buffer out;
 } stream;
+
+typedef TAILQ_HEAD(streams, stream) stream_list;
 
 /* An id by which packets name a connection. */
 typedef struct known_id {
@@ -46,7 +47,9 @@ struct quic_connection {
   ngtcp2_crypto_conn_ref ref;
   void *owner;
   table streams;
-  turns turns;            /* streams that have something for a packet; blocked are those of which nothing more goes into one in this round */
+  stream_list ready;      /* streams that have something for a packet, by turns */
+  stream_list blocked;    /* those of which nothing more goes into one in this round */
+  stream *piece;          /* one of `ready`, whose bytes answer `more`: the owner is asked for the next piece behind them. NULL: none */
   uint64_t kept, untaken; /* bytes in the buffers of all streams, and those of them that QUIC has not taken */
   bool close_asked, gone, told, shook; /* `shook`: the handshake is done */
   bool more;              /* could go out, but for what a burst may have, or the socket */

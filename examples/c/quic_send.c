@@ -5,7 +5,6 @@
 #include <string.h>
 
 enum {
-  USUAL = 3,               /* the urgency of streams of which the owner says nothing (RFC 9218, section 4.1): they take turns */
   KEPT_LIMIT = 256 * 1024, /* bytes of a stream that may wait for their acknowledgment */
   FIRST_PIECE = 16 * 1024  /* of a stream that has none, however many the others have */
 };
@@ -17,7 +16,7 @@ stream *quic_find(const quic_connection *connection, int64_t id) { return table_
 static stream *find_or_add(quic_connection *connection, int64_t id) {
   stream *found = quic_find(connection, id);
   if (found || !(found = malloc(sizeof *found))) return found;
-  *found = (stream){.turn = {.of = found, .id = (uint64_t)id, .urgency = USUAL, .incremental = true}};
+  *found = (stream){0};
   table_add(&connection->streams, &found->entry, (uint64_t)id);
   return found;
 }
@@ -25,6 +24,28 @@ static stream *find_or_add(quic_connection *connection, int64_t id) {
 /* Something of the stream is here, for a packet. */
 static bool has_bytes(const stream *stream) {
   return stream->out.taken < stream->out.given || (stream->out.ended && !stream->out.end_taken);
+}
+
+/* The stream is in this list behind the others, or (NULL) in none. */
+static void move_to(quic_connection *connection, stream *stream, stream_list *list) {
+  if (stream->list) TAILQ_REMOVE(stream->list, stream, order);
+  stream->list = list;
+  if (list) TAILQ_INSERT_TAIL(list, stream, order);
+  if (connection->piece == stream && list != &connection->ready) connection->piece = NULL;
+}
+
+/* The stream has another place, and the owner learns whether that is among those of which nothing more goes into a packet in this round. */
+static void move_held(quic_connection *connection, stream *stream, stream_list *list) {
+  const quic_events *events = connection->socket->events;
+  move_to(connection, stream, list);
+  if (events->held) events->held(connection->owner, (int64_t)stream->entry.id, list == &connection->blocked);
+}
+
+static void block(quic_connection *connection, stream *stream) { move_held(connection, stream, &connection->blocked); }
+
+static void unblock_all(quic_connection *connection) {
+  for (stream *stream; (stream = TAILQ_FIRST(&connection->blocked));)
+    move_held(connection, stream, has_bytes(stream) ? &connection->ready : NULL);
 }
 
 /* QUIC took so many bytes, or nobody will. */
@@ -35,8 +56,7 @@ static void taken(quic_connection *connection, stream *stream, uint64_t count) {
 
 /* Nothing more of the stream goes out. What was sent is kept until the stream is closed. */
 static void abandon(quic_connection *connection, stream *stream) {
-  turns_remove(&connection->turns, &stream->turn);
-  stream->offered = false;
+  move_to(connection, stream, NULL);
   taken(connection, stream, stream->out.given - stream->out.taken);
   stream->out.ended = stream->out.end_taken = true;
 }
@@ -83,22 +103,7 @@ static void given(quic_connection *connection, stream *stream, size_t count) {
   connection->kept += count;
   connection->untaken += count;
   if (!connection->asking) quic_due(connection);
-  if (has_bytes(stream)) turns_add(&connection->turns, &stream->turn);
-}
-
-bool quic_offer(quic_connection *connection, int64_t id) {
-  stream *stream = find_or_add(connection, id);
-  if (!stream) return false;
-  if (stream->out.ended) return true;
-  stream->offered = true;
-  turns_add(&connection->turns, &stream->turn);
-  return true;
-}
-
-bool quic_prefer(quic_connection *connection, int64_t id, int urgency, bool incremental) {
-  stream *stream = find_or_add(connection, id);
-  if (stream) turns_prefer(&connection->turns, &stream->turn, urgency, incremental);
-  return stream;
+  if (!stream->list && has_bytes(stream)) move_to(connection, stream, &connection->ready);
 }
 
 bool quic_send(quic_connection *connection, int64_t id, const uint8_t *bytes, size_t count, bool end) {
@@ -201,35 +206,35 @@ static ngtcp2_ssize write_stream(quic_connection *connection, stream *stream, ng
   return done;
 }
 
-/* The place of a stream after what ngtcp2 returned: it has its next turn after the others if something of it was taken, else it keeps its
- * place, or it has none. Returns whether this was an error of this stream alone. */
-static bool next_turn(quic_connection *connection, stream *stream, ngtcp2_ssize done, bool was_taken) {
+/* The place of a stream after what ngtcp2 returned: it has its next turn after the others if something of it was taken, or it has none. Returns
+ * whether this was an error of this stream alone. */
+static bool next_turn(quic_connection *connection, stream *stream, ngtcp2_ssize done) {
   switch (done) {
-  case NGTCP2_ERR_STREAM_DATA_BLOCKED: turns_block(&connection->turns, &stream->turn); return true;
+  case NGTCP2_ERR_STREAM_DATA_BLOCKED: block(connection, stream); return true;
   case NGTCP2_ERR_STREAM_NOT_FOUND: abandon(connection, stream); return true;
   case NGTCP2_ERR_STREAM_SHUT_WR: /* STOP_SENDING came: ngtcp2 has reset the stream, and says so here alone */
     abandon(connection, stream);
     if (!connection->close_asked) connection->socket->events->was_stopped(connection->owner, (int64_t)stream->entry.id);
     return true;
   default:
-    if (!has_bytes(stream) && !stream->offered) turns_remove(&connection->turns, &stream->turn);
-    else if (done > 0 && was_taken) turns_pass(&connection->turns, &stream->turn);
+    if (done != 0) move_to(connection, stream, has_bytes(stream) ? &connection->ready : NULL);
     return false;
   }
 }
 
-/* The stream whose turn it is. One of which nothing is here gets its next piece from the owner. */
-static stream *next_stream(quic_connection *connection) {
-  for (turn *turn; (turn = turns_next(&connection->turns));) {
-    stream *stream = turn->of;
-    if (has_bytes(stream)) return stream;
-    connection->asking = stream->offered && !connection->close_asked;
-    stream->offered = false;
-    if (connection->asking && !connection->socket->events->more(connection->owner, (int64_t)turn->id)) abandon(connection, stream);
+/* The owner gives a piece of the stream that is next, or of the one behind it if nothing of that can go out. */
+static void ask(quic_connection *connection) {
+  const quic_events *events = connection->socket->events;
+  if (!events->next || !connection->owner) return;
+  for (int64_t id; !connection->piece && !connection->close_asked && events->next(connection->owner, &id);) {
+    stream *stream = find_or_add(connection, id); /* none, or one that is named though it is held: there is no memory (H3_INTERNAL_ERROR) */
+    if (!stream || stream->list == &connection->blocked) return quic_close(connection, 0x102);
+    connection->asking = true;
+    if (!has_bytes(stream) && !stream->out.ended && !events->more(connection->owner, id)) abandon(connection, stream);
     connection->asking = false;
-    if (!has_bytes(stream)) turns_remove(&connection->turns, turn);
+    if (has_bytes(stream)) connection->piece = stream;
+    else block(connection, stream);
   }
-  return NULL;
 }
 
 void quic_write_packets(quic_connection *connection) {
@@ -238,13 +243,13 @@ void quic_write_packets(quic_connection *connection) {
   ngtcp2_tstamp time = quic_now(); /* of all packets of a burst */
   size_t total = 0, burst = ngtcp2_conn_get_send_quantum(connection->conn);
   connection->more = !quic_flush(connection->socket);
-  turns_unblock(&connection->turns);
+  unblock_all(connection);
   while (!connection->more) {
-    stream *stream = next_stream(connection);
-    uint64_t before = stream ? stream->out.taken : 0;
+    ask(connection);
+    stream *stream = TAILQ_FIRST(&connection->ready);
     ngtcp2_path_storage_zero(&path);
     ngtcp2_ssize done = write_stream(connection, stream, &path.path, batch->bytes + batch->count, time);
-    if ((stream && next_turn(connection, stream, done, stream->out.taken != before)) || done == NGTCP2_ERR_WRITE_MORE) continue;
+    if ((stream && next_turn(connection, stream, done)) || done == NGTCP2_ERR_WRITE_MORE) continue;
     if (done < 0) return quic_fail(connection, (int)done);
     if (done == 0) break;
     total += (size_t)done;

@@ -63,6 +63,7 @@ static void on_head(http3_request *request, const h3_item *head) {
   if (request->data || head->kind == H3_TRAILER) return;
   const char *status = judge(request, head);
   if (status) return refuse(request, status);
+  http3_prefer(request, NULL); /* WebSockets take turns with each other (RFC 9218, section 11) */
   if (!add(request) || !http3_head_of(request, &field, 1)) http3_give_up(request, H3_CODE_INTERNAL_ERROR);
 }
 

@@ -118,7 +118,7 @@ static bool ask(client *client) {
 
 /* One connection, in a process of its own: it says at `ready` that it is there, and begins when `begin` is closed. */
 static int run_client(char **words, size_t parallel, size_t requests, double last, int ready, int begin) {
-  static const quic_events events = {opened, received, was_reset, was_stopped, stream_closed, fill, NULL, closed};
+  static const quic_events events = {opened, received, was_reset, was_stopped, stream_closed, fill, .closed = closed};
   quic_identity identity = {.trusted = words[3]};
   char authority[32], byte = 0;
   client client = {.authority = authority, .path = words[4]};

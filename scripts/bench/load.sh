@@ -29,7 +29,7 @@ export PKG_CONFIG_PATH=$lib GOCACHE=${GOCACHE:-$work/go}
 make -s -C examples/c LIB="$lib" OUT="$work"
 make -s -C examples/go LIB="$lib" OUT="$work"
 gcc -O2 -std=c11 -D_GNU_SOURCE -Wall -Wextra -Iexamples/c -o "$work/load" scripts/bench/load.c examples/c/quic*.c \
-  examples/c/turns.c examples/c/timers.c examples/c/tls.c examples/c/buffer.c \
+  examples/c/timers.c examples/c/tls.c examples/c/buffer.c \
   -l:libnghttp3.a $(pkg-config --cflags --libs libngtcp2 libngtcp2_crypto_gnutls gnutls)
 cert=$work/cert.pem
 key=$work/key.pem

@@ -32,11 +32,12 @@ build() { # KIND FLAGS..
 }
 
 # memory that is refused: a program in C, whose malloc the library uses
-refused() {
-  local include program=$out/$SONAME.refused
+refused() { # KIND of the drop-in
+  local include program=$out/$SONAME.refused folder=$out/refused$1
+  mkdir -p "$folder" && ln -sf "$OURS$1" "$folder/$SONAME"
   include=$(dirname "$(dirname "$HEADER")")
-  "$cc" -std=c11 -D_DEFAULT_SOURCE -O1 -g -Wall -Wextra -Werror -I"$include" -o "$program" $tests/refused.c "$OURS" &&
-    LD_LIBRARY_PATH=$out timeout 100 "$program"
+  "$cc" -std=c11 -pthread -D_DEFAULT_SOURCE -O1 -g -Wall -Wextra -Werror -I"$include" -o "$program" $tests/refused.c "$OURS$1" &&
+    LD_LIBRARY_PATH=$folder timeout 100 "$program" | sed "s/refused memory/&${1:+, ${1#.}}/"
 }
 
 sanitized() { # NAME COMMAND..
@@ -61,7 +62,8 @@ checks() { # SONAME, the folder of the header, Debian's library
   run tables "${python[@]}" $tests/tables.py
   run exchanges "${python[@]}" $tests/exchanges.py 0 100
   run cancellations "${python[@]}" $tests/cancellations.py 0 60
-  run "refused memory" refused
+  run "refused memory" refused ""
+  run "refused memory, plain" refused .plain
   [ -e "$out/$SONAME.sanitized" ] || return
   sanitized "byte scripts" "${python[@]}" $tests/byte_scripts.py
   sanitized cuts "${python[@]}" $tests/cuts.py 1000 1020
@@ -79,6 +81,7 @@ all() {
   done
   [ -n "$versions" ] || return
   build
+  build .plain # with malloc alone: each small block may be refused (memory.c)
   if echo 'int main(void){return 0;}' | "$cc" -x c -fsanitize=address,undefined -o "$out/probe" - 2> /dev/null; then
     build .sanitized -fsanitize=address,undefined -fno-sanitize-recover=all
   fi

@@ -26,7 +26,7 @@ misused() { # STATUS, TEXT, COMMAND..
   within 10 "$@" > "$work/got"
   [ $? -eq "$status" ] && grep -q -- "$text" "$work/log"
 }
-check "buffers, timers, turns and priorities" works "$work/parts"
+check "buffers, timers and priorities" works "$work/parts"
 check "serve: port 99999" misused 1 "not a port" "$serve" 127.0.0.1 99999 "$cert" "$key" "$folder"
 check "serve: --requests -5" misused 2 "not a number: -5" "$serve" --requests -5 127.0.0.1 "${ports[0]}" "$cert" "$key" "$folder"
 check "serve: a certificate that is not there" misused 1 "$work/none.pem" "$serve" 127.0.0.1 "${ports[0]}" "$work/none.pem" "$key" "$folder"

@@ -1,4 +1,4 @@
-/* parts: what examples/c keeps bytes and times in, and the order in which it sends. It ends with 0 if all is right, and each loop took a second at
+/* parts: what examples/c keeps bytes and times in, and what it reads of priorities. It ends with 0 if all is right, and each loop took a second at
  * most. */
 #include "buffer.h"
 #include "http3.h"
@@ -66,53 +66,6 @@ static void test_timers(void) {
   check("timers", is_right, began);
 }
 
-/* The ids of those that are next, one after another, each of which has its turn. */
-static bool follow(turns *turns, const char *ids) {
-  for (; *ids; ids++) {
-    turn *next = turns_next(turns);
-    if (!next || next->id != (uint64_t)(*ids - '0')) return false;
-    turns_pass(turns, next);
-  }
-  return true;
-}
-
-/* RFC 9218, section 10: 9 is the connection's own. 0 and 4 are more urgent than the others: 1, 3 and 5 follow one another, 2 and 6 are incremental. */
-static void test_turns(void) {
-  static turn all[10];
-  static const struct {
-    int id, urgency;
-    bool incremental;
-  } given[] = {{9, TURNS_FIRST, false}, {2, 3, true}, {3, 3, false}, {1, 3, false}, {5, 3, false}, {6, 3, true}, {4, 1, false}, {0, 1, false}};
-  clock_t began = clock();
-  turns turns;
-  turns_begin(&turns);
-  bool is_right = !turns_next(&turns);
-  for (size_t i = 0; i < sizeof given / sizeof *given; i++) {
-    turn *added = &all[given[i].id];
-    *added = (turn){.id = (uint64_t)given[i].id, .urgency = given[i].urgency, .incremental = given[i].incremental};
-    turns_add(&turns, added);
-    turns_add(&turns, added);
-  }
-  is_right &= follow(&turns, "999");
-  turns_block(&turns, &all[9]);
-  is_right &= follow(&turns, "000");
-  turns_remove(&turns, &all[0]);
-  turns_remove(&turns, &all[0]);
-  is_right &= follow(&turns, "44");
-  turns_prefer(&turns, &all[4], 7, false);
-  is_right &= follow(&turns, "216216");
-  turns_remove(&turns, &all[1]);
-  is_right &= follow(&turns, "263263");
-  turns_prefer(&turns, &all[5], 0, true);
-  is_right &= follow(&turns, "55");
-  turns_remove(&turns, &all[5]);
-  turns_unblock(&turns);
-  is_right &= follow(&turns, "9");
-  for (int i = 0; i < 10; i++) turns_remove(&turns, &all[i]);
-  is_right &= !turns_next(&turns);
-  check("turns", is_right, began);
-}
-
 /* RFC 9218, section 4: what the fields of a request say; section 13.1: nothing, if it came through a proxy. */
 static void test_priority(void) {
   static const struct {
@@ -139,6 +92,5 @@ int main(void) {
   test_priority();
   test_buffer();
   test_timers();
-  test_turns();
   return failed;
 }

@@ -26,7 +26,7 @@ make_client() {
   local objects=$work/checked/objects
   # shellcheck disable=SC2046,SC2086
   build gcc $SANITIZERS -std=c11 -D_GNU_SOURCE -Wall -Wextra -Werror -Iexamples/c -o "$work/$1" "scripts/interop/$1.c" "$objects"/http3*.o \
-    "$objects"/quic*.o "$objects"/{qlog,turns,timers,tls,buffer,ending,report}.o \
+    "$objects"/quic*.o "$objects"/{qlog,timers,tls,buffer,ending,report}.o \
     $(pkg-config --cflags --libs beanwhile-h3 libngtcp2 libngtcp2_crypto_gnutls gnutls)
 }
 

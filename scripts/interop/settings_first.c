@@ -34,7 +34,7 @@ static void fill(void *owner) { (void)owner; }
 static void closed(void *owner, const quic_ending *ending) { (void)owner, (void)ending; }
 
 int main(int count, char **words) {
-  static const quic_events events = {opened, received, was_reset, nothing, nothing, fill, NULL, closed};
+  static const quic_events events = {opened, received, was_reset, nothing, nothing, fill, .closed = closed};
   quic_identity identity = {.trusted = count == 3 ? words[2] : NULL};
   quic_socket *socket = count == 3 ? quic_connect("127.0.0.1", words[1], "localhost", &identity, NULL, &events, &before) : NULL;
   if (!socket) return 1;

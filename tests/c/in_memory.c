@@ -1,5 +1,5 @@
 /* A client and a server in one program, over a QUIC library of some lines. docs/GUIDE.md goes through it: the event loop (on_data,
- * on_reset, on_stop, on_writable), and what a program does with messages. tests/c/in_memory.stdout has the lines that it prints. */
+ * on_reset, on_stop, on_credit, on_writable), and what a program does with messages. tests/c/in_memory.stdout has the lines that it prints. */
 #include "h3.h"
 #include <stdio.h>
 #include <stdlib.h>
@@ -22,13 +22,12 @@ typedef struct {
   size_t taken;     /* bytes of a body that the program has taken, in all */
   size_t to_make;   /* bytes of a body that are to be sent yet */
   const char *body; /* the rest of a body that h3_send_body_of announced */
-  uint32_t urgency; /* 0 goes out first, 7 last */
   int is_paused;    /* the program takes no more now */
 } stream;
 
-/* What one side says to the other: stream data, RESET_STREAM or STOP_SENDING. */
+/* What one side says to the other: stream data, RESET_STREAM, STOP_SENDING or MAX_STREAM_DATA (`len` bytes more). */
 typedef struct {
-  enum { DATA, RESET, STOP } what;
+  enum { DATA, RESET, STOP, CREDIT } what;
   int fin;
   uint64_t id, code;
   size_t len;
@@ -64,7 +63,7 @@ static void quic_send(side *at, uint64_t id, const void *bytes, size_t len, int 
 
 static void quic_reset(side *at, uint64_t id, uint64_t code) { quic_put(at, (packet){.what = RESET, .id = id, .code = code}); }
 static void quic_stop(side *at, uint64_t id, uint64_t code) { quic_put(at, (packet){.what = STOP, .id = id, .code = code}); }
-static void quic_grant(side *at, uint64_t id, size_t bytes) { at->peer->streams[id].room += bytes; }
+static void quic_grant(side *at, uint64_t id, size_t bytes) { quic_put(at, (packet){.what = CREDIT, .id = id, .len = bytes}); }
 
 static void quic_close(side *at, uint64_t code) {
   printf("%s: the connection ends, %s\n", at->name, h3_code_text(code));
@@ -160,10 +159,16 @@ static void send_more(side *at, uint64_t id) {
 
 /* ---- messages: what a program reads ---- */
 
+/* A response goes out as its request asks (RFC 9218); as any other if memory was refused, or the field cannot be read. */
+static void prefer(side *server, uint64_t id, const fields *head) {
+  uint32_t urgency, incremental;
+  size_t len;
+  const char *priority = find(head, "priority", &len);
+  if (priority && h3_priority_read(priority, len, &urgency, &incremental) == H3_OK) h3_set_initial_priority(&server->h3, id, urgency, incremental, NULL);
+}
+
 static void on_fields(side *at, uint64_t id, const h3_item *item) {
   fields list;
-  uint32_t incremental;
-  size_t len;
   if (h3_item_fields(&at->h3, list.sizes, NULL, SECTION / 32, list.bytes, sizeof list.bytes) != H3_OK) abort(); /* H3_ROOM: not with this room */
   list.count = item->fields;
   const char *next = list.bytes;
@@ -173,8 +178,7 @@ static void on_fields(side *at, uint64_t id, const h3_item *item) {
     next += list.sizes[i].name + list.sizes[i].value;
   }
   printf("\n");
-  const char *priority = find(&list, "priority", &len);
-  if (!priority || h3_priority_read(priority, len, &at->streams[id].urgency, &incremental) != H3_OK) at->streams[id].urgency = 3;
+  if (at->is_server && item->kind == H3_HEAD) prefer(at, id, &list);
 }
 
 static void on_body(side *at, uint64_t id, const uint8_t *bytes, size_t len) {
@@ -303,34 +307,32 @@ static void on_stop(side *at, uint64_t id, uint64_t code) {
   else if (answer == H3_CRITICAL) quic_close(at, H3_CODE_CLOSED_CRITICAL_STREAM);
 }
 
-/* Passes to QUIC what waits on a stream, as far as QUIC has room. */
-static void send_stream(side *at, uint64_t id) {
-  uint8_t bytes[PACKET];
-  size_t n, past;
-  uint32_t fin;
-  for (;;) {
-    size_t room = quic_room(at, id);
-    if (h3_outgoing(&at->h3, id, bytes, room, &n, &past, &fin) != H3_OK) abort();
-    if (past > room - n) past = room - n, fin = 0; /* of the body that we hold, as much as there is room for */
-    if (n + past == 0 && !fin) return;
-    quic_send(at, id, bytes, n, fin && past == 0);
-    if (past > 0) quic_send(at, id, at->streams[id].body, past, (int)fin);
-    if (past > 0) at->streams[id].body += past;
-    h3_advance(&at->h3, id, n + past); /* QUIC took these bytes */
-    if (!fin) continue;
-    h3_end_taken(&at->h3, id); /* and the FIN: h3_next_to_send names the stream no longer */
-    return;
-  }
+/* MAX_STREAM_DATA came: QUIC takes more of this stream. H3_NOT_OPEN: it is over. */
+static void on_credit(side *at, uint64_t id, size_t bytes) {
+  at->streams[id].room += bytes;
+  if (h3_hold(&at->h3, id, 0, NULL) == H3_MEMORY) quic_close(at, H3_CODE_INTERNAL_ERROR); /* or let it go later */
 }
 
-/* Packets can be written: the streams of the connection first, then requests by their urgency. */
+/* Passes to QUIC what waits on a stream, as much as fits into a packet. Returns 0 if QUIC takes nothing of it now. */
+static int send_some(side *at, uint64_t id) {
+  uint8_t bytes[PACKET];
+  size_t room = quic_room(at, id), n, past;
+  uint32_t fin;
+  if (h3_outgoing(&at->h3, id, bytes, room, &n, &past, &fin) != H3_OK) abort();
+  if (past > room - n) past = room - n, fin = 0; /* of the body that we hold, as much as there is room for */
+  if (n + past == 0 && !fin) return 0;
+  quic_send(at, id, bytes, n, fin && past == 0);
+  if (past > 0) quic_send(at, id, at->streams[id].body, past, (int)fin), at->streams[id].body += past;
+  h3_advance(&at->h3, id, n + past); /* QUIC took these bytes */
+  if (fin) h3_end_taken(&at->h3, id); /* and the FIN: the stream is named no longer */
+  return 1;
+}
+
+/* Packets can be written: the streams of the connection first, then requests by their priorities, and none that has no credit. */
 static void on_writable(side *at) {
-  send_stream(at, h3_control_id(at->is_server));
-  send_stream(at, h3_encoder_id(at->is_server));
-  send_stream(at, h3_decoder_id(at->is_server));
-  for (uint32_t urgency = 0; urgency < 8; urgency++)
-    for (uint64_t id = 0; h3_next_to_send(&at->h3, id, &id) == H3_OK; id++)
-      if (at->streams[id].urgency == urgency) send_stream(at, id);
+  uint64_t id;
+  while (h3_next_by_priority(&at->h3, &id) == H3_OK)
+    if (!send_some(at, id) && h3_hold(&at->h3, id, 1, NULL) != H3_OK) return; /* H3_MEMORY: the next turn goes on */
 }
 
 /* ---- the program ---- */
@@ -342,7 +344,7 @@ static void make(side *at, side *peer, const char *name, int is_server) {
   config.max_field_section_size = SECTION;
   if (h3_new(&at->h3, &config, NULL) != H3_OK) abort();
   at->name = name, at->peer = peer, at->is_server = is_server;
-  for (int id = 0; id < STREAMS; id++) at->streams[id].room = WINDOW, at->streams[id].urgency = 3;
+  for (int id = 0; id < STREAMS; id++) at->streams[id].room = WINDOW;
 }
 
 /* One turn of a side: its program goes on, then packets go out, then those that came are received. */
@@ -359,7 +361,8 @@ static unsigned turn(side *at) {
     packet next = at->packets[at->first++ % 64];
     if (next.what == DATA) on_data(at, next.id, next.bytes, next.len, next.fin);
     else if (next.what == RESET) on_reset(at, next.id, next.code);
-    else on_stop(at, next.id, next.code);
+    else if (next.what == STOP) on_stop(at, next.id, next.code);
+    else on_credit(at, next.id, next.len);
   }
   return came;
 }

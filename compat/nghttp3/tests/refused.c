@@ -1,8 +1,9 @@
 /* refused.c: a client and a server of the drop-in in one process, over which exchanges go with bodies, interim responses, trailers and a
  * dynamic table, while allocations are refused: each alone, and all from each one on. What may follow: all comes, or a call answers
- * NGHTTP3_ERR_NOMEM. Nothing leaks. This program's malloc, calloc, realloc and free take the place of the C library's in all of the
- * process. */
+ * NGHTTP3_ERR_NOMEM. Nothing leaks, once the thread has ended in which it was (memory.c). This program's malloc, calloc, realloc and free
+ * take the place of the C library's in all of the process. */
 #include <nghttp3/nghttp3.h>
+#include <pthread.h>
 #include <stdbool.h>
 #include <stdio.h>
 #include <stdlib.h>
@@ -19,6 +20,7 @@ void __libc_free(void *place);
 
 static bool is_counting, refuses_all_later;
 static long asked, refused_from, live;
+static pthread_key_t at_end; /* of a thread: its value is a `both` */
 
 static bool is_refused(void) {
   if (!is_counting) return false;
@@ -172,28 +174,50 @@ static bool is_whole(const side *s) {
   return s->ended == EXCHANGES;
 }
 
+typedef struct {
+  side client, server;
+  int error;
+  int ends; /* how often stop_counting was called */
+} both;
+
+/* All exchanges, in a thread of their own. */
+static void *exchange_all(void *data) {
+  both *b = data;
+  pthread_setspecific(at_end, b);
+  is_counting = true;
+  b->error = open_side(&b->client, false);
+  if (!b->error) b->error = open_side(&b->server, true);
+  if (!b->error) b->error = exchange(&b->client, &b->server);
+  nghttp3_conn_del(b->client.connection), nghttp3_conn_del(b->server.connection);
+  return NULL;
+}
+
+/* At the end of the thread: what else is called there is called before the second time. */
+static void stop_counting(void *data) {
+  both *b = data;
+  if (++b->ends < 2) pthread_setspecific(at_end, b);
+  else is_counting = false;
+}
+
 /* Answers false, with a line, where a run went wrong; *has_ended: fewer allocations were asked for than the one that is refused. */
 static bool run(long from, bool all_later, bool *has_ended) {
-  side client = {0}, server = {0};
-  asked = live = 0, refused_from = from, refuses_all_later = all_later, is_counting = true;
-  int error = open_side(&client, false);
-  if (!error) error = open_side(&server, true);
-  if (!error) error = exchange(&client, &server);
-  bool failed = client.failed || server.failed;
-  nghttp3_conn_del(client.connection), nghttp3_conn_del(server.connection);
-  is_counting = false;
+  both b = {0};
+  pthread_t thread;
+  asked = live = 0, refused_from = from, refuses_all_later = all_later;
+  if (pthread_create(&thread, NULL, exchange_all, &b) != 0 || pthread_join(thread, NULL) != 0) abort();
   *has_ended = asked < from;
-  bool is_right = error ? error == NGHTTP3_ERR_NOMEM || (error == NGHTTP3_ERR_CALLBACK_FAILURE && failed)
-                        : is_whole(&client) && is_whole(&server);
-  if (*has_ended && error) is_right = false;
+  bool failed = b.client.failed || b.server.failed, are_whole = is_whole(&b.client) && is_whole(&b.server);
+  bool is_right = b.error ? b.error == NGHTTP3_ERR_NOMEM || (b.error == NGHTTP3_ERR_CALLBACK_FAILURE && failed) : are_whole;
+  if (*has_ended && b.error) is_right = false;
   if (is_right && live == 0) return true;
-  printf("failed refused memory: allocation %ld%s: error %d, %s, %ld not freed\n", from, all_later ? " and all later" : "", error,
-         is_whole(&client) && is_whole(&server) ? "whole" : "not whole", live);
+  printf("failed refused memory: allocation %ld%s: error %d, %s, %ld not freed\n", from, all_later ? " and all later" : "", b.error,
+         are_whole ? "whole" : "not whole", live);
   return false;
 }
 
 int main(void) {
   long runs = 0;
+  if (pthread_key_create(&at_end, stop_counting) != 0) abort();
   for (size_t i = 0; i < sizeof bytes_of_body; i++) bytes_of_body[i] = (uint8_t)(i * 7 + i / 256);
   setvbuf(stdout, NULL, _IONBF, 0);
   for (int all_later = 0; all_later < 2; all_later++) {

@@ -1,10 +1,9 @@
 -- Worked schedules of sides that judge plainly, and of such as are strict or limit what is unfinished.
 use Rattle.std.specs.Prelude.{ℕ, Bool, true, false, ◌&&◌, List, [], ◌∷◌, ◌++◌, codes, Some, None}
 use Rattle.h3_header.specs.Head.{Head as Fields, head_fields}
-use Rattle.h3_proto.specs.Config.{no_choices}
+use Rattle.h3_proto.specs.Config.{no_choices, no_extensions}
 use Rattle.h3_proto.specs.declared.stream.Side.{Side}
 use Rattle.h3_proto.specs.declared.stream.Side.TheVariants.{Client, Server}
-use Rattle.h3_connection.specs.Codes.{frame_unexpected}
 use Rattle.h3_connection.specs.declared.event.Fault.TheVariants as fault
 use Rattle.h3_connection.specs.declared.event.Item.TheVariants as item
 use Rattle.h3_connection.specs.declared.event.Malformation.TheVariants as malformation
@@ -24,7 +23,7 @@ use Rattle.h3_headline.specs.Messages.{MessageContent, sent}
 use Rattle.h3_headline.specs.Messages.MessageContent.{Byte, FieldSection}
 use Rattle.h3_headline.specs.Messages.SectionKind.{OfHead, OfTrailer}
 use Rattle.h3_strict.specs.WorkedLimits.{ten}
-use Rattle.h3_strict.specs.WorkedStrict.{post_two, strict}
+use Rattle.h3_strict.specs.WorkedStrict.{post_two}
 use Rattle.h3_faithful.specs.Sends.{goes_on, is_next}
 
 -- what a server sends of a list with the two bytes h and i and a trailer, and how it comes out as lists
@@ -82,24 +81,19 @@ delivered_answers =
     answer.Opened 0 ∷ answer.Delivered 0 ∷ answer.Delivered 1 ∷ answer.Done ∷ answer.Delivered 5 ∷
     answer.Pulled (pull.Item (item.Head (status 200))) ∷ answer.Short 0 ∷ answer.Short 0 ∷ answer.Listed list.Pending ∷ []
 
--- A strict client reads a tunnel of a server that is not strict: a trailer in it is a fault of the connection (RFC 9114, section 4.4). A response of a
--- status has 5 bytes, and the trailer 10: two of its frame, two of the prefix, four for its name and two for its value
-abbrev pub connect : Fields
-connect = record home { method = Some (codes "CONNECT"); scheme = None; authority = Some (codes "a:443"); path = None }
+-- A client that asks for a strict connection opens a stream, and then its server goes away: the GOAWAY frame has three bytes, behind 24 of the
+-- control stream's type and the settings. No request begins on the stream
+abbrev pub careful : Announced
+careful = record (plain 1000 0 0) { choices = record no_choices { extensions = record no_extensions { strict_connection = true } } }
 
-abbrev pub one_strict : Setup
-one_strict = between strict (plain 1000 0 0)
+abbrev pub careful_client : Setup
+careful_client = between careful (plain 1000 0 0)
 
-abbrev pub tunnel_run : List Event
-tunnel_run =
-    event.OpenRequest Client ∷ event.Head Client 0 connect ∷ event.Deliver Client 0 0 ∷ event.Head Server 0 (status 200) ∷
-    event.Trailer Server 0 (trailer_of (codes "x-t") (codes "1")) ∷ event.Deliver Server 0 5 ∷ event.Pull Client 0 ∷ event.Deliver Server 0 10 ∷ event.Pull Client 0 ∷ []
+abbrev pub late_run : List Event
+late_run = event.OpenRequest Client ∷ event.Goaway Server 0 ∷ event.Deliver Server 3 27 ∷ event.Head Client 0 home ∷ []
 
-abbrev pub tunnel_answers : List Answer
-tunnel_answers =
-    answer.Opened 0 ∷ answer.Done ∷ answer.Delivered 0 ∷ answer.Done ∷
-    answer.Done ∷ answer.Delivered 5 ∷ answer.Pulled (pull.Item (item.Head (status 200))) ∷ answer.Delivered 10 ∷
-    answer.Pulled (pull.Fault (fault.Connection frame_unexpected)) ∷ []
+abbrev pub late_answers : List Answer
+late_answers = answer.Opened 0 ∷ answer.Done ∷ answer.Delivered 27 ∷ answer.Refused (refusal.GoingAway 0) ∷ []
 
 -- A client that limits what is unfinished to 256 bytes, and takes lists of 64, is sent a longer list before the server knows that: its stream alone is
 -- given up, and another one goes on. Eighty bytes of 249 have 28 bits each in the Huffman code (RFC 7541, appendix B). So the header section has 290

@@ -6,13 +6,15 @@ ghost use Rattle.std.specs.List.{list_any};
 ghost use Rattle.h3_proto.specs.declared.stream.Side.TheVariants.{Client, Server};
 ghost use Rattle.h3_world.specs.Ends.{answers_of_ends, new_ends};
 ghost use Rattle.h3_world.specs.Headline.{is_connection_fault};
-ghost use Rattle.h3_world.specs.WorkedHeads.{no_tables};
+ghost use Rattle.h3_world.specs.WorkedHeads.{home, no_tables};
 ghost use Rattle.h3_world.specs.WorkedLists.{listed_answers, listed_run, mixed_answers, mixed_run};
+ghost use Rattle.h3_world.specs.declared.event.Event.TheVariants as event;
 ghost use Rattle.h3_headline.specs.Exactly.{IsAllOf, IsExactly, reader_at};
 ghost use Rattle.h3_headline.specs.Messages.{IsFrontOf, has_finished, has_pulled_end, pulled, sent};
-ghost use Rattle.h3_strict.specs.WorkedStrict.{early_answers, early_run, refused_answers, refused_run, strict_setup};
+ghost use Rattle.h3_strict.specs.WorkedStrict.{early_answers, early_run, refused_answers, refused_run, strict_setup, tunnel_answers, tunnel_run};
 ghost use Rattle.h3_faithful.specs.Faithful.{PausesDelivered};
-ghost use Rattle.h3_faithful.specs.WorkedFaithful.{control_answers, control_run, delivered_answers, delivered_run, early_pulled, early_sent, limited_answers, limited_client, limited_run, listed_sent, mixed_pulled, nexts, one_strict, reset_answers, reset_run, status_pulled, status_sent, strict_pulled, strict_sent, tunnel_answers, tunnel_run};
+ghost use Rattle.h3_faithful.specs.Sends.{begins_late};
+ghost use Rattle.h3_faithful.specs.WorkedFaithful.{careful_client, control_answers, control_run, delivered_answers, delivered_run, early_pulled, early_sent, late_answers, late_run, limited_answers, limited_client, limited_run, listed_sent, mixed_pulled, nexts, reset_answers, reset_run, status_pulled, status_sent, strict_pulled, strict_sent};
 ghost use Rattle.h3_faithful.specs.WorkedMemory.{again_answers, again_run, again_sent, kept_answers, kept_run, later_answers, later_run, verdict_answers, verdict_run};
 
 /// A list that is sent and pulled as a list, with a body, a trailer and the end after it.
@@ -69,12 +71,19 @@ pub fn with_all_delivered_all_comes_out()
     ensures all { IsAllOf (IsExactly (reader_at no_tables Client)) (pulled Client 0 (take 6 delivered_run) (take 6 delivered_answers)) (sent Server 0 (take 6 delivered_run) (take 6 delivered_answers)) }
 {}
 
-/// Between a strict side and one that is not, a trailer in a tunnel is a fault of the connection. Before it all is as it was sent.
+/// Between a strict side and one that is not, a trailer in a tunnel is a fault of the connection. Before it all is as it was sent. (Those are the
+/// answers by `worked_tunnel` of h3_strict.)
 pub fn trailers_in_tunnels_end_the_connection()
-    ensures answers { answers_of_ends (new_ends one_strict) tunnel_run ≡ tunnel_answers }
     ensures before { list_any is_connection_fault (take 8 tunnel_answers) ≡ false }
     ensures fault { list_any is_connection_fault tunnel_answers ≡ true }
     ensures handed { pulled Client 0 (take 8 tunnel_run) (take 8 tunnel_answers) ≡ status_pulled }
+{}
+
+/// A client that asks for a strict connection begins no request after its server's GOAWAY, on a stream that it opened before either.
+pub fn requests_behind_a_goaway_are_late()
+    ensures answers { answers_of_ends (new_ends careful_client) late_run ≡ late_answers }
+    ensures before { begins_late careful_client (take 1 late_run) (take 1 late_answers) (event.Head Client 0 home) ≡ false }
+    ensures late { begins_late careful_client (take 3 late_run) (take 3 late_answers) (event.Head Client 0 home) ≡ true }
 {}
 
 /// A list above the limit of its reader, sent before its settings, ends its stream alone.

@@ -13,7 +13,7 @@ use Rattle.h3_qpack.specs.DecodedSection.{BadSection, DecodedSection, Fields, Mi
 use Rattle.h3_qpack.specs.DecoderState.{DecoderState}
 use Rattle.h3_qpack.specs.Sizes.{told_size}
 use Rattle.h3_wire.specs.ExcessiveFrames.{begins_section, is_excessive_by}
-use Rattle.h3_wire.specs.ExcessiveLaws.{none_excessive}
+use Rattle.h3_wire.specs.ExcessiveLaws.{none_excessive_by}
 use Rattle.h3_wire.specs.Frames.{Front, Refused, Unfinished, Unknown, Whole, frame_by}
 use Rattle.h3_wire.specs.Pieces.{chunk_of}
 use Rattle.h3_wire.specs.declared.proto.frame.Frame.{Frame}
@@ -184,7 +184,7 @@ module _ (side : Side) (own : Announced) (id : ℕ) (r : DecoderState) (i : Inco
 
       plainly_is : (let x : Pulled = if is_excessive_by (kinds_of own) (2 ^ 62 - 1) bytes then excess id (plain_incoming i) bytes else next_frame side (plain own) id r (plain_incoming (left_with i bytes)) bytes in x)
           ≡ next_frame side (plain own) id r (plain_incoming (left_with i bytes)) bytes
-      plainly_is = ap (λ b. let x : Pulled = if b then excess id (plain_incoming i) bytes else next_frame side (plain own) id r (plain_incoming (left_with i bytes)) bytes in x) (none_excessive (2 ^ 62 - 1) bytes refl)
+      plainly_is = ap (λ b. let x : Pulled = if b then excess id (plain_incoming i) bytes else next_frame side (plain own) id r (plain_incoming (left_with i bytes)) bytes in x) (none_excessive_by (kinds_of own) (2 ^ 62 - 1) bytes refl)
 
       there : (section rest : List ℕ) → frame_by (kinds_of own) bytes ≡ Whole (frame.Headers section) rest → next_section (plain own) (plain_incoming i) i.section ≡ Some section
       there section rest e = ap (next_section (plain own) (plain_incoming i)) none ∙ ap section_in e

@@ -63,3 +63,13 @@ inserting_run =
 abbrev pub inserting_answers : List Answer
 inserting_answers =
     answer.Opened 0 ∷ answer.Delivered 0 ∷ answer.Delivered 25 ∷ answer.Done ∷ answer.Delivered 8 ∷ answer.Refused (refusal.Connection excessive_load) ∷ []
+
+-- A server takes no frame of a byte or more. The client's settings are 23 bytes behind the type of its control stream
+abbrev pub no_room : Setup
+no_room = between (plain 1000 0 0) (record (plain 1000 0 0) { choices = record no_choices { unfinished_limit = 0 } })
+
+abbrev pub settings_run : List Event
+settings_run = event.Deliver Client 2 24 ∷ []
+
+abbrev pub settings_answers : List Answer
+settings_answers = answer.Refused (refusal.Connection excessive_load) ∷ []

@@ -1,10 +1,11 @@
 -- Worked schedules of two sides that ask for strict messages.
-use Rattle.std.specs.Prelude.{List, [], ◌∷◌, codes, true, Some, None}
+use Rattle.std.specs.Prelude.{true, List, [], ◌∷◌, codes, Some, None}
 use Rattle.http_header.specs.FieldValue.{plain_value}
 use Rattle.http_header.specs.HeaderMap.{append}
 use Rattle.h3_header.specs.Head.{Head as Fields}
 use Rattle.h3_proto.specs.Config.{no_choices}
 use Rattle.h3_proto.specs.declared.stream.Side.TheVariants.{Client, Server}
+use Rattle.h3_connection.specs.Codes.{frame_unexpected}
 use Rattle.h3_connection.specs.declared.event.Fault.TheVariants as fault
 use Rattle.h3_connection.specs.declared.event.Item.TheVariants as item
 use Rattle.h3_connection.specs.declared.event.Malformation.{Malformation}
@@ -13,7 +14,7 @@ use Rattle.h3_connection.specs.declared.event.Pull.TheVariants as pull
 use Rattle.h3_connection.specs.declared.event.Refusal.TheVariants as refusal
 use Rattle.h3_connection.specs.declared.event.StreamFault.TheVariants as stream_fault
 use Rattle.h3_connection.specs.declared.setup.Announced.{Announced}
-use Rattle.h3_world.specs.WorkedHeads.{between, home, plain, with_one}
+use Rattle.h3_world.specs.WorkedHeads.{between, home, plain, status, trailer_of, with_one}
 use Rattle.h3_world.specs.declared.event.Answer.{Answer}
 use Rattle.h3_world.specs.declared.event.Answer.TheVariants as answer
 use Rattle.h3_world.specs.declared.event.Event.{Event}
@@ -85,3 +86,22 @@ early_answers =
     answer.Opened 0 ∷ answer.Done ∷ answer.Delivered 1 ∷ answer.Done ∷ answer.Done ∷ answer.Delivered 12 ∷
     answer.Pulled (pull.Item (item.Head (with_one 200 (codes "content-length") (codes "2")))) ∷
     answer.Pulled (pull.Fault (fault.Stream (stream_fault.Malformed malformation.ContentLength))) ∷ []
+
+-- A strict client reads a tunnel of a server that is not strict: a trailer in it is a fault of the connection (RFC 9114, section 4.4). A response of a
+-- status has 5 bytes, and the trailer 10: two of its frame, two of the prefix, four for its name and two for its value
+abbrev pub connect : Fields
+connect = record home { method = Some (codes "CONNECT"); scheme = None; authority = Some (codes "a:443"); path = None }
+
+abbrev pub one_strict : Setup
+one_strict = between strict (plain 1000 0 0)
+
+abbrev pub tunnel_run : List Event
+tunnel_run =
+    event.OpenRequest Client ∷ event.Head Client 0 connect ∷ event.Deliver Client 0 0 ∷ event.Head Server 0 (status 200) ∷
+    event.Trailer Server 0 (trailer_of (codes "x-t") (codes "1")) ∷ event.Deliver Server 0 5 ∷ event.Pull Client 0 ∷ event.Deliver Server 0 10 ∷ event.Pull Client 0 ∷ []
+
+abbrev pub tunnel_answers : List Answer
+tunnel_answers =
+    answer.Opened 0 ∷ answer.Done ∷ answer.Delivered 0 ∷ answer.Done ∷
+    answer.Done ∷ answer.Delivered 5 ∷ answer.Pulled (pull.Item (item.Head (status 200))) ∷ answer.Delivered 10 ∷
+    answer.Pulled (pull.Fault (fault.Connection frame_unexpected)) ∷ []

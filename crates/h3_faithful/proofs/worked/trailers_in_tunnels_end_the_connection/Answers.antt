@@ -20,10 +20,6 @@ use Rattle.h3_messages.specs.Messages.{violation_of_request, violation_of_respon
 use Rattle.std.proofs.Common.{refl}
 use Rattle.h3_faithful.proofs.worked.trailers_in_tunnels_end_the_connection.Goals as goal
 
-pub returns-clause-answers : goal.returns-clause-answers
-unfolding encoding static_field static_name chars encode varint_at split_of bits code_word octets huffman static_table frame_by frame_of known_by is_token_byte is_utf8 kind_of head_of head_of_any unhuffman hear_up_to listen_up_to fields_in decode_section skipped read_peer pull_stream violation_of_request violation_of_response violation_of_trailer
-returns-clause-answers c = refl
-
 pub returns-clause-before : goal.returns-clause-before
 unfolding encoding static_field static_name chars encode varint_at split_of bits code_word octets huffman static_table frame_by frame_of known_by is_token_byte is_utf8 kind_of head_of head_of_any unhuffman hear_up_to listen_up_to fields_in decode_section skipped read_peer pull_stream violation_of_request violation_of_response violation_of_trailer
 returns-clause-before c = refl

@@ -24,6 +24,10 @@ pub returns-clause-answers : goal.returns-clause-answers
 unfolding encoding static_field static_name chars encode varint_at split_of bits code_word octets huffman static_table frame_by frame_of known_by is_token_byte is_utf8 kind_of head_of unhuffman hear_up_to listen_up_to fields_in decode_section skipped read_peer pull_stream violation_of_request violation_of_response violation_of_trailer
 returns-clause-answers c = refl
 
+pub returns-clause-early : goal.returns-clause-early
+unfolding encoding static_field static_name chars encode varint_at split_of bits code_word octets huffman static_table frame_by frame_of known_by is_token_byte is_utf8 kind_of head_of unhuffman hear_up_to listen_up_to fields_in decode_section skipped read_peer pull_stream violation_of_request violation_of_response violation_of_trailer
+returns-clause-early c = refl
+
 pub returns-clause-front : goal.returns-clause-front
 unfolding encoding static_field static_name chars encode varint_at split_of bits code_word octets huffman static_table frame_by frame_of known_by is_token_byte is_utf8 kind_of head_of unhuffman hear_up_to listen_up_to fields_in decode_section skipped read_peer pull_stream violation_of_request violation_of_response violation_of_trailer
 returns-clause-front c = refl
