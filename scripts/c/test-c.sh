@@ -140,6 +140,7 @@ checks() {
   compile strict_connection strict_connection
   compile streams streams "${refusing[@]}"
   compile drained drained "${refusing[@]}"
+  compile over_streams over_streams "${wrapped[@]}"
   compile datagrams datagrams
   compile lists lists
   compile never_indexed never_indexed
@@ -170,6 +171,7 @@ checks() {
     run "strict connections" "$out/strict_connection"
     run streams "$out/streams"
     run drained "$out/drained" 0 10000
+    run "streams that are over" "$out/over_streams"
     run datagrams "$out/datagrams"
     websocket_frames
     programs
