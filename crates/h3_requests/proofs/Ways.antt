@@ -614,6 +614,23 @@ next_way ways groups marks group way w h there waits =
     let few_ = h.few group in
     (next, omega (arith, within, few_), within)
 
+-- a number that is there already is set
+pub own_set : (number mark : ℕ) (old : ℕ → ℕ) (is : mark ≡ old number) → IsOneMark number mark old old
+own_set number mark old is = record { own = sym is; others = λ q differs. refl }
+
+-- a number is set if it could not be, but where it was 0, and only for 0
+pub one_set : (number mark : ℕ) (old new : ℕ → ℕ) (is_set : Bool) → (is_set ≡ true → IsOneMark number mark old new) → (is_set ≡ false → HaveSameMarks old new) → (is_set ≡ false → old number ≡ 0) → (old number ≡ 0 → mark ≡ 0)
+    → IsOneMark number mark old new
+one_set number mark old new true set same none only = set refl
+one_set number mark old new false set same none only = record { own = same refl number ∙ none refl ∙ sym (only (none refl)); others = λ q differs. same refl q }
+
+-- once it is set back all are as before
+pub set_again : (number mark before : ℕ) (old set new : ℕ → ℕ) → IsOneMark number mark old set → IsOneMark number before set new → before ≡ old number → HaveSameMarks old new
+set_again number mark before old set new one back is q = elim (cases_eq q number) [
+  | inl same ↦ ap new same ∙ back.own ∙ is ∙ ap old (sym same)
+  | inr differs ↦ back.others q differs ∙ one.others q differs
+]
+
 -- a mark that is not 0 can be set
 pub was_set : (is_set : Bool) (mark way : ℕ) → (is_set ≡ false → mark ≡ 0) → way ≡ mark → way ≢ 0 → is_set ≡ true
 was_set true mark way none is some = refl

@@ -7,7 +7,7 @@ ghost use Rattle.h3_connection.specs.declared.event.StreamFault.TheVariants.{Res
 ghost use Rattle.h3_outgoing.specs.Sent.{end_waits};
 ghost use Rattle.h3_requests.specs.Greatest.{IsGreatest};
 ghost use Rattle.h3_requests.specs.HasBytes.{has_end};
-ghost use Rattle.h3_requests.specs.Marks.{mark_at, AreBelow, HaveSameMarks, IsOneMark};
+ghost use Rattle.h3_requests.specs.Marks.{code_at, mark_at, AreBelow, HaveSameMarks, IsOneMark};
 ghost use Rattle.h3_requests.specs.Over.{over_so, reset_with, way_at, ways_in, with_end_taken, AddsWays, AreAlike, HasWays, IsOver, IsWay};
 
 use crate::stream::RequestStream;
@@ -155,7 +155,7 @@ impl OverStreams {
         ensures same { result ≡ false → self.new ≡ self.old }
     {
         let code = stream.code_of_reset();
-        let group = group_of(&stream.outgoing.precedence());
+        let group = group_of(&stream.outgoing().precedence());
         let way = self
             .ways
             .way_of(group, stream, false, most_ways(group, code));
@@ -190,10 +190,17 @@ impl OverStreams {
         }
         let alloc = self.ways.allocator();
         let number = id.into_inner();
-        let Ok(()) = self.codes.set(alloc, number, code) else {
+        if !set_both(
+            &mut self.groups,
+            &mut self.codes,
+            alloc,
+            number,
+            group,
+            code,
+        ) {
             return false;
-        };
-        mark(&mut self.groups, &mut self.marks, alloc, number, group, way)
+        }
+        self.marks.set(number, way)
     }
 
     /// Takes the end of a stream, and returns whether it waited. It takes no memory. Nothing changes if it did not wait.
@@ -256,7 +263,76 @@ fn mark(groups: &mut Marks, marks: &mut Marks, alloc: Global, number: u64, group
     marks.set(number, way)
 }
 
-// The same of its group alone.
+// Gives a stream its group and its code, and returns whether it did: not if an allocation failed, and nothing changes then.
+#[tactic(auto, using(crate::proofs::Ways::set_again))]
+fn set_both(
+    groups: &mut Marks,
+    codes: &mut Codes,
+    alloc: Global,
+    number: u64,
+    group: u8,
+    code: u64,
+) -> bool
+    requires { AreBelow groups.old }
+    ensures group { result ≡ true → IsOneMark number group (mark_at groups.old) (mark_at groups.new) }
+    ensures code { result ≡ true → IsOneMark number code (code_at codes.old) (code_at codes.new) }
+    ensures same_groups { result ≡ false → HaveSameMarks (mark_at groups.old) (mark_at groups.new) }
+    ensures same_codes { result ≡ false → HaveSameMarks (code_at codes.old) (code_at codes.new) }
+    ensures below { AreBelow groups.new }
+{
+    if group == 0 {
+        return set_plain(groups, codes, alloc, number, code);
+    }
+    let before = groups.get_if_any(number);
+    if !set_group(groups, alloc, number, group) {
+        return false;
+    }
+    let Ok(()) = codes.set(alloc, number, code) else {
+        set_back(groups, number, before);
+        return false;
+    };
+    true
+}
+
+// The same with the group 0, for which no memory is taken.
+fn set_plain(groups: &mut Marks, codes: &mut Codes, alloc: Global, number: u64, code: u64) -> bool
+    requires { AreBelow groups.old }
+    ensures group { result ≡ true → IsOneMark number 0 (mark_at groups.old) (mark_at groups.new) }
+    ensures code { result ≡ true → IsOneMark number code (code_at codes.old) (code_at codes.new) }
+    ensures same_groups { result ≡ false → HaveSameMarks (mark_at groups.old) (mark_at groups.new) }
+    ensures same_codes { result ≡ false → HaveSameMarks (code_at codes.old) (code_at codes.new) }
+    ensures below { AreBelow groups.new }
+{
+    let Ok(()) = codes.set(alloc, number, code) else {
+        return false;
+    };
+    clear_group(groups, number);
+    true
+}
+
+// Gives a stream that has a group the one that it had before.
+#[tactic(auto, using(crate::proofs::Ways::one_set))]
+fn set_back(groups: &mut Marks, number: u64, before: u8)
+    requires below { AreBelow groups.old }
+    requires some { 0 < mark_at groups.old number }
+    ensures set { IsOneMark number before (mark_at groups.old) (mark_at groups.new) }
+    ensures below { AreBelow groups.new }
+{
+    groups.set(number, before);
+}
+
+// Gives a stream the group 0.
+#[tactic(auto, using(crate::proofs::Ways::one_set))]
+fn clear_group(groups: &mut Marks, number: u64)
+    requires { AreBelow groups.old }
+    ensures set { IsOneMark number 0 (mark_at groups.old) (mark_at groups.new) }
+    ensures below { AreBelow groups.new }
+{
+    groups.set(number, 0);
+}
+
+// Gives a stream its group, and returns whether it did: not if an allocation failed.
+#[tactic(auto, using(crate::proofs::Ways::own_set))]
 fn set_group(groups: &mut Marks, alloc: Global, number: u64, group: u8) -> bool
     requires { AreBelow groups.old }
     ensures set { result ≡ true → IsOneMark number group (mark_at groups.old) (mark_at groups.new) }

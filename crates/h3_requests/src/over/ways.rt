@@ -1,5 +1,5 @@
 //! The ways in which streams are over, those of each precedence apart: so none makes another one's search longer.
-ghost use Rattle.std.specs.Prelude.{◌≡◌, ◌≢◌, ◌<◌, ◌≤◌, ◌==◌, ℕ, [], Some, true, length, option_copied, IfSome};
+ghost use Rattle.std.specs.Prelude.{◌≡◌, ◌≢◌, ◌<◌, ◌≤◌, ◌==◌, ℕ, [], Some, true, false, length, option_copied, IfSome};
 ghost use Rattle.h3_connection.specs.declared.event.StreamFault.TheVariants.{Reset};
 ghost use Rattle.h3_requests.specs.Over.{group_of, way_at, ways_in, AddsWays, HasWays, IsOver, IsWay};
 
