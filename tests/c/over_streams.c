@@ -17,7 +17,7 @@ enum { TAKEN, FIN_WAITS, TRAILER_TAKEN, CUT_OFF, NOTHING_SENT, RESPONSE_ENDS };
 enum {
   PRECEDENCES = 32, /* eight urgencies, incremental or not, held or not */
   KINDS = PRECEDENCES * REQUEST_ENDS * RESPONSE_ENDS,
-  ROUNDS = 24,
+  ROUNDS = 8,
   BYTES = 6,       /* what a stream may cost that is over: a mark, a number of its priority, and bits of FINs that wait */
   CODE_BYTES = 24, /* and with a code of its own */
 };
@@ -54,7 +54,7 @@ static void request_ends(uint64_t id, int how, uint64_t code) {
   IS(h3_deliver(server, id, is_malformed ? no_method : whole, is_malformed ? sizeof no_method - 1 : sizeof whole - 1, NULL), H3_OK);
   if (how == RESET_EARLY) {
     IS(h3_deliver_reset(server, id, code, NULL), H3_OK);
-    while (pull(SERVER, id).kind == H3_HEAD) {}
+    HOLDS(pull(SERVER, id).kind == H3_FAULT_RESET);
     return;
   }
   HOLDS(pull(SERVER, id).kind == (is_malformed ? H3_FAULT_MALFORMED : H3_HEAD));
@@ -90,9 +90,10 @@ static void prioritize(uint64_t id, int precedence) {
 static uint64_t all_kinds(uint64_t id, int rounds, int has_codes) {
   for (int i = 0; i < rounds * KINDS; i++, id += 4) {
     int kind = i % KINDS, how = kind / PRECEDENCES;
-    request_ends(id, how % REQUEST_ENDS, has_codes ? (uint64_t)i : 0x10c);
+    int request = how % REQUEST_ENDS, answer = how / REQUEST_ENDS;
+    request_ends(id, request, has_codes ? (uint64_t)i : 0x10c);
     prioritize(id, kind % PRECEDENCES);
-    response_ends(id, how / REQUEST_ENDS);
+    response_ends(id, request == RESET_EARLY && answer == TRAILER_TAKEN ? TAKEN : answer); /* no trailer ahead of a request's head */
     take_own();
   }
   return id;
@@ -119,9 +120,9 @@ static void of_ends_that_wait(void) {
     prioritize((uint64_t)i * 4, precedence);
     response_ends((uint64_t)i * 4, FIN_WAITS);
   }
-  for (int precedence = 0; precedence < PRECEDENCES; precedence += 2) {
+  for (int precedence = 0; precedence < PRECEDENCES; precedence += 2) { /* two of each urgency */
     IS(h3_next_by_priority(&ends[SERVER], &id), H3_OK);
-    HOLDS((int)(id / 4 * 11 + 5) % PRECEDENCES == precedence);
+    HOLDS((int)(id / 4 * 11 + 5) % PRECEDENCES / 4 == precedence / 4);
     IS(h3_end_taken(&ends[SERVER], id), H3_OK);
   }
   IS(h3_next_by_priority(&ends[SERVER], &id), H3_NONE);

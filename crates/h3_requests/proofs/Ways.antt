@@ -2,6 +2,9 @@
 use Rattle.std.proofs.Common.{arith, Bor, ◌≡◌, ◌<◌, ◌≤◌, ℕ, zero, suc, ◌+◌, ◌-◌, Bool, true, false, List, [], ◌∷◌, ◌++◌, length, ◌^◌, get_or, length-append, refl, sym, ◌∙◌, ap, subst, min, inl, inr}
 use Rattle.std.specs.Prelude.{◌≢◌, ◌&&◌, ◌||◌, ◌==◌, not, Option, Some, None, if◌then◌else◌, is_some, option_copied, option_map, slice_get, IfSome, nat_lt}
 use Rattle.std.proofs.lemmas.Bool.{cases_eq, lt-ltb}
+use Rattle.std.specs.BTreeMap.{is_at}
+use Rattle.std.specs.Map.{lookup}
+use Rattle.std.specs.Ordering.{nat_cmp}
 use Rattle.std.proofs.Math.Seq.{get_or-append_seam}
 use Rattle.std.proofs.lemmas.Grind.{common_steps}
 use Rattle.std.proofs.lemmas.List.{get_or_append_left}
@@ -20,8 +23,9 @@ use Rattle.h3_outgoing.specs.Sent.{end_waits, is_sent_off, is_open, takes_head, 
 use Rattle.h3_requests.specs.HasBytes.{has_bytes}
 use Rattle.h3_requests.specs.Listed.{streams_of}
 use Rattle.h3_requests.specs.Marks.{HaveSameMarks, IsOneMark}
-use Rattle.h3_requests.specs.Over.{AddsWays, AreAlike, AreMarked, HasWays, IsOver, IsPaired, IsWay, codeless, ended_way, over_in, over_so, reset_with, way_at, with_end_taken, without_code, ReceivesAlike, SendsAlike}
+use Rattle.h3_requests.specs.Over.{AddsWays, AreAlike, AreMarked, HasWays, IsOver, IsPaired, IsWay, codeless, ended_way, over_in, over_so, reset_with, way_at, ways_in, ways_of, with_end_taken, without_code, ReceivesAlike, SendsAlike}
 use Rattle.h3_requests.specs.declared.over.Way.{Way}
+use Rattle.h3_requests.specs.declared.over.ways.Ways.{Ways}
 use Rattle.h3_connection.specs.declared.event.StreamFault.TheVariants.{Reset}
 use Rattle.h3_requests.specs.Refused.{refused_over, head_refused_at, body_refused_at, data_refused_at, end_refused_at, reset_refused_at, cancel_refused_at}
 use Rattle.h3_requests.proofs.Found.{few, found, sets, takes_out}
@@ -318,6 +322,12 @@ none_more ways = record {
     past P way more =
         let some : way ≢ 0 = omega (arith, more) in
         subst (λ o. IfSome o P) (sym (way_found ways way some ∙ slice_get_past ways (way - 1) (omega (arith, more)))) tt
+
+-- Groups are the same if those of plain streams and of others are.
+pub same_groups : (old new : Ways) → new.plain.items ≡ old.plain.items → new.others ≡ old.others → ways_in new ≡ ways_in old
+same_groups old new plain others =
+    ap (λ items. λ group. if group == 0 then items else ways_of (lookup (is_at (nat_cmp group)) new.others.entries)) plain
+    ∙ ap (λ o. λ group. if group == 0 then old.plain.items else ways_of (lookup (is_at (nat_cmp group)) o.entries)) others
 
 -- A change in one group is one in which the ways of all are there still,
 pub have_ways : (ways others : ℕ → List Way) (group : ℕ) → HasWays (ways group) (others group) → ((other : ℕ) → other ≢ group → others other ≡ ways other) → (other : ℕ) → HasWays (ways other) (others other)

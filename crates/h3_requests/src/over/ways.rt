@@ -45,7 +45,7 @@ impl Ways {
 
     /// Takes memory for two ways more, so that a stream of which no priority was said is mostly put in without.
     pub(crate) fn reserve(&mut self) -> Result<(), AllocError>
-        ensures { self.new ≡ self.old }
+        ensures { ways_in self.new ≡ ways_in self.old }
     {
         self.plain.reserve(2)
     }

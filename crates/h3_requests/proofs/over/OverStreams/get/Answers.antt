@@ -24,3 +24,6 @@ returns-in-Some-clause-value c =
 
 pub returns-in-Some-clause-over : goal.returns-in-Some-clause-over
 returns-in-Some-clause-over c = over_known (ways_in c.self.inside.ways) (mark_at c.self.inside.groups) (mark_at c.self.inside.marks) (code_at c.self.inside.codes) c.args.self.now c.into_inner-number.result c.args.id c.self.view_is c.into_inner-number.ensures.value c.into_inner-number.ensures.bound c.self.invariant.0
+
+pub returns-in-None-clause-over : goal.returns-in-None-clause-over
+returns-in-None-clause-over c = over_known (ways_in c.self.inside.ways) (mark_at c.self.inside.groups) (mark_at c.self.inside.marks) (code_at c.self.inside.codes) c.args.self.now c.into_inner-number.result c.args.id c.self.view_is c.into_inner-number.ensures.value c.into_inner-number.ensures.bound c.self.invariant.0

@@ -36,5 +36,13 @@ returns-clause-put c = λ put.
     let same = same_marked (ways_in c.self.inside.ways) (ways_in c.way_of-way.new.self) (mark_at c.self.inside.groups) (mark_at c.self.inside.groups) (mark_at c.self.inside.marks) (mark_at c.self.inside.marks) (code_at c.self.inside.codes) (code_at c.self.inside.codes) c.self.invariant.0 (have_ways (ways_in c.self.inside.ways) (ways_in c.way_of-way.new.self) c.group_of-group.result c.way_of-way.ensures.others c.way_of-way.ensures.rest) (λ id. refl) (λ q some. refl) (λ q some. refl) ∙ c.self.view_is in
     subst (λ l. Sets l c.put_coded.new.self c.args.id c.args.stream.now) same (c.put_coded.ensures.put put)
 
+pub returns-in_default-clause-same : goal.returns-in_default-clause-same
+returns-in_default-clause-same c = λ unset. same_marked (ways_in c.self.inside.ways) (ways_in c.way_of-way.new.self) (mark_at c.self.inside.groups) (mark_at c.self.inside.groups) (mark_at c.self.inside.marks) (mark_at c.self.inside.marks) (code_at c.self.inside.codes) (code_at c.self.inside.codes) c.self.invariant.0 (have_ways (ways_in c.self.inside.ways) (ways_in c.way_of-way.new.self) c.group_of-group.result c.way_of-way.ensures.others c.way_of-way.ensures.rest) (λ id. refl) (λ q some. refl) (λ q some. refl) ∙ c.self.view_is
+
+pub returns-clause-same : goal.returns-clause-same
+returns-clause-same c = λ unset.
+    let same = same_marked (ways_in c.self.inside.ways) (ways_in c.way_of-way.new.self) (mark_at c.self.inside.groups) (mark_at c.self.inside.groups) (mark_at c.self.inside.marks) (mark_at c.self.inside.marks) (code_at c.self.inside.codes) (code_at c.self.inside.codes) c.self.invariant.0 (have_ways (ways_in c.self.inside.ways) (ways_in c.way_of-way.new.self) c.group_of-group.result c.way_of-way.ensures.others c.way_of-way.ensures.rest) (λ id. refl) (λ q some. refl) (λ q some. refl) ∙ c.self.view_is in
+    c.put_coded.ensures.same unset ∙ same
+
 pub way_of-way-requires-clause-ways : goal.way_of-way-requires-clause-ways
 way_of-way-requires-clause-ways c = c.self.invariant.0.over

@@ -16,6 +16,9 @@ returns-then-way-eq0-clause-told c =
 pub returns-then-way-eq0-clause-over : goal.returns-then-way-eq0-clause-over
 returns-then-way-eq0-clause-over c = over_known (ways_in c.self.inside.ways) (mark_at c.self.inside.groups) (mark_at c.self.inside.marks) (code_at c.self.inside.codes) c.args.self.now c.into_inner-number.result c.args.id c.self.view_is c.into_inner-number.ensures.value c.into_inner-number.ensures.bound c.self.invariant.0
 
+pub returns-in_default-clause-over : goal.returns-in_default-clause-over
+returns-in_default-clause-over c = over_known (ways_in c.self.inside.ways) (mark_at c.self.inside.groups) (mark_at c.self.inside.marks) (code_at c.self.inside.codes) c.args.self.now c.into_inner-number.result c.args.id c.self.view_is c.into_inner-number.ensures.value c.into_inner-number.ensures.bound c.self.invariant.0
+
 pub returns-then-not-end_waits-clause-told : goal.returns-then-not-end_waits-clause-told
 returns-then-not-end_waits-clause-told c =
     let there : kept_at c.args.self.now c.args.id ≡ Some (over_so c.in-Some.kept.now (code_at c.self.inside.codes c.into_inner-number.result)) =
