@@ -248,7 +248,14 @@ fn most_ways(group: u8, code: Option<u64>) -> usize
 
 // Marks a stream with its group and its way, and returns whether it did: not if no memory was taken for its way, or an allocation for its
 // group failed.
-fn mark(groups: &mut Marks, marks: &mut Marks, alloc: Global, number: u64, group: u8, way: u8) -> bool
+fn mark(
+    groups: &mut Marks,
+    marks: &mut Marks,
+    alloc: Global,
+    number: u64,
+    group: u8,
+    way: u8,
+) -> bool
     requires { AreBelow groups.old }
     ensures set { result ≡ true → IsOneMark number way (mark_at marks.old) (mark_at marks.new) }
     ensures group { result ≡ true → IsOneMark number group (mark_at groups.old) (mark_at groups.new) }

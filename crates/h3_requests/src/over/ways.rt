@@ -90,13 +90,7 @@ impl Ways {
 
     // The same of streams of which a priority was said, or that are held.
     #[inline(never)]
-    fn other_way_of(
-        &mut self,
-        group: u8,
-        stream: &RequestStream,
-        has_code: bool,
-        most: usize,
-    ) -> u8
+    fn other_way_of(&mut self, group: u8, stream: &RequestStream, has_code: bool, most: usize) -> u8
         requires group { (group == 0) ≡ false }
         requires over { IsOver stream.now }
         requires ways { (group way : ℕ) → IfSome (way_at (ways_in self.old group) way) IsWay }
