@@ -156,9 +156,8 @@ impl OverStreams {
     {
         let code = stream.code_of_reset();
         let group = group_of(&stream.outgoing().precedence());
-        let way = self
-            .ways
-            .way_of(group, stream, false, most_ways(group, code));
+        let most = most_ways(group, code);
+        let way = self.ways.way_of(group, stream, false, most);
         if way > 0 {
             let alloc = self.ways.allocator();
             return mark(

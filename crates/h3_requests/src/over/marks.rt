@@ -129,7 +129,7 @@ impl Marks {
         }
     }
 
-    /// The same, with one test where no stream has a mark.
+    /// The same, with one test if no stream has a mark.
     #[inline(always)]
     pub(crate) fn get_if_any(&self, id: u64) -> u8
         requires { AreBelow self.now }
