@@ -26,8 +26,11 @@ use ways::{Ways, group_of};
 /// In so many ways streams of one precedence are over here. One that is over in a further way stays as it is.
 const MOST_WAYS: usize = 255;
 
-/// With so many ways a reset whose code is new has its code kept beside its way. It has in each group but the first.
+/// With so many ways a reset whose code is new has its code kept beside its way,
 const MOST_CODES: usize = 64;
+
+/// and with so many of a group that is not 0, since there may be many groups.
+const MOST_CODES_OF_OTHERS: usize = 16;
 
 /// A way in which streams are over, by one stream that stands for them.
 #[derive(Drop)]
@@ -239,7 +242,7 @@ fn most_ways(group: u8, code: Option<u64>) -> usize
     ensures { result ≤ 255 }
 {
     match code {
-        Some(_) if group > 0 => 0,
+        Some(_) if group > 0 => MOST_CODES_OF_OTHERS,
         Some(_) => MOST_CODES,
         None => MOST_WAYS,
     }
