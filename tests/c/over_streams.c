@@ -18,7 +18,7 @@ enum {
   PRECEDENCES = 32, /* eight urgencies, incremental or not, held or not */
   KINDS = PRECEDENCES * REQUEST_ENDS * RESPONSE_ENDS,
   ROUNDS = 8,
-  BYTES = 6,       /* what a stream may cost that is over: a mark, a number of its priority, and bits of FINs that wait */
+  BYTES = 12,      /* what a stream may cost that is over: two bytes in pages, the bit of a FIN that waits, and some have a code */
   CODE_BYTES = 24, /* and with a code of its own */
 };
 
