@@ -141,6 +141,7 @@ checks() {
   compile priority_updates priority_updates "${refusing[@]}"
   compile streams streams "${refusing[@]}"
   compile drained drained "${refusing[@]}"
+  compile over_streams over_streams "${wrapped[@]}"
   compile datagrams datagrams
   compile lists lists
   compile never_indexed never_indexed
@@ -172,6 +173,7 @@ checks() {
     run "priority updates" "$out/priority_updates"
     run streams "$out/streams"
     run drained "$out/drained" 0 10000
+    run "streams that are over" "$out/over_streams"
     run datagrams "$out/datagrams"
     websocket_frames
     programs
