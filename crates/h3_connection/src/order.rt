@@ -19,8 +19,8 @@ pub enum PrioritySource {
 }
 
 impl PrioritySource {
-    // Of what is said that counts first whose number is greatest.
-    fn rank(self) -> u8
+    /// Its number, 0 to 3. Of what is said that counts first whose number is greatest.
+    pub fn rank(self) -> u8
         ensures value { result ≡ rank self }
         ensures few { result ≤ 3 }
     {

@@ -5,6 +5,7 @@ use Rattle.std.specs.Global.{Vec}
 use Rattle.std.specs.Map.{lookup}
 use Rattle.std.specs.Ordering.{nat_cmp}
 use Rattle.h3_connection.specs.Incoming.{Incoming}
+use Rattle.h3_connection.specs.Order.{rank}
 use Rattle.h3_connection.specs.State.{OutgoingState, RequestState}
 use Rattle.h3_connection.specs.declared.event.StreamFault.{StreamFault}
 use Rattle.h3_connection.specs.declared.event.StreamFault.TheVariants.{Reset}
@@ -40,7 +41,7 @@ ways_of (Some ways) = ways.items
 
 -- Each precedence has a group of its own, 0 where no priority was said of a stream and it is not held.
 abbrev pub group_of : Precedence → ℕ
-group_of p = (p.priority.urgency + 5) % 8 * 4 + (if p.priority.incremental then 1 else 0) * 2 + (if p.is_held then 1 else 0)
+group_of p = (p.priority.urgency + 5) % 8 * 16 + (if p.priority.incremental then 1 else 0) * 8 + (if p.is_held then 1 else 0) * 4 + rank p.source
 
 abbrev pub ways_in : Ways → ℕ → List Way
 ways_in w group = if group == 0 then w.plain.items else ways_of (lookup (is_at (nat_cmp group)) w.others.entries)

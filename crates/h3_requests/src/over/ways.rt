@@ -18,13 +18,14 @@ pub(crate) struct Ways {
     others: BTreeMap<u8, Vec<Way>>,
 }
 
-/// The group of the streams of a precedence. It is 0 if no priority was said and they are not held.
+/// The group of the streams of a precedence, below 128. It is 0 if no priority was said and they are not held.
 pub(crate) fn group_of(precedence: &Precedence) -> u8
     ensures { result ≡ group_of precedence.now }
 {
     let urgency = (precedence.priority.urgency() + 5) % 8;
     let incremental = precedence.priority.is_incremental() as u8;
-    urgency * 4 + incremental * 2 + precedence.is_held as u8
+    let held = precedence.is_held as u8;
+    urgency * 16 + incremental * 8 + held * 4 + precedence.source.rank()
 }
 
 impl Ways {
