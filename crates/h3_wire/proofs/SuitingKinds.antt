@@ -1,6 +1,6 @@
 -- What is known of bytes by one choice of kinds, and by another.
 use Rattle.std.proofs.Common.{◌≡◌, ℕ, ◌+◌, ◌-◌, ◌<◌, ◌≤◌, Bool, true, false, not, ◌&&◌, ◌||◌, ◌==◌, List, ◌++◌, length, take, drop, refl, sym, subst, ◌∙◌, ap, inl, inr, ◌⊎◌, Option, Some, None, Result, Ok, Err}
-use Rattle.std.specs.Prelude.{IsNone}
+use Rattle.std.specs.Prelude.{IfOk, IfSome, IsNone, OnErr}
 use Rattle.std.specs.List.{concat}
 use Rattle.std.proofs.lemmas.Bool.{and_parts, cases_lt, eqb-true, lt-ltb}
 use Rattle.h3_coding.specs.Varint.{varint_at}
@@ -235,3 +235,9 @@ pub waits_if : (kinds : FrameKinds) (r : Result (Option (Frame PayloadLen)) Fram
 waits_if kinds (Ok None) old new is g = g.1
 waits_if kinds (Ok (Some f)) old new is g = absurd (apart (sym is))
 waits_if kinds (Err e) old new is g = absurd (apart (sym is))
+
+-- A frame leaves nothing expected, and an error what was expected whichever kinds are known.
+pub given_expects : (known_to : FrameKinds) (r : Result (Option (Frame PayloadLen)) FrameStreamError) (d : Decoding) (bytes : List ℕ) → gives_none r ≡ false → IfOk r (λ o. IfSome o (λ f. d.expected ≡ None)) → OnErr r (Expects plain_frames d bytes) → Expects (let_go_by known_to) d bytes
+given_expects known_to (Ok None) d bytes is fresh plain = absurd (apart is)
+given_expects known_to (Ok (Some f)) d bytes is fresh plain = subst (λ o. Awaits (let_go_by known_to) o d.tries bytes) (sym fresh) tt
+given_expects known_to (Err e) d bytes is fresh plain = expects_within plain_frames (let_go_by known_to) d bytes (λ h. refl) plain

@@ -8,8 +8,8 @@ ghost use Rattle.h3_wire.specs.declared.proto.frame.Frame.TheVariants as frame;
 ghost use Rattle.h3_wire.specs.declared.proto.frame.FrameError.TheVariants as error;
 ghost use Rattle.h3_wire.specs.Update.{is_update_type, type_of_update};
 
-use super::encode::{write_bytes, write_head};
 use super::FrameType;
+use super::encode::{write_bytes, write_head};
 use bytes::{Buf, BufMut, Bytes};
 use h3_coding::coding::{BufExt, Encode, WriteRefused};
 use h3_coding::varint::VarInt;
