@@ -55,6 +55,7 @@ impl ReadyStreams {
 
     /// Room for a stream of this class, so that bytes can come to wait on it with no memory. Room that was taken in vain before goes. Which
     /// streams are ready stays as it was.
+    #[inline(always)]
     pub(crate) fn reserve(&mut self, class: u64, id: StreamId) -> Result<(), AllocError>
         requires { class ≤ 16 }
         ensures listed { OnOk result (is_listed self.new class id ≡ true) }
@@ -128,6 +129,7 @@ impl ReadyStreams {
     }
 
     /// Bytes wait on a stream of this class from now on, for which room was taken, or none do. It takes no memory.
+    #[inline(always)]
     pub(crate) fn settle(&mut self, class: u64, id: StreamId, waits: bool)
         requires few { class ≤ 16 }
         requires place { waits ≡ true → is_listed self.old class id ≡ true }

@@ -222,6 +222,7 @@ impl WaitingStreams {
     }
 
     /// Nothing waits on a stream any longer, and its place goes. It takes no memory.
+    #[inline(always)]
     pub(crate) fn take(&mut self, class: u64, id: StreamId)
         requires { class ≤ 16 }
         ensures taken { IsOnePlace class id false (is_waiting self.old) (is_waiting self.new) }

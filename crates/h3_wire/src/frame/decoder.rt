@@ -218,6 +218,7 @@ fn take_first(src: &mut BufList<Bytes>) -> Option<MessageFrame>
 
 // Cuts the field section of a HEADERS frame from the first piece, in which it lies. `None` takes
 // nothing: an allocation failed.
+#[inline(always)]
 fn cut_section(src: &mut BufList<Bytes>, head: usize, size: usize) -> Option<Bytes>
     requires is { IsHeadersFrame (concat src.old.pieces) head size }
     requires inside { head + size ≤ first_size src.old.pieces }
