@@ -1,5 +1,5 @@
 -- What is known of bytes by one choice of kinds, and by another.
-use Rattle.std.proofs.Common.{◌≡◌, ℕ, ◌+◌, ◌-◌, ◌<◌, ◌≤◌, Bool, true, false, not, ◌&&◌, ◌||◌, ◌==◌, List, ◌++◌, length, take, drop, refl, sym, subst, ◌∙◌, ap, inl, inr, ◌⊎◌, Option, Some, None, Result, Ok, Err}
+use Rattle.std.proofs.Common.{◌≡◌, ℕ, ◌+◌, ◌-◌, ◌<◌, Bool, true, false, not, ◌&&◌, ◌==◌, List, ◌++◌, length, take, drop, refl, sym, subst, ◌∙◌, ap, inl, inr, ◌⊎◌, Option, Some, None, Result, Ok, Err}
 use Rattle.std.specs.Prelude.{IfOk, IfSome, IsNone, OnErr}
 use Rattle.std.specs.List.{concat}
 use Rattle.std.proofs.lemmas.Bool.{and_parts, cases_lt, eqb-true, lt-ltb}
@@ -7,7 +7,7 @@ use Rattle.h3_coding.specs.Varint.{varint_at}
 use Rattle.h3_coding.specs.VarintLaws.{cases_number, reads_more}
 use Rattle.h3_wire.specs.declared.frame.kinds.FrameKinds.{FrameKinds}
 use Rattle.h3_wire.specs.FrameLaws.{at_no_kind, at_no_number, at_head, frame_known-finished, no_update, short_or_whole}
-use Rattle.h3_wire.specs.Frames.{Unfinished, frame_by, is_session, is_update, plain_frames, with_head}
+use Rattle.h3_wire.specs.Frames.{Unfinished, frame_by, is_session, is_update, plain_frames}
 use Rattle.h3_wire.specs.Fronts.{IsFinished, tested}
 use Rattle.h3_wire.specs.Update.{is_update_type}
 use Rattle.h3_wire.specs.Known.{Gives, IsWaiting}

@@ -1,8 +1,8 @@
 -- Frames of unknown types at the front of bytes (RFC 9114, section 9), told by their heads alone: how long they are, also while they are under way.
-use Rattle.std.specs.Prelude.{◌≡◌, ℕ, ◌+◌, ◌-◌, ◌<◌, Bool, true, false, not, ◌&&◌, ◌||◌, ◌==◌, List, [], length, nat_lt, if◌then◌else◌, Option, Some, None}
+use Rattle.std.specs.Prelude.{◌≡◌, ℕ, ◌+◌, ◌-◌, ◌<◌, Bool, false, not, ◌&&◌, ◌||◌, ◌==◌, List, [], length, nat_lt, if◌then◌else◌, Option, Some, None}
 use Rattle.std.specs.List.{concat}
 use Rattle.h3_coding.specs.Varint.{varint_at}
-use Rattle.h3_wire.specs.Frames.{is_http2, is_session, is_update, plain_frames}
+use Rattle.h3_wire.specs.Frames.{is_http2, is_session, is_update}
 use Rattle.h3_wire.specs.Update.{is_update_type}
 use Rattle.h3_wire.specs.declared.frame.kinds.FrameKinds.{FrameKinds}
 

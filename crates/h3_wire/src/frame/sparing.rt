@@ -11,7 +11,7 @@ ghost use Rattle.h3_wire.specs.Known.{Gives, known_by};
 ghost use Rattle.h3_wire.specs.MessageFrames.{any_frame};
 ghost use Rattle.h3_wire.specs.Pieces.{IsRest, chunk_of, ending, first_of, with_piece};
 ghost use Rattle.h3_wire.specs.Tries.{Counts, Expects};
-ghost use Rattle.h3_wire.specs.UnknownSize.{AreLetGo, IsKnownTo, IsPassing, IsSpared, choices_for, is_known_type, is_longer, is_under_way, let_go_by, no_kinds, suits, unknown_size};
+ghost use Rattle.h3_wire.specs.UnknownSize.{AreLetGo, IsPassing, IsSpared, choices_for, is_known_type, is_longer, is_under_way, let_go_by, no_kinds, suits, unknown_size};
 
 use super::decoder::{FrameDecoder, MessageFrame};
 use super::errors::FrameStreamError;
@@ -37,7 +37,7 @@ pub(super) struct FrameBytes {
     passing: usize,
     // by which choices its type would be known: it is 0x41, or one of PRIORITY_UPDATE
     known_to: FrameKinds,
-    // the length behind its type
+    // the length after its type
     number: u64,
 }
 
@@ -388,7 +388,7 @@ fn choices_of(pieces: &BufList<Bytes>) -> FrameKinds
     }
 }
 
-// The length of the frame at the front, as it stands behind its type, or 0 if it did not come.
+// The length of the frame at the front, as it stands after its type, or 0 if it did not come.
 fn number_of(pieces: &BufList<Bytes>) -> u64
     ensures { result ≡ number_said (head_said (varint_at (concat pieces.now.pieces))) }
 {
