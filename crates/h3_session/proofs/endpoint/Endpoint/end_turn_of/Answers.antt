@@ -8,4 +8,4 @@ returns-then-min-eq0 c = empty_turn c.args.self.now c.args.id c.args.count c.min
 
 pub returns : goal.returns
 returns c =
-    ended_turn _ _ _ _ _ _ c.in-Some.turn _ c.self.view_is (sym c.turn_of.ensures ∙ c.in-Some.is) c.min.ensures c.if-min-eq0.false c.first_unseen-until.ensures c.end_turn.ensures
+    ended_turn _ _ _ _ _ _ c.in-Some.turn _ c.self.view_is (sym c.turn_of.ensures ∙ c.in-Some.is) c.min.ensures c.if-min-eq0.false c.turn_bound-until.ensures c.end_turn.ensures
