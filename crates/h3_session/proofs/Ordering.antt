@@ -105,6 +105,13 @@ no_turns s id count none e h =
     let here : e.order.rounds ≡ None = ap (λ (o : SendOrder). o.rounds) (sym h.order) ∙ none in
     ap (λ o. record s { order = o }) (h.order ∙ sym (none_after e id (min count (length (bytes_waiting e id))) (stream_at e.outgoing id) here))
 
+none_of : (rounds : Option Rounds) → is_some rounds ≡ false → rounds ≡ None
+none_of None is = refl
+none_of (Some r) is = absurd (cc)
+
+pub advances_with_no_turns : (s u : EndpointState) (id count : ℕ) → is_some s.order.rounds ≡ false → TakesBytes s u id count → Advances s u id count
+advances_with_no_turns s u id count none takes = advances s s u id count (no_turns s id count (none_of s.order.rounds none)) takes
+
 -- nor one of a stream that is not there, or of no bytes
 pub no_stream : (s : EndpointState) (id count : ℕ) → sender_in s id ≡ None → EndsTurn s s id count
 no_stream s id count was e h =

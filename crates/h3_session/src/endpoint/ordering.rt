@@ -162,19 +162,8 @@ impl Endpoint {
         hold_own(&mut self.order, self.side, id, is_held)
     }
 
-    // The turn of a request stream is over, if bytes of it are taken, and turns count.
-    #[inline(always)]
+    // The turn of a request stream is over, if bytes of it are taken.
     pub(super) fn end_turn(&mut self, id: StreamId, count: usize)
-        ensures { EndsTurn self.old self.new id count }
-    {
-        if self.order.rounds.is_some() {
-            self.end_turn_of(id, count);
-        }
-    }
-
-    // The same.
-    #[inline(never)]
-    fn end_turn_of(&mut self, id: StreamId, count: usize)
         ensures { EndsTurn self.old self.new id count }
     {
         let Some(turn) = self.turn_of(id) else {
