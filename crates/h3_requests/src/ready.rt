@@ -272,6 +272,7 @@ impl ReadyStreams {
     }
 
     /// The first stream from this id on whose end waits.
+    #[inline(always)]
     pub(crate) fn next_end(&self, from: u64) -> Option<StreamId>
         requires { ArePlain self.now }
         ensures { IsLeast (is_any (is_waiting self.now.ends)) from result }
@@ -283,6 +284,7 @@ impl ReadyStreams {
     }
 
     /// The first stream from this id on on which bytes wait.
+    #[inline(always)]
     pub(crate) fn next(&self, from: u64) -> Option<StreamId>
         requires { ArePlain self.now }
         ensures { IsLeast (is_any (is_ready self.now)) from result }

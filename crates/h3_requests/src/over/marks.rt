@@ -130,7 +130,7 @@ impl Marks {
     }
 
     /// The same, with one test if no stream has a mark.
-    #[inline(always)]
+    #[inline(never)]
     pub(crate) fn get_if_any(&self, id: u64) -> u8
         requires { AreBelow self.now }
         ensures { result ≡ mark_at self.now id }
