@@ -130,7 +130,7 @@ impl Marks {
     }
 
     /// The same, with one test if no stream has a mark.
-    #[inline(never)]
+    #[inline(always)]
     pub(crate) fn get_if_any(&self, id: u64) -> u8
         requires { AreBelow self.now }
         ensures { result ≡ mark_at self.now id }
@@ -138,6 +138,14 @@ impl Marks {
         if id > self.top {
             return 0;
         }
+        self.get_with_call(id)
+    }
+
+    // The mark of a stream, or 0: a call of its own.
+    #[inline(never)]
+    fn get_with_call(&self, id: u64) -> u8
+        ensures { result ≡ mark_at self.now id }
+    {
         self.get(id)
     }
 
