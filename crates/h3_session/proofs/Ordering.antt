@@ -144,7 +144,7 @@ a_turn s id count until w order was some bounds is e h =
     = ap (order_after e id taken) f.there ∙ some_turned e.order id taken bound f.o more in
     let here : order ≡ record e.order { rounds = turn_over e.order.rounds f.o.precedence.priority id bound }
     = is ∙ ap (λ rounds. record s.order { rounds = rounds }) (bounds e h) ∙ ap (λ (o : SendOrder). record o { rounds = turn_over o.rounds w.precedence.priority id bound }) h.order
-      ∙ ap (λ p. record e.order { rounds = turn_over e.order.rounds p.priority id bound }) f.is.precedence in
+    ∙ ap (λ p. record e.order { rounds = turn_over e.order.rounds p.priority id bound }) f.is.precedence in
     ap (λ o. record s { order = o }) (here ∙ sym there)
 
 -- the first id that was not seen is a bound
