@@ -355,7 +355,7 @@ fn set_group(groups: &mut Marks, alloc: Global, number: u64, group: u8) -> bool
     set_other_group(groups, alloc, number, group)
 }
 
-// The same, where it has another.
+// The same, if it has another.
 #[inline(never)]
 #[tactic(auto, using(crate::proofs::Ways::own_set))]
 fn set_other_group(groups: &mut Marks, alloc: Global, number: u64, group: u8) -> bool

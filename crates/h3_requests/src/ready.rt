@@ -146,7 +146,7 @@ impl ReadyStreams {
     }
 
     /// Bytes were taken of a stream on which they waited: more wait, or none do any longer. It takes no memory. (The class is asked only
-    /// where none do.)
+    /// if none do.)
     #[inline(always)]
     pub(crate) fn settle_rest(&mut self, precedence: &Precedence, id: StreamId, waits: bool)
         requires { waits ≡ true → is_ready self.old (class_of precedence.now) id ≡ true }

@@ -276,7 +276,7 @@ impl Endpoint {
         self.take_bytes(id, count);
     }
 
-    // The same where turns count. (a function of its own: while no priority was set nothing is spent on turns)
+    // The same if turns count. (a function of its own: while no priority was set nothing is spent on turns)
     #[inline(never)]
     fn advance_in_turn(&mut self, id: StreamId, count: usize)
         ensures { Advances self.old self.new id count }
