@@ -1,5 +1,6 @@
 pub mod Found
 pub mod Turning
 pub mod ThirdTurn
+pub mod PlaceTurns
 pub mod NextStands
 pub mod RowsHold

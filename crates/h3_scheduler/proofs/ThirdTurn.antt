@@ -45,23 +45,23 @@ out_later r n q there out = elim (cases_lt q r.from) [
 ]
 
 -- how many turns a stream can have at most before the one that waits has its own
-abbrev left_by : Bool → Bool → Bool → ℕ
+abbrev pub left_by : Bool → Bool → Bool → ℕ
 left_by in_round later again = if in_round then (if later then 1 else 0) else (if again then 2 else 1)
 
-abbrev left : Round → ℕ → ℕ → ℕ
+abbrev pub left : Round → ℕ → ℕ → ℕ
 left r waiting id = left_by (is_in r waiting) (nat_le r.from id) (is_in r id)
 
-two_left : (a b c : Bool) → left_by a b c ≤ 2
+pub two_left : (a b c : Bool) → left_by a b c ≤ 2
 two_left true true c = omega arith
 two_left true false c = omega arith
 two_left false b true = omega arith
 two_left false b false = omega arith
 
-abbrev one_if : Bool → ℕ
+abbrev pub one_if : Bool → ℕ
 one_if b = if b then 1 else 0
 
 -- whose turn it can be while one waits: one of the round, in front of it if it has its turn there; or one of another round, in front of it
-abbrev TurnFacts : Round → ℕ → ℕ → Type 0
+abbrev pub TurnFacts : Round → ℕ → ℕ → Type 0
 TurnFacts r waiting n = ((is_in r n ≡ true) × (is_in r waiting ≡ true → n < waiting)) ⊎ ((is_in r n ≡ false) × (is_in r waiting ≡ false) × (n < waiting))
 
 -- the round goes on
@@ -140,7 +140,7 @@ begins r waiting id n bound out less below =
     counts false = one_at_most
 
 -- a turn leaves as many fewer as it is
-fewer_left : (r : Round) (waiting id n bound : ℕ) → waiting < bound → TurnFacts r waiting n → one_if (n == id) + left (after_turn r n bound) waiting id ≤ left r waiting id
+pub fewer_left : (r : Round) (waiting id n bound : ℕ) → waiting < bound → TurnFacts r waiting n → one_if (n == id) + left (after_turn r n bound) waiting id ≤ left r waiting id
 fewer_left r waiting id n bound below (inl facts) =
     subst (λ v. one_if (n == id) + left (record { from = n + 1; until = if v then r.until else bound }) waiting id ≤ left r waiting id) (sym facts.0)
     (goes_on r waiting id n facts.0 facts.1 (is_in r waiting) refl)
@@ -161,7 +161,7 @@ front f n waiting least passes apart = elim (cases_order n waiting) [
   ]
 ]
 
-facts_of : (takes : ℕ → Bool) (r : Round) (waiting n : ℕ) → IsTurn takes r n → takes waiting ≡ true → n ≢ waiting → TurnFacts r waiting n
+pub facts_of : (takes : ℕ → Bool) (r : Round) (waiting n : ℕ) → IsTurn takes r n → takes waiting ≡ true → n ≢ waiting → TurnFacts r waiting n
 facts_of takes r waiting n (inl here) is apart =
     inl ((and_parts (takes n) (is_in r n) here.1).1, λ it. front (λ q. takes q && is_in r q) n waiting here (ap (λ b. b && is_in r waiting) is ∙ it) apart)
 facts_of takes r waiting n (inr all) is apart =

@@ -9,3 +9,4 @@ pub mod LeastLaws
 pub mod TurnLaws
 pub mod Moments
 pub mod Places
+pub mod PlaceTurns
