@@ -1,6 +1,5 @@
 pub mod Found
 pub mod Turning
 pub mod ThirdTurn
-pub mod PlaceTurns
 pub mod NextStands
 pub mod RowsHold

@@ -10,3 +10,5 @@ pub mod TurnLaws
 pub mod Moments
 pub mod Places
 pub mod PlaceTurns
+pub mod ThirdTurnLaws
+pub mod PlaceTurnLaws

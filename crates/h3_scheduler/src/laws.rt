@@ -25,7 +25,7 @@ pub fn none_has_a_third_turn_through_moments()
 
 /// The same over places, of streams that send if they are next (`IsNext`, the clause of an endpoint's `next_by_priority`), at any urgency.
 /// Between turns all but the round of this urgency may change.
-#[tactic(auto, using(crate::proofs::PlaceTurns::two_at_places))]
+#[tactic(auto, using(crate::specs::PlaceTurnLaws::two_at_places))]
 pub fn none_has_a_third_turn_by_next()
     ensures { (urgency waiting id : ℕ) (r : Round) (turns : List PlaceTurn) → WaitsAtPlaces urgency waiting r turns
         → turns_at urgency id turns ≤ 2 }

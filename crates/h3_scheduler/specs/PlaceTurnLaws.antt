@@ -1,6 +1,6 @@
 -- None has a third turn over places, where those send that are next.
 use Rattle.std.proofs.Common.{arith, ◌≡◌, ◌<◌, ◌≤◌, ◌+◌, ℕ, Bool, true, false, ◌&&◌, List, [], ◌∷◌, sym, refl, subst, ◌∙◌, inl, inr}
-use Rattle.std.specs.Prelude.{◌==◌, nat_le, Option, Some}
+use Rattle.std.specs.Prelude.{◌==◌, nat_le, Option}
 use Rattle.std.proofs.lemmas.Bool.{and_parts, eqb-true, or_cases}
 use Rattle.h3_scheduler.specs.Least.{IsLeast}
 use Rattle.h3_scheduler.specs.LeastLaws.{one_least}
@@ -9,7 +9,7 @@ use Rattle.h3_scheduler.specs.PlaceTurns.{round_if, turns_at, PlaceTurn, TakesTu
 use Rattle.h3_scheduler.specs.Rounds.{is_in, round_at}
 use Rattle.h3_scheduler.specs.Streams.{is_it}
 use Rattle.h3_scheduler.specs.declared.round.Round.{Round}
-use Rattle.h3_scheduler.proofs.ThirdTurn.{facts_of, fewer_left, left, one_if, two_left, TurnFacts}
+use Rattle.h3_scheduler.specs.ThirdTurnLaws.{facts_of, fewer_left, left, one_if, two_left, TurnFacts}
 
 -- who takes turns stands there
 stands_of : (places : Places) (u : ℕ) (plain : Option ℕ) (q : ℕ) → takes_at places u plain q ≡ true → (kind : Bool) × (places u kind q ≡ true)
