@@ -9,7 +9,8 @@ use Rattle.h3_scheduler.specs.Moments.{turns_among, Moment, WaitsThrough}
 use Rattle.h3_scheduler.specs.Rounds.{after_turn, is_in, round_at}
 use Rattle.h3_scheduler.specs.Places.{IsTurn}
 use Rattle.h3_scheduler.specs.Streams.{Stream, Streams, any_by, id_of, is_it, least_by, next_turn, or_else, stream_at, takes_turn}
-use Rattle.h3_scheduler.specs.ThirdTurnLaws.{facts_of, fewer_left, left, one_if, set_other, set_same, two_left}
+use Rattle.h3_scheduler.specs.ThirdTurnLaws.{facts_of, fewer_left, set_other, set_same, two_left}
+use Rattle.h3_scheduler.specs.TurnsLeft.{left, one_if}
 use Rattle.h3_scheduler.specs.Turns.{at_urgency, ended_at, has_turns, rounds_after, turn_of, turns_in, IsAnothers, Turn, Waits}
 use Rattle.h3_scheduler.specs.declared.round.Round.{Round}
 use Rattle.h3_scheduler.proofs.Found.{any_with, least_is}

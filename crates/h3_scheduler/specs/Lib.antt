@@ -10,5 +10,6 @@ pub mod TurnLaws
 pub mod Moments
 pub mod Places
 pub mod PlaceTurns
+pub mod TurnsLeft
 pub mod ThirdTurnLaws
 pub mod PlaceTurnLaws

@@ -9,7 +9,8 @@ use Rattle.h3_scheduler.specs.PlaceTurns.{round_if, turns_at, PlaceTurn, TakesTu
 use Rattle.h3_scheduler.specs.Rounds.{is_in, round_at}
 use Rattle.h3_scheduler.specs.Streams.{is_it}
 use Rattle.h3_scheduler.specs.declared.round.Round.{Round}
-use Rattle.h3_scheduler.specs.ThirdTurnLaws.{facts_of, fewer_left, left, one_if, two_left, TurnFacts}
+use Rattle.h3_scheduler.specs.ThirdTurnLaws.{facts_of, fewer_left, two_left}
+use Rattle.h3_scheduler.specs.TurnsLeft.{left, one_if, TurnFacts}
 
 -- who takes turns stands there
 stands_of : (places : Places) (u : ℕ) (plain : Option ℕ) (q : ℕ) → takes_at places u plain q ≡ true → (kind : Bool) × (places u kind q ≡ true)

@@ -1,13 +1,14 @@
 -- How many turns a stream can have while another of its urgency waits: at most one that is left of a round, and one of the round in which the
 -- other has its own.
 use Rattle.std.proofs.Common.{arith, ◌≡◌, ◌≢◌, ◌<◌, ◌≤◌, ◌+◌, ℕ, Bool, true, false, ◌&&◌, if◌then◌else◌, List, length, sym, refl, ap, subst, ◌∙◌, inl, inr}
-use Rattle.std.specs.Prelude.{◌⊎◌, ◌==◌, nat_le, nat_lt, slice_set, Some}
+use Rattle.std.specs.Prelude.{◌==◌, nat_le, nat_lt, slice_set, Some}
 use Rattle.std.proofs.lemmas.Bool.{and_parts, cases_eq, cases_lt, cases_order, eq-eqb, ne_eqb, le-leb, lt-leb, leb-true, lt-ltb, le-ltb, ltb-true, true≢false}
 use Rattle.std.proofs.lemmas.List.{get_or-set_other, get_or-set_same}
 use Rattle.std.proofs.lemmas.Option.{unwrap_or-slice_get}
 use Rattle.h3_scheduler.specs.Least.{IsLeast}
 use Rattle.h3_scheduler.specs.Rounds.{after_turn, is_in, no_round, round_at}
 use Rattle.h3_scheduler.specs.Places.{IsTurn}
+use Rattle.h3_scheduler.specs.TurnsLeft.{left, left_by, one_if, TurnFacts}
 use Rattle.h3_scheduler.specs.declared.round.Round.{Round}
 
 -- ---- rounds
@@ -39,25 +40,11 @@ out_later r n q there out = elim (cases_lt q r.from) [
   ]
 ]
 
--- how many turns a stream can have at most before the one that waits has its own
-abbrev pub left_by : Bool → Bool → Bool → ℕ
-left_by in_round later again = if in_round then (if later then 1 else 0) else (if again then 2 else 1)
-
-abbrev pub left : Round → ℕ → ℕ → ℕ
-left r waiting id = left_by (is_in r waiting) (nat_le r.from id) (is_in r id)
-
 pub two_left : (a b c : Bool) → left_by a b c ≤ 2
 two_left true true c = omega arith
 two_left true false c = omega arith
 two_left false b true = omega arith
 two_left false b false = omega arith
-
-abbrev pub one_if : Bool → ℕ
-one_if b = if b then 1 else 0
-
--- whose turn it can be while one waits: one of the round, in front of it if it has its turn there; or one of another round, in front of it
-abbrev pub TurnFacts : Round → ℕ → ℕ → Type 0
-TurnFacts r waiting n = ((is_in r n ≡ true) × (is_in r waiting ≡ true → n < waiting)) ⊎ ((is_in r n ≡ false) × (is_in r waiting ≡ false) × (n < waiting))
 
 -- the round goes on
 goes_on : (r : Round) (waiting id n : ℕ) → is_in r n ≡ true → (is_in r waiting ≡ true → n < waiting) → (w : Bool) → is_in r waiting ≡ w
