@@ -1,23 +1,20 @@
 -- None of an endpoint's request streams has a third turn while another of its urgency waits: the scheduler's law, of its own calls.
 use Rattle.std.proofs.Common.{◌≡◌, ◌<◌, ◌≤◌, ℕ, Bool, true, false, ◌&&◌, ◌||◌, if◌then◌else◌, List, [], ◌∷◌, length, sym, refl, ap, subst, ◌∙◌}
-use Rattle.std.specs.Prelude.{◌==◌, not, nat_lt, map, slice_set, Option, Some, option_map, unwrap_or}
+use Rattle.std.specs.Prelude.{◌==◌, not, nat_lt, map, slice_set, Some, option_map, unwrap_or}
 use Rattle.std.proofs.lemmas.Bool.{and_parts, eqb-true, eqb-false}
 use Rattle.std.proofs.lemmas.List.{length-set}
 use Rattle.h3_scheduler.specs.PlaceTurnLaws.{two_at_places}
-use Rattle.h3_scheduler.specs.PlaceTurns.{round_if, PlaceTurn, WaitsAtPlaces, WasNext, WasNextIf}
+use Rattle.h3_scheduler.specs.PlaceTurns.{round_if, PlaceTurn, WaitsAtPlaces, WasNextIf}
 use Rattle.h3_scheduler.specs.Rounds.{after_turn, round_at}
 use Rattle.h3_scheduler.specs.Streams.{alike, is_class}
 use Rattle.h3_scheduler.specs.ThirdTurnLaws.{set_other, set_same}
 use Rattle.h3_scheduler.specs.declared.round.Round.{Round}
 use Rattle.h3_scheduler.specs.declared.round.Rounds.{Rounds}
 use Rattle.h3_connection.specs.ByPriority.{places_of, sends_at}
-use Rattle.h3_connection.specs.Endpoint.{EndpointHistory}
 use Rattle.h3_connection.specs.EndpointTurns.{bound_in, place_turn, turns_of, urgency_of, EndpointTurn, IsTurn, WaitsForTurn, WasNamedIf}
 use Rattle.h3_connection.specs.Order.{rounds_of, turn_over}
-use Rattle.h3_connection.specs.Outgoing.{Outgoing, end_waits, part_bytes_waiting}
+use Rattle.h3_connection.specs.Outgoing.{end_waits, part_bytes_waiting}
 use Rattle.h3_connection.specs.Sending.{advance, order_after}
-use Rattle.h3_connection.specs.StreamSets.{stream_at}
-use Rattle.h3_connection.specs.declared.order.SendOrder.{SendOrder}
 
 -- a stream that sends has one urgency
 one_urgency : (t : EndpointTurn) → IsTurn t → (v : ℕ) (kind : Bool) → places_of t.e v kind t.id ≡ true → v ≡ urgency_of t
