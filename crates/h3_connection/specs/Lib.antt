@@ -87,3 +87,4 @@ pub mod SentContent
 pub mod StrictSendingLaws
 pub mod FlagLaws
 pub mod FlagReadLaws
+pub mod EndpointTurns

@@ -361,3 +361,15 @@ pub fn without_updates_nothing_of_them_is_read()
     ensures used { (e : EndpointHistory) (count : ℕ) → e.peer.updates.waiting ≡ [] → use_updates e count ≡ with_waiting e [] }
     ensures text { (ids : List ℕ) → control_frames 0 ids [] ≡ flat_map goaway_encoding ids }
 {}
+
+ghost use Rattle.std.specs.Prelude.{◌<◌, length};
+ghost use Rattle.h3_scheduler.specs.declared.round.Rounds.{Rounds};
+ghost use Rattle.h3_connection.specs.EndpointTurns.{turns_of, EndpointTurn, WaitsForTurn};
+
+/// None of an endpoint's request streams starves (RFC 9218, section 10): while one waits for its turn, and `advance` is called for the streams
+/// of its urgency that `next_by_priority` names, none of these has a third turn. Streams may come, end and change between turns.
+#[tactic(auto, using(crate::proofs::EndpointTurns::two_turns))]
+pub fn none_has_a_third_turn()
+    ensures { (urgency waiting id : ℕ) (r : Rounds) (turns : List EndpointTurn) → urgency < length r.rounds → WaitsForTurn urgency waiting (Some r) turns →
+        turns_of urgency id turns ≤ 2 }
+{}

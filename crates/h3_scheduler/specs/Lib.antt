@@ -9,3 +9,7 @@ pub mod LeastLaws
 pub mod TurnLaws
 pub mod Moments
 pub mod Places
+pub mod PlaceTurns
+pub mod TurnsLeft
+pub mod ThirdTurnLaws
+pub mod PlaceTurnLaws

@@ -3,6 +3,7 @@ ghost use Rattle.std.specs.Prelude.{◌≡◌, ◌≤◌, ◌<◌, ℕ, List, le
 ghost use Rattle.h3_scheduler.specs.Moments.{turns_among, Moment, WaitsThrough};
 ghost use Rattle.h3_scheduler.specs.Next.{AreDefault, ArePlaces, IsLowest, IsMostUrgent};
 ghost use Rattle.h3_scheduler.specs.Places.{IsNext, Places};
+ghost use Rattle.h3_scheduler.specs.PlaceTurns.{turns_at, PlaceTurn, WaitsAtPlaces};
 ghost use Rattle.h3_scheduler.specs.Rows.{RowsHold};
 ghost use Rattle.h3_scheduler.specs.Streams.{next_of, Streams};
 ghost use Rattle.h3_scheduler.specs.Turns.{turns_in, Turn, Waits};
@@ -20,6 +21,14 @@ pub fn none_has_a_third_turn()
 #[tactic(auto, using(crate::proofs::ThirdTurn::two_among))]
 pub fn none_has_a_third_turn_through_moments()
     ensures { (waiting id : ℕ) (r : Round) (moments : List Moment) → WaitsThrough waiting r moments → turns_among id moments ≤ 2 }
+{}
+
+/// The same over places, of streams that send if they are next (`IsNext`, the clause of an endpoint's `next_by_priority`), at any urgency.
+/// Between turns all but the round of this urgency may change.
+#[tactic(auto, using(crate::specs::PlaceTurnLaws::two_at_places))]
+pub fn none_has_a_third_turn_by_next()
+    ensures { (urgency waiting id : ℕ) (r : Round) (turns : List PlaceTurn) → WaitsAtPlaces urgency waiting r turns
+        → turns_at urgency id turns ≤ 2 }
 {}
 
 /// Whose turn it is over places is who sends next of the list of streams whose places these are. So the laws below are those of it, too.
