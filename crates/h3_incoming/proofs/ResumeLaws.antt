@@ -329,6 +329,7 @@ begun_next kinds first mid new (frame.Data len) InSession h some = absurd (not_t
 begun_next kinds first mid new (frame.CancelPush push) place h some = absurd h
 begun_next kinds first mid new (frame.Settings settings) place h some = absurd h
 begun_next kinds first mid new (frame.PushPromise promise) place h some = absurd h
+begun_next kinds first mid new (frame.PriorityUpdate update) place h some = absurd h
 begun_next kinds first mid new (frame.Goaway number) place h some = absurd h
 begun_next kinds first mid new (frame.MaxPushId push) place h some = absurd h
 begun_next kinds first mid new (frame.WebTransportStream session) place h some = absurd h
@@ -341,6 +342,7 @@ begun_counts mid new (frame.Data len) place h = inr (len.0, ap {A = Incoming} (Î
 begun_counts mid new (frame.CancelPush push) place h = absurd h
 begun_counts mid new (frame.Settings settings) place h = absurd h
 begun_counts mid new (frame.PushPromise promise) place h = absurd h
+begun_counts mid new (frame.PriorityUpdate update) place h = absurd h
 begun_counts mid new (frame.Goaway number) place h = absurd h
 begun_counts mid new (frame.MaxPushId push) place h = absurd h
 begun_counts mid new (frame.WebTransportStream session) place h = absurd h

@@ -77,7 +77,7 @@ waits_so setup k ends side id count h kept has fits =
     let is : end_at ends (other side) ≡ ahead r.ew [] r.there.held r.there.incoming r.there.arrivals = r.there.is ∙ ap (λ ds. ahead r.ew ds r.there.held r.there.incoming r.there.arrivals) none in
     let there : has_outgoing k.world (other side) id ≡ true =
     sym (has_outgoing_is setup k.world (other side) id r.ew r.two.both.there) ∙ sym (ap (λ x. shown.has_outgoing x id) is ∙ outgoing_ahead r.ew [] r.there.held r.there.incoming r.there.arrivals id) ∙ has in
-    let w = subst (λ x. Waits setup k.world (other side) x id) (sym is) (waits_at setup k.world (other side) r.ew r.there.held r.there.incoming r.there.arrivals id r.two.both.there there) in
+    let w = subst (λ x. Waits setup k.world (other side) x id) (sym is) (waits_at setup k.world (other side) r.ew r.there.held r.there.incoming r.there.arrivals id r.two.both.there r.two.both.writes_there.updates there) in
     (there, w.front count (omega (arith, fits, w.waits)))
 
 -- A pull's answer is settled where it is in the world, whatever is kept.

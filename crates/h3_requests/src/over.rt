@@ -340,7 +340,8 @@ fn clear_group(groups: &mut Marks, number: u64)
     groups.set(number, 0);
 }
 
-// Gives a stream its group, and returns whether it did: not if an allocation failed.
+// Gives a stream its group, and returns whether it did: not if an allocation failed. (Mostly it has it: the group of no priority.)
+#[inline(always)]
 #[tactic(auto, using(crate::proofs::Ways::own_set))]
 fn set_group(groups: &mut Marks, alloc: Global, number: u64, group: u8) -> bool
     requires { AreBelow groups.old }
@@ -351,6 +352,18 @@ fn set_group(groups: &mut Marks, alloc: Global, number: u64, group: u8) -> bool
     if groups.get_if_any(number) == group {
         return true;
     }
+    set_other_group(groups, alloc, number, group)
+}
+
+// The same, if it has another.
+#[inline(never)]
+#[tactic(auto, using(crate::proofs::Ways::own_set))]
+fn set_other_group(groups: &mut Marks, alloc: Global, number: u64, group: u8) -> bool
+    requires { AreBelow groups.old }
+    ensures set { result ≡ true → IsOneMark number group (mark_at groups.old) (mark_at groups.new) }
+    ensures same { result ≡ false → HaveSameMarks (mark_at groups.old) (mark_at groups.new) }
+    ensures below { AreBelow groups.new }
+{
     let Ok(()) = groups.reserve(alloc, number) else {
         return false;
     };

@@ -5,19 +5,14 @@ use Rattle.std.specs.Prelude.{◌⊎◌, ◌==◌, nat_le, nat_lt, slice_set, Op
 use Rattle.std.proofs.lemmas.Bool.{and_parts, cases_eq, cases_lt, cases_order, eqb-true, eqb-false, eq-eqb, ne_eqb, le-leb, lt-leb, leb-true, lt-ltb, le-ltb, ltb-true, true≢false}
 use Rattle.std.proofs.lemmas.List.{get_or-set_other, get_or-set_same, length-set}
 use Rattle.std.proofs.lemmas.Option.{unwrap_or-slice_get}
-use Rattle.h3_priority.specs.Priority.{PriorityParameters}
-use Rattle.h3_scheduler.specs.Calls.{Call, after, at_urgency, has_turns, turn_of, turns_in, IsAnothers, Waits}
-use Rattle.h3_scheduler.specs.Calls.Call.{Advanced, Held, Inserted, Prioritized, Readied, Removed}
 use Rattle.h3_scheduler.specs.Least.{IsLeast}
 use Rattle.h3_scheduler.specs.LeastLaws.{least_alike}
 use Rattle.h3_scheduler.specs.Moments.{turns_among, Moment, WaitsThrough}
 use Rattle.h3_scheduler.specs.Rounds.{after_turn, is_in, no_round, round_at}
-use Rattle.h3_scheduler.specs.Schedule.{Schedule, advanced_at, bound_of, changed_at, opened_at, held, prioritized, readied}
 use Rattle.h3_scheduler.specs.Places.{IsTurn}
-use Rattle.h3_scheduler.specs.Streams.{Streams, any_by, id_of, is_it, least_by, next_turn, or_else, stream_at, takes_turn}
+use Rattle.h3_scheduler.specs.Streams.{Stream, Streams, any_by, id_of, is_it, least_by, next_turn, or_else, stream_at, takes_turn}
+use Rattle.h3_scheduler.specs.Turns.{at_urgency, ended_at, has_turns, rounds_after, turn_of, turns_in, IsAnothers, Turn, Waits}
 use Rattle.h3_scheduler.specs.declared.round.Round.{Round}
-use Rattle.h3_scheduler.specs.declared.stream.Stream.{Stream}
-use Rattle.h3_scheduler.proofs.Bounds.{above_all}
 use Rattle.h3_scheduler.proofs.Found.{any_with, least_is}
 
 -- ---- rounds
@@ -187,7 +182,7 @@ is_turn urgency es r n named = by_round (least_by id_of (λ s. takes_turn urgenc
     by_round (Some m) least is = inl (subst (λ q. IsLeast (λ k. any_by id_of (takes_turn urgency es) es k && is_in r k) 0 (Some q)) (the_same m n is) (with_round (Some m) least))
     by_round None least is = inr (with_round None least, subst (IsLeast (any_by id_of (takes_turn urgency es) es) 0) is (least_is id_of (takes_turn urgency es) es))
 
--- ---- the round after a call
+-- ---- the round after a turn
 set_same : (rounds : List Round) (u : ℕ) (r : Round) → u < length rounds → round_at (slice_set rounds u r) u ≡ r
 set_same rounds u r within = unwrap_or-slice_get (slice_set rounds u r) u no_round ∙ get_or-set_same rounds u r no_round within
 
@@ -198,67 +193,43 @@ abbrev ended : Round → ℕ → Option ℕ → Round
 ended r bound None = r
 ended r bound (Some n) = after_turn r n bound
 
-opened_same : (s : Schedule) (id : ℕ) (p : PriorityParameters) (o : Option Stream) → (opened_at s id p o).rounds ≡ s.rounds
-opened_same s id p None = refl
-opened_same s id p (Some there) = refl
-
-changed_same : (s : Schedule) (id : ℕ) (change : Stream → Stream) (o : Option Stream) → (changed_at s id change o).rounds ≡ s.rounds
-changed_same s id change None = refl
-changed_same s id change (Some there) = refl
-
-turn_ended : (u : ℕ) (s : Schedule) (id : ℕ) (o : Option Stream) → u < length s.rounds → round_at (advanced_at s id o).rounds u ≡ ended (round_at s.rounds u) (bound_of s.streams) (at_urgency u id o)
-turn_ended u s id None within = refl
-turn_ended u s id (Some there) within = by_urgency (there.priority.urgency == u) refl
+turn_ended : (u : ℕ) (rounds : List Round) (id bound : ℕ) (o : Option Stream) → u < length rounds → round_at (ended_at rounds id bound o) u ≡ ended (round_at rounds u) bound (at_urgency u id o)
+turn_ended u rounds id bound None within = refl
+turn_ended u rounds id bound (Some there) within = by_urgency (there.priority.urgency == u) refl
   where
     by_urgency : (b : Bool) → (there.priority.urgency == u) ≡ b
-        → round_at (slice_set s.rounds there.priority.urgency (after_turn (round_at s.rounds there.priority.urgency) id (bound_of s.streams))) u
-        ≡ ended (round_at s.rounds u) (bound_of s.streams) (if b then Some id else None)
+        → round_at (slice_set rounds there.priority.urgency (after_turn (round_at rounds there.priority.urgency) id bound)) u
+        ≡ ended (round_at rounds u) bound (if b then Some id else None)
     by_urgency true level =
-        subst (λ v. round_at (slice_set s.rounds v (after_turn (round_at s.rounds v) id (bound_of s.streams))) u ≡ after_turn (round_at s.rounds u) id (bound_of s.streams))
-        (sym (eqb-true there.priority.urgency u level)) (set_same s.rounds u (after_turn (round_at s.rounds u) id (bound_of s.streams)) within)
+        subst (λ v. round_at (slice_set rounds v (after_turn (round_at rounds v) id bound)) u ≡ after_turn (round_at rounds u) id bound)
+        (sym (eqb-true there.priority.urgency u level)) (set_same rounds u (after_turn (round_at rounds u) id bound) within)
     by_urgency false apart =
-        set_other s.rounds there.priority.urgency u (after_turn (round_at s.rounds there.priority.urgency) id (bound_of s.streams)) (λ same. eqb-false there.priority.urgency u apart (sym same))
+        set_other rounds there.priority.urgency u (after_turn (round_at rounds there.priority.urgency) id bound) (λ same. eqb-false there.priority.urgency u apart (sym same))
 
-round_after : (u : ℕ) (s : Schedule) (c : Call) → u < length s.rounds → round_at (after s c).rounds u ≡ ended (round_at s.rounds u) (bound_of s.streams) (turn_of u s c)
-round_after u s (Inserted id p) within = ap (λ rounds. round_at rounds u) (opened_same s id p (stream_at s.streams id))
-round_after u s (Removed id) within = refl
-round_after u s (Readied id is) within = ap (λ rounds. round_at rounds u) (changed_same s id (readied is) (stream_at s.streams id))
-round_after u s (Held id is) within = ap (λ rounds. round_at rounds u) (changed_same s id (held is) (stream_at s.streams id))
-round_after u s (Prioritized id p) within = ap (λ rounds. round_at rounds u) (changed_same s id (prioritized p) (stream_at s.streams id))
-round_after u s (Advanced id) within = turn_ended u s id (stream_at s.streams id) within
+length_after : (rounds : List Round) (id bound : ℕ) (o : Option Stream) → length (ended_at rounds id bound o) ≡ length rounds
+length_after rounds id bound None = refl
+length_after rounds id bound (Some there) = length-set rounds there.priority.urgency (after_turn (round_at rounds there.priority.urgency) id bound)
 
-turn_length : (s : Schedule) (id : ℕ) (o : Option Stream) → length (advanced_at s id o).rounds ≡ length s.rounds
-turn_length s id None = refl
-turn_length s id (Some there) = length-set s.rounds there.priority.urgency (after_turn (round_at s.rounds there.priority.urgency) id (bound_of s.streams))
-
-length_after : (s : Schedule) (c : Call) → length (after s c).rounds ≡ length s.rounds
-length_after s (Inserted id p) = ap length (opened_same s id p (stream_at s.streams id))
-length_after s (Removed id) = refl
-length_after s (Readied id is) = ap length (changed_same s id (readied is) (stream_at s.streams id))
-length_after s (Held id is) = ap length (changed_same s id (held is) (stream_at s.streams id))
-length_after s (Prioritized id p) = ap length (changed_same s id (prioritized p) (stream_at s.streams id))
-length_after s (Advanced id) = turn_length s id (stream_at s.streams id)
-
--- ---- all calls
-one_call : (u waiting id : ℕ) (s : Schedule) (o : Option ℕ) (rest : ℕ) → has_turns u s waiting ≡ true → IsAnothers u s waiting o
-    → rest ≤ left (ended (round_at s.rounds u) (bound_of s.streams) o) waiting id → one_if (is_it o id) + rest ≤ left (round_at s.rounds u) waiting id
-one_call u waiting id s None rest waits another h = omega (arith, h)
-one_call u waiting id s (Some n) rest waits another h =
-    let facts = facts_of (any_by id_of (takes_turn u s.streams) s.streams) (round_at s.rounds u) waiting n (is_turn u s.streams (round_at s.rounds u) n another.0) waits another.1 in
-    let fewer = fewer_left (round_at s.rounds u) waiting id n (bound_of s.streams) (above_all (takes_turn u s.streams) s.streams waiting waits) facts in
+-- ---- all turns
+one_turn : (u waiting id : ℕ) (rounds : List Round) (t : Turn) (o : Option ℕ) (rest : ℕ) → has_turns u t.streams waiting ≡ true → waiting < t.bound → IsAnothers u rounds t.streams waiting o
+    → rest ≤ left (ended (round_at rounds u) t.bound o) waiting id → one_if (is_it o id) + rest ≤ left (round_at rounds u) waiting id
+one_turn u waiting id rounds t None rest waits below another h = omega (arith, h)
+one_turn u waiting id rounds t (Some n) rest waits below another h =
+    let facts = facts_of (any_by id_of (takes_turn u t.streams) t.streams) (round_at rounds u) waiting n (is_turn u t.streams (round_at rounds u) n another.0) waits another.1 in
+    let fewer = fewer_left (round_at rounds u) waiting id n t.bound below facts in
     omega (arith, h, fewer)
 
-few_turns : (u waiting id : ℕ) (s : Schedule) (calls : List Call) → u < length s.rounds → Waits u waiting s calls → turns_in u id s calls ≤ left (round_at s.rounds u) waiting id
-few_turns u waiting id s [] within waits = omega arith
-few_turns u waiting id s (c ∷ calls) within waits =
-    one_call u waiting id s (turn_of u s c) (turns_in u id (after s c) calls) waits.0 waits.1
-    (subst (λ r. turns_in u id (after s c) calls ≤ left r waiting id) (round_after u s c within)
-    (few_turns u waiting id (after s c) calls (subst (λ n. u < n) (sym (length_after s c)) within) waits.2))
+few_turns : (u waiting id : ℕ) (rounds : List Round) (turns : List Turn) → u < length rounds → Waits u waiting rounds turns → turns_in u id turns ≤ left (round_at rounds u) waiting id
+few_turns u waiting id rounds [] within waits = omega arith
+few_turns u waiting id rounds (t ∷ turns) within waits =
+    one_turn u waiting id rounds t (turn_of u t) (turns_in u id turns) waits.0 waits.1 waits.2
+    (subst (λ r. turns_in u id turns ≤ left r waiting id) (turn_ended u rounds t.id t.bound (stream_at t.streams t.id) within)
+    (few_turns u waiting id (rounds_after rounds t) turns (subst (λ n. u < n) (sym (length_after rounds t.id t.bound (stream_at t.streams t.id))) within) waits.3))
 
-pub two_at_most : (urgency waiting id : ℕ) (s : Schedule) (calls : List Call) → urgency < length s.rounds → Waits urgency waiting s calls → turns_in urgency id s calls ≤ 2
-two_at_most urgency waiting id s calls within waits =
-    let few = few_turns urgency waiting id s calls within waits in
-    let two = two_left (is_in (round_at s.rounds urgency) waiting) (nat_le (round_at s.rounds urgency).from id) (is_in (round_at s.rounds urgency) id) in
+pub two_at_most : (urgency waiting id : ℕ) (rounds : List Round) (turns : List Turn) → urgency < length rounds → Waits urgency waiting rounds turns → turns_in urgency id turns ≤ 2
+two_at_most urgency waiting id rounds turns within waits =
+    let few = few_turns urgency waiting id rounds turns within waits in
+    let two = two_left (is_in (round_at rounds urgency) waiting) (nat_le (round_at rounds urgency).from id) (is_in (round_at rounds urgency) id) in
     omega (arith, few, two)
 
 -- ---- moments

@@ -1,9 +1,7 @@
 pub mod Least
 pub mod Rounds
-pub mod Standing
 pub mod Streams
-pub mod Schedule
-pub mod Calls
+pub mod Turns
 pub mod Next
 pub mod Turning
 pub mod Rows

@@ -6,7 +6,6 @@ use Rattle.std.proofs.lemmas.Bool.{cases_lt, lt-ltb, ne_eqb}
 use Rattle.h3_coding.specs.Encodings.{encoding}
 use Rattle.h3_coding.specs.Varint.{varint_at}
 use Rattle.h3_coding.specs.VarintLaws.{cases_number, none_at_end, reads_more, reads_shortest}
-use Rattle.h3_proto.specs.Config.{is_limit}
 use Rattle.h3_wire.specs.Encoded.{frame_encoding, head_encoding}
 use Rattle.h3_wire.specs.EncodedLaws.{written_headers}
 use Rattle.h3_wire.specs.ExcessiveFrames.{begins_section, is_excessive_by, is_of_type}

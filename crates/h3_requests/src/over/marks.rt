@@ -138,6 +138,14 @@ impl Marks {
         if id > self.top {
             return 0;
         }
+        self.get_with_call(id)
+    }
+
+    // The mark of a stream, or 0: a call of its own.
+    #[inline(never)]
+    fn get_with_call(&self, id: u64) -> u8
+        ensures { result ≡ mark_at self.now id }
+    {
         self.get(id)
     }
 

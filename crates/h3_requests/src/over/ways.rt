@@ -51,7 +51,8 @@ impl Ways {
         self.plain.reserve(2)
     }
 
-    /// A way of a group, if it is there.
+    /// A way of a group, if it is there. (A call of its own: most streams that are looked up are not over.)
+    #[inline(never)]
     pub(crate) fn get(&self, group: u8, way: u8) -> Option<&Way>
         ensures { option_copied result ≡ way_at (ways_in self.now group) way }
     {

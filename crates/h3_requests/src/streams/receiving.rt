@@ -153,6 +153,40 @@ impl RequestStreams {
         Ok(())
     }
 
+    /// The same, but an end is refused that the peer does not send, as `deliver_or_refuse` refuses bytes.
+    pub fn end_or_refuse(
+        &mut self,
+        alloc: Global,
+        side: Side,
+        id: StreamId,
+    ) -> Result<(), DeliverError> {
+        let Some(stream) = self.streams.get_mut(id) else {
+            return self.end_other(alloc, side, id);
+        };
+        if stream.has_ended() {
+            return Err(DeliverError::Refused(Refusal::AfterEnd));
+        }
+        stream.incoming.end();
+        let is_over = stream.is_over();
+        self.streams.retire_if(id, is_over);
+        Ok(())
+    }
+
+    // The end of a stream that is over, or that is not there: a server's peer opens it.
+    #[inline(never)]
+    fn end_other(&mut self, alloc: Global, side: Side, id: StreamId) -> Result<(), DeliverError> {
+        if self.streams.is_over(id) {
+            return Err(DeliverError::Refused(Refusal::AfterEnd));
+        }
+        match side {
+            Side::Client => Err(DeliverError::Refused(Refusal::NotOpen)),
+            Side::Server => match self.end_absent(alloc, id) {
+                Ok(()) => Ok(()),
+                Err(_) => Err(DeliverError::OutOfMemory(Bytes::new())),
+            },
+        }
+    }
+
     // The end of a stream that is not under way.
     fn end_absent(&mut self, alloc: Global, id: StreamId) -> Result<(), AllocError>
         ensures ok { OnOk result (Receives self.old self.new id with_end) }

@@ -8,7 +8,7 @@ ghost use Rattle.h3_connection.specs.OwnIds.{is_own};
 ghost use Rattle.h3_connection.specs.State.{kept_at};
 ghost use Rattle.h3_outgoing.specs.Sent.{preceding};
 ghost use Rattle.h3_requests.specs.Ordered.{refused_unless, saying};
-ghost use Rattle.h3_session.specs.Turns.{own_sends_in, first_own_in, turn_in, EndsTurn};
+ghost use Rattle.h3_session.specs.Turns.{own_sends_in, first_own_in, has_turn_in, turn_in, BoundsTurn, EndsTurn};
 
 use super::Endpoint;
 use super::next::control_id;
@@ -162,19 +162,8 @@ impl Endpoint {
         hold_own(&mut self.order, self.side, id, is_held)
     }
 
-    // The turn of a request stream is over, if bytes of it are taken, and turns count.
-    #[inline(always)]
+    // The turn of a request stream is over, if bytes of it are taken.
     pub(super) fn end_turn(&mut self, id: StreamId, count: usize)
-        ensures { EndsTurn self.old self.new id count }
-    {
-        if self.order.rounds.is_some() {
-            self.end_turn_of(id, count);
-        }
-    }
-
-    // The same.
-    #[inline(never)]
-    fn end_turn_of(&mut self, id: StreamId, count: usize)
         ensures { EndsTurn self.old self.new id count }
     {
         let Some(turn) = self.turn_of(id) else {
@@ -183,8 +172,19 @@ impl Endpoint {
         if count.min(turn.1) == 0 {
             return;
         }
-        let until = self.first_unseen();
+        let until = self.turn_bound(turn.0, id);
         end_turn(&mut self.order, turn.0, id, until);
+    }
+
+    // Of which ids a round is that begins with this turn. If the stream has a turn in the round that is under way none begins, and any
+    // number serves: so the streams are looked at once a round, and not at each turn.
+    fn turn_bound(&self, priority: Priority, id: StreamId) -> u64
+        ensures { BoundsTurn self.now priority id result }
+    {
+        if has_turn(&self.order, priority, id) {
+            return 0;
+        }
+        self.first_unseen()
     }
 
     // The priority of a request stream, and how many bytes wait on it.
@@ -196,6 +196,17 @@ impl Endpoint {
             None => None,
         }
     }
+}
+
+// Whether a stream has a turn in the round of its urgency that is under way.
+fn has_turn(order: &SendOrder, priority: Priority, id: StreamId) -> bool
+    ensures { result ≡ has_turn_in order.now.rounds priority id }
+{
+    let Some(rounds) = &order.rounds else {
+        return false;
+    };
+    let round = rounds.of(priority.urgency() as u64);
+    round.within(Some(id.into_inner())).is_some()
 }
 
 // A turn is over.

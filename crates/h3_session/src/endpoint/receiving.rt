@@ -166,6 +166,9 @@ impl Endpoint {
     pub fn deliver_end(&mut self, id: StreamId) -> Result<(), DeliverError>
         ensures { DeliversEnd self.old self.new id result }
     {
+        if self.takes_at_once(id) {
+            return self.end_at_once(id);
+        }
         self.arrive(Arrival::EndCame(id))
     }
 
@@ -197,6 +200,11 @@ impl Endpoint {
     {
         self.requests
             .deliver_or_refuse(self.alloc, self.side, &self.announced, id, bytes)
+    }
+
+    // The end of a request stream, with one look-up.
+    fn end_at_once(&mut self, id: StreamId) -> Result<(), DeliverError> {
+        self.requests.end_or_refuse(self.alloc, self.side, id)
     }
 
     // What comes is read after all that is kept. With nothing kept, what comes on a request stream is its receiver's at once.
