@@ -694,8 +694,8 @@ static inline uint32_t h3_set_priority(h3_endpoint *endpoint, uint64_t id, uint3
                                        uint32_t incremental, uint64_t *detail);
 
 /* The request of a stream asks for this priority: a server passes what h3_priority_read read of its
- * `priority` field. It counts unless a PRIORITY_UPDATE frame said another one, or you set one
- * (h3_set_priority). Refused as h3_set_priority is. */
+ * `priority` field. It counts unless a PRIORITY_UPDATE frame said another one, before the request
+ * came or after, or you set one (h3_set_priority). Refused as h3_set_priority is. */
 static inline uint32_t h3_set_initial_priority(h3_endpoint *endpoint, uint64_t id,
                                                uint32_t urgency, uint32_t incremental,
                                                uint64_t *detail);

@@ -45,7 +45,7 @@ impl Endpoint {
         }
     }
 
-    // What PRIORITY_UPDATE frames said since the last call is used. (a function of its own: no call follows where its branches join)
+    // What PRIORITY_UPDATE frames said since the last call is used. (a function of its own: no call follows once its branches join)
     #[inline(always)]
     #[tactic(auto, using(crate::proofs::LookingAtUpdates::none_waits))]
     fn use_any_updates(&mut self)
