@@ -684,7 +684,7 @@ static inline uint32_t h3_next_by_priority(h3_endpoint *endpoint, uint64_t *id);
 static inline uint32_t h3_set_priority(h3_endpoint *endpoint, uint64_t id, uint32_t urgency,
                                        uint32_t incremental, uint64_t *detail);
 
-/* QUIC has no credit for a stream (`held` 1), so that h3_next_by_priority passes it over, or it has
+/* QUIC has no credit for a stream (`held` 1), so that h3_next_by_priority skips it, or it has
  * credit again (`held` 0). A request stream that is open, or the local control, encoder or decoder
  * stream. h3_next_to_send names a stream that is held as any. Refused, in this order: H3_ARGUMENT
  * (id not below 2^62, held above 1), H3_CLOSED, H3_NOT_OPEN, H3_MEMORY. */

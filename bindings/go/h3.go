@@ -232,7 +232,7 @@ func (e *Endpoint) SetPriority(id uint64, priority Priority) error {
 	return refusal(C.h3_set_priority(&e.raw, C.uint64_t(id), urgency, incremental, &detail), detail)
 }
 
-// Hold says that QUIC has no credit for a stream, so that NextByPriority passes it over, or that it has credit again.
+// Hold says that QUIC has no credit for a stream, so that NextByPriority skips it, or that it has credit again.
 func (e *Endpoint) Hold(id uint64, held bool) error {
 	var detail C.uint64_t
 	return refusal(C.h3_hold(&e.raw, C.uint64_t(id), bit(held), &detail), detail)

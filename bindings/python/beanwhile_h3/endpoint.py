@@ -279,7 +279,7 @@ class Endpoint:
         self._call("h3_raw_set_priority", _number(id), _number(priority.urgency), int(priority.incremental))
 
     def hold(self, id: int, held: bool) -> None:
-        """QUIC has no credit for a stream, so that `next_by_priority` passes it over, or has it again.
+        """QUIC has no credit for a stream, so that `next_by_priority` skips it, or has it again.
 
         Raises `Answer.ARGUMENT`, `CLOSED`, `NOT_OPEN`, `MEMORY`."""
         self._call("h3_raw_hold", _number(id), int(held))

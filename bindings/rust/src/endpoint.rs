@@ -325,7 +325,7 @@ impl Endpoint {
         self.call(|handle, detail, out| unsafe { raw::h3_raw_set_priority(handle, id, urgency, incremental, detail, out) })
     }
 
-    /// QUIC has no credit for a stream, so that `next_by_priority` passes it over, or has it again.
+    /// QUIC has no credit for a stream, so that `next_by_priority` skips it, or has it again.
     ///
     /// # Errors
     ///
