@@ -9,22 +9,20 @@ use Rattle.h3_world.specs.Ends.{Ends, answered, new_ends}
 use Rattle.h3_world.specs.Headline.{is_connection_fault, is_out_of_memory}
 use Rattle.h3_world.specs.Run.{Run}
 use Rattle.h3_world.specs.Sendable.{IsSendable}
-use Rattle.h3_world.specs.Setup.{IsMadeSetup, JudgesPlainly}
+use Rattle.h3_world.specs.Setup.{IsMadeSetup, JudgesPlainly, Setup}
 use Rattle.h3_world.specs.World.{empty_world}
 use Rattle.h3_world.specs.declared.event.Answer.{Answer}
 use Rattle.h3_world.specs.declared.event.Answer.TheVariants as answer
 use Rattle.h3_world.specs.declared.event.Event.{Event}
 use Rattle.h3_world.specs.declared.event.Event.TheVariants as event
 use Rattle.h3_world.specs.declared.lists.ListPull.TheVariants as list
-use Rattle.h3_world.specs.declared.setup.Setup.{Setup}
 use Rattle.h3_memory.specs.Kept.{KeepingWorld, nothing_kept}
 use Rattle.h3_memory.specs.Keeping.{StandsKeeping}
 use Rattle.h3_memory.specs.Refused.{AnswerOf, EndsRun, EndsStep}
 use Rattle.h3_memory.specs.Theorem.{RunsWithMemory}
 use Rattle.h3_strict.specs.PlainEnds.{Alike, Judges, RefusesMalformed as RefusedSo, StepsPlainly, is_malformed_refusal, judges, plain_ends, plain_setup}
-use Rattle.h3_faithful.specs.FaultFree.{JudgesNoFault}
 use Rattle.h3_faithful.specs.Faithful.{is_without_fault}
-use Rattle.h3_faithful.specs.Steps.{HappensAnywhere, RunsUntilFault, is_send}
+use Rattle.h3_faithful.specs.Steps.{HappensAnywhere, RunsUntilFault, StandsAnywhere, is_send}
 use Rattle.h3_faithful.proofs.Accounts.{MemoryMoves}
 use Rattle.h3_faithful.proofs.AnyPull.{StepLaws, plain_step}
 use Rattle.h3_faithful.proofs.AnyStep.{any_step}
@@ -49,12 +47,12 @@ pub record RanTo (setup : Setup) (k : KeepingWorld) (n : ℕ) (events : List Eve
   pub rest : EndsRun ends (drop n events) (drop n answers) last
 
 -- two that are none
-neither : (x y : Bool) → (x || y) ≡ false → (x ≡ false) × (y ≡ false)
+pub neither : (x y : Bool) → (x || y) ≡ false → (x ≡ false) × (y ≡ false)
 neither true y h = absurd (cc)
 neither false y h = (refl, h)
 
 -- what is told of memory is no fault of the connection
-memory_faultless : (a : Answer) → is_out_of_memory a ≡ true → is_connection_fault a ≡ false
+pub memory_faultless : (a : Answer) → is_out_of_memory a ≡ true → is_connection_fault a ≡ false
 memory_faultless (answer.Refused refusal.OutOfMemory) h = refl
 memory_faultless (answer.Refused refusal.Kept) h = refl
 memory_faultless (answer.Pulled (pull.Fault fault.Memory)) h = refl
@@ -62,12 +60,12 @@ memory_faultless (answer.Listed (list.Fault fault.Memory)) h = refl
 memory_faultless a h = absurd (cc)
 
 -- nor is a malformed send
-malformed_faultless : (a : Answer) → is_malformed_refusal a ≡ true → is_connection_fault a ≡ false
+pub malformed_faultless : (a : Answer) → is_malformed_refusal a ≡ true → is_connection_fault a ≡ false
 malformed_faultless (answer.Refused (refusal.Malformed why)) h = refl
 malformed_faultless a h = absurd (cc)
 
 -- a send judges nothing
-send_judges : (ends : Ends) (e : Event) → is_send e ≡ true → judges ends e ≡ false
+pub send_judges : (ends : Ends) (e : Event) → is_send e ≡ true → judges ends e ≡ false
 send_judges ends (event.Head side id head) h = refl
 send_judges ends (event.Fields side id fields) h = refl
 send_judges ends (event.Body side id bytes) h = refl
@@ -92,6 +90,23 @@ module _ (laws : RunLaws) (setup : Setup) (made : IsMadeSetup setup) where
   ran (suc n) k ends [] (a ∷ answers) last stands quiet sendable run none = absurd run
   ran (suc n) k ends (e ∷ events) [] last stands quiet sendable run none = absurd run
 
+  -- all of it, where there is no fault
+  record RanAll (k : KeepingWorld) (events : List Event) (answers : List Answer) (last : Ends) : Type 0 where
+    world : KeepingWorld
+    run : Run (HappensAnywhere setup) k events answers world
+    stands : StandsKeeping (plain_setup setup) world (plain_ends last)
+
+  ran_all : (k : KeepingWorld) (ends : Ends) (events : List Event) (answers : List Answer) (last : Ends) → StandsKeeping ps k (plain_ends ends) → QuietSides setup ends → AllByRecursion (IsSendable setup) events
+      → EndsRun ends events answers last → list_any is_connection_fault answers ≡ false → RanAll k events answers last
+  ran_all k ends [] [] last stands quiet sendable run none = record { world = k; run = refl; stands = subst (λ x. StandsKeeping ps k (plain_ends x)) (sym run) stands }
+  ran_all k ends (e ∷ events) (a ∷ answers) last stands quiet sendable run none =
+      let faultless = neither (is_connection_fault a) (list_any is_connection_fault answers) none in
+      let on = any_step laws.steps laws.moves setup made k ends stands run.0 e a sendable.0 (refuses_plainly laws.quiet setup ends e quiet) run.1 faultless.0 in
+      let r = ran_all on.after run.0 events answers last on.stands (quiet_step laws.quiet setup ends run.0 e a quiet run.1) sendable.1 run.2 faultless.1 in
+      record { world = r.world; run = (on.after, on.happens, r.run); stands = r.stands }
+  ran_all k ends [] (a ∷ answers) last stands quiet sendable run none = absurd run
+  ran_all k ends (e ∷ events) [] last stands quiet sendable run none = absurd run
+
   -- An event that judges nothing finds no fault.
   unjudged_faultless : (k : KeepingWorld) (ends new : Ends) (e : Event) (a : Answer) → StandsKeeping ps k (plain_ends ends) → IsSendable setup e → EndsStep ends e a new
       → (judges ends e ≡ true → is_connection_fault (answered ends e).0 ≡ false) → is_connection_fault a ≡ false
@@ -114,11 +129,11 @@ module _ (laws : RunLaws) (setup : Setup) (made : IsMadeSetup setup) where
   send_faultless k ends new e a stands sendable step sends =
       unjudged_faultless k ends new e a stands sendable step (λ judged. absurd (let never : true ≡ false = sym judged ∙ send_judges ends e sends in cc))
 
-  abbrev first : KeepingWorld
+  abbrev pub first : KeepingWorld
   first = nothing_kept (empty_world ps)
 
   -- two new ends stand in the empty world
-  new_stand : StandsKeeping ps first (plain_ends (new_ends setup))
+  pub new_stand : StandsKeeping ps first (plain_ends (new_ends setup))
   new_stand =
       let r = laws.runs ps [] [] (new_ends ps) (laws.steps.made setup made) (laws.steps.judges setup) tt refl in
       subst (StandsKeeping ps first) (sym (laws.new_plain setup)) (subst (λ k. StandsKeeping ps k (new_ends ps)) r.run r.stands)
@@ -137,18 +152,9 @@ module _ (laws : RunLaws) (setup : Setup) (made : IsMadeSetup setup) where
       front : (n : ℕ) → is_without_fault n answers → RanTo setup first n events answers ends
       front n none = ran n first (new_ends setup) events answers ends new_stand (new_quiet laws.quiet setup) sendable run none
 
-  -- **And no answer is a fault where no event that judges finds one.**
-  pub fault_free : (events : List Event) (answers : List Answer) (ends : Ends) → AllByRecursion (IsSendable setup) events → (run : EndsRun (new_ends setup) events answers ends) → JudgesNoFault (new_ends setup) events answers ends run
-      → list_any is_connection_fault answers ≡ false
-  fault_free events answers last sendable run free = from events answers first (new_ends setup) new_stand (new_quiet laws.quiet setup) sendable run free
-    where
-      from : (events : List Event) (answers : List Answer) (k : KeepingWorld) (ends : Ends) → StandsKeeping ps k (plain_ends ends) → QuietSides setup ends → AllByRecursion (IsSendable setup) events
-          → (run : EndsRun ends events answers last) → JudgesNoFault ends events answers last run → list_any is_connection_fault answers ≡ false
-      from [] [] k ends stands quiet sendable run free = refl
-      from (e ∷ events) (a ∷ answers) k ends stands quiet sendable run free =
-          let faultless = unjudged_faultless k ends run.0 e a stands sendable.0 run.1 free.0 in
-          let on = any_step laws.steps laws.moves setup made k ends stands run.0 e a sendable.0 (refuses_plainly laws.quiet setup ends e quiet) run.1 faultless in
-          let rest = from events answers on.after run.0 on.stands (quiet_step laws.quiet setup ends run.0 e a quiet run.1) sendable.1 run.2 free.1 in
-          ap (λ b. b || list_any is_connection_fault answers) faultless ∙ rest
-      from [] (a ∷ answers) k ends stands quiet sendable run free = absurd run
-      from (e ∷ events) [] k ends stands quiet sendable run free = absurd run
+  -- **And where they stand at the end.**
+  pub stands_at_the_end : (events : List Event) (answers : List Answer) (ends : Ends) → AllByRecursion (IsSendable setup) events → EndsRun (new_ends setup) events answers ends → list_any is_connection_fault answers ≡ false
+      → StandsAnywhere setup events answers ends
+  stands_at_the_end events answers ends sendable run none =
+      let r = ran_all first (new_ends setup) events answers ends new_stand (new_quiet laws.quiet setup) sendable run none in
+      record { runs = record { world = r.world; run = r.run }; stands = r.stands }

@@ -4,16 +4,16 @@ use Rattle.h3_proto.specs.declared.stream.Side.{Side}
 use Rattle.h3_world.specs.Streams.{flow, is_open}
 use Rattle.h3_world.specs.World.{World, party, Party}
 use Rattle.h3_field.specs.Instruction.{EncoderInstruction, DecoderInstruction, encoder_bytes, decoder_bytes}
-use Rattle.h3_connection.specs.Endpoint.{Own, EndpointHistory, goaway_encoding, bytes_waiting}
+use Rattle.h3_connection.specs.Endpoint.{Own, EndpointHistory, bytes_waiting}
+use Rattle.h3_connection.specs.OwnUpdates.{control_frames}
 use Rattle.h3_connection.specs.OwnIds.{other, is_own, control_id, encoder_id, decoder_id}
 use Rattle.h3_connection.specs.StreamSets.{stream_at}
-use Rattle.h3_world.specs.declared.setup.Setup.{Setup}
 use Rattle.h3_qpack.specs.EncoderHistory.{encoder_after_all}
 use Rattle.h3_connection.specs.Control.{increment}
 use Rattle.h3_connection.specs.declared.setup.Limits.{Limits}
 use Rattle.h3_world.specs.Delivering.{having_learned, delivered_own}
 use Rattle.h3_qpack.specs.WholeInstructions.{decoder_instructions_in, insertions_in}
-use Rattle.h3_world.specs.Setup.{TakesAnyLength, announced_at}
+use Rattle.h3_world.specs.Setup.{Setup, TakesAnyLength, announced_at}
 use Rattle.h3_connection.specs.Sending.{own_advanced, advance}
 use Rattle.h3_proto.specs.declared.stream.Side.TheVariants.{Client, Server}
 use Rattle.h3_connection.specs.declared.event.Refusal.{Refusal}
@@ -120,7 +120,7 @@ accepted e = (None, e)
 -- The writer: what waits, and the endpoint once it was taken.
 abbrev pub left_of : Side → Own → Announced → ℕ → List ℕ
 left_of side own a id =
-    if id == control_id side then drop own.control_taken (control_encoding a.settings ++ flat_map goaway_encoding own.goaways) else (
+    if id == control_id side then drop own.control_taken (control_encoding a.settings ++ control_frames 0 own.goaways own.updates) else (
     if id == encoder_id side then drop own.encoder_taken (encoding 2 ++ flat_map encoder_bytes own.instructions) else (
     if id == decoder_id side then drop own.decoder_taken (encoding 3 ++ flat_map decoder_bytes own.replies) else []))
 

@@ -12,8 +12,7 @@ use Rattle.h3_proto.specs.declared.stream.Side.{Side}
 use Rattle.h3_connection.specs.OwnIds.{other}
 use Rattle.h3_connection.specs.PeerReading.{Peer}
 use Rattle.h3_connection.specs.Unidirectional.{Unidirectional}
-use Rattle.h3_world.specs.declared.setup.Setup.{Setup}
-use Rattle.h3_world.specs.Setup.{announced_at}
+use Rattle.h3_world.specs.Setup.{Setup, announced_at}
 use Rattle.h3_world.specs.OwnStreams.{settings_bytes}
 use Rattle.h3_qpack.specs.DecoderState.{decoder_after_all}
 use Rattle.h3_connection.specs.Listeners.{Decoding}
@@ -98,6 +97,7 @@ control_more setup side came goaways more stream on peer within h =
       settings = h.settings;
       goaways_are = h.goaways_are ∙ sym (taken_same goaway_encoding goaways_some n goaways more fits);
       most_pushes = h.most_pushes;
+      updates = h.updates;
       unread = h.unread ∙ sym (ap (λ l. if are_settings_there setup (other side) came then l else drop 1 (take came start)) (rest_same goaway_encoding goaways_some n goaways more fits));
     }
 

@@ -13,12 +13,11 @@ use Rattle.h3_connection.specs.Keeping.{arrives, read_all, unkept}
 use Rattle.h3_connection.specs.OwnIds.{other}
 use Rattle.h3_connection.specs.Sending.{advance}
 use Rattle.h3_connection.specs.Shown as shown
-use Rattle.h3_world.specs.declared.setup.Setup.{Setup}
 use Rattle.h3_world.specs.declared.event.Answer.{Answer}
 use Rattle.h3_world.specs.declared.event.Answer.TheVariants as answer
 use Rattle.h3_world.specs.Delivering.{delivered, is_closed}
 use Rattle.h3_world.specs.Ends.{Ends}
-use Rattle.h3_world.specs.Setup.{IsMadeSetup}
+use Rattle.h3_world.specs.Setup.{IsMadeSetup, Setup}
 use Rattle.h3_world.specs.Streams.{has_outgoing, waiting}
 use Rattle.h3_world.specs.World.{World}
 use Rattle.h3_headline.specs.Cited.{Laws}
@@ -102,7 +101,7 @@ module _ (qpack : KeptLaws) (laws : Laws) (setup : Setup) (w : World) (side : Si
   pub waits_then : (id : ℕ) → has_outgoing W s id ≡ true → Waits setup W s g id
   waits_then id there =
       let c = caught.then_reads in
-      subst (λ x. Waits setup W s x id) (sym c.there.is) (waits_at setup W s c.ew c.there.held c.there.incoming c.there.arrivals id c.two.both.there there)
+      subst (λ x. Waits setup W s x id) (sym c.there.is) (waits_at setup W s c.ew c.there.held c.there.incoming c.there.arrivals id c.two.both.there c.two.both.writes_there.updates there)
 
   -- as before: nothing is read of what is not taken
   pub still : StandsKeeping setup (keeping_so side w mine ds) (ends_of side f g)

@@ -74,7 +74,6 @@ pub mod ResetStep
 pub mod Runs
 pub mod SameSent
 pub mod SectionCutOff
-mod FrontCuts
 pub mod SendersStep
 pub mod SendingEvents
 pub mod SendsHappen
@@ -90,3 +89,5 @@ pub mod Unfinished
 pub mod UnsettledPull
 pub mod WorldsWritten
 pub mod Written
+pub mod KeptInOrder
+pub mod PartsStay

@@ -31,9 +31,8 @@ mod SendEvents
 mod CallEvents
 mod QuietEvents
 mod PullEvents
-mod PullsAnyhow
+mod PullResults
 mod PullVerdicts
-mod StepsAnyhow
 mod PulledTallies
 mod PullTally
 mod NoneJudges
@@ -54,10 +53,13 @@ mod DeliveriesFit
 mod MadeLimits
 mod LimitCarries
 mod LimitEarly
-mod AnyhowMessages
 mod TunnelParts
 mod TunnelPulls
-mod TunnelHeads
+mod BehindPulls
+mod KeepsAny
+mod TunnelKept
+mod BehindReads
+mod TunnelSees
 mod TunnelFaults
 mod TunnelSends
 mod TunnelCalls
@@ -66,7 +68,7 @@ mod TunnelEvents
 mod TunnelLimits
 mod TunnelStreams
 mod TunnelPull
+mod SettledCalm
 mod TunnelFaultless
-mod UnkeptRuns
 mod TunnelRuns
 mod LooseRuns

@@ -24,10 +24,9 @@ use Rattle.h3_connection.specs.declared.setup.Announced.{Announced}
 use Rattle.h3_world.specs.Ends.{Ends, end_at}
 use Rattle.h3_world.specs.Flow.{own_part}
 use Rattle.h3_world.specs.Order.{outgoing_of}
-use Rattle.h3_world.specs.Setup.{announced_at}
+use Rattle.h3_world.specs.Setup.{Setup, announced_at}
 use Rattle.h3_world.specs.Streams.{flow, is_open}
 use Rattle.h3_world.specs.World.{World, party}
-use Rattle.h3_world.specs.declared.setup.Setup.{Setup}
 use Rattle.h3_headline.specs.SettingsLaws.{value_with_meaning}
 use Rattle.h3_headline.specs.Standing.{StandsAt, Stands, are_settings_there, with_meaning}
 use Rattle.h3_strict.proofs.KeepsCounts.{out_set, HasAnswered, MayAnswer, in_set}
@@ -47,12 +46,12 @@ pub stands_at : (setup : Setup) (w : World) (ends : Ends) (s : Side) → Stands 
 stands_at setup w ends Client h = h.at_client
 stands_at setup w ends Server h = h.at_server
 
-plain_settings : (setup : Setup) (s : Side) → (announced_at (plain_setup setup) s).settings ≡ (announced_at setup s).settings
+pub plain_settings : (setup : Setup) (s : Side) → (announced_at (plain_setup setup) s).settings ≡ (announced_at setup s).settings
 plain_settings setup Client = refl
 plain_settings setup Server = refl
 
 -- what an endpoint knows of extended CONNECT its peer announced
-connects_known : (announced : Announced) (settings : Option (List (ℕ × ℕ))) (there : Bool) → settings ≡ (if there then Some (with_meaning announced.settings) else None) → peer_connects settings ≡ true → connects announced ≡ true
+pub connects_known : (announced : Announced) (settings : Option (List (ℕ × ℕ))) (there : Bool) → settings ≡ (if there then Some (with_meaning announced.settings) else None) → peer_connects settings ≡ true → connects announced ≡ true
 connects_known announced settings true is known =
     ap (λ o. not (unwrap_or o 0 == 0)) (sym (value_with_meaning 8 announced.settings refl)) ∙ sym (ap peer_connects is) ∙ known
 connects_known announced settings false is known = absurd (let never : false ≡ true = sym (ap peer_connects is) ∙ known in cc)

@@ -27,7 +27,7 @@ use Rattle.h3_world.specs.declared.event.Event.TheVariants as event
 use Rattle.h3_world.specs.declared.lists.ListItem.TheVariants as listed
 use Rattle.h3_world.specs.declared.lists.ListPull.{ListPull}
 use Rattle.h3_world.specs.declared.lists.ListPull.TheVariants as list
-use Rattle.h3_world.specs.declared.setup.Setup.{Setup}
+use Rattle.h3_world.specs.Setup.{Setup}
 use Rattle.h3_headline.specs.ContentLaws.{moves_then, stays}
 use Rattle.h3_headline.specs.Contents.{GoneStays, HasSameParts, Moves, reader_of}
 use Rattle.h3_headline.specs.FlowLaws.{open_there, same_both}
@@ -92,12 +92,6 @@ quiet_step setup w new e a writer id step = quiet_none (flow w writer id)
 pub alive_before : (a b : Bool) → (a ≡ true → b ≡ true) → b ≡ false → a ≡ false
 alive_before true b h e = sym (h refl) ∙ e
 alive_before false b h e = refl
-
-pub plain_advances : (setup : Setup) (w new : World) (e : Event) (a : Answer) (writer : Side) (id : ℕ) → IsSoundWorld setup w → Step setup w e a new → AdvancesBy setup w e writer id a new
-plain_advances setup w new e a writer id sound step =
-    advances (reader_of setup writer) (flow w writer id) (flow new writer id) (sent_in writer id e a) (finished_in writer id e a) (pulled_in (other writer) id e a) (ended_in (other writer) id e a)
-    (moved setup w new e a writer id sound step) (quiet_step setup w new e a writer id step)
-    (alive_before (is_some (flow w writer id).fault) (is_some (flow new writer id).fault) (gone_stays setup w new e a step writer id))
 
 -- a message is given up
 module _ (setup : Setup) (w : World) (side : Side) (i : ℕ) (why : Malformation) (sound : IsSoundWorld setup w) (unsettled : settled w side i ≡ None) (writer : Side) (id : ℕ) where

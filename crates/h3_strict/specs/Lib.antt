@@ -11,8 +11,12 @@ pub mod Tallies
 pub mod Unbroken
 pub mod Limits
 pub mod GivesUp
-pub mod StepsUnkept
 pub mod Accounts
 pub mod AdvanceLaws
 pub mod GivingUpLaws
 pub mod MalformedLaws
+pub mod Tunnels
+pub mod StandsBehind
+pub mod WorldSteps
+pub mod ReadsBehind
+pub mod HoldsBehind

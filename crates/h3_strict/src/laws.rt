@@ -5,9 +5,8 @@ ghost use Rattle.h3_proto.specs.declared.stream.Side.{Side};
 ghost use Rattle.h3_connection.specs.Endpoint.{EndpointHistory, new_endpoint};
 ghost use Rattle.h3_connection.specs.declared.setup.Announced.{Announced};
 ghost use Rattle.h3_world.specs.Ends.{Ends, answered, answers_of_ends, new_ends};
-ghost use Rattle.h3_world.specs.Setup.{IsMadeSetup, JudgesPlainly};
+ghost use Rattle.h3_world.specs.Setup.{IsMadeSetup, JudgesPlainly, Setup};
 ghost use Rattle.h3_world.specs.declared.event.Event.{Event};
-ghost use Rattle.h3_world.specs.declared.setup.Setup.{Setup};
 ghost use Rattle.h3_strict.specs.PlainEnds.{AreBounded, FewWaitAt, IsFront, NoneJudges, RunsPlainly, StepsPlainly, asks_strictly, before_judged, finds_fault, plain_ends, plain_setup};
 ghost use Rattle.std.specs.Prelude.{ℕ};
 ghost use Rattle.h3_connection.specs.PartReading.{ReadsPart};
@@ -130,44 +129,3 @@ ghost use Rattle.h3_strict.specs.PullPlainly.{PullPlainly};
 pub fn pulls_are_plain_or_give_a_message_up()
     ensures { (e : EndpointHistory) (id : ℕ) → PullPlainly e id }
 {}
-
-ghost use Rattle.h3_strict.specs.GivesUp.{PullsAnyhow};
-
-/// A pull at any end whose other self, without strict messages and limits, stands in a world is one of these. It is answered as by that. Or
-/// it is answered by a fault of the connection. Or it finds a message malformed, and gives it up: at once, or after the section that comes
-/// next, which it hands to nobody. Then the ends stand in the world in which that side gave the stream up.
-pub fn a_pull_gives_a_message_up()
-    ensures { (setup : Setup) (w : World) (ends : Ends) (side : Side) (id : ℕ) → IsMadeSetup setup → Stands (plain_setup setup) w (plain_ends ends) → PullsAnyhow setup w ends side id }
-{
-    h3_world::laws::a_side_gives_a_stream_up();
-    h3_headline::laws::what_is_cited_holds();
-}
-
-ghost use Rattle.h3_strict.specs.GivesUp.{RunsAnyhow};
-
-/// So two endpoints run in a world over every schedule of events that may be sent, up to a fault of the connection, whatever they judge. The
-/// answers are those of a run, in each step of which an event happens as between sides without strict messages and limits, or a send is
-/// refused as malformed and nothing changes, or a pull gives a message up. Both ends without that stand in the last world.
-pub fn any_endpoints_run_in_a_world()
-    ensures { (setup : Setup) (events : List Event) → IsMadeSetup setup → AllByRecursion (IsSendable setup) events → list_any is_connection_fault (answers_of_ends (new_ends setup) events) ≡ false →
-        RunsAnyhow setup (empty_world (plain_setup setup)) (new_ends setup) events }
-{
-    h3_headline::laws::every_event_steps_on();
-    h3_headline::laws::two_endpoints_run_in_a_world();
-    a_pull_gives_a_message_up();
-}
-
-/// By their own answers, whatever both judge: up to a fault of the connection, what a side pulled from a stream is a front of what the other side
-/// sent on it, and all of that with the end.
-pub fn any_endpoints_hand_out_what_was_sent()
-    ensures front { (setup : Setup) (events : List Event) (side : Side) (id : ℕ) → IsMadeSetup setup → AllByRecursion (IsSendable setup) events → list_any is_connection_fault (answers_of_ends (new_ends setup) events) ≡ false →
-        IsFrontOf (IsExactly (reader_at setup side)) (pulled side id events (answers_of_ends (new_ends setup) events)) (sent (other side) id events (answers_of_ends (new_ends setup) events)) }
-    ensures end { (setup : Setup) (events : List Event) (side : Side) (id : ℕ) → IsMadeSetup setup → AllByRecursion (IsSendable setup) events → list_any is_connection_fault (answers_of_ends (new_ends setup) events) ≡ false →
-        has_pulled_end side id events (answers_of_ends (new_ends setup) events) ≡ true →
-        IsAllOf (IsExactly (reader_at setup side)) (pulled side id events (answers_of_ends (new_ends setup) events)) (sent (other side) id events (answers_of_ends (new_ends setup) events))
-        × (has_finished (other side) id events (answers_of_ends (new_ends setup) events) ≡ true) }
-{
-    h3_headline::laws::every_event_steps_on();
-    h3_headline::laws::two_endpoints_run_in_a_world();
-    a_pull_gives_a_message_up();
-}
