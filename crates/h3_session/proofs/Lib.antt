@@ -13,6 +13,9 @@ pub mod SectionsSent
 pub mod Endings
 pub mod Ordering
 pub mod OrderingCalls
+pub mod TellingPriorities
+pub mod UsingUpdates
+pub mod LookingAtUpdates
 pub mod Held
 pub mod Inserting
 pub mod SendingSections
@@ -47,9 +50,7 @@ pub mod Runs
 pub mod Carrying
 pub mod Sendables
 pub mod Headlines
-pub mod Messages
-mod Between
-pub mod Strict
+pub mod TakingAll
 pub mod LentFrames
 pub mod WellSentLists
 pub mod SentAnswers

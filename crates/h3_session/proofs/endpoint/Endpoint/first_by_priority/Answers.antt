@@ -5,7 +5,7 @@ use Rattle.h3_connection.specs.State.{EndpointState}
 use Rattle.h3_requests.specs.Ordered.{places_in}
 use Rattle.h3_scheduler.specs.Places.{IsNext}
 use Rattle.h3_session.proofs.Ordering.{shows_own, shows_requests}
-use Rattle.h3_session.proofs.endpoint.Endpoint.next_by_priority.Goals as goal
+use Rattle.h3_session.proofs.endpoint.Endpoint.first_by_priority.Goals as goal
 
 pub returns-in-Some : goal.returns-in-Some
 returns-in-Some c = shows_own c.args.self.now c.in-Some.own (sym c.first_own.ensures ∙ c.in-Some.is)
