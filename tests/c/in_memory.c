@@ -165,7 +165,7 @@ static void prefer(side *server, uint64_t id, const fields *head) {
   size_t len;
   const char *priority = find(head, "priority", &len);
   if (priority && h3_priority_read(priority, len, &urgency, &incremental) == H3_OK)
-    h3_set_priority(&server->h3, id, urgency, incremental, NULL);
+    h3_set_initial_priority(&server->h3, id, urgency, incremental, NULL);
 }
 
 static void on_fields(side *at, uint64_t id, const h3_item *item) {
