@@ -81,9 +81,9 @@
  * what was taken, or the next pull of a stream that may still deliver something: not of one whose
  * pull returns H3_END or a fault of the stream again. If there is no such stream, pull
  * h3_control_id, which delivers nothing. h3_finish, h3_reset, h3_advance, h3_end_taken,
- * h3_outgoing, h3_next_to_send, h3_next_by_priority, h3_next_request_id, h3_next_unblocked,
- * h3_next_event, h3_first_unseen, h3_is_drained, the calls for datagrams and capsules, the states
- * and h3_free take no memory.
+ * h3_outgoing, h3_next_to_send, h3_priority, h3_next_request_id, h3_next_unblocked, h3_next_event,
+ * h3_first_unseen, h3_is_drained, the calls for datagrams and capsules, the states and h3_free take
+ * no memory.
  *
  * WHAT TO CALL FROM QUIC'S CALLBACKS
  *
@@ -502,15 +502,24 @@ typedef struct {
                                        * section on a stream on which nothing was sent:
                                        * H3_GOING_AWAY (RFC 9114, section 5.2). `webtransport`
                                        * without `datagram` is refused: H3_SETTING */
+  uint64_t priority_updates;          /* of how many streams a server keeps what PRIORITY_UPDATE
+                                       * frames said (RFC 9218, section 7.2), until
+                                       * h3_next_by_priority uses it: at most 128, and a greater
+                                       * number is the same. While so many wait, what comes of a
+                                       * further stream is dropped. With 0 such a frame is one of an
+                                       * unknown type. Else these close the connection: 0x105 on a
+                                       * request stream or at a client, 0x106 without an id, 0x108
+                                       * for a push or for an id of no request stream, 0x101 with a
+                                       * value that h3_priority_read refuses */
 } h3_config;
 
 /* A client with limits for an untrusted peer: it takes field sections of at most 65,536 bytes, and
  * has a dynamic table of 4,096 bytes, for which 16 streams may wait. It counts acknowledgments, and
  * the table of its encoder has at most 4,096 bytes and is used economically. It is strict, keeps
- * 1,000 ids of canceled streams, and has reject_requests, any_protocol, guard_secrets,
- * shortest_strings and strict_connection set. All else is 0, so a frame or instruction that it
- * keeps until it is whole has at most 262,144 bytes: four times 65,536. SECURITY.md says what each
- * limit bounds. */
+ * 1,000 ids of canceled streams and priority updates of 100 streams, and has reject_requests,
+ * any_protocol, guard_secrets, shortest_strings and strict_connection set. All else is 0, so a
+ * frame or instruction that it keeps until it is whole has at most 262,144 bytes: four times
+ * 65,536. SECURITY.md says what each limit bounds. */
 static inline void h3_config_default(h3_config *config);
 
 /* Makes an endpoint in *endpoint, which is overwritten: what it held before is not freed. Its
@@ -664,26 +673,49 @@ static inline uint32_t h3_is_drained(h3_endpoint *endpoint, uint32_t *drained);
  * with h3_outgoing, h3_advance, and h3_end_taken if fin came and all bytes were taken. */
 static inline uint32_t h3_next_to_send(h3_endpoint *endpoint, uint64_t from, uint64_t *id);
 
-/* The stream that sends next by the priorities that you set (RFC 9218, section 10), to *id.
- * H3_NONE, with *id not written, if none does. The local control, encoder and decoder stream come
- * first, in this order. Of the request streams that h3_next_to_send names one of the least urgency
- * is next. Within an urgency the incremental streams and the first of the others take turns. A turn
- * is over when h3_advance takes bytes, so send as much at a time as you like. A stream that is held
- * (h3_hold) is skipped. If you set no priority, the lowest id is next. It takes no memory. To
- * send while QUIC takes bytes:
+/* The stream that sends next by what counts of priorities (RFC 9218, section 10), to *id. H3_NONE,
+ * with *id not written, if none does. The local control, encoder and decoder stream come first, in
+ * this order. Of the request streams that h3_next_to_send names one of the least urgency is next.
+ * Within an urgency the incremental streams and the first of the others take turns. A turn is over
+ * when h3_advance takes bytes, so send as much at a time as you like. A stream that is held
+ * (h3_hold) is skipped. If no priority was said, the lowest id is next. What PRIORITY_UPDATE frames
+ * said (`priority_updates`) counts as soon as their stream is open. If there is no memory for that,
+ * the next call tries once more. To send while QUIC takes bytes:
  *   while (h3_next_by_priority(&e, &id) == H3_OK) ..
  * with h3_outgoing, h3_advance and h3_end_taken, and h3_hold(&e, id, 1, NULL) if QUIC takes nothing
  * of this stream. */
 static inline uint32_t h3_next_by_priority(h3_endpoint *endpoint, uint64_t *id);
 
-/* A request stream has this priority from now on: `urgency` from 0, the most urgent, to 7, and
- * `incremental` 1 or 0. Until then it has 3 and 0. A server passes what h3_priority_read read of
- * the request's `priority` field, or what it knows better (RFC 9218, section 8). Refused, in this
- * order: H3_ARGUMENT (id not below 2^62, urgency above 7, incremental above 1), H3_CLOSED,
- * H3_NOT_REQUEST_ID, H3_NOT_OPEN, H3_MEMORY. */
+/* A request stream has this priority from now on, whatever its client says: what a server knows
+ * better (RFC 9218, section 8). `urgency` is from 0, the most urgent, to 7, and `incremental` 1 or
+ * 0. Refused, in this order: H3_ARGUMENT (id not below 2^62, urgency above 7, incremental above 1),
+ * H3_CLOSED, H3_NOT_REQUEST_ID, H3_NOT_OPEN, H3_MEMORY. */
 static inline uint32_t h3_set_priority(h3_endpoint *endpoint, uint64_t id, uint32_t urgency,
                                        uint32_t incremental, uint64_t *detail);
 
+<<<<<<< e6a48731e4d6735a12aa04c4dcd0bdb9315ce896
+=======
+/* The request of a stream asks for this priority: a server passes what h3_priority_read read of its
+ * `priority` field. It counts unless a PRIORITY_UPDATE frame said another one, before the request
+ * came or after, or you set one (h3_set_priority). Refused as h3_set_priority is. */
+static inline uint32_t h3_set_initial_priority(h3_endpoint *endpoint, uint64_t id,
+                                               uint32_t urgency, uint32_t incremental,
+                                               uint64_t *detail);
+
+/* The priority that counts of a request stream: the one that you set (h3_set_priority), else that
+ * of the last PRIORITY_UPDATE frame, else that of its request (h3_set_initial_priority), else 3 and
+ * 0. Refused, and nothing is written: H3_ARGUMENT (id not below 2^62), H3_NOT_OPEN. */
+static inline uint32_t h3_priority(h3_endpoint *endpoint, uint64_t id, uint32_t *urgency,
+                                   uint32_t *incremental);
+
+/* Tells the server the priority of a response from now on, by a PRIORITY_UPDATE frame on the local
+ * control stream (RFC 9218, section 7.2). A client alone does. Refused, in this order: H3_ARGUMENT
+ * (id not below 2^62, urgency above 7, incremental above 1), H3_CLOSED, H3_NOT_CLIENT,
+ * H3_NOT_REQUEST_ID, H3_NOT_OPEN, H3_ENDED (the response has come, or is not wanted), H3_MEMORY. */
+static inline uint32_t h3_send_priority(h3_endpoint *endpoint, uint64_t id, uint32_t urgency,
+                                        uint32_t incremental, uint64_t *detail);
+
+>>>>>>> 56eaced7d08a605dde68ddbec55e60a681128430
 /* QUIC has no credit for a stream (`held` 1), so that h3_next_by_priority skips it, or it has
  * credit again (`held` 0). A request stream that is open, or the local control, encoder or decoder
  * stream. h3_next_to_send names a stream that is held as any. Refused, in this order: H3_ARGUMENT
@@ -1100,6 +1132,12 @@ uint32_t h3_raw_next_to_send(h3_endpoint endpoint, uint64_t from, uint64_t *id, 
 uint32_t h3_raw_next_by_priority(h3_endpoint endpoint, uint64_t *id, h3_endpoint *out);
 uint32_t h3_raw_set_priority(h3_endpoint endpoint, uint64_t id, uint32_t urgency,
                              uint32_t incremental, uint64_t *detail, h3_endpoint *out);
+uint32_t h3_raw_set_initial_priority(h3_endpoint endpoint, uint64_t id, uint32_t urgency,
+                                     uint32_t incremental, uint64_t *detail, h3_endpoint *out);
+uint32_t h3_raw_send_priority(h3_endpoint endpoint, uint64_t id, uint32_t urgency,
+                              uint32_t incremental, uint64_t *detail, h3_endpoint *out);
+uint32_t h3_raw_priority(h3_endpoint endpoint, uint64_t id, uint32_t *urgency,
+                         uint32_t *incremental, h3_endpoint *out);
 uint32_t h3_raw_hold(h3_endpoint endpoint, uint64_t id, uint32_t held, uint64_t *detail,
                      h3_endpoint *out);
 uint32_t h3_raw_outgoing(h3_endpoint endpoint, uint64_t id, uint8_t *buffer, size_t room, size_t *n,
@@ -1286,6 +1324,27 @@ static inline uint32_t h3_set_priority(h3_endpoint *endpoint, uint64_t id, uint3
   uint64_t none;
   if (!endpoint || !endpoint->at) return H3_NO_ENDPOINT;
   return h3_raw_set_priority(*endpoint, id, urgency, incremental, detail ? detail : &none, endpoint);
+}
+static inline uint32_t h3_set_initial_priority(h3_endpoint *endpoint, uint64_t id,
+                                               uint32_t urgency, uint32_t incremental,
+                                               uint64_t *detail) {
+  uint64_t none;
+  if (!endpoint || !endpoint->at) return H3_NO_ENDPOINT;
+  return h3_raw_set_initial_priority(*endpoint, id, urgency, incremental, detail ? detail : &none,
+                                     endpoint);
+}
+static inline uint32_t h3_send_priority(h3_endpoint *endpoint, uint64_t id, uint32_t urgency,
+                                        uint32_t incremental, uint64_t *detail) {
+  uint64_t none;
+  if (!endpoint || !endpoint->at) return H3_NO_ENDPOINT;
+  return h3_raw_send_priority(*endpoint, id, urgency, incremental, detail ? detail : &none,
+                              endpoint);
+}
+static inline uint32_t h3_priority(h3_endpoint *endpoint, uint64_t id, uint32_t *urgency,
+                                   uint32_t *incremental) {
+  if (!endpoint || !endpoint->at) return H3_NO_ENDPOINT;
+  if (!urgency || !incremental) return H3_ARGUMENT;
+  return h3_raw_priority(*endpoint, id, urgency, incremental, endpoint);
 }
 static inline uint32_t h3_hold(h3_endpoint *endpoint, uint64_t id, uint32_t held,
                                uint64_t *detail) {

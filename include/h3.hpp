@@ -176,6 +176,12 @@ struct outgoing {
   std::size_t past = 0;
 };
 
+/* The priority of a response (RFC 9218, section 4): the urgency from 0, the most urgent, to 7, and whether parts of it are of use. */
+struct priority {
+  std::uint32_t urgency = 3;
+  bool incremental = false;
+};
+
 /* What a datagram is that came. */
 struct datagram {
   enum what {
@@ -321,11 +327,25 @@ class endpoint {
     if (h3_next_by_priority(&raw_, &id) != H3_OK) return std::nullopt;
     return id;
   }
-  /* A request stream has this priority: urgency 0 to 7. */
+  /* A request stream has this priority, whatever its client says: urgency 0 to 7. */
   result set_priority(std::uint64_t id, std::uint32_t urgency, bool incremental) noexcept {
     return call(h3_set_priority, id, urgency, std::uint32_t{incremental});
   }
-  /* QUIC has no credit for a stream, so that next_by_priority passes it over, or has it again. */
+  /* The request of a stream asks for this priority by its `priority` field: it counts unless the client updated it, or one was set. */
+  result set_initial_priority(std::uint64_t id, std::uint32_t urgency, bool incremental) noexcept {
+    return call(h3_set_initial_priority, id, urgency, std::uint32_t{incremental});
+  }
+  /* The priority that counts of a request stream that is open. */
+  std::optional<priority> priority_of(std::uint64_t id) noexcept {
+    std::uint32_t urgency, incremental;
+    if (h3_priority(&raw_, id, &urgency, &incremental) != H3_OK) return std::nullopt;
+    return priority{urgency, incremental == 1};
+  }
+  /* Tells the server the priority of a response from now on (RFC 9218, section 7.2): urgency 0 to 7. */
+  result send_priority(std::uint64_t id, std::uint32_t urgency, bool incremental) noexcept {
+    return call(h3_send_priority, id, urgency, std::uint32_t{incremental});
+  }
+  /* QUIC has no credit for a stream, so that next_by_priority skips it, or has it again. */
   result hold(std::uint64_t id, bool held) noexcept { return call(h3_hold, id, std::uint32_t{held}); }
   /* Copies the first bytes that wait into the room, and says how many bytes of the caller's body come next. All wait until `advance`, which
    * counts both. */

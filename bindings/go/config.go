@@ -40,6 +40,9 @@ type Config struct {
 	// names an entry above its required insert count. Without WebTransport its frames and streams are ignored. After the peer's GOAWAY a
 	// client begins no request.
 	StrictConnection bool
+	// PriorityUpdates: of how many streams a server keeps what PRIORITY_UPDATE frames said (RFC 9218, section 7.2) until it is used, at most 128. With
+	// 0 such a frame is one of an unknown type.
+	PriorityUpdates uint64
 }
 
 // DefaultConfig has the limits of h3_config_default, which are fit for a peer that is not trusted. Header and trailer sections may have at
@@ -70,6 +73,7 @@ func DefaultConfig(server bool) Config {
 		GuardSecrets:            raw.guard_secrets != 0,
 		ShortestStrings:         raw.shortest_strings != 0,
 		StrictConnection:        raw.strict_connection != 0,
+		PriorityUpdates:         uint64(raw.priority_updates),
 	}
 }
 
@@ -105,5 +109,6 @@ func (c Config) raw() C.h3_config {
 	raw.guard_secrets = number(c.GuardSecrets)
 	raw.shortest_strings = number(c.ShortestStrings)
 	raw.strict_connection = number(c.StrictConnection)
+	raw.priority_updates = C.uint64_t(c.PriorityUpdates)
 	return raw
 }

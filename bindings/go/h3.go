@@ -225,14 +225,40 @@ func (e *Endpoint) NextByPriority() (uint64, bool) {
 	return uint64(id), answer == C.H3_OK
 }
 
-// SetPriority gives a request stream its priority. Until then it has urgency 3, and is not incremental.
+// SetPriority gives a request stream its priority, whatever its client says.
 func (e *Endpoint) SetPriority(id uint64, priority Priority) error {
 	var detail C.uint64_t
 	urgency, incremental := C.uint32_t(priority.Urgency), bit(priority.Incremental)
 	return refusal(C.h3_set_priority(&e.raw, C.uint64_t(id), urgency, incremental, &detail), detail)
 }
 
+<<<<<<< e6a48731e4d6735a12aa04c4dcd0bdb9315ce896
 // Hold says that QUIC has no credit for a stream, so that NextByPriority skips it, or that it has credit again.
+=======
+// SetInitialPriority says which priority a request asks for by its `priority` field (ReadPriority). It counts unless the client updated it, or
+// SetPriority set one. Until then a stream has urgency 3, and is not incremental.
+func (e *Endpoint) SetInitialPriority(id uint64, priority Priority) error {
+	var detail C.uint64_t
+	urgency, incremental := C.uint32_t(priority.Urgency), bit(priority.Incremental)
+	return refusal(C.h3_set_initial_priority(&e.raw, C.uint64_t(id), urgency, incremental, &detail), detail)
+}
+
+// PriorityOf is the priority that counts of a request stream; false: it is not open.
+func (e *Endpoint) PriorityOf(id uint64) (Priority, bool) {
+	var urgency, incremental C.uint32_t
+	answer := C.h3_priority(&e.raw, C.uint64_t(id), &urgency, &incremental)
+	return Priority{uint8(urgency), incremental != 0}, answer == C.H3_OK
+}
+
+// SendPriority tells the server the priority of a response from now on (RFC 9218, section 7.2).
+func (e *Endpoint) SendPriority(id uint64, priority Priority) error {
+	var detail C.uint64_t
+	urgency, incremental := C.uint32_t(priority.Urgency), bit(priority.Incremental)
+	return refusal(C.h3_send_priority(&e.raw, C.uint64_t(id), urgency, incremental, &detail), detail)
+}
+
+// Hold says that QUIC has no credit for a stream, so that NextByPriority passes it over, or that it has credit again.
+>>>>>>> 56eaced7d08a605dde68ddbec55e60a681128430
 func (e *Endpoint) Hold(id uint64, held bool) error {
 	var detail C.uint64_t
 	return refusal(C.h3_hold(&e.raw, C.uint64_t(id), bit(held), &detail), detail)

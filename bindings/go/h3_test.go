@@ -316,3 +316,34 @@ func TestRefusals(t *testing.T) {
 	is(t, ok, false)
 	is(t, client.Stream(id), StreamState{})
 }
+
+// TestPriorities: the server's own counts before an update, and that before the field. Bytes are those of RFC 9218, section 7.2.
+func TestPriorities(t *testing.T) {
+	client, server := pair(t)
+	id, err := client.OpenRequest()
+	is(t, err, nil)
+	is(t, client.SendHead(id, get), nil)
+	carry(t, client, server, 1000)
+	counts := func(wanted Priority) {
+		t.Helper()
+		priority, ok := server.PriorityOf(id)
+		is(t, ok, true)
+		is(t, priority, wanted)
+	}
+	counts(Priority{3, false})
+	is(t, server.SetInitialPriority(id, Priority{5, false}), nil)
+	counts(Priority{5, false})
+	is(t, client.SendPriority(id, Priority{1, true}), nil)
+	buffer := make([]byte, 64)
+	count, _ := client.Outgoing(2, buffer)
+	is(t, string(buffer[:count]), "\x80\x0f\x07\x00\x07\x00u=1, i")
+	carry(t, client, server, 1000)
+	is(t, server.SetInitialPriority(id, Priority{5, false}), nil)
+	counts(Priority{1, true})
+	is(t, server.SetPriority(id, Priority{7, false}), nil)
+	is(t, client.SendPriority(id, Priority{0, false}), nil)
+	carry(t, client, server, 1000)
+	counts(Priority{7, false})
+	_, ok := server.PriorityOf(4)
+	is(t, ok, false)
+}

@@ -89,7 +89,6 @@ typedef struct stream {
   bool is_blocked; /* by QUIC's flow control */
   bool awaits_data; /* read_data answered NGHTTP3_ERR_WOULDBLOCK */
   bool is_write_shut, has_ended, is_fin_offered, is_fin_taken;
-  bool is_prioritized; /* the server's application has set the priority, and the client's counts no more */
   uint8_t head_length; /* of the type and length of a DATA frame that the endpoint gets with the first byte of its payload; else 0 */
   uint8_t head[MOST_HEAD];
   priority priority;
@@ -162,6 +161,10 @@ field_list field_list_at(void *place, const nghttp3_nv *fields, size_t count);
 
 /* priority_field.c: false where the value is malformed; nothing is written then */
 bool priority_field_parse(priority *to, const uint8_t *value, size_t length);
+
+/* priorities.c */
+void stream_read_priority(nghttp3_conn *connection, stream *s);
+void read_priorities(nghttp3_conn *connection);
 
 /* streams.c */
 stream *stream_look_up(nghttp3_conn *connection, int64_t id);

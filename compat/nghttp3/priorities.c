@@ -17,9 +17,27 @@ static int set_priority(nghttp3_conn *connection, int64_t id, const nghttp3_pri 
   if (!is_request(id) || from->urgency > NGHTTP3_URGENCY_LOW || (from->inc != 0 && from->inc != 1)) return NGHTTP3_ERR_INVALID_ARGUMENT;
   stream *s = stream_find(connection, id);
   if (!s) return NGHTTP3_ERR_STREAM_NOT_FOUND;
-  s->is_prioritized = true;
+  uint32_t answer = h3_set_priority(&connection->endpoint, s->endpoint_id, from->urgency, from->inc, NULL);
+  if (answer == H3_MEMORY) return NGHTTP3_ERR_NOMEM;
   stream_set_priority(connection, s, (priority){from->urgency, from->inc});
   return 0;
+}
+
+/* The endpoint knows which priority counts of a stream: its application's, else that of the client's last PRIORITY_UPDATE, else its request's. */
+void stream_read_priority(nghttp3_conn *connection, stream *s) {
+  uint32_t urgency, incremental;
+  if (h3_priority(&connection->endpoint, s->endpoint_id, &urgency, &incremental) != H3_OK) return;
+  if (s->priority.urgency == urgency && s->priority.is_incremental == (incremental != 0)) return;
+  stream_set_priority(connection, s, (priority){urgency, incremental != 0});
+}
+
+/* PRIORITY_UPDATE frames may have come (RFC 9218, section 7.2): the endpoint uses those of the streams that are open, and drops those of others that
+ * are over. */
+void read_priorities(nghttp3_conn *connection) {
+  uint64_t next;
+  h3_next_by_priority(&connection->endpoint, &next);
+  for (size_t i = 0; i < connection->places; i++)
+    for (stream *s = connection->table[i]; s; s = s->next) stream_read_priority(connection, s);
 }
 
 /* Members that the field does not have keep their values. */

@@ -34,11 +34,12 @@ static int refuse_message(nghttp3_conn *connection, stream *s, uint64_t code) {
 
 /* ---- items ---- */
 
-/* A request's `priority` field counts until its application sets another one (RFC 9218, section 5). It is read by the library's parser. */
+/* A request's `priority` field counts unless its client or the application says another one (RFC 9218, section 5). It is read by the library's parser. */
 static void read_priority(nghttp3_conn *connection, stream *s, nghttp3_vec value) {
   uint32_t urgency, incremental;
-  if (connection->is_server && !s->is_prioritized && h3_priority_read(value.base, value.len, &urgency, &incremental) == H3_OK)
-    stream_set_priority(connection, s, (priority){urgency, incremental != 0});
+  if (!connection->is_server || h3_priority_read(value.base, value.len, &urgency, &incremental) != H3_OK) return;
+  h3_set_initial_priority(&connection->endpoint, s->endpoint_id, urgency, incremental, NULL);
+  stream_read_priority(connection, s);
 }
 
 static int tell_each(nghttp3_conn *connection, stream *s, section *all, size_t count, bool is_trailer) {
@@ -59,6 +60,7 @@ static int tell_fields(nghttp3_conn *connection, stream *s, const h3_item *item)
   if (!all) return NGHTTP3_ERR_NOMEM;
   int error = is_trailer ? CALLBACK(connection, begin_trailers, s->id, connection->user_data, s->user_data)
                          : CALLBACK(connection, begin_headers, s->id, connection->user_data, s->user_data);
+  if (connection->is_server && !is_trailer) stream_read_priority(connection, s); /* of an update that came before the stream */
   if (!error) error = tell_each(connection, s, all, item->fields, is_trailer);
   section_give(connection, all);
   return error;
@@ -376,6 +378,9 @@ static nghttp3_ssize read_unidirectional(nghttp3_conn *connection, int64_t id, c
   may_have_bytes(connection, &connection->encoder), may_have_bytes(connection, &connection->decoder);
   int error = tell_control(connection);
   if (fault || error) return fault ? fault : error;
+  uint32_t type;
+  bool is_control = h3_stream_kind(&connection->endpoint, (uint64_t)id, &type) == H3_OK && type == H3_STREAM_CONTROL;
+  if (connection->is_server && is_control) read_priorities(connection);
   error = resume_all_waiting(connection);
   return error ? error : (nghttp3_ssize)length;
 }

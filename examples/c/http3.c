@@ -132,13 +132,14 @@ static void cut_off(http3_request *request, uint64_t code) {
 
 /* ---- what came ---- */
 
-static void prefer(http3_request *request, uint32_t urgency, uint32_t incremental) {
+typedef uint32_t priority_call(h3_endpoint *, uint64_t, uint32_t, uint32_t, uint64_t *); /* what is asked for, or what counts before that */
+static void prefer(priority_call *call, http3_request *request, uint32_t urgency, uint32_t incremental) {
   http3 *h = request->connection;
-  if (h3_set_priority(&h->endpoint, request->entry.id, urgency, incremental, NULL) == H3_MEMORY) quic_close(h->quic, H3_CODE_INTERNAL_ERROR);
+  if (call(&h->endpoint, request->entry.id, urgency, incremental, NULL) == H3_MEMORY) quic_close(h->quic, H3_CODE_INTERNAL_ERROR);
 }
 
 /* Of a section that is too large nobody knows the `priority`: its answer is short, and sent before others. */
-static void hurry(http3_request *request) { prefer(request, 0, 0); }
+static void hurry(http3_request *request) { prefer(h3_set_priority, request, 0, 0); }
 
 static void tell_section(http3_request *request, const h3_item *item) {
   http3 *h = request->connection;
@@ -614,14 +615,20 @@ http3_request *http3_open(http3 *h, bool *going_away) {
   if (answer != H3_OK) return NULL;
   http3_request *request = quic_open(h->quic, false) == (int64_t)id ? add(h, id) : NULL;
   if (!request) quic_close(h->quic, H3_CODE_INTERNAL_ERROR);
-  else prefer(request, USUAL, 1);
+  else prefer(h3_set_priority, request, USUAL, 1);
   return request;
 }
 
 void http3_prefer(http3_request *request, const http3_list *list) {
   uint32_t urgency, incremental;
-  if (list && http3_priority(list, &urgency, &incremental)) prefer(request, urgency, incremental);
-  else prefer(request, USUAL, 1);
+  if (list && http3_priority(list, &urgency, &incremental)) prefer(h3_set_initial_priority, request, urgency, incremental);
+  else prefer(h3_set_priority, request, USUAL, 1);
+}
+
+bool http3_update(http3_request *request, uint32_t urgency, uint32_t incremental) {
+  if (h3_send_priority(&request->connection->endpoint, request->entry.id, urgency, incremental, NULL) != H3_OK) return false;
+  quic_wake(request->connection->quic, 0);
+  return true;
 }
 
 bool http3_has_to_wait(const http3_request *request, uint64_t silence) {

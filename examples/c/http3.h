@@ -135,9 +135,11 @@ bool http3_values(http3 *, const h3_item *head, http3_wanted *wanted, size_t cou
 bool http3_head(http3_request *, const http3_list *);
 /* Sends a header section that is sent but once. */
 bool http3_head_of(http3_request *, const http3_field *fields, size_t count);
-/* A server's answer is sent in the order that the request's header section asks for (RFC 9218, section 10). If the request came through a
- * proxy, or for NULL, it has the usual urgency, and takes turns with others. Before, it has that urgency, and has its turn by its id. */
+/* A server's answer is sent in the order that the request's header section asks for, or the last PRIORITY_UPDATE (RFC 9218, sections 7 and 10). If
+ * the request came through a proxy, or for NULL, it has the usual urgency whatever its client says, and takes turns with others. */
 void http3_prefer(http3_request *, const http3_list *head);
+/* Tells the server by PRIORITY_UPDATE how urgent the response is from now on: 0, the most urgent, to 7. false: it has come, or out of memory. */
+bool http3_update(http3_request *, uint32_t urgency, uint32_t incremental);
 /* Whether a body stands still since others are sent before it: the peer granted credit for it, and was not silent for so many milliseconds. */
 bool http3_has_to_wait(const http3_request *, uint64_t silence);
 /* Sends an interim response: the header section comes later. false: refused. */

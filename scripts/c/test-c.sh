@@ -138,8 +138,10 @@ checks() {
   compile cancellations cancellations "${wrapped[@]}"
   compile shutdown shutdown
   compile strict_connection strict_connection
+  compile priority_updates priority_updates "${refusing[@]}"
   compile streams streams "${refusing[@]}"
   compile drained drained "${refusing[@]}"
+  compile over_streams over_streams "${wrapped[@]}"
   compile datagrams datagrams
   compile lists lists
   compile never_indexed never_indexed
@@ -168,8 +170,10 @@ checks() {
     run cancellations "$out/cancellations"
     run shutdown "$out/shutdown"
     run "strict connections" "$out/strict_connection"
+    run "priority updates" "$out/priority_updates"
     run streams "$out/streams"
     run drained "$out/drained" 0 10000
+    run "streams that are over" "$out/over_streams"
     run datagrams "$out/datagrams"
     websocket_frames
     programs
@@ -193,6 +197,7 @@ checks() {
     compile shutdown shutdown_checked "${flags[@]}"
     compile by_priority by_priority_checked "${flags[@]}" "${refusing[@]}"
     compile strict_connection strict_connection_checked "${flags[@]}"
+    compile priority_updates priority_updates_checked "${flags[@]}" "${refusing[@]}"
     compile datagrams datagrams_checked "${flags[@]}"
     compile in_memory in_memory_checked "${flags[@]}"
     compile ../../examples/quickstart quickstart_checked "-I$lib" "${flags[@]}"
@@ -210,6 +215,7 @@ checks() {
       run "shutdown with sanitizers" "$out/shutdown_checked"
       run "by_priority with sanitizers" "$out/by_priority_checked"
       run "strict connections with sanitizers" "$out/strict_connection_checked"
+      run "priority updates with sanitizers" "$out/priority_updates_checked"
       run "datagrams with sanitizers" "$out/datagrams_checked"
       printed "$out/in_memory_checked" tests/c/in_memory.stdout "in_memory with sanitizers"
     printed "$out/quickstart_checked" examples/quickstart.stdout "quickstart with sanitizers"

@@ -29,7 +29,7 @@ PARTS = (
     ("## The same answers by two endpoints", ("RunsTo", "AnswersEach", "new_ends")),
     ("## What each call leaves", ("RunsByCalls",)),
     ("## If a side is strict", ("RunsUntilMemory", "RunsToEnd", "TakesWhatIsSent", "one_judges_more")),
-    ("## By events and answers", ("UntilFault", "NoFaultUntilKept")),
+    ("## By events and answers", ("Faithful",)),
     ("## If allocations fail", None),
 )
 # Behind these the values of the code: a heading, and from which types of the signature its rows come, and from those that which parts list.

@@ -265,24 +265,25 @@ check "serve: SETTINGS come before the bodies, over 300 KB a second" settings_co
 
 # ---- what is urgent ----
 
-urgent_ms() { # PORT: the median of three
-  local _ times=()
+urgent_ms() { # PORT, ARGUMENTS..: the median of three
+  local _ times=() port=$1
+  shift
   for _ in 1 2 3; do
-    works "$work/urgent" "$1" "$cert" || return 1
+    works "$work/urgent" "$port" "$cert" "$@" || return 1
     times+=("$(cat "$work/got")")
   done
   printf '%s\n' "${times[@]}" | sort -n | sed -n 2p
 }
 urgent_as_soon() { # PORT of ours, PORT of the other, over narrow ways
-  local ours theirs
-  theirs=$(urgent_ms "$2") && ours=$(urgent_ms "$1") || return 1
-  echo "an urgent response of 50 KB after $ours ms, by gtlsserver after $theirs ms" | tee -a "$work/log"
-  [ $((10 * ours)) -le $((12 * theirs)) ]
+  local ours theirs updated
+  theirs=$(urgent_ms "$2") && ours=$(urgent_ms "$1") && updated=$(urgent_ms "$1" updated) || return 1
+  echo "an urgent response of 50 KB after $ours ms, by PRIORITY_UPDATE after $updated ms, by gtlsserver after $theirs ms" | tee -a "$work/log"
+  [ $((10 * ours)) -le $((12 * theirs)) ] && [ $((10 * updated)) -le $((12 * theirs)) ]
 }
 start "${ports[16]}" gtls.log gtlsserver -q -d "$folder" 127.0.0.1 "${ports[16]}" "$key" "$cert"
 start "${ports[17]}" slow_ours.log python3 scripts/interop/narrow.py "${ports[17]}" "${ports[4]}" 500000
 start "${ports[18]}" slow_gtls.log python3 scripts/interop/narrow.py "${ports[18]}" "${ports[16]}" 500000
-check "serve: an urgent response beside 20 downloads over 500 KB a second, as soon as by gtlsserver" urgent_as_soon "${ports[17]}" "${ports[18]}"
+check "serve: an urgent response beside 20 downloads over 500 KB a second, by its field and by PRIORITY_UPDATE, as soon as by gtlsserver" urgent_as_soon "${ports[17]}" "${ports[18]}"
 
 # ---- WebSockets ----
 

@@ -1,5 +1,5 @@
-/* urgent PORT TRUSTED: 20 downloads of /many.bin that are not urgent (u=7), and a second later /part.bin, the most urgent (u=0). Prints how many
- * milliseconds that one took until it was whole. */
+/* urgent PORT TRUSTED [updated]: 20 downloads of /many.bin that are not urgent (u=7), and a second later /part.bin, the most urgent (u=0): by its
+ * field, or with `updated` by PRIORITY_UPDATE alone. Prints how many milliseconds that one took until it was whole. */
 #include "http3.h"
 #include <stdio.h>
 #include <string.h>
@@ -8,7 +8,7 @@ enum { DOWNLOADS = 20, LATER = 1000, SECONDS = 60 };
 
 static http3 *connection;
 static uint64_t asked_at, took; /* by quic_time; 0: not yet */
-static bool has_failed;
+static bool has_failed, is_updated;
 
 static http3_request *ask(const char *path, const char *priority) {
   const http3_field fields[] = {{":method", "GET"}, {":scheme", "https"}, {":path", path}, {":authority", "localhost"}, {"priority", priority}};
@@ -54,7 +54,8 @@ static void go_on(const quic_socket *socket) {
     for (int i = 0; i < DOWNLOADS; i++) ask("/many.bin", "u=7");
   } else if (asked_at == 0 && quic_time() - began >= LATER) {
     asked_at = quic_time();
-    http3_request *request = ask("/part.bin", "u=0");
+    http3_request *request = ask("/part.bin", is_updated ? "u=7" : "u=0");
+    if (request && is_updated && !http3_update(request, 0, 0)) has_failed = true;
     if (request) request->data = (void *)socket; /* which tells it apart */
   }
 }
@@ -63,8 +64,10 @@ int main(int count, char **words) {
   static const http3_events events = {.ready = on_ready, .head = on_head, .body = on_body, .end = on_end, .failed = on_failed, .freed = on_freed,
                                       .over = on_over};
   http3_setup setup = {.events = &events};
-  quic_identity identity = {.trusted = count == 3 ? words[2] : NULL};
-  quic_socket *socket = count == 3 ? quic_connect("127.0.0.1", words[1], "localhost", &identity, NULL, &http3_over_quic, &setup) : NULL;
+  bool is_asked = count == 3 || (count == 4 && strcmp(words[3], "updated") == 0);
+  is_updated = count == 4;
+  quic_identity identity = {.trusted = is_asked ? words[2] : NULL};
+  quic_socket *socket = is_asked ? quic_connect("127.0.0.1", words[1], "localhost", &identity, NULL, &http3_over_quic, &setup) : NULL;
   if (!socket) return 1;
   uint64_t last = quic_time() + 1000 * SECONDS;
   while (took == 0 && !has_failed && quic_time() < last && quic_turn(socket, 5) > 0)

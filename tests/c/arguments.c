@@ -533,6 +533,19 @@ static void of_rows_before_strict_connections(void) {
   h3_free(&e);
 }
 
+/* and of one whose header knew no priority_updates: those of 100 streams are kept */
+static void of_rows_before_updates(void) {
+  enum { FEW = offsetof(h3_config, priority_updates) / sizeof(uint64_t) };
+  h3_endpoint e = H3_NONE_YET;
+  uint64_t few[FEW], detail;
+  h3_raw_config_default(few, FEW);
+  few[offsetof(h3_config, server) / sizeof *few] = 1;
+  IS(h3_raw_new(few, FEW, &detail, &e), H3_OK);
+  IS(h3_deliver(&e, 2, "\0\4\0\x80\xf\7\0\0", 8, &detail), H3_CONNECTION); /* a PRIORITY_UPDATE without an id */
+  HOLDS(detail == 0x106);
+  h3_free(&e);
+}
+
 /* the limits of a default endpoint, and what it announces: a control stream with one SETTINGS frame (RFC 9114, sections 6.2.1 and 7.2.4) */
 static void of_default(void) {
   static const uint8_t announced[] = {0, 4, 24, 6, 0x80, 1, 0, 0, 8, 0, 0xab, 0x60, 0x37, 0x42, 0, 0x33, 0, 0xab, 0x60, 0x37, 0x43, 0, 1, 0x50, 0, 7, 16};
@@ -545,7 +558,7 @@ static void of_default(void) {
   HOLDS(c.max_field_section_size == 65536 && c.table == 4096 && c.blocked == 16);
   HOLDS(c.max_webtransport_sessions == 0 && c.grease == 0 && c.server == 0 && c.send_grease == 0 && c.webtransport == 0);
   HOLDS(c.extended_connect == 0 && c.datagram == 0 && c.reject_requests == 1 && c.any_protocol == 1);
-  HOLDS(c.guard_secrets == 1 && c.shortest_strings == 1 && c.strict_connection == 1);
+  HOLDS(c.guard_secrets == 1 && c.shortest_strings == 1 && c.strict_connection == 1 && c.priority_updates == 100);
   IS(h3_new(&e, &c, NULL), H3_OK);
   IS(h3_outgoing(&e, h3_control_id(0), b, sizeof b, &n, NULL, NULL), H3_OK);
   HOLDS(n == sizeof announced && !memcmp(b, announced, n));
@@ -802,6 +815,7 @@ int main(int argc, char **argv) {
   of_rows_before_protocols();
   of_rows_before_guards();
   of_rows_before_strict_connections();
+  of_rows_before_updates();
   of_shorter_tables();
   of_next_ids();
   plain_config(&c);

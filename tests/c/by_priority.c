@@ -385,6 +385,9 @@ void *__wrap_realloc(void *p, size_t n) { return refuse() ? NULL : __real_reallo
 
 enum { ASKED = 300, CALLS = 48, PLAYED = 3000, NO_CALL = -1 };
 
+/* what an allocation that is refused does: none was, the call says so, or it does without (a stream that is over stays whole) */
+enum { NONE_REFUSED, SAID, DONE_WITHOUT };
+
 /* priorities of all classes, of streams far apart and of one that is over; each third stream is held, and some are let go */
 static uint32_t call(int i) {
   uint64_t id = 4 * (uint64_t)(i * 89 % ASKED);
@@ -402,9 +405,9 @@ static void end_first(void) {
 }
 
 /* All calls but the one at `skipped` are made. In the one at `at` this allocation is refused, and it is made `again` or not. Then who has its
- * turn goes to `order`. The answer: whether an allocation was refused. */
+ * turn goes to `order`. */
 static int play(int skipped, int at, long allocation, int again, int64_t order[PLAYED]) {
-  int was_refused = 0, turns = 0;
+  int refusal = NONE_REFUSED, turns = 0;
   make();
   for (int i = 0; i < ASKED; i++) answer(ask(), 20);
   end_first();
@@ -412,10 +415,10 @@ static int play(int skipped, int at, long allocation, int again, int64_t order[P
     if (i == skipped) continue;
     left = i == at ? allocation : -1;
     uint32_t n = call(i);
-    if (i == at) was_refused = left < 0;
+    if (i == at && left < 0) refusal = n == H3_OK ? DONE_WITHOUT : SAID;
     left = -1;
-    IS(n, i == at && was_refused ? H3_MEMORY : H3_OK);
-    if (i == at && was_refused && again) IS(call(i), H3_OK);
+    IS(n, i == at && refusal == SAID ? H3_MEMORY : H3_OK);
+    if (i == at && refusal == SAID && again) IS(call(i), H3_OK);
   }
   for (int64_t is; turns < PLAYED - 1 && (is = next()) != NONE; order[turns++] = is) {
     uint64_t there = waits(SERVER, (uint64_t)is);
@@ -424,7 +427,7 @@ static int play(int skipped, int at, long allocation, int again, int64_t order[P
   order[turns] = NONE;
   HOLDS(turns < PLAYED - 1);
   drop();
-  return was_refused;
+  return refusal;
 }
 
 static int same(const int64_t *one, const int64_t *other) {
@@ -435,11 +438,13 @@ static int same(const int64_t *one, const int64_t *other) {
 static long of_memory(void) {
   static int64_t whole[PLAYED], without[PLAYED], order[PLAYED];
   long refused = 0;
+  int refusal;
   play(NO_CALL, NO_CALL, 0, 0, whole);
   for (int at = 0; at < CALLS; at++) {
     play(at, NO_CALL, 0, 0, without);
-    for (long allocation = 0; play(NO_CALL, at, allocation, 0, order); allocation++, refused++) {
-      HOLDS(same(order, without));
+    for (long allocation = 0; (refusal = play(NO_CALL, at, allocation, 0, order)) != NONE_REFUSED; allocation++, refused++) {
+      HOLDS(refusal == SAID || at == 0); /* the stream of the first call is over */
+      HOLDS(same(order, refusal == SAID ? without : whole));
       HOLDS(play(NO_CALL, at, allocation, 1, order) && same(order, whole));
     }
     HOLDS(same(order, whole));

@@ -235,6 +235,7 @@ static void choose(h3_config *config, const char *word) {
       {"guard_secrets", offsetof(h3_config, guard_secrets)},
       {"shortest_strings", offsetof(h3_config, shortest_strings)},
       {"strict_connection", offsetof(h3_config, strict_connection)},
+      {"priority_updates", offsetof(h3_config, priority_updates)},
   };
   size_t len = strcspn(word, "=");
   uint64_t value = word[len] ? strtoull(word + len + 1, NULL, 10) : 1;
@@ -261,6 +262,7 @@ static void begin(char **words, size_t count) {
   c.guard_secrets = 0;
   c.shortest_strings = 0;
   c.strict_connection = 0;
+  c.priority_updates = 0;
   c.server = words[1][0] == 's';
   c.max_field_section_size = strtoull(words[2], NULL, 10);
   c.table = strtoull(words[3], NULL, 10);

@@ -291,7 +291,7 @@ static void insertions(void) {
 /* deliveries of 1 MiB on each kind of stream */
 static void deliveries(void) {
   uint64_t id, value, detail;
-  uint32_t drained, type;
+  uint32_t drained, type, urgency, incremental;
   h3_state state;
   h3_item item;
   size_t n;
@@ -340,6 +340,9 @@ static void deliveries(void) {
   DONE(h3_next_by_priority(&ends[1], &value), "h3_next_by_priority", 7);
   WANT(value == 7, "another stream is next", 7, value);
   WANT(h3_set_priority(&ends[1], 0, 1, 0, NULL) == H3_NOT_OPEN, "h3_set_priority", 0, 0);
+  WANT(h3_set_initial_priority(&ends[1], 0, 1, 0, NULL) == H3_NOT_OPEN, "h3_set_initial_priority", 0, 0);
+  WANT(h3_send_priority(&ends[1], 0, 1, 0, NULL) == H3_NOT_CLIENT, "h3_send_priority", 0, 0);
+  WANT(h3_priority(&ends[1], 0, &urgency, &incremental) == H3_NOT_OPEN, "h3_priority", 0, 0);
   DONE(h3_stream_kind(&ends[0], 3, &type), "h3_stream_kind", 3);
   WANT(type == H3_STREAM_CONTROL, "another type of stream", 3, type);
   WANT(id == 0 && drained == 1, "an endpoint without requests is not drained", 3, id);

@@ -62,6 +62,9 @@ class Config:
     """Closes the connection for invalid settings, another frame before them, an invalid session id, and a field section that names an entry
     above its required insert count. Without `webtransport` its frames and streams are ignored. After the peer's GOAWAY a client begins no
     request."""
+    priority_updates: int
+    """Of how many streams a server keeps what PRIORITY_UPDATE frames said (RFC 9218, section 7.2) until it is used, at most 128. With 0 such a frame is
+    one of an unknown type."""
 
     @classmethod
     def client(cls) -> Self:

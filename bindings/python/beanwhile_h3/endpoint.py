@@ -273,10 +273,33 @@ class Endpoint:
         return None if answer else found.value
 
     def set_priority(self, id: int, priority: Priority) -> None:
-        """A request stream has this priority from now on. Until then it has urgency 3, and is not incremental.
+        """A request stream has this priority from now on, whatever its client says.
 
         Raises `Answer.ARGUMENT`, `CLOSED`, `NOT_REQUEST_ID`, `NOT_OPEN`, `MEMORY`."""
         self._call("h3_raw_set_priority", _number(id), _number(priority.urgency), int(priority.incremental))
+
+    def set_initial_priority(self, id: int, priority: Priority) -> None:
+        """The request of a stream asks for this priority by its `priority` field (`Priority.read`). It counts unless the client updated it, or
+        `set_priority` set one. Until then a stream has urgency 3, and is not incremental.
+
+        Raises `Answer.ARGUMENT`, `CLOSED`, `NOT_REQUEST_ID`, `NOT_OPEN`, `MEMORY`."""
+        self._call("h3_raw_set_initial_priority", _number(id), _number(priority.urgency), int(priority.incremental))
+
+    def priority(self, id: int) -> Priority | None:
+        """The priority that counts of a request stream; None: it is not open.
+
+        Raises `Answer.ARGUMENT`."""
+        urgency, incremental = c_uint32(), c_uint32()
+        answer = self._answer("h3_raw_priority", _number(id), byref(urgency), byref(incremental))
+        if answer not in (Answer.OK, Answer.NOT_OPEN):
+            raise refused(answer)
+        return None if answer else Priority(urgency.value, incremental.value == 1)
+
+    def send_priority(self, id: int, priority: Priority) -> None:
+        """Tells the server the priority of a response from now on (RFC 9218, section 7.2).
+
+        Raises `Answer.ARGUMENT`, `CLOSED`, `NOT_CLIENT`, `NOT_REQUEST_ID`, `NOT_OPEN`, `ENDED`, `MEMORY`."""
+        self._call("h3_raw_send_priority", _number(id), _number(priority.urgency), int(priority.incremental))
 
     def hold(self, id: int, held: bool) -> None:
         """QUIC has no credit for a stream, so that `next_by_priority` skips it, or has it again.

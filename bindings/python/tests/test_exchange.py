@@ -223,6 +223,28 @@ class Exchange(unittest.TestCase):
         self.assertEqual(Priority.read(b"u=9"), Priority(3, False))
         self.assertIsNone(Priority.read(b"u=1,,i"))
 
+    def test_the_server_counts_before_an_update_and_that_before_the_field(self) -> None:
+        pair = Pair()
+        id = pair.client.open_request()
+        pair.client.send_head(id, GET)
+        pair.carry_all()
+        self.assertEqual(pair.server.priority(id), Priority(3, False))
+        pair.server.set_initial_priority(id, Priority(5, False))
+        self.assertEqual(pair.server.priority(id), Priority(5, False))
+        pair.client.send_priority(id, Priority(1, True))
+        self.assertEqual(pair.client.outgoing(2)[0], bytes.fromhex("800f0700 07 00") + b"u=1, i")  # RFC 9218, section 7.2
+        pair.carry_all()
+        pair.server.set_initial_priority(id, Priority(5, False))
+        self.assertEqual(pair.server.priority(id), Priority(1, True))
+        pair.server.set_priority(id, Priority(7, False))
+        pair.client.send_priority(id, Priority(0, False))
+        pair.carry_all()
+        self.assertEqual(pair.server.priority(id), Priority(7, False))
+        self.assertIsNone(pair.server.priority(4))
+        with self.assertRaises(Refused) as refused:
+            pair.server.send_priority(id, Priority(0, False))
+        self.assertEqual(refused.exception.answer, Answer.NOT_CLIENT)
+
     def test_an_endpoint_is_freed_once(self) -> None:
         for ways in ("close", "with", "neither"):
             endpoint = Endpoint(Config.client())

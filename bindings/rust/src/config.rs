@@ -1,7 +1,7 @@
 use crate::raw;
 
 /// How many numbers `h3_config` has: its size, and those of [`Config`].
-pub(crate) const NUMBERS: usize = 22;
+pub(crate) const NUMBERS: usize = 23;
 
 /// What an endpoint is and announces, as `h3_config`.
 ///
@@ -64,6 +64,9 @@ pub struct Config {
     /// entry above its required insert count. Without `webtransport` its frames and streams are ignored. After the peer's GOAWAY a client
     /// begins no request.
     pub strict_connection: bool,
+    /// Of how many streams a server keeps what PRIORITY_UPDATE frames said (RFC 9218, section 7.2) until it is used, at most 128. With 0 such a
+    /// frame is one of an unknown type.
+    pub priority_updates: u64,
 }
 
 impl Config {
@@ -102,6 +105,7 @@ impl Config {
             guard_secrets: numbers[19] != 0,
             shortest_strings: numbers[20] != 0,
             strict_connection: numbers[21] != 0,
+            priority_updates: numbers[22],
         }
     }
 
@@ -130,6 +134,7 @@ impl Config {
             self.guard_secrets.into(),
             self.shortest_strings.into(),
             self.strict_connection.into(),
+            self.priority_updates,
         ]
     }
 }

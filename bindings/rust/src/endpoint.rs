@@ -315,7 +315,7 @@ impl Endpoint {
         Some(id)
     }
 
-    /// A request stream has this priority from now on. Until then it has urgency 3, and is not incremental.
+    /// A request stream has this priority from now on, whatever its client says.
     ///
     /// # Errors
     ///
@@ -325,7 +325,43 @@ impl Endpoint {
         self.call(|handle, detail, out| unsafe { raw::h3_raw_set_priority(handle, id, urgency, incremental, detail, out) })
     }
 
+<<<<<<< e6a48731e4d6735a12aa04c4dcd0bdb9315ce896
     /// QUIC has no credit for a stream, so that `next_by_priority` skips it, or has it again.
+=======
+    /// The request of a stream asks for this priority by its `priority` field (`Priority::read`). It counts unless the client updated it, or
+    /// `set_priority` set one. Until then a stream has urgency 3, and is not incremental.
+    ///
+    /// # Errors
+    ///
+    /// [`Error::Argument`], [`Error::Closed`], [`Error::NotRequestId`], [`Error::NotOpen`], [`Error::Memory`].
+    pub fn set_initial_priority(&mut self, id: u64, priority: Priority) -> Result<(), Error> {
+        let (urgency, incremental) = (priority.urgency.into(), priority.incremental.into());
+        self.call(|handle, detail, out| unsafe {
+            raw::h3_raw_set_initial_priority(handle, id, urgency, incremental, detail, out)
+        })
+    }
+
+    /// The priority that counts of a request stream; `None` if it is not open.
+    pub fn priority(&mut self, id: u64) -> Option<Priority> {
+        let (mut urgency, mut incremental) = (0, 0);
+        self.call(|handle, _, out| unsafe { raw::h3_raw_priority(handle, id, &mut urgency, &mut incremental, out) })
+            .ok()?;
+        Some(Priority { urgency: urgency as u8, incremental: incremental != 0 })
+    }
+
+    /// Tells the server the priority of a response from now on (RFC 9218, section 7.2).
+    ///
+    /// # Errors
+    ///
+    /// [`Error::Argument`], [`Error::Closed`], [`Error::NotClient`], [`Error::NotRequestId`], [`Error::NotOpen`], [`Error::Ended`],
+    /// [`Error::Memory`].
+    pub fn send_priority(&mut self, id: u64, priority: Priority) -> Result<(), Error> {
+        let (urgency, incremental) = (priority.urgency.into(), priority.incremental.into());
+        self.call(|handle, detail, out| unsafe { raw::h3_raw_send_priority(handle, id, urgency, incremental, detail, out) })
+    }
+
+    /// QUIC has no credit for a stream, so that `next_by_priority` passes it over, or has it again.
+>>>>>>> 56eaced7d08a605dde68ddbec55e60a681128430
     ///
     /// # Errors
     ///

@@ -96,6 +96,9 @@ extern "C" {
     pub(crate) fn h3_raw_is_drained(endpoint: Handle, drained: *mut u32, out: *mut Handle) -> u32;
     pub(crate) fn h3_raw_next_to_send(endpoint: Handle, from: u64, id: *mut u64, out: *mut Handle) -> u32;
     pub(crate) fn h3_raw_next_by_priority(endpoint: Handle, id: *mut u64, out: *mut Handle) -> u32;
+    pub(crate) fn h3_raw_set_initial_priority(endpoint: Handle, id: u64, urgency: u32, incremental: u32, detail: *mut u64, out: *mut Handle) -> u32;
+    pub(crate) fn h3_raw_send_priority(endpoint: Handle, id: u64, urgency: u32, incremental: u32, detail: *mut u64, out: *mut Handle) -> u32;
+    pub(crate) fn h3_raw_priority(endpoint: Handle, id: u64, urgency: *mut u32, incremental: *mut u32, out: *mut Handle) -> u32;
     pub(crate) fn h3_raw_set_priority(endpoint: Handle, id: u64, urgency: u32, incremental: u32, detail: *mut u64, out: *mut Handle) -> u32;
     pub(crate) fn h3_raw_hold(endpoint: Handle, id: u64, held: u32, detail: *mut u64, out: *mut Handle) -> u32;
     pub(crate) fn h3_raw_outgoing(endpoint: Handle, id: u64, buffer: *mut u8, room: usize, n: *mut usize, past: *mut usize, fin: *mut u32, out: *mut Handle) -> u32;

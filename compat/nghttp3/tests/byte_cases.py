@@ -251,6 +251,13 @@ def control_streams():
     for side, name, kind in (("server", "of no request", PRIORITY_UPDATE), ("client", "at a client", PRIORITY_UPDATE),
                              ("server", "of a push", PRIORITY_UPDATE + 1)):
         control(side, f"PRIORITY_UPDATE {name}", NO_SETTINGS + frame(kind, integer(0) + b"u=1"))
+    control("server", "PRIORITY_UPDATE in front of SETTINGS", frame(PRIORITY_UPDATE, integer(0) + b"u=1"))
+    for name, payload in (("", b"\0u=1"), (" without a text", b"\0"), (" of urgency 8", b"\0u=8"), (" of no dictionary", b"\0U=1"), (" without an id", b""),
+                          (" of half an id", b"\x40"), (" of a stream of the server", b"\1u=1")):
+        at("server", f"PRIORITY_UPDATE of a request{name}", (2, CONTROL_TYPE + NO_SETTINGS), (0, head(*GET)), (2, frame(PRIORITY_UPDATE, payload)))
+    for name, kind in (("PRIORITY_UPDATE", PRIORITY_UPDATE), ("PRIORITY_UPDATE of a push", PRIORITY_UPDATE + 1)):
+        request(f"{name} on a request stream", frame(kind, integer(0) + b"u=1"))
+        response(f"{name} in a response", frame(kind, integer(0) + b"u=1"))
 
 
 def other_streams():

@@ -80,13 +80,16 @@ class Steps:
             self.note("acknowledged", *(error_name(server.update_ack_offset(self.server.at, 8, offset)) for offset in (100, 90, 200)))
 
     def update(self):
-        """the PRIORITY_UPDATE that a client sends; of what is received of one see README.md"""
+        """the PRIORITY_UPDATE that a client sends, and that it counts until the server's application sets a priority"""
         check(self.client.request(24, GET))
         self.move(self.client, self.server)
         self.note("update", self.client.library.set_client_stream_priority(self.client.at, 24, b"u=2, i", 6))
         self.move(self.client, self.server)
-        if self.server.library.name == "nghttp3":
-            assert self.priority(24) == (2, 1), f"the update came as {self.priority(24)}"
+        assert self.priority(24) == (2, 1), f"the update came as {self.priority(24)}"
+        self.note("set", self.server.library.set_priority(self.server.at, 24, 6, 0), self.priority(24))
+        self.note("update", self.client.library.set_client_stream_priority(self.client.at, 24, b"u=1", 3))
+        self.move(self.client, self.server)
+        self.note("the server's counts", self.priority(24))
 
     def leave(self):
         server = self.server.library

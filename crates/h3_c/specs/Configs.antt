@@ -43,12 +43,13 @@ default_config =
       guard_secrets = 1;
       shortest_strings = 1;
       strict_connection = 1;
+      priority_updates = 100;
     }
 
 -- the numbers of `h3_config`: its size, and the others in its order
 abbrev pub numbers_of : ℕ → GivenConfig → List ℕ
 numbers_of size c =
-    size ∷ c.max_field_section_size ∷ c.max_webtransport_sessions ∷ c.table ∷ c.blocked ∷ c.grease ∷ c.server ∷ c.send_grease ∷ c.webtransport ∷ c.extended_connect ∷ c.datagram ∷ c.strict ∷ c.count_acknowledgments ∷ c.encoder_table ∷ c.economical_table ∷ c.unfinished_limit ∷ c.kept_ids ∷ c.reject_requests ∷ c.any_protocol ∷ c.guard_secrets ∷ c.shortest_strings ∷ c.strict_connection ∷ []
+    size ∷ c.max_field_section_size ∷ c.max_webtransport_sessions ∷ c.table ∷ c.blocked ∷ c.grease ∷ c.server ∷ c.send_grease ∷ c.webtransport ∷ c.extended_connect ∷ c.datagram ∷ c.strict ∷ c.count_acknowledgments ∷ c.encoder_table ∷ c.economical_table ∷ c.unfinished_limit ∷ c.kept_ids ∷ c.reject_requests ∷ c.any_protocol ∷ c.guard_secrets ∷ c.shortest_strings ∷ c.strict_connection ∷ c.priority_updates ∷ []
 
 -- one of the numbers that a caller gave, or what it is where the caller has fewer
 abbrev pub number_at : List ℕ → ℕ → ℕ → ℕ
@@ -79,13 +80,14 @@ config_in numbers =
       guard_secrets = number_at numbers 19 default_config.guard_secrets;
       shortest_strings = number_at numbers 20 default_config.shortest_strings;
       strict_connection = number_at numbers 21 default_config.strict_connection;
+      priority_updates = number_at numbers 22 default_config.priority_updates;
     }
 
 -- what a caller asks for, whose first number is the size of all in bytes: of none but as many as are known here
 abbrev pub config_given : List ℕ → Option GivenConfig
 config_given [] = None
 config_given (size ∷ others) =
-    if (size == 8 * length (size ∷ others)) && nat_le (length (size ∷ others)) 22 then Some (config_in (size ∷ others)) else None
+    if (size == 8 * length (size ∷ others)) && nat_le (length (size ∷ others)) 23 then Some (config_in (size ∷ others)) else None
 
 -- a number other than 0 means yes
 abbrev pub is_on : ℕ → Bool
@@ -125,6 +127,7 @@ config_of given =
           secrets_guarded = is_on given.guard_secrets;
           shortest_strings = is_on given.shortest_strings;
           strict_connection = is_on given.strict_connection;
+          priority_updates = given.priority_updates;
         };
       };
     }

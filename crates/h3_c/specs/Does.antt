@@ -18,7 +18,7 @@ use Rattle.h3_c.specs.Exported.{Calls, CallsOn, CopiesOut, DeliversOn, OnStream,
 use Rattle.h3_c.specs.Given.{fields_given}
 use Rattle.h3_c.specs.Kinds.{ShowsKind}
 use Rattle.h3_c.specs.Numbers.{body_told, call_told, delivery_told, ok}
-use Rattle.h3_c.specs.Ordering.{HoldsOn, SendsByPriority, SetsPriorityOn}
+use Rattle.h3_c.specs.Ordering.{HoldsOn, SendsByPriority, SendsPriorityOn, SetsInitialPriorityOn, SetsPriorityOn, ShowsPriorityOf}
 use Rattle.h3_c.specs.Reads.{ReadsOn}
 use Rattle.h3_c.specs.Seen.{Seen}
 use Rattle.h3_c.specs.Showing.{ShowsConnection, ShowsSetting, ShowsStream}
@@ -53,6 +53,9 @@ pub data CallOfC : Type 0 where
   NextToSend : (from before id : ℕ) (n : Told) → CallOfC
   NextByPriority : (before id : ℕ) (n : Told) → CallOfC
   SetPriority : (id urgency incremental : ℕ) (n : Told) → CallOfC
+  SetInitialPriority : (id urgency incremental : ℕ) (n : Told) → CallOfC
+  SendPriority : (id urgency incremental : ℕ) (n : Told) → CallOfC
+  PriorityOf : (id urgency_before urgency incremental_before incremental : ℕ) (n : Told) → CallOfC
   Hold : (id held : ℕ) (n : Told) → CallOfC
   Outgoing : (id : ℕ) (before buffer : List ℕ) (count_before count past_before past fin_before fin : ℕ) (n : Told) → CallOfC
   Advance : (id count : ℕ) (n : Told) → CallOfC
@@ -100,8 +103,12 @@ Does (Shutdown n) v w = Calls call_told n v w (λ call. ShutsDown v.endpoint w.e
 Does (FirstUnseen id n) v w = (w ≡ v) × ShowsUnseen v n id
 Does (IsDrained drained n) v w = (w ≡ v) × ShowsIsDrained v n drained
 Does (NextToSend from before id n) v w = (w ≡ v) × SendsNext v from n before id
-Does (NextByPriority before id n) v w = (w ≡ v) × SendsByPriority v n before id
+Does (NextByPriority before id n) v w = SendsByPriority v w n before id
 Does (SetPriority id urgency incremental n) v w = SetsPriorityOn v w id urgency incremental n
+Does (SetInitialPriority id urgency incremental n) v w = SetsInitialPriorityOn v w id urgency incremental n
+Does (SendPriority id urgency incremental n) v w = SendsPriorityOn v w id urgency incremental n
+Does (PriorityOf id urgency_before urgency incremental_before incremental n) v w =
+    (w ≡ v) × ShowsPriorityOf v id n urgency_before urgency incremental_before incremental
 Does (Hold id held n) v w = HoldsOn v w id held n
 Does (Outgoing id before buffer count_before count past_before past fin_before fin n) v w =
     (w ≡ v) × OnStream id n v w (CopiesOut v id n before buffer count past fin)

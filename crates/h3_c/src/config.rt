@@ -11,7 +11,7 @@ use h3_session::endpoint::Endpoint;
 use std::alloc::Global;
 
 /// How many numbers `h3_config` has: its size in bytes, and those of `GivenConfig`.
-const NUMBERS: usize = 22;
+const NUMBERS: usize = 23;
 
 /// The numbers of `h3_config` after its size, in its order. One other than 0 means yes.
 #[derive(Copy, Clone)]
@@ -37,6 +37,7 @@ pub struct GivenConfig {
     pub guard_secrets: u64,
     pub shortest_strings: u64,
     pub strict_connection: u64,
+    pub priority_updates: u64,
 }
 
 impl Default for GivenConfig {
@@ -65,6 +66,7 @@ impl Default for GivenConfig {
             guard_secrets: 1,
             shortest_strings: 1,
             strict_connection: 1,
+            priority_updates: 100,
         }
     }
 }
@@ -102,6 +104,7 @@ impl GivenConfig {
             guard_secrets: number_or(numbers, 19, default.guard_secrets),
             shortest_strings: number_or(numbers, 20, default.shortest_strings),
             strict_connection: number_or(numbers, 21, default.strict_connection),
+            priority_updates: number_or(numbers, 22, default.priority_updates),
         })
     }
 
@@ -132,6 +135,7 @@ impl GivenConfig {
             self.guard_secrets,
             self.shortest_strings,
             self.strict_connection,
+            self.priority_updates,
         ]
     }
 
@@ -198,6 +202,7 @@ fn config_of(given: &GivenConfig) -> Config
         .with_secrets_guarded(given.guard_secrets != 0)
         .with_shortest_strings(given.shortest_strings != 0)
         .with_strict_connection(given.strict_connection != 0)
+        .with_priority_updates(given.priority_updates)
 }
 
 /// The endpoint that is asked for.

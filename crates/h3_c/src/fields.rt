@@ -182,6 +182,7 @@ fn cut_fields(
 }
 
 /// No field is left in a list. Its memory is kept for the next one, unless it has room for many.
+#[inline(always)]
 pub(crate) fn let_go(alloc: Global, fields: &mut Vec<HeaderField>)
     ensures { fields.new.items ≡ [] }
 {

@@ -16,7 +16,7 @@ use Rattle.h3_messages.specs.declared.content.Content.{Content}
 use Rattle.h3_messages.specs.declared.content.Content.TheVariants.{Unsaid, Exactly, NoContent, Tunnel, Exceeded, Unanswered}
 use Rattle.h3_proto.specs.declared.stream.Side.{Side}
 use Rattle.h3_proto.specs.declared.stream.Side.TheVariants.{Client, Server}
-use Rattle.h3_wire.specs.ExcessiveFrames.{begins_section, is_excessive}
+use Rattle.h3_wire.specs.ExcessiveFrames.{begins_section, is_excessive_by}
 use Rattle.h3_wire.specs.Frames.{Front, Whole, Unknown, Refused, Unfinished, frame_by}
 use Rattle.h3_wire.specs.Pieces.{chunk_of}
 use Rattle.h3_wire.specs.declared.proto.frame.PayloadLen.{PayloadLen}
@@ -333,7 +333,7 @@ module _ (all n : ℕ) where
         by_left : (b : Bool) → nat_lt 0 i.body_left ≡ b → Fine (if b then at_payload id i else between_frames side own id r i)
         by_left true left = content_fine id i is g
         by_left false left =
-            either (is_excessive own.choices.unfinished_limit bytes) (excess id i bytes) (next_frame side own id r (left_with i bytes) bytes) (excess_fine i bytes (not_some i.body_left left) g)
+            either (is_excessive_by (kinds_of own) own.choices.unfinished_limit bytes) (excess id i bytes) (next_frame side own id r (left_with i bytes) bytes) (excess_fine i bytes (not_some i.body_left left) g)
             (next_fine (left_with i bytes) bytes is (not_some i.body_left left) (record { no_fault = g.no_fault; not_over = g.not_over; place = g.place; more = g.more; content = g.content; sum = g.sum }))
 
     item_fine : (i : Incoming) (place : Place) → is_behind_head place ≡ true → (is_some i.section ≡ true → i.body_left ≡ 0) → Going all n i → Fine (next_item side own id r i place)

@@ -1,6 +1,6 @@
 -- A connection that is drained stays drained: what is done with stays so, and no request comes any more.
 use Rattle.std.proofs.Common.{arith, ◌≡◌, ◌<◌, ◌≤◌, ℕ, zero, suc, ◌*◌, ◌/◌, ◌%◌, Bool, true, false, List, [], ◌∷◌, ◌++◌, length, drop, refl, sym, ◌∙◌, ap, subst}
-use Rattle.std.specs.Prelude.{Option, Some, None, flat_map, if◌then◌else◌, ◌==◌, nat_le, nat_lt, not, ◌&&◌, ◌||◌, is_some, option_map, unwrap_or}
+use Rattle.std.specs.Prelude.{Option, Some, None, if◌then◌else◌, ◌==◌, nat_le, nat_lt, not, ◌&&◌, ◌||◌, is_some, option_map, unwrap_or}
 use Rattle.std.proofs.Math.Bool.{and_assoc}
 use Rattle.std.proofs.lemmas.Bool.{and_parts, and_from, and_left, and_right, not_from_true, eq-eqb, eqb-true, leb-false}
 use Rattle.std.proofs.lemmas.List.{length-drop}
@@ -8,10 +8,12 @@ use Rattle.h3_proto.specs.Settings.{value_of}
 use Rattle.h3_proto.specs.StreamIds.{is_request_stream}
 use Rattle.h3_proto.specs.declared.stream.Side.{Side}
 use Rattle.h3_proto.specs.declared.stream.Side.TheVariants.{Client, Server}
-use Rattle.h3_wire.specs.ExcessiveFrames.{is_excessive}
+use Rattle.h3_wire.specs.ExcessiveFrames.{is_excessive_by}
 use Rattle.h3_wire.specs.Frames.{Front, Whole, Unknown, Refused, Unfinished, frame_by}
 use Rattle.h3_wire.specs.Known.{known_by}
 use Rattle.h3_wire.specs.StreamHeaders.{control_encoding}
+use Rattle.h3_priority.specs.Priority.{PriorityParameters, priority_of}
+use Rattle.h3_wire.specs.Update.{Update}
 use Rattle.h3_wire.specs.declared.proto.frame.PayloadLen.{PayloadLen}
 use Rattle.h3_wire.specs.declared.proto.frame.Frame.{Frame}
 use Rattle.h3_wire.specs.declared.proto.frame.Frame.TheVariants as frame
@@ -31,7 +33,7 @@ use Rattle.h3_connection.specs.CallLists.Result.{Done}
 use Rattle.h3_connection.specs.Control.{Found, are_refused, holding, lacks_settings, read_control, read_encoder, read_decoder, settings_alone, taken_peer, after_peer, then_decoder, if_learned, is_table_usable, with_table, listened_to, kept_unread}
 use Rattle.h3_connection.specs.Delivering.{delivery_refusal, refusal_at, request_refusal, opened_at, opened, incoming_at, unidirectional_at, with_unidirectional, with_incoming, taken, bytes_at, end_at, reset_at, given_up_once, given_up_by, kept, with_end, heard_as, unless_second, read_unidirectional}
 use Rattle.h3_connection.specs.Draining.{is_served, brings_rejected, LeavesOutRejected, NoneComes}
-use Rattle.h3_connection.specs.Endpoint.{EndpointHistory, Kind, kind_of, own_waiting, goaway_encoding, heads_waiting, replied, limit_of, is_critical_id}
+use Rattle.h3_connection.specs.Endpoint.{EndpointHistory, Kind, kind_of, own_waiting, heads_waiting, replied, limit_of, is_critical_id}
 use Rattle.h3_connection.specs.Endpoint.Kind.{Request, ServerOpened, OwnUnidirectional, PeerUnidirectional}
 use Rattle.h3_connection.specs.ExcessiveInstructions.{listen_up_to}
 use Rattle.h3_connection.specs.FirstRequests.{count_below}
@@ -41,7 +43,8 @@ use Rattle.h3_connection.specs.Lasts.{last_id}
 use Rattle.h3_connection.specs.LastLaws.{last_appended}
 use Rattle.h3_connection.specs.Outgoing.{Outgoing as Out, nothing_sent, is_sent_off, part_bytes_waiting, end_waits}
 use Rattle.h3_connection.specs.OwnIds.{control_id}
-use Rattle.h3_connection.specs.PeerReading.{Peer, PeerFound, with_unread, is_no_goaway, is_above, is_below, read_max_push, read_frame, unless_fault, at_front, read_within, read_peer}
+use Rattle.h3_connection.specs.OwnUpdates.{control_frames}
+use Rattle.h3_connection.specs.PeerReading.{Peer, PeerFound, with_unread, is_no_element, is_no_goaway, is_above, is_below, read_max_push, read_priority, read_update, read_frame, unless_fault, at_front, read_within, read_peer}
 use Rattle.h3_connection.specs.Pulling.{Pulled, pull_stream, just, next_item, is_client}
 use Rattle.h3_connection.specs.Sending.{pull_at, pull_unless, pull_request, pull_peer, pulled, within_limit, if_too_many, after_answer, body_refusal, trailer_refusal, finish_refusal, reset_refusal, outgoing_at, goaway, cancel_refusal, asked}
 use Rattle.h3_connection.specs.Outgoing.{with_finish, with_reset}
@@ -53,7 +56,7 @@ use Rattle.h3_connection.specs.Unidirectional.Role.{Untold, Control, Encoder, De
 use Rattle.h3_connection.proofs.Seen.{eq_refl}
 use Rattle.h3_connection.proofs.SameSetups.{same_setup}
 use Rattle.h3_connection.proofs.SentOff.{sent_in, stop_refused, body_refused, trailer_refused, finish_refused, reset_refused}
-use Rattle.h3_connection.proofs.LeavesDone.{Over, Leaves, Rests, settled_in, itself, at_rest, rests, leaves_then, receives, does_leave, taken_leaves, open_leaves, head_leaves, set_leaves, body_does, advance_leaves, end_leaves, goaway_leaves}
+use Rattle.h3_connection.proofs.LeavesDone.{Over, Leaves, Rests, written, settled_in, itself, at_rest, rests, leaves_then, receives, does_leave, taken_leaves, open_leaves, head_leaves, set_leaves, body_does, advance_leaves, end_leaves, goaway_leaves}
 use Rattle.h3_wire.specs.declared.frame.kinds.FrameKinds.{FrameKinds}
 use Rattle.h3_connection.specs.StrictConnection.{knows_sessions, kinds_of}
 
@@ -69,12 +72,21 @@ push_goes : (side : Side) (p : Peer) (id : ℕ) → HasGoaway p → HasGoaway (r
 push_goes Client p id h = h
 push_goes Server p id h = goes_if (is_below id p.most_pushes) _ _ h h
 
+update_goes : (side : Side) (p : Peer) (u : Update) → HasGoaway p → HasGoaway (read_update side p u).0
+update_goes Client p u h = h
+update_goes Server p u h = goes_if (is_no_element u) _ _ h (by_text (priority_of u.value))
+  where
+    by_text : (o : Option PriorityParameters) → HasGoaway (read_priority p u.id o).0
+    by_text None = h
+    by_text (Some priority) = h
+
 frame_goes : (side : Side) (p : Peer) (o : Option (List (ℕ × ℕ))) (f : Frame PayloadLen) → HasGoaway p → HasGoaway (read_frame side p o f).0
 frame_goes side p None (frame.Data len) h = h
 frame_goes side p None (frame.Headers section) h = h
 frame_goes side p None (frame.CancelPush id) h = h
 frame_goes side p None (frame.Settings pairs) h = h
 frame_goes side p None (frame.PushPromise promise) h = h
+frame_goes side p None (frame.PriorityUpdate u) h = h
 frame_goes side p None (frame.Goaway id) h = h
 frame_goes side p None (frame.MaxPushId id) h = h
 frame_goes side p None (frame.WebTransportStream id) h = h
@@ -84,6 +96,7 @@ frame_goes side p (Some pairs) (frame.Headers section) h = h
 frame_goes side p (Some pairs) (frame.CancelPush id) h = h
 frame_goes side p (Some pairs) (frame.Settings others) h = h
 frame_goes side p (Some pairs) (frame.PushPromise promise) h = h
+frame_goes side p (Some pairs) (frame.PriorityUpdate u) h = update_goes side p u h
 frame_goes side p (Some pairs) (frame.Goaway id) h = goes_if (is_no_goaway side id || is_above id (last_id p.goaways)) _ _ h (ap is_some (last_appended p.goaways id))
 frame_goes side p (Some pairs) (frame.MaxPushId id) h = push_goes side p id h
 frame_goes side p (Some pairs) (frame.WebTransportStream id) h = h
@@ -102,7 +115,7 @@ front_goes side p bytes (Unfinished least) go h later = h
 within_goes : (kinds : FrameKinds) (n limit : ℕ) (side : Side) (p : Peer) → HasGoaway p → HasGoaway (read_within kinds n limit side p).0
 within_goes kinds zero limit side p h = h
 within_goes kinds (suc n) limit side p h =
-    goes_if (is_excessive limit (known_by kinds p.unread)) _ _ h (front_goes side p (known_by kinds p.unread) (frame_by kinds (known_by kinds p.unread)) (read_within kinds n limit side) h (λ q is. within_goes kinds n limit side q is))
+    goes_if (is_excessive_by kinds limit (known_by kinds p.unread)) _ _ h (front_goes side p (known_by kinds p.unread) (frame_by kinds (known_by kinds p.unread)) (read_within kinds n limit side) h (λ q is. within_goes kinds n limit side q is))
 
 peer_goes : (kinds : FrameKinds) (limit : ℕ) (side : Side) (p : Peer) → HasGoaway p → HasGoaway (read_peer kinds limit side p).0
 unfolding read_peer
@@ -113,14 +126,14 @@ rests_then : (e f g : EndpointHistory) → Rests e f → Rests f g → Rests e g
 rests_then e f g h k = record {
   incoming = k.incoming ∙ h.incoming;
   outgoing = k.outgoing ∙ h.outgoing;
-  goaways = k.goaways ∙ h.goaways;
+  written_same = k.written_same ∙ h.written_same;
   control_taken = k.control_taken ∙ h.control_taken;
   peer = λ was. k.peer (h.peer was);
 }
 
 -- every field but those of the tables, and what the peer said
-rests_same : (e f : EndpointHistory) → f.incoming ≡ e.incoming → f.outgoing ≡ e.outgoing → f.own.goaways ≡ e.own.goaways → f.own.control_taken ≡ e.own.control_taken → f.peer ≡ e.peer → Rests e f
-rests_same e f a b c d p = record { incoming = a; outgoing = b; goaways = c; control_taken = d; peer = λ was. ap (λ p. is_some (last_id p.goaways)) p ∙ was }
+rests_same : (e f : EndpointHistory) → f.incoming ≡ e.incoming → f.outgoing ≡ e.outgoing → written f ≡ written e → f.own.control_taken ≡ e.own.control_taken → f.peer ≡ e.peer → Rests e f
+rests_same e f a b c d p = record { incoming = a; outgoing = b; written_same = c; control_taken = d; peer = λ was. ap (λ p. is_some (last_id p.goaways)) p ∙ was }
 
 rests_if : (b : Bool) (e f g : EndpointHistory) → Rests e f → Rests e g → Rests e (if b then f else g)
 rests_if true e f g h k = h
@@ -157,7 +170,7 @@ taken_rests : (e : EndpointHistory) (found : PeerFound) → (HasGoaway e.peer �
 taken_rests e (p, code) goes =
     let f = record e { peer = p } in
     let g = if_learned e.peer.settings p.settings f in
-    rests_then e f _ (record { incoming = refl; outgoing = refl; goaways = refl; control_taken = refl; peer = goes })
+    rests_then e f _ (record { incoming = refl; outgoing = refl; written_same = refl; control_taken = refl; peer = goes })
     (rests_then f g _ (learned_rests e.peer.settings p.settings f) (then_rests e.peer.settings p.settings g code))
 
 found_rests : (b : Bool) (e : EndpointHistory) (x y : Found) → Rests e x.0 → Rests e y.0 → Rests e (if b then x else y).0
@@ -165,7 +178,7 @@ found_rests true e x y h k = h
 found_rests false e x y h k = k
 
 peer_rests : (e : EndpointHistory) (p : Peer) → (HasGoaway e.peer → HasGoaway p) → Rests e (record e { peer = p })
-peer_rests e p goes = record { incoming = refl; outgoing = refl; goaways = refl; control_taken = refl; peer = goes }
+peer_rests e p goes = record { incoming = refl; outgoing = refl; written_same = refl; control_taken = refl; peer = goes }
 
 after_rests : (e : EndpointHistory) (found : PeerFound) → (HasGoaway e.peer → HasGoaway found.0) → Rests e (after_peer e found).0
 after_rests e (p, code) goes =
@@ -248,15 +261,15 @@ module _ (e : EndpointHistory) (q : ℕ) (over : Over e) (asked : e.side ≡ Ser
       cc
 
   -- a delivery on a request stream that was seen
-  request_leaves : (f : EndpointHistory) (j : Incoming) → f.incoming ≡ set_stream (opened e q).incoming q j → f.outgoing ≡ (opened e q).outgoing → f.own.goaways ≡ (opened e q).own.goaways → f.own.control_taken ≡ (opened e q).own.control_taken → f.peer ≡ (opened e q).peer
+  request_leaves : (f : EndpointHistory) (j : Incoming) → f.incoming ≡ set_stream (opened e q).incoming q j → f.outgoing ≡ (opened e q).outgoing → written f ≡ written (opened e q) → f.own.control_taken ≡ (opened e q).own.control_taken → f.peer ≡ (opened e q).peer
       → (settled_in (Some (incoming_at e q)) ≡ true → settled_in (Some j) ≡ true) → e.closed ≡ None → kind_of e.side q ≡ Request → request_refusal e.side (stream_at e.incoming q) ≡ None → Leaves e f
-  request_leaves f j incoming outgoing goaways control_taken peer settles opens kind none = by_stream (stream_at e.incoming q) refl
+  request_leaves f j incoming outgoing same_written control_taken peer settles opens kind none = by_stream (stream_at e.incoming q) refl
     where
       by_stream : (at : Option Incoming) → stream_at e.incoming q ≡ at → Leaves e f
       by_stream None was = absurd (none_comes e.side refl opens kind was (sym (ap (request_refusal e.side) was) ∙ none))
       by_stream (Some i) was =
           let same : opened e q ≡ e = ap (opened_at e q) was in
-          receives e f q i j was (incoming ∙ ap (λ g. set_stream g.incoming q j) same) (outgoing ∙ ap (λ g. g.outgoing) same) (goaways ∙ ap (λ g. g.own.goaways) same) (control_taken ∙ ap (λ g. g.own.control_taken) same) (peer ∙ ap (λ g. g.peer) same)
+          receives e f q i j was (incoming ∙ ap (λ g. set_stream g.incoming q j) same) (outgoing ∙ ap (λ g. g.outgoing) same) (same_written ∙ ap written same) (control_taken ∙ ap (λ g. g.own.control_taken) same) (peer ∙ ap (λ g. g.peer) same)
           (λ before. settles (ap (λ at. settled_in (Some (unwrap_or at nothing_came))) was ∙ before))
 
   -- a delivery, by what its stream is
@@ -404,15 +417,16 @@ record After (e f : EndpointHistory) : Type 0 where
   over : Over f
   announced : f.announced ≡ e.announced
   taken : e.own.control_taken ≤ f.own.control_taken
+  updates : f.own.updates ≡ e.own.updates
 
 over_after : (e : EndpointHistory) (calls : List Call) → Over e → (e.side ≡ Server → e.announced.choices.extensions.requests_rejected ≡ true) → (e.side ≡ Server → LeavesOutRejected e calls) → After e (endpoint_after e calls)
-over_after e [] over asked left = record { over = over; announced = refl; taken = omega arith }
+over_after e [] over asked left = record { over = over; announced = refl; taken = omega arith; updates = refl }
 over_after e (c ∷ calls) over asked left =
     let f : EndpointHistory = (called e c).1 in
     let setup = same_setup e c in
     let leaves = call_leaves e c over asked (λ server. (left server).0) in
     let after = over_after f calls (still_over e f setup.side leaves over) (λ server. ap (λ a. a.choices.extensions.requests_rejected) setup.announced ∙ asked (sym setup.side ∙ server)) (λ server. (left (sym setup.side ∙ server)).1) in
-    record { over = after.over; announced = after.announced ∙ setup.announced; taken = omega (arith, leaves.taken, after.taken) }
+    record { over = after.over; announced = after.announced ∙ setup.announced; taken = omega (arith, leaves.taken, after.taken); updates = after.updates ∙ leaves.updates }
 
 -- What is done with, by its receiver and its sender.
 abbrev waiting_of : Option Out → List ℕ → List ℕ
@@ -450,16 +464,17 @@ over_served e over =
 
 -- What was written on the control stream was taken, and is as it was.
 abbrev control_text : EndpointHistory → List ℕ
-control_text e = control_encoding e.announced.settings ++ flat_map goaway_encoding e.own.goaways
+control_text e = control_encoding e.announced.settings ++ control_frames 0 e.own.goaways e.own.updates
 
 control_waits : (e : EndpointHistory) → own_waiting e (control_id e.side) ≡ drop e.own.control_taken (control_text e)
 control_waits e = rw (eq_refl (control_id e.side)) refl
 
-still_taken : (e f : EndpointHistory) → f.announced ≡ e.announced → f.own.goaways ≡ e.own.goaways → e.own.control_taken ≤ f.own.control_taken → is_control_taken e ≡ true → is_control_taken f ≡ true
-still_taken e f announced goaways more was =
+still_taken : (e f : EndpointHistory) → f.announced ≡ e.announced → f.own.goaways ≡ e.own.goaways → f.own.updates ≡ e.own.updates → e.own.control_taken ≤ f.own.control_taken → is_control_taken e ≡ true → is_control_taken f ≡ true
+still_taken e f announced goaways updates more was =
     let none : length (drop e.own.control_taken (control_text e)) ≡ 0 = eqb-true (length (drop e.own.control_taken (control_text e))) 0 (ap (λ l. length l == 0) (sym (control_waits e)) ∙ was) in
     let text : control_text f ≡ control_text e =
-    ap (λ a. control_encoding a.settings ++ flat_map goaway_encoding f.own.goaways) announced ∙ ap (λ ids. control_encoding e.announced.settings ++ flat_map goaway_encoding ids) goaways in
+    ap (λ a. control_encoding a.settings ++ control_frames 0 f.own.goaways f.own.updates) announced ∙ ap (λ ids. control_encoding e.announced.settings ++ control_frames 0 ids f.own.updates) goaways
+    ∙ ap (λ us. control_encoding e.announced.settings ++ control_frames 0 e.own.goaways us) updates in
     let before = length-drop e.own.control_taken (control_text e) in
     let after = length-drop f.own.control_taken (control_text e) in
     let left : length (drop f.own.control_taken (control_text e)) ≡ 0 = omega (arith, none, before, after, more) in
@@ -485,4 +500,4 @@ drained_stays e calls none goaways drained =
     let f : EndpointHistory = endpoint_after e calls in
     let parts = and_parts (is_served e) (is_control_taken e) drained in
     let later = after e calls none parts.0 in
-    and_from (is_served f) (is_control_taken f) (over_served f later.over) (still_taken e f later.announced goaways later.taken parts.1)
+    and_from (is_served f) (is_control_taken f) (over_served f later.over) (still_taken e f later.announced goaways later.updates later.taken parts.1)

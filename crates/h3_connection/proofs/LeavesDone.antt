@@ -24,6 +24,7 @@ use Rattle.h3_connection.specs.CallLists.Result.{Done, Opened}
 use Rattle.h3_connection.specs.Control.{Found}
 use Rattle.h3_connection.specs.Delivering.{taken}
 use Rattle.h3_connection.specs.Endpoint.{EndpointHistory}
+use Rattle.h3_connection.specs.OwnUpdates.{OwnUpdate}
 use Rattle.h3_connection.specs.EndsWaiting.{end_taken_at, end_taken_if}
 use Rattle.h3_connection.specs.FirstRequests.{count_below, first_pass}
 use Rattle.h3_connection.specs.FirstRequestLaws.{each_passes, one_passes}
@@ -61,20 +62,25 @@ pub record Leaves (e f : EndpointHistory) : Type 0 where
   pub named : (test : ℕ → Bool) → are_seen_below (last_id e.own.goaways) test ≡ true → are_seen_below (last_id f.own.goaways) test ≡ true
   pub peer : is_some (last_id e.peer.goaways) ≡ true → is_some (last_id f.peer.goaways) ≡ true
   pub taken : e.own.control_taken ≤ f.own.control_taken
+  pub updates : f.own.updates ≡ e.own.updates
 
 pub itself : (e : EndpointHistory) → Leaves e e
-itself e = record { seen = λ id. refl; settled = λ id h. h; sent = λ id h. h; named = λ test h. h; peer = λ h. h; taken = omega arith }
+itself e = record { seen = λ id. refl; settled = λ id h. h; sent = λ id h. h; named = λ test h. h; peer = λ h. h; taken = omega arith; updates = refl }
+
+-- what was written on the own control stream
+abbrev pub written : EndpointHistory → List ℕ × List OwnUpdate
+written e = (e.own.goaways, e.own.updates)
 
 -- no stream changes
 pub record Rests (e f : EndpointHistory) : Type 0 where
   pub incoming : f.incoming ≡ e.incoming
   pub outgoing : f.outgoing ≡ e.outgoing
-  pub goaways : f.own.goaways ≡ e.own.goaways
+  pub written_same : written f ≡ written e
   pub control_taken : f.own.control_taken ≡ e.own.control_taken
   pub peer : is_some (last_id e.peer.goaways) ≡ true → is_some (last_id f.peer.goaways) ≡ true
 
 pub at_rest : (e : EndpointHistory) → Rests e e
-at_rest e = record { incoming = refl; outgoing = refl; goaways = refl; control_taken = refl; peer = λ h. h }
+at_rest e = record { incoming = refl; outgoing = refl; written_same = refl; control_taken = refl; peer = λ h. h }
 
 pub rests : (e f : EndpointHistory) → Rests e f → Leaves e f
 rests e f h =
@@ -82,16 +88,17 @@ rests e f h =
       seen = λ id. ap (λ s. is_some (stream_at s id)) h.incoming;
       settled = λ id was. ap (λ s. settled_in (stream_at s id)) h.incoming ∙ was;
       sent = λ id was. ap (λ s. sent_in (stream_at s id)) h.outgoing ∙ was;
-      named = λ test was. ap (λ ids. are_seen_below (last_id ids) test) h.goaways ∙ was;
+      named = λ test was. ap (λ w. are_seen_below (last_id w.0) test) h.written_same ∙ was;
       peer = h.peer;
       taken = omega (arith, h.control_taken);
+      updates = ap (λ w. w.1) h.written_same;
     }
 
 -- one stream changes at its sender
 pub record Sends (e f : EndpointHistory) (q : ℕ) : Type 0 where
   pub seen : (id : ℕ) → is_some (stream_at f.incoming id) ≡ is_some (stream_at e.incoming id)
   pub settled : (id : ℕ) → settled_in (stream_at f.incoming id) ≡ settled_in (stream_at e.incoming id)
-  pub goaways : f.own.goaways ≡ e.own.goaways
+  pub written_same : written f ≡ written e
   pub control_taken : f.own.control_taken ≡ e.own.control_taken
   pub peer : f.peer ≡ e.peer
   pub here : sent_in (stream_at e.outgoing q) ≡ true → sent_in (stream_at f.outgoing q) ≡ true
@@ -105,15 +112,16 @@ sends e f q h =
       sent = λ id. by_eq q id (λ b. sent_in (stream_at e.outgoing id) ≡ true → sent_in (stream_at f.outgoing id) ≡ true)
           (λ same. subst (λ n. sent_in (stream_at e.outgoing n) ≡ true → sent_in (stream_at f.outgoing n) ≡ true) same h.here)
           (λ ne was. ap sent_in (h.elsewhere id ne) ∙ was);
-      named = λ test was. ap (λ ids. are_seen_below (last_id ids) test) h.goaways ∙ was;
+      named = λ test was. ap (λ w. are_seen_below (last_id w.0) test) h.written_same ∙ was;
       peer = λ was. ap (λ p. is_some (last_id p.goaways)) h.peer ∙ was;
       taken = omega (arith, h.control_taken);
+      updates = ap (λ w. w.1) h.written_same;
     }
 
 -- and one at its receiver
-pub receives : (e f : EndpointHistory) (q : ℕ) (i j : Incoming) → stream_at e.incoming q ≡ Some i → f.incoming ≡ set_stream e.incoming q j → f.outgoing ≡ e.outgoing → f.own.goaways ≡ e.own.goaways → f.own.control_taken ≡ e.own.control_taken → f.peer ≡ e.peer
+pub receives : (e f : EndpointHistory) (q : ℕ) (i j : Incoming) → stream_at e.incoming q ≡ Some i → f.incoming ≡ set_stream e.incoming q j → f.outgoing ≡ e.outgoing → written f ≡ written e → f.own.control_taken ≡ e.own.control_taken → f.peer ≡ e.peer
     → (settled_in (Some i) ≡ true → settled_in (Some j) ≡ true) → Leaves e f
-receives e f q i j was is outgoing goaways control_taken peer settles =
+receives e f q i j was is outgoing same control_taken peer settles =
     record {
       seen = λ id. by_eq q id (λ b. is_some (stream_at f.incoming id) ≡ is_some (stream_at e.incoming id))
           (λ same. subst (λ n. is_some (stream_at f.incoming n) ≡ is_some (stream_at e.incoming n)) same (ap is_some here ∙ sym (ap is_some was)))
@@ -123,9 +131,10 @@ receives e f q i j was is outgoing goaways control_taken peer settles =
           (λ before. ap settled_in here ∙ settles (sym (ap settled_in was) ∙ before)))
           (λ ne before. ap settled_in (there id ne) ∙ before);
       sent = λ id before. ap (λ s. sent_in (stream_at s id)) outgoing ∙ before;
-      named = λ test before. ap (λ ids. are_seen_below (last_id ids) test) goaways ∙ before;
+      named = λ test before. ap (λ w. are_seen_below (last_id w.0) test) same ∙ before;
       peer = λ before. ap (λ p. is_some (last_id p.goaways)) peer ∙ before;
       taken = omega (arith, control_taken);
+      updates = ap (λ w. w.1) same;
     }
   where
     here : stream_at f.incoming q ≡ Some j
@@ -142,6 +151,7 @@ leaves_then e f g h k = record {
   named = λ test was. k.named test (h.named test was);
   peer = λ was. k.peer (h.peer was);
   taken = omega (arith, h.taken, k.taken);
+  updates = k.updates ∙ h.updates;
 }
 
 -- a call that is refused, or what it does
@@ -153,7 +163,7 @@ pub taken_leaves : (closed : Option ℕ) (r : Option Refusal) (e : EndpointHisto
 taken_leaves (Some code) r e found h = itself e
 taken_leaves None (Some r) e found h = itself e
 taken_leaves None None e (f, None) h = h refl refl
-taken_leaves None None e (f, Some code) h = let g = h refl refl in record { seen = g.seen; settled = g.settled; sent = g.sent; named = g.named; peer = g.peer; taken = g.taken }
+taken_leaves None None e (f, Some code) h = let g = h refl refl in record { seen = g.seen; settled = g.settled; sent = g.sent; named = g.named; peer = g.peer; taken = g.taken; updates = g.updates }
 
 -- Requests that are opened: none behind a GOAWAY.
 none_opened : (closed : Option ℕ) (side : Side) (last : Option ℕ) (next : ℕ) → (side ≡ Client → is_some last ≡ true) → closed_or closed (refusal_to_open side last next) ≡ None → ⊥
@@ -194,7 +204,7 @@ pub head_leaves : (e : EndpointHistory) (q : ℕ) (head : Head) → Leaves e (ca
 head_leaves e q head = does_leave (head_refusal e q head) e (asked f q fields) Done (λ none. sends e (asked f q fields) q (record {
   seen = λ id. told_if is_some e.announced.choices.strict_messages e.incoming e.side q id fields (λ i. refl);
   settled = λ id. told_if settled_in e.announced.choices.strict_messages e.incoming e.side q id fields (λ i. refl);
-  goaways = refl;
+  written_same = refl;
   control_taken = refl;
   peer = refl;
   here = λ sent. absurd (head_refused e q sent head none);
@@ -208,12 +218,12 @@ head_leaves e q head = does_leave (head_refusal e q head) e (asked f q fields) D
     f = counted (appended (encoded e q fields) q (head_part head (written_section e.encoder q fields))) (fields_cost fields)
 
 -- One stream is set at its sender.
-pub set_leaves : (e f : EndpointHistory) (q : ℕ) (o : Out) → f.incoming ≡ e.incoming → f.outgoing ≡ set_stream e.outgoing q o → f.own.goaways ≡ e.own.goaways → f.own.control_taken ≡ e.own.control_taken → f.peer ≡ e.peer
+pub set_leaves : (e f : EndpointHistory) (q : ℕ) (o : Out) → f.incoming ≡ e.incoming → f.outgoing ≡ set_stream e.outgoing q o → written f ≡ written e → f.own.control_taken ≡ e.own.control_taken → f.peer ≡ e.peer
     → (sent_in (stream_at e.outgoing q) ≡ true → is_sent o ≡ true) → Leaves e f
-set_leaves e f q o incoming outgoing goaways control_taken peer sent = sends e f q (record {
+set_leaves e f q o incoming outgoing same control_taken peer sent = sends e f q (record {
   seen = λ id. ap (λ s. is_some (stream_at s id)) incoming;
   settled = λ id. ap (λ s. settled_in (stream_at s id)) incoming;
-  goaways = goaways;
+  written_same = same;
   control_taken = control_taken;
   peer = peer;
   here = λ was. ap (λ s. sent_in (stream_at s q)) outgoing ∙ ap sent_in (at_same e.outgoing q o) ∙ sent was;
@@ -221,7 +231,7 @@ set_leaves e f q o incoming outgoing goaways control_taken peer sent = sends e f
 })
 
 pub body_does : (e : EndpointHistory) (q : ℕ) (bytes : List ℕ) → (sent_in (stream_at e.outgoing q) ≡ true → ⊥) → Leaves e (counted (sent_bytes e q bytes) (length bytes))
-body_does e q [] refused = rests e _ (record { incoming = refl; outgoing = refl; goaways = refl; control_taken = refl; peer = λ h. h })
+body_does e q [] refused = rests e _ (record { incoming = refl; outgoing = refl; written_same = refl; control_taken = refl; peer = λ h. h })
 body_does e q (byte ∷ bytes) refused = set_leaves e _ q _ refl refl refl refl refl (λ sent. absurd (refused sent))
 
 -- What a call that ends a stream does, and what QUIC took.
@@ -231,10 +241,10 @@ advance_leaves e q count None was = by_tests (q == control_id e.side) (q == enco
   where
     by_tests : (control encoder decoder : Bool)
         → Leaves e (record e { own = if control then record e.own { control_taken = e.own.control_taken + count } else (if encoder then record e.own { encoder_taken = e.own.encoder_taken + count } else (if decoder then record e.own { decoder_taken = e.own.decoder_taken + count } else e.own)) })
-    by_tests true encoder decoder = record { seen = λ id. refl; settled = λ id h. h; sent = λ id h. h; named = λ test h. h; peer = λ h. h; taken = omega arith }
-    by_tests false true decoder = rests e _ (record { incoming = refl; outgoing = refl; goaways = refl; control_taken = refl; peer = λ h. h })
-    by_tests false false true = rests e _ (record { incoming = refl; outgoing = refl; goaways = refl; control_taken = refl; peer = λ h. h })
-    by_tests false false false = rests e _ (record { incoming = refl; outgoing = refl; goaways = refl; control_taken = refl; peer = λ h. h })
+    by_tests true encoder decoder = record { seen = λ id. refl; settled = λ id h. h; sent = λ id h. h; named = λ test h. h; peer = λ h. h; taken = omega arith; updates = refl }
+    by_tests false true decoder = rests e _ (record { incoming = refl; outgoing = refl; written_same = refl; control_taken = refl; peer = λ h. h })
+    by_tests false false true = rests e _ (record { incoming = refl; outgoing = refl; written_same = refl; control_taken = refl; peer = λ h. h })
+    by_tests false false false = rests e _ (record { incoming = refl; outgoing = refl; written_same = refl; control_taken = refl; peer = λ h. h })
 
 pub end_leaves : (e : EndpointHistory) (q : ℕ) (at : Option Out) → stream_at e.outgoing q ≡ at → Leaves e (end_taken_at e q at).1
 end_leaves e q (Some o) was = by_test (is_end_next o)
@@ -271,4 +281,5 @@ goaway_leaves e n = does_leave (goaway_refusal e n) e _ Done (λ none. record {
   named = λ test all. ap (λ o. are_seen_below o test) (last_appended e.own.goaways n) ∙ fewer_below n (last_id e.own.goaways) test (low_named e.closed e.side n (last_id e.own.goaways) none) all;
   peer = λ h. h;
   taken = omega arith;
+  updates = refl;
 })

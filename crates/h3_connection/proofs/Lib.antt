@@ -48,3 +48,4 @@ pub mod PeerReadings
 pub mod SentOff
 pub mod LeavesDone
 pub mod DrainedStays
+pub mod EndpointTurns

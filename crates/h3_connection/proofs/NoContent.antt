@@ -16,7 +16,7 @@ use Rattle.h3_messages.specs.declared.content.Asked.TheVariants as asked_variant
 use Rattle.h3_messages.specs.declared.content.Content.{Content}
 use Rattle.h3_messages.specs.declared.content.Content.TheVariants.{NoContent, Exceeded}
 use Rattle.h3_proto.specs.declared.stream.Side.TheVariants.{Client}
-use Rattle.h3_wire.specs.ExcessiveFrames.{begins_section, is_excessive}
+use Rattle.h3_wire.specs.ExcessiveFrames.{begins_section, is_excessive_by}
 use Rattle.h3_wire.specs.Frames.{Front, Whole, Unknown, Refused, Unfinished, frame_by}
 use Rattle.h3_wire.specs.Pieces.{chunk_of}
 use Rattle.h3_wire.specs.declared.proto.frame.PayloadLen.{PayloadLen}
@@ -242,7 +242,7 @@ module _ (own : Announced) (id : ℕ) (r : DecoderState) where
   message_fine i None e =
       let bytes = skipped (kinds_of own) (is_body i.place) (concat i.unread) in
       either (nat_lt 0 i.body_left) (at_payload id i) (between_frames Client own id r i) (content_fine id i e)
-      (either (is_excessive own.choices.unfinished_limit bytes) (excess id i bytes) (next_frame Client own id r (left_with i bytes) bytes) (excess_fine i bytes e)
+      (either (is_excessive_by (kinds_of own) own.choices.unfinished_limit bytes) (excess id i bytes) (next_frame Client own id r (left_with i bytes) bytes) (excess_fine i bytes e)
       (next_fine (left_with i bytes) bytes (record { content = e.content; none = e.none; place = e.place })))
 
   item_fine : (i : Incoming) (place : Place) → is_message place ≡ true → IsEmpty i → Fine (next_item Client own id r i place)

@@ -1,26 +1,28 @@
 -- The reading of a control stream, cut anywhere, and the settings that stay.
 use Rattle.std.proofs.Common.{◌≡◌, ℕ, zero, suc, ◌<◌, ◌≤◌, Bool, true, false, if◌then◌else◌, List, [], ◌++◌, length, Option, Some, None, refl, ap, sym, ◌∙◌, subst, arith, inl, inr}
 use Rattle.std.specs.Prelude.{◌||◌, ◌&&◌, ◌⊎◌, nat_lt}
-use Rattle.std.proofs.lemmas.Bool.{and_parts, and_right}
+use Rattle.std.proofs.lemmas.Bool.{and_parts}
 use Rattle.h3_coding.specs.Varint.{varint_at}
 use Rattle.h3_coding.specs.VarintLaws.{cases_number, reads_more}
 use Rattle.h3_proto.specs.Config.{is_limit}
 use Rattle.h3_proto.specs.declared.stream.Side.{Side}
 use Rattle.h3_proto.specs.declared.stream.Side.TheVariants.{Client, Server}
-use Rattle.h3_wire.specs.ExcessiveFrames.{is_excessive, is_kept_whole, is_too_long, says_too_much}
-use Rattle.h3_wire.specs.ExcessiveLaws.{excessive_more, kept_says}
-use Rattle.h3_wire.specs.Frames.{Front, Whole, Unknown, Refused, Unfinished, frame_by}
+use Rattle.h3_wire.specs.ExcessiveFrames.{is_excessive_by, is_kept_whole, is_long_update, is_too_long, says_long_update, says_too_much}
+use Rattle.h3_wire.specs.ExcessiveLaws.{excessive_more, said_of, stays_kept, stays_update}
+use Rattle.h3_wire.specs.Frames.{Front, Whole, Unknown, Refused, Unfinished, frame_by, is_update}
 use Rattle.h3_wire.specs.FrameLaws.{frame_by-more}
 use Rattle.h3_wire.specs.Fronts.{IsFinished, with_more, IsKnown}
 use Rattle.h3_wire.specs.Known.{known_by}
 use Rattle.h3_wire.specs.KnownLaws.{known-other, known-more, known_is}
+use Rattle.h3_priority.specs.Priority.{PriorityParameters, priority_of}
+use Rattle.h3_wire.specs.Update.{Update}
 use Rattle.h3_wire.specs.declared.proto.frame.PayloadLen.{PayloadLen}
 use Rattle.h3_wire.specs.declared.proto.frame.Frame.{Frame}
 use Rattle.h3_wire.specs.declared.proto.frame.Frame.TheVariants as frame
-use Rattle.h3_connection.specs.PeerReading.{Peer, PeerFound, with_unread, is_no_goaway, is_above, is_below, read_max_push, read_frame, unless_fault, at_front, unless_excessive, read_peer}
+use Rattle.h3_connection.specs.PeerReading.{Peer, PeerFound, with_unread, is_no_element, is_no_goaway, is_above, is_below, read_max_push, read_priority, read_update, read_frame, unless_fault, at_front, unless_excessive, read_peer}
 use Rattle.h3_connection.specs.Lasts.{last_id}
 use Rattle.h3_connection.specs.SkippingLaws.{rest_shorter, skipped_step}
-use Rattle.h3_connection.specs.PeerReadingLaws.{peer_step, step_excessive, step_within}
+use Rattle.h3_connection.specs.PeerReadingLaws.{no_length, peer_step, step_excessive, step_within}
 use Rattle.h3_connection.specs.Skipping.{skip_front, skipped}
 use Rattle.h3_wire.specs.declared.frame.kinds.FrameKinds.{FrameKinds}
 
@@ -33,8 +35,8 @@ front_of kinds limit side p other bytes (Unfinished least) = refl
 
 pub peer_known : (kinds : FrameKinds) (limit : ℕ) (side : Side) (p : Peer) (bytes : List ℕ) → known_by kinds p.unread ≡ known_by kinds bytes → read_peer kinds limit side p ≡ read_peer kinds limit side (with_unread p bytes)
 peer_known kinds limit side p bytes e =
-    peer_step kinds limit side p ∙ ap (λ l. unless_excessive limit l p (at_front (read_peer kinds limit side) side p l (frame_by kinds l))) e
-    ∙ ap (unless_excessive limit (known_by kinds bytes) p) (front_of kinds limit side p bytes (known_by kinds bytes) (frame_by kinds (known_by kinds bytes)))
+    peer_step kinds limit side p ∙ ap (λ l. unless_excessive kinds limit l p (at_front (read_peer kinds limit side) side p l (frame_by kinds l))) e
+    ∙ ap (unless_excessive kinds limit (known_by kinds bytes) p) (front_of kinds limit side p bytes (known_by kinds bytes) (frame_by kinds (known_by kinds bytes)))
     ∙ sym (peer_step kinds limit side (with_unread p bytes))
 
 -- a frame does the same whatever is unread
@@ -49,12 +51,21 @@ push_with : (side : Side) (p : Peer) (bytes : List ℕ) (id : ℕ) → read_max_
 push_with Client p bytes id = refl
 push_with Server p bytes id = rest_if (is_below id p.most_pushes) _ _ _ _ bytes refl refl
 
+update_with : (side : Side) (p : Peer) (bytes : List ℕ) (u : Update) → read_update side (with_unread p bytes) u ≡ with_rest bytes (read_update side p u)
+update_with Client p bytes u = refl
+update_with Server p bytes u = rest_if (is_no_element u) _ _ _ _ bytes refl (by_text (priority_of u.value))
+  where
+    by_text : (o : Option PriorityParameters) → read_priority (with_unread p bytes) u.id o ≡ with_rest bytes (read_priority p u.id o)
+    by_text None = refl
+    by_text (Some priority) = refl
+
 frame_with : (side : Side) (p : Peer) (bytes : List ℕ) (o : Option (List (ℕ × ℕ))) (f : Frame PayloadLen) → read_frame side (with_unread p bytes) o f ≡ with_rest bytes (read_frame side p o f)
 frame_with side p bytes None (frame.Data len) = refl
 frame_with side p bytes None (frame.Headers section) = refl
 frame_with side p bytes None (frame.CancelPush id) = refl
 frame_with side p bytes None (frame.Settings pairs) = refl
 frame_with side p bytes None (frame.PushPromise promise) = refl
+frame_with side p bytes None (frame.PriorityUpdate u) = refl
 frame_with side p bytes None (frame.Goaway id) = refl
 frame_with side p bytes None (frame.MaxPushId id) = refl
 frame_with side p bytes None (frame.WebTransportStream id) = refl
@@ -64,6 +75,7 @@ frame_with side p bytes (Some pairs) (frame.Headers section) = refl
 frame_with side p bytes (Some pairs) (frame.CancelPush id) = refl
 frame_with side p bytes (Some pairs) (frame.Settings others) = refl
 frame_with side p bytes (Some pairs) (frame.PushPromise promise) = refl
+frame_with side p bytes (Some pairs) (frame.PriorityUpdate u) = update_with side p bytes u
 frame_with side p bytes (Some pairs) (frame.Goaway id) = rest_if (is_no_goaway side id || is_above id (last_id p.goaways)) _ _ _ _ bytes refl refl
 frame_with side p bytes (Some pairs) (frame.MaxPushId id) = push_with side p bytes id
 frame_with side p bytes (Some pairs) (frame.WebTransportStream id) = refl
@@ -82,25 +94,33 @@ known_longer kinds bytes more h =
     known-more kinds bytes more ∙ known-other kinds (known_by kinds bytes ++ more) (subst IsKnown (sym there) (more_known (frame_by kinds (known_by kinds bytes)) more (known_is kinds bytes)))
 
 -- a frame that is too long is so whatever comes behind its head
-no_head : (limit : ℕ) (bytes : List ℕ) → says_too_much limit (varint_at bytes) ≡ false → is_excessive limit bytes ≡ true → ⊥
-no_head limit bytes none large = let wrong : false ≡ true = sym (and_right (is_limit limit) (says_too_much limit (varint_at bytes)) none) ∙ large in cc
-
-said_more : (kinds : FrameKinds) (limit : ℕ) (bytes more : List ℕ) → is_excessive limit bytes ≡ true → is_excessive limit (known_by kinds (bytes ++ more)) ≡ true
+said_more : (kinds : FrameKinds) (limit : ℕ) (bytes more : List ℕ) → is_excessive_by kinds limit bytes ≡ true → is_excessive_by kinds limit (known_by kinds (bytes ++ more)) ≡ true
 said_more kinds limit bytes more large = elim (cases_number bytes) [
-  | inl none ↦ absurd (no_head limit bytes (ap (says_too_much limit) none) large)
+  | inl none ↦ absurd (no_head (no_length kinds limit bytes (ap (says_long_update kinds limit) none) (ap (says_too_much limit) none)))
   | inr (kind, mid, e) ↦ by_number kind mid e (cases_number mid)
 ]
   where
-    by_number : (kind : ℕ) (mid : List ℕ) → varint_at bytes ≡ Some (kind, mid) → (varint_at mid ≡ None) ⊎ ((v : ℕ) × (rest : List ℕ) × (varint_at mid ≡ Some (v, rest))) → is_excessive limit (known_by kinds (bytes ++ more)) ≡ true
-    by_number kind mid e (inl none) = absurd (no_head limit bytes (ap (says_too_much limit) e ∙ ap (is_too_long limit kind) none) large)
-    by_number kind mid e (inr (number, behind, k)) =
-        let said : (is_kept_whole kind && nat_lt limit number) ≡ says_too_much limit (varint_at bytes) = sym (ap (says_too_much limit) e ∙ ap (is_too_long limit kind) k) in
-        let parts = and_parts (is_limit limit) (says_too_much limit (varint_at bytes)) large in
-        let both = and_parts (is_kept_whole kind) (nat_lt limit number) (said ∙ parts.1) in
-        kept_says kinds limit kind number (bytes ++ more) (mid ++ more) (behind ++ more) parts.0 both.0 (reads_more kind bytes mid more e) (reads_more number mid behind more k) ∙ both.1
+    no_head : is_excessive_by kinds limit bytes ≡ false → ⊥
+    no_head small = let wrong : true ≡ false = sym large ∙ small in cc
 
-excessive_behind : (kinds : FrameKinds) (limit : ℕ) (bytes more : List ℕ) → is_excessive limit (known_by kinds bytes) ≡ true → is_excessive limit (known_by kinds (bytes ++ more)) ≡ true
-excessive_behind kinds limit bytes more large = ap (is_excessive limit) (known-more kinds bytes more) ∙ said_more kinds limit (known_by kinds bytes) more large
+    by_number : (kind : ℕ) (mid : List ℕ) → varint_at bytes ≡ Some (kind, mid) → (varint_at mid ≡ None) ⊎ ((v : ℕ) × (rest : List ℕ) × (varint_at mid ≡ Some (v, rest))) → is_excessive_by kinds limit (known_by kinds (bytes ++ more)) ≡ true
+    by_number kind mid e (inl none) =
+        absurd (no_head (no_length kinds limit bytes (ap (says_long_update kinds limit) e ∙ ap (is_long_update kinds limit kind) none) (ap (says_too_much limit) e ∙ ap (is_too_long limit kind) none)))
+    by_number kind mid e (inr (number, behind, k)) =
+        let there = reads_more kind bytes mid more e in
+        let length_there = reads_more number mid behind more k in
+        let said : (is_limit limit && ((is_kept_whole kind || is_update kinds kind) && nat_lt limit number)) ≡ true = sym (said_of kinds limit kind number bytes mid behind e k) ∙ large in
+        let kept = (and_parts (is_kept_whole kind || is_update kinds kind) (nat_lt limit number) (and_parts (is_limit limit) ((is_kept_whole kind || is_update kinds kind) && nat_lt limit number) said).1).0 in
+        ap (is_excessive_by kinds limit) (by_type (is_kept_whole kind) refl kept there length_there)
+        ∙ said_of kinds limit kind number (bytes ++ more) (mid ++ more) (behind ++ more) there length_there ∙ said
+      where
+        by_type : (b : Bool) → is_kept_whole kind ≡ b → (b || is_update kinds kind) ≡ true → varint_at (bytes ++ more) ≡ Some (kind, mid ++ more) → varint_at (mid ++ more) ≡ Some (number, behind ++ more)
+            → known_by kinds (bytes ++ more) ≡ bytes ++ more
+        by_type true is h there length_there = stays_kept kinds kind number (bytes ++ more) (mid ++ more) (behind ++ more) is there length_there
+        by_type false is h there length_there = stays_update kinds kind number (bytes ++ more) (mid ++ more) (behind ++ more) h there length_there
+
+excessive_behind : (kinds : FrameKinds) (limit : ℕ) (bytes more : List ℕ) → is_excessive_by kinds limit (known_by kinds bytes) ≡ true → is_excessive_by kinds limit (known_by kinds (bytes ++ more)) ≡ true
+excessive_behind kinds limit bytes more large = ap (is_excessive_by kinds limit) (known-more kinds bytes more) ∙ said_more kinds limit (known_by kinds bytes) more large
 
 -- What more bytes do behind a reading: a fault stays, and these are left then.
 abbrev pub then_peer : FrameKinds → ℕ → Side → List ℕ → List ℕ → PeerFound → PeerFound
@@ -122,7 +142,7 @@ waits_more kinds limit side p bytes more waits =
     ([], peer_known kinds limit side (with_unread p (bytes ++ more)) (known_by kinds bytes ++ more) (known-more kinds bytes more) ∙ sym (ap (then_peer kinds limit side more []) waits))
 
 -- behind a frame that is not too long
-front_more : (kinds : FrameKinds) (limit : ℕ) (side : Side) (p : Peer) (bytes more : List ℕ) (x : Front) → frame_by kinds (known_by kinds bytes) ≡ x → is_excessive limit (known_by kinds bytes) ≡ false
+front_more : (kinds : FrameKinds) (limit : ℕ) (side : Side) (p : Peer) (bytes more : List ℕ) (x : Front) → frame_by kinds (known_by kinds bytes) ≡ x → is_excessive_by kinds limit (known_by kinds bytes) ≡ false
     → ((q : Peer) (rest : List ℕ) → length rest < length bytes → ReadsMore kinds limit side more (read_peer kinds limit side (with_unread q (rest ++ more))) (read_peer kinds limit side (with_unread q rest)))
     → ReadsMore kinds limit side more (read_peer kinds limit side (with_unread p (bytes ++ more))) (read_peer kinds limit side (with_unread p bytes))
 front_more kinds limit side p bytes more x is small go = by_front x is
@@ -137,7 +157,7 @@ front_more kinds limit side p bytes more x is small go = by_front x is
         → read_peer kinds limit side (with_unread p (bytes ++ more)) ≡ at_front (read_peer kinds limit side) side (with_unread p (bytes ++ more)) (known_by kinds bytes ++ more) (with_more y more)
     there y e whole =
         let finished : IsFinished (frame_by kinds (known_by kinds bytes)) = subst IsFinished (sym e) whole in
-        step_within kinds limit side (with_unread p (bytes ++ more)) (ap (is_excessive limit) (longer finished) ∙ excessive_more kinds limit (known_by kinds bytes) more finished ∙ small)
+        step_within kinds limit side (with_unread p (bytes ++ more)) (ap (is_excessive_by kinds limit) (longer finished) ∙ excessive_more kinds limit (known_by kinds bytes) more finished ∙ small)
         ∙ ap (λ l. at_front (read_peer kinds limit side) side (with_unread p (bytes ++ more)) l (frame_by kinds l)) (longer finished)
         ∙ ap (at_front (read_peer kinds limit side) side (with_unread p (bytes ++ more)) (known_by kinds bytes ++ more)) (frame_by-more kinds (known_by kinds bytes) more finished ∙ ap (λ z. with_more z more) e)
 
@@ -154,7 +174,7 @@ front_more kinds limit side p bytes more x is small go = by_front x is
     by_front (Unfinished least) e = waits_more kinds limit side p bytes more (here (Unfinished least) e)
 
 -- one that is too long is so with more bytes behind it
-length_more : (kinds : FrameKinds) (limit : ℕ) (side : Side) (p : Peer) (bytes more : List ℕ) (large : Bool) → is_excessive limit (known_by kinds bytes) ≡ large
+length_more : (kinds : FrameKinds) (limit : ℕ) (side : Side) (p : Peer) (bytes more : List ℕ) (large : Bool) → is_excessive_by kinds limit (known_by kinds bytes) ≡ large
     → ((q : Peer) (rest : List ℕ) → length rest < length bytes → ReadsMore kinds limit side more (read_peer kinds limit side (with_unread q (rest ++ more))) (read_peer kinds limit side (with_unread q rest)))
     → ReadsMore kinds limit side more (read_peer kinds limit side (with_unread p (bytes ++ more))) (read_peer kinds limit side (with_unread p bytes))
 length_more kinds limit side p bytes more true e go = (
@@ -166,9 +186,9 @@ length_more kinds limit side p bytes more false e go = front_more kinds limit si
 
 more_within : (kinds : FrameKinds) (n limit : ℕ) (side : Side) (p : Peer) (bytes more : List ℕ) → length bytes ≤ n
     → ReadsMore kinds limit side more (read_peer kinds limit side (with_unread p (bytes ++ more))) (read_peer kinds limit side (with_unread p bytes))
-more_within kinds zero limit side p bytes more h = length_more kinds limit side p bytes more (is_excessive limit (known_by kinds bytes)) refl (λ q rest less. absurd (omega (arith, less, h)))
+more_within kinds zero limit side p bytes more h = length_more kinds limit side p bytes more (is_excessive_by kinds limit (known_by kinds bytes)) refl (λ q rest less. absurd (omega (arith, less, h)))
 more_within kinds (suc n) limit side p bytes more h =
-    length_more kinds limit side p bytes more (is_excessive limit (known_by kinds bytes)) refl (λ q rest less. more_within kinds n limit side q rest more (omega (arith, less, h)))
+    length_more kinds limit side p bytes more (is_excessive_by kinds limit (known_by kinds bytes)) refl (λ q rest less. more_within kinds n limit side q rest more (omega (arith, less, h)))
 
 -- However the bytes are cut, they read alike.
 pub peer_more : (kinds : FrameKinds) (limit : ℕ) (side : Side) (p : Peer) (bytes more : List ℕ) → ReadsMore kinds limit side more (read_peer kinds limit side (with_unread p (bytes ++ more))) (read_peer kinds limit side (with_unread p bytes))

@@ -11,7 +11,7 @@ use Rattle.h3_header.specs.Head.{Head, has_pseudo}
 use Rattle.h3_header.specs.HeadRead.{HeadRead, IsHead, IsNone, head_by}
 use Rattle.h3_proto.specs.declared.stream.Side.{Side}
 use Rattle.h3_proto.specs.declared.stream.Side.TheVariants.{Client, Server}
-use Rattle.h3_wire.specs.ExcessiveFrames.{begins_section, is_excessive}
+use Rattle.h3_wire.specs.ExcessiveFrames.{begins_section, is_excessive_by}
 use Rattle.h3_wire.specs.Frames.{Front, Whole, Unknown, Refused, Unfinished, frame_by}
 use Rattle.h3_wire.specs.Pieces.{chunk_of, first_of, ending}
 use Rattle.h3_wire.specs.declared.proto.frame.PayloadLen.{PayloadLen}
@@ -188,7 +188,7 @@ module _ (side : Side) (own : Announced) (id : ℕ) (r : DecoderState) where
       let bytes = skipped (kinds_of own) (is_body i.place) (concat i.unread) in
       let j = record i { unread = ending (length bytes) i.unread } in
       either (nat_lt 0 i.body_left) _ _ (content_good id i h)
-      (either (is_excessive own.choices.unfinished_limit bytes) (excess id i bytes) (next_frame side own id r j bytes) (excess_good i bytes h) (next_good j bytes (ready_as i j (refl, refl) h)))
+      (either (is_excessive_by (kinds_of own) own.choices.unfinished_limit bytes) (excess id i bytes) (next_frame side own id r j bytes) (excess_good i bytes h) (next_good j bytes (ready_as i j (refl, refl) h)))
 
   item_good : (i : Incoming) (place : Place) → Ready i → Good (next_item side own id r i place)
   item_good i InSession h = raw_good i (first_of i.unread) h

@@ -12,7 +12,7 @@ use Rattle.h3_header.specs.Head.{Head, has_pseudo}
 use Rattle.h3_header.specs.HeadRead.{HeadRead, IsHead, IsNone, head_by}
 use Rattle.h3_proto.specs.declared.stream.Side.{Side}
 use Rattle.h3_proto.specs.declared.stream.Side.TheVariants.{Client, Server}
-use Rattle.h3_wire.specs.ExcessiveFrames.{begins_section, is_excessive}
+use Rattle.h3_wire.specs.ExcessiveFrames.{begins_section, is_excessive_by}
 use Rattle.h3_wire.specs.Frames.{Front, Whole, Unknown, Refused, Unfinished, frame_by}
 use Rattle.h3_wire.specs.Pieces.{chunk_of, first_of, with_piece, without, ending}
 use Rattle.std.proofs.lemmas.List.Folds.{concat-append}
@@ -340,9 +340,9 @@ module _ (size : ℕ) (side : Side) (own : Announced) (id : ℕ) (r : DecoderSta
   between_alike i u message none g =
       let bytes = skipped (kinds_of own) (is_body i.place) (concat i.unread) in
       subst (λ l. Pulls size (between_frames side own id r i)
-      (if is_excessive own.choices.unfinished_limit (skipped (kinds_of own) (is_body i.place) l) then excess id (with_pieces i u) (skipped (kinds_of own) (is_body i.place) l)
+      (if is_excessive_by (kinds_of own) own.choices.unfinished_limit (skipped (kinds_of own) (is_body i.place) l) then excess id (with_pieces i u) (skipped (kinds_of own) (is_body i.place) l)
       else next_frame side own id r (left_with (with_pieces i u) (skipped (kinds_of own) (is_body i.place) l)) (skipped (kinds_of own) (is_body i.place) l))) (sym g.cuts.bytes)
-      (either size (is_excessive own.choices.unfinished_limit bytes) (excess id i bytes) _ (excess id (with_pieces i u) bytes) _ (excess_alike i u bytes)
+      (either size (is_excessive_by (kinds_of own) own.choices.unfinished_limit bytes) (excess id i bytes) _ (excess id (with_pieces i u) bytes) _ (excess_alike i u bytes)
       (next_alike (left_with i bytes) (ending (length bytes) u) bytes (λ f rest e. found_not_empty (kinds_of own) (is_body i.place) (concat i.unread) rest f e) message none (goes_ending i u (length bytes) g)))
 
   message_alike : (i : Incoming) (u : List (List ℕ)) (section : Option (List ℕ)) → i.section ≡ section → i.place ≢ InSession → Goes size i u → Pulls size (in_message side own id r i section) (in_message side own id r (with_pieces i u) section)

@@ -76,7 +76,7 @@ reads_part {e = e} (Stops {rest = rest}) h = rests (fold opened_by e rest) (keep
 reads_part (Goes on behind) h = reads_part behind (reads_on on h)
 
 -- the stream that goes on as if it had not been asked
-asked : (e : EndpointHistory) (id : ℕ) (old new : Incoming) → stream_at e.incoming id ≡ Some old → Resumes e.side e.announced id old new → IsBounded e → IsBounded (with_incoming e id new)
+pub asked : (e : EndpointHistory) (id : ℕ) (old new : Incoming) → stream_at e.incoming id ≡ Some old → Resumes e.side e.announced id old new → IsBounded e → IsBounded (with_incoming e id new)
 asked e id old new here r h =
     let was : incoming_at e id ≡ old = ap (λ at. unwrap_or at nothing_came) here in
     let tries : new.tries ≡ old.tries = ap (λ i. i.tries) r.same in

@@ -5,8 +5,8 @@ use Rattle.std.specs.List.{concat, AllByRecursion}
 use Rattle.std.proofs.lemmas.Bool.{le-ltb}
 use Rattle.std.proofs.lemmas.List.{drop_at, length-drop}
 use Rattle.h3_coding.specs.VarintLaws.{reads_encoding}
-use Rattle.h3_wire.specs.ExcessiveFrames.{is_excessive}
-use Rattle.h3_wire.specs.Frames.{Unknown, is_http2, frame_of, with_head, frame_by, is_session}
+use Rattle.h3_wire.specs.ExcessiveFrames.{is_excessive_by}
+use Rattle.h3_wire.specs.Frames.{Unknown, is_http2, frame_of, with_head, frame_by, is_session, is_update}
 use Rattle.h3_wire.specs.FrameLaws.{at_head}
 use Rattle.h3_wire.specs.Known.{known_by}
 use Rattle.h3_wire.specs.KnownLaws.{known-unknown}
@@ -34,6 +34,7 @@ neither true b e = absurd (cc)
 -- the tests of `with_head` and `frame_of`, none of which holds
 record IsNone (kinds : FrameKinds) (kind : ℕ) : Type 0 where
   session : is_session kinds kind ≡ false
+  update : is_update kinds kind ≡ false
   data_frame : (kind == 0) ≡ false
   headers : (kind == 1) ≡ false
   cancel : (kind == 3) ≡ false
@@ -45,14 +46,15 @@ record IsNone (kinds : FrameKinds) (kind : ℕ) : Type 0 where
 none_of : (kinds : FrameKinds) (kind : ℕ) → has_meaning kinds kind ≡ false → IsNone kinds kind
 none_of kinds kind h =
     let a = neither (is_session kinds kind) _ h in
-    let b = neither (kind == 0) _ a.1 in
+    let u = neither (is_update kinds kind) _ a.1 in
+    let b = neither (kind == 0) _ u.1 in
     let c = neither (kind == 1) _ b.1 in
     let d = neither (kind == 3) _ c.1 in
     let e = neither (kind == 4) _ d.1 in
     let f = neither (kind == 5) _ e.1 in
     let g = neither (kind == 7) _ f.1 in
     let i = neither (kind == 13) _ g.1 in
-    record { session = a.0; data_frame = b.0; headers = c.0; cancel = d.0; settings = e.0; promise = f.0; goaway = g.0; max_push = i.0 }
+    record { session = a.0; update = u.0; data_frame = b.0; headers = c.0; cancel = d.0; settings = e.0; promise = f.0; goaway = g.0; max_push = i.0 }
 
 unknown_payload : (kinds : FrameKinds) (kind : ℕ) (payload rest : List ℕ) → IsNone kinds kind → is_http2 kind ≡ false → frame_of kind payload rest ≡ Unknown kind rest
 unfolding frame_of
@@ -61,7 +63,7 @@ unknown_payload kinds kind payload rest h allowed = rw (h.headers, h.cancel, h.s
 unknown_head : (kinds : FrameKinds) (size kind : ℕ) (payload rest : List ℕ) → IsNone kinds kind → is_http2 kind ≡ false → with_head kinds size kind (length payload) (payload ++ rest) ≡ Unknown kind rest
 unknown_head kinds size kind payload rest h allowed =
     let enough : nat_lt (length (payload ++ rest)) (length payload) ≡ false = le-ltb (length (payload ++ rest)) (length payload) (omega (arith, length-append payload rest)) in
-    rw (h.session, h.data_frame, enough)
+    rw (h.session, h.data_frame, enough, h.update)
     (unknown_payload kinds kind (take (length payload) (payload ++ rest)) (drop (length payload) (payload ++ rest)) h allowed ∙ ap (Unknown kind) (drop_at payload rest (length payload) refl))
 
 -- such a frame is read as an unknown one
@@ -111,9 +113,9 @@ module _ (side : Side) (own : Announced) (id : ℕ) (r : DecoderState) where
       let bytes = skipped (kinds_of own) (is_body i.place) rest in
       let same : skipped (kinds_of own) (is_body i.place) (concat i.unread) ≡ bytes = skipped_known (kinds_of own) (is_body i.place) (concat i.unread) rest (unknown_left_out (kinds_of own) (concat i.unread) rest b) in
       let few : length rest ≤ length (concat i.unread) = omega (arith, unknown_before (kinds_of own) (concat i.unread) rest b) in
-      ap (λ l. if is_excessive own.choices.unfinished_limit l then excess id i l else next_frame side own id r (left_with i l) l) same
-      ∙ ap (λ j. if is_excessive own.choices.unfinished_limit bytes then excess id i bytes else next_frame side own id r j bytes) (sym (left_left i rest bytes (skipped-length (kinds_of own) (is_body i.place) rest) few))
-      ∙ ap (λ l. if is_excessive own.choices.unfinished_limit l then excess id i l else next_frame side own id r (left_with (left_with i rest) l) l) (sym (ap (skipped (kinds_of own) (is_body i.place)) there))
+      ap (λ l. if is_excessive_by (kinds_of own) own.choices.unfinished_limit l then excess id i l else next_frame side own id r (left_with i l) l) same
+      ∙ ap (λ j. if is_excessive_by (kinds_of own) own.choices.unfinished_limit bytes then excess id i bytes else next_frame side own id r j bytes) (sym (left_left i rest bytes (skipped-length (kinds_of own) (is_body i.place) rest) few))
+      ∙ ap (λ l. if is_excessive_by (kinds_of own) own.choices.unfinished_limit l then excess id i l else next_frame side own id r (left_with (left_with i rest) l) l) (sym (ap (skipped (kinds_of own) (is_body i.place)) there))
 
   pub by_place : (i : Incoming) (place : Place) → place ≢ InSession → next_item side own id r i place ≡ in_message side own id r i i.section
   by_place i BeforeHead h = refl

@@ -11,7 +11,7 @@ use Rattle.h3_header.specs.HeadRead.{HeadRead, IsHead, IsNone, head_by}
 use Rattle.h3_messages.specs.declared.violation.Violation.{Violation}
 use Rattle.h3_proto.specs.declared.stream.Side.{Side}
 use Rattle.h3_proto.specs.declared.stream.Side.TheVariants.{Client, Server}
-use Rattle.h3_wire.specs.ExcessiveFrames.{begins_section, is_excessive}
+use Rattle.h3_wire.specs.ExcessiveFrames.{begins_section, is_excessive_by}
 use Rattle.h3_wire.specs.Frames.{Front, Whole, Unknown, Refused, Unfinished, frame_by}
 use Rattle.h3_wire.specs.Pieces.{chunk_of, first_of, ending}
 use Rattle.h3_wire.specs.declared.proto.frame.PayloadLen.{PayloadLen}
@@ -163,7 +163,7 @@ module _ (side : Side) (own : Announced) (strict : own.choices.strict_messages â
       let bytes = skipped (kinds_of own) (is_body i.place) (concat i.unread) in
       let j = record i { unread = ending (length bytes) i.unread } in
       either (nat_lt 0 i.body_left) (at_payload id i) (between_frames side own id r i) (content_well i)
-      (either (is_excessive own.choices.unfinished_limit bytes) (excess id i bytes) (next_frame side own id r j bytes) (excess_well i bytes) (next_well j bytes))
+      (either (is_excessive_by (kinds_of own) own.choices.unfinished_limit bytes) (excess id i bytes) (next_frame side own id r j bytes) (excess_well i bytes) (next_well j bytes))
 
   item_well : (i : Incoming) (place : Place) â†’ Well (next_item side own id r i place)
   item_well i InSession = raw_well i (first_of i.unread)

@@ -7,6 +7,7 @@ use Rattle.h3_proto.specs.StreamIds.{is_request_stream}
 use Rattle.h3_connection.specs.Answers.{call_refused}
 use Rattle.h3_connection.specs.Endpoint.{EndpointHistory, own_waiting}
 use Rattle.h3_connection.specs.Order.{own_held, rounds_begun, rounds_of}
+use Rattle.h3_connection.specs.declared.order.PrioritySource.TheVariants.{Own}
 use Rattle.h3_connection.specs.Outgoing.{Outgoing, end_waits, part_bytes_waiting}
 use Rattle.h3_connection.specs.OwnIds.{control_id, encoder_id, decoder_id, is_own}
 use Rattle.h3_connection.specs.Refusals.{first_of}
@@ -45,12 +46,12 @@ IsNextBehind None e result = IsNext (places_of e) (rounds_of e.order.rounds) res
 abbrev pub ShowsNextByPriority : EndpointState → Option ℕ → Type 0
 ShowsNextByPriority s result = (e : EndpointHistory) → StandsFor s e → IsNextBehind (first_own e) e result
 
--- `set_priority`: of a request stream that is open. It counts from then on, before what the peer says.
+-- `set_priority`: of a request stream that is open. It counts from then on, whatever the peer says.
 abbrev pub priority_refusal : EndpointHistory → ℕ → Option Refusal
 priority_refusal e id = unless_closed e (first_of ((not (is_request_stream id), refusal.NotRequestId) ∷ (not (is_open e id), refusal.NotOpen) ∷ []))
 
 abbrev pub prioritized : PriorityParameters → Outgoing → Outgoing
-prioritized p o = record o { precedence = record o.precedence { priority = p } }
+prioritized p o = record o { precedence = record o.precedence { priority = p; source = Own } }
 
 abbrev pub set_priority : EndpointHistory → ℕ → PriorityParameters → Option Refusal × EndpointHistory
 set_priority e id p =

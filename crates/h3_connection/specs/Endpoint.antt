@@ -1,7 +1,6 @@
 -- One endpoint of a connection, with what it wrote so far.
 use Rattle.std.specs.Prelude.{ℕ, ◌%◌, Bool, false, not, ◌||◌, List, [], ◌++◌, drop, flat_map, count_by, if◌then◌else◌, ◌==◌, nat_lt, Option, Some, None}
 use Rattle.h3_coding.specs.Encodings.{encoding}
-use Rattle.h3_wire.specs.Encoded.{frame_encoding}
 use Rattle.h3_wire.specs.StreamHeaders.{control_encoding}
 use Rattle.h3_field.specs.Instruction.{EncoderInstruction, DecoderInstruction, encoder_bytes, decoder_bytes}
 use Rattle.h3_proto.specs.Config.{is_limit}
@@ -18,15 +17,20 @@ use Rattle.h3_proto.specs.declared.stream.Side.{Side}
 use Rattle.h3_connection.specs.StreamSets.{Streams, stream_at}
 use Rattle.h3_connection.specs.Arrivals.{Arrival}
 use Rattle.h3_connection.specs.Incoming.{Incoming}
-use Rattle.h3_connection.specs.PeerReading.{Peer, nothing_read}
+use Rattle.h3_connection.specs.PeerReading.{Peer, none_read}
 use Rattle.h3_connection.specs.Listeners.{Decoding}
 use Rattle.h3_connection.specs.StrictConnection.{is_strict}
+use Rattle.h3_connection.specs.OwnUpdates.{OwnUpdate, control_frames}
+pub use Rattle.h3_connection.specs.OwnUpdates.{goaway_encoding}
+use Rattle.h3_connection.specs.Updates.{most_updates}
 use Rattle.h3_connection.specs.Outgoing.{Outgoing, part_bytes_waiting}
 use Rattle.h3_connection.specs.Unidirectional.{Unidirectional}
 
 -- what was written on the own streams, and how much of each text was taken
 pub record Own : Type 0 where
   pub goaways : List ℕ
+  -- what a client said of the priorities of its requests
+  pub updates : List OwnUpdate
   pub control_taken : ℕ
   pub instructions : List EncoderInstruction
   pub encoder_taken : ℕ
@@ -105,11 +109,11 @@ new_endpoint side announced =
       control_on = None;
       encoder_on = None;
       decoder_on = None;
-      peer = nothing_read;
+      peer = none_read (most_updates announced);
       decoding = record { decoder = first_decoder announced; unread = [] };
       encoder = first_encoder announced;
       decoder_unread = [];
-      own = record { goaways = []; control_taken = 0; instructions = []; encoder_taken = 0; replies = []; decoder_taken = 0 };
+      own = record { goaways = []; updates = []; control_taken = 0; instructions = []; encoder_taken = 0; replies = []; decoder_taken = 0 };
       kept = [];
       sent = 0;
       order = no_order;
@@ -162,12 +166,9 @@ abbrev pub heads_waiting : DecoderState → Streams Incoming → ℕ
 heads_waiting r streams = count_by (λ s. nat_lt r.table.inserted s.1.waits_for) streams
 
 -- what waits to be taken
-abbrev pub goaway_encoding : ℕ → List ℕ
-goaway_encoding id = frame_encoding 7 (encoding id)
-
 abbrev pub own_waiting : EndpointHistory → ℕ → List ℕ
 own_waiting e id =
-    if id == control_id e.side then drop e.own.control_taken (control_encoding e.announced.settings ++ flat_map goaway_encoding e.own.goaways) else (
+    if id == control_id e.side then drop e.own.control_taken (control_encoding e.announced.settings ++ control_frames 0 e.own.goaways e.own.updates) else (
     if id == encoder_id e.side then drop e.own.encoder_taken (encoding 2 ++ flat_map encoder_bytes e.own.instructions) else (
     if id == decoder_id e.side then drop e.own.decoder_taken (encoding 3 ++ flat_map decoder_bytes e.own.replies) else []))
 

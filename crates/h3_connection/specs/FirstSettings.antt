@@ -3,7 +3,7 @@ use Rattle.std.specs.Prelude.{◌≡◌, ℕ, false, List, Some, None}
 use Rattle.h3_coding.specs.Varint.{varint_at}
 use Rattle.h3_proto.specs.declared.stream.Side.{Side}
 use Rattle.h3_wire.specs.declared.frame.kinds.FrameKinds.{FrameKinds}
-use Rattle.h3_wire.specs.ExcessiveFrames.{is_excessive}
+use Rattle.h3_wire.specs.ExcessiveFrames.{is_excessive_by}
 use Rattle.h3_wire.specs.FirstFrames.{begins_other}
 use Rattle.h3_wire.specs.Frames.{Front, Whole, Refused, Unfinished, frame_by}
 use Rattle.h3_wire.specs.declared.proto.frame.Frame.TheVariants as frame
@@ -15,7 +15,7 @@ pub record NoHead (kinds : FrameKinds) (bytes : List ℕ) : Type 0 where
   pub other : begins_other bytes ≡ false
   pub least : ℕ
   pub waits : frame_by kinds bytes ≡ Unfinished least
-  pub small : (limit : ℕ) → is_excessive limit bytes ≡ false
+  pub small : (limit : ℕ) → is_excessive_by kinds limit bytes ≡ false
 
 -- it is: its type and its length are there
 pub record HasHead (bytes : List ℕ) : Type 0 where

@@ -2,9 +2,11 @@
 use Rattle.std.proofs.Common.{◌≡◌, ℕ, zero, suc, Bool, true, false, if◌then◌else◌, ◌||◌, List, [], ◌∷◌, ◌++◌, length, Option, Some, None, refl, ap, sym, ◌∙◌}
 use Rattle.h3_proto.specs.declared.stream.Side.{Side}
 use Rattle.h3_proto.specs.declared.stream.Side.TheVariants.{Client, Server}
-use Rattle.h3_wire.specs.ExcessiveFrames.{is_excessive}
+use Rattle.h3_wire.specs.ExcessiveFrames.{is_excessive_by}
 use Rattle.h3_wire.specs.Frames.{Front, Whole, Unknown, Refused, Unfinished, frame_by}
 use Rattle.h3_wire.specs.Known.{known_by}
+use Rattle.h3_priority.specs.Priority.{PriorityParameters, priority_of}
+use Rattle.h3_wire.specs.Update.{Update}
 use Rattle.h3_wire.specs.declared.proto.frame.PayloadLen.{PayloadLen}
 use Rattle.h3_wire.specs.declared.proto.frame.Frame.{Frame}
 use Rattle.h3_wire.specs.declared.proto.frame.Frame.TheVariants as frame
@@ -12,7 +14,8 @@ use Rattle.h3_connection.specs.Codes.{excessive_load, id_error}
 use Rattle.h3_connection.specs.KeptGoaways.{alone, kept_goaways, kept_peer, kept_found}
 use Rattle.h3_connection.specs.Lasts.{last_id}
 use Rattle.h3_connection.specs.LastLaws.{last_appended}
-use Rattle.h3_connection.specs.PeerReading.{Peer, PeerFound, with_unread, is_above, is_below, is_no_goaway, read_goaway, read_max_push, read_frame, unless_fault, at_front, read_within, read_peer}
+use Rattle.h3_connection.specs.PeerReading.{Peer, PeerFound, with_unread, is_above, is_below, is_no_element, is_no_goaway, read_goaway, read_max_push, read_priority, read_update, read_frame, unless_fault, at_front, read_within, read_peer}
+use Rattle.h3_connection.specs.Updates.{with_update}
 use Rattle.h3_wire.specs.declared.frame.kinds.FrameKinds.{FrameKinds}
 
 last_alone : (o : Option ℕ) → last_id (alone o) ≡ o
@@ -59,6 +62,15 @@ push_same : (last : Bool) (side : Side) (p : Peer) (id : ℕ) → kept_found las
 push_same last Client p id = same_found last p _
 push_same last Server p id = same_if last (is_below id p.most_pushes) _ _ _ _ (same_found last p _) (same_found last (record p { most_pushes = Some id }) None)
 
+-- a PRIORITY_UPDATE frame
+update_same : (last : Bool) (side : Side) (p : Peer) (u : Update) → kept_found last (read_update side (kept_peer last p) u) ≡ kept_found last (read_update side p u)
+update_same last Client p u = same_found last p _
+update_same last Server p u = same_if last (is_no_element u) _ _ _ _ (same_found last p _) (by_text (priority_of u.value))
+  where
+    by_text : (o : Option PriorityParameters) → kept_found last (read_priority (kept_peer last p) u.id o) ≡ kept_found last (read_priority p u.id o)
+    by_text None = same_found last p _
+    by_text (Some priority) = same_found last (record p { updates = with_update p.updates u.id priority }) None
+
 -- any frame
 frame_same : (last : Bool) (side : Side) (p : Peer) (o : Option (List (ℕ × ℕ))) (f : Frame PayloadLen) → kept_found last (read_frame side (kept_peer last p) o f) ≡ kept_found last (read_frame side p o f)
 frame_same last side p None (frame.Data len) = same_found last p _
@@ -66,6 +78,7 @@ frame_same last side p None (frame.Headers section) = same_found last p _
 frame_same last side p None (frame.CancelPush id) = same_found last p _
 frame_same last side p None (frame.Settings pairs) = same_found last (record p { settings = Some pairs }) _
 frame_same last side p None (frame.PushPromise promise) = same_found last p _
+frame_same last side p None (frame.PriorityUpdate u) = same_found last p _
 frame_same last side p None (frame.Goaway id) = same_found last p _
 frame_same last side p None (frame.MaxPushId id) = same_found last p _
 frame_same last side p None (frame.WebTransportStream id) = same_found last p _
@@ -75,6 +88,7 @@ frame_same last side p (Some pairs) (frame.Headers section) = same_found last p 
 frame_same last side p (Some pairs) (frame.CancelPush id) = same_found last p _
 frame_same last side p (Some pairs) (frame.Settings others) = same_found last p _
 frame_same last side p (Some pairs) (frame.PushPromise promise) = same_found last p _
+frame_same last side p (Some pairs) (frame.PriorityUpdate u) = update_same last side p u
 frame_same last side p (Some pairs) (frame.Goaway id) = goaway_same last side p id
 frame_same last side p (Some pairs) (frame.MaxPushId id) = push_same last side p id
 frame_same last side p (Some pairs) (frame.WebTransportStream id) = same_found last p _
@@ -96,7 +110,7 @@ front_same last go side p bytes (Unfinished least) alike = same_found last (with
 within_same : (kinds : FrameKinds) (most : ℕ) (last : Bool) (limit : ℕ) (side : Side) (p : Peer) → kept_found last (read_within kinds most limit side (kept_peer last p)) ≡ kept_found last (read_within kinds most limit side p)
 within_same kinds zero last limit side p = same_found last p None
 within_same kinds (suc most) last limit side p =
-    same_if last (is_excessive limit (known_by kinds p.unread)) _ _ _ _ (same_found last (with_unread p []) (Some excessive_load))
+    same_if last (is_excessive_by kinds limit (known_by kinds p.unread)) _ _ _ _ (same_found last (with_unread p []) (Some excessive_load))
     (front_same last (read_within kinds most limit side) side p (known_by kinds p.unread) (frame_by kinds (known_by kinds p.unread)) (within_same kinds most last limit side))
 
 -- all that came

@@ -10,6 +10,8 @@ pub mod StrictConnection
 pub mod FaultTexts
 pub mod OwnIds
 pub mod Order
+pub mod Updates
+pub mod OwnUpdates
 pub mod FirstAbove
 pub mod Lasts
 pub mod LastLaws
@@ -68,6 +70,7 @@ pub mod NextWaiting
 pub mod NextWaitingLaws
 pub mod EndsWaiting
 pub mod ByPriority
+pub mod Prioritizing
 pub mod CallLists
 pub mod Isolation
 pub mod CallCuts
@@ -78,8 +81,10 @@ pub mod FirstRequestLaws
 pub mod Shutdown
 pub mod Draining
 pub mod StandsLaws
+pub mod OwnUpdatesLaws
 pub mod StrictSends
 pub mod SentContent
 pub mod StrictSendingLaws
 pub mod FlagLaws
 pub mod FlagReadLaws
+pub mod EndpointTurns

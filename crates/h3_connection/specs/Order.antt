@@ -1,5 +1,5 @@
 -- Which stream sends next (RFC 9218, section 10): what is known of a request stream for that, and of turns.
-use Rattle.std.specs.Prelude.{ℕ, Bool, false, List, slice_set, Option, Some, None, if◌then◌else◌, ◌==◌}
+use Rattle.std.specs.Prelude.{ℕ, Bool, false, List, slice_set, Option, Some, None, if◌then◌else◌, ◌==◌, nat_le}
 use Rattle.h3_priority.specs.Priority.{PriorityParameters, default_parameters}
 use Rattle.h3_scheduler.specs.Rounds.{after_turn, no_rounds, round_at}
 use Rattle.h3_scheduler.specs.declared.round.Round.{Round}
@@ -7,11 +7,24 @@ use Rattle.h3_scheduler.specs.declared.round.Rounds.{Rounds}
 use Rattle.h3_proto.specs.declared.stream.Side.{Side}
 use Rattle.h3_connection.specs.OwnIds.{control_id, encoder_id, decoder_id}
 use Rattle.h3_connection.specs.declared.order.Precedence.{Precedence}
+use Rattle.h3_connection.specs.declared.order.PrioritySource.{PrioritySource}
+use Rattle.h3_connection.specs.declared.order.PrioritySource.TheVariants.{Unsaid, Field, Update, Own}
 use Rattle.h3_connection.specs.declared.order.SendOrder.{SendOrder}
 
 -- a stream of which nothing was said
 abbrev pub default_precedence : Precedence
-default_precedence = record { priority = default_parameters; is_held = false }
+default_precedence = record { priority = default_parameters; source = Unsaid; is_held = false }
+
+-- Of what is said of the priority of a stream this counts first: what the endpoint says, then the last update, then the field of the request.
+abbrev pub rank : PrioritySource → ℕ
+rank Unsaid = 0
+rank Field = 1
+rank Update = 2
+rank Own = 3
+
+-- what is said now counts, too
+abbrev pub gives_way : PrioritySource → PrioritySource → Bool
+gives_way said now = nat_le (rank said) (rank now)
 
 -- no priority was set, and no own stream is held
 abbrev pub no_order : SendOrder

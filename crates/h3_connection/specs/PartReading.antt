@@ -1,24 +1,31 @@
 -- What a call leaves that was refused memory in reading: what came was read up to some point, and the rest is kept.
 use Rattle.std.specs.Prelude.{◌≡◌, ◌⊎◌, ℕ, ◌-◌, Bool, true, false, not, List, [], ◌∷◌, ◌++◌, Option, Some, None}
+use Rattle.std.specs.List.{concat}
+use Rattle.h3_messages.specs.Content.{left_behind}
+use Rattle.h3_messages.specs.declared.content.Content.{Content}
 use Rattle.h3_messages.specs.declared.content.Content.TheVariants.{Unsaid}
 use Rattle.h3_proto.specs.Config.{is_limit}
 use Rattle.h3_proto.specs.declared.stream.Side.{Side}
 use Rattle.h3_qpack.specs.EncoderHistory.{EncoderHistory}
 use Rattle.h3_connection.specs.declared.setup.Announced.{Announced}
 use Rattle.h3_connection.specs.Arrivals.{Arrival, BytesCame}
-use Rattle.h3_connection.specs.Coming.{HasNoHeader, fields_next}
+use Rattle.h3_connection.specs.Coming.{fields_next}
 use Rattle.h3_connection.specs.Control.{are_refused, if_learned, increment, lacks_settings}
 use Rattle.h3_connection.specs.Delivering.{unidirectional_at, with_incoming, with_end, kept, with_unidirectional}
 use Rattle.h3_connection.specs.Endpoint.{EndpointHistory, limit_of, replied, is_second, kind_of}
 use Rattle.h3_connection.specs.Endpoint.Kind.{PeerUnidirectional}
 use Rattle.h3_connection.specs.ExcessiveInstructions.{hear_up_to, listen_up_to}
-use Rattle.h3_connection.specs.Incoming.{Incoming}
+use Rattle.h3_connection.specs.Incoming.{Incoming, is_body}
 use Rattle.h3_connection.specs.Keeping.{read_arrival, keeping}
 use Rattle.h3_connection.specs.Listeners.{Decoding, hearing_fault, listening_fault}
 use Rattle.h3_connection.specs.PeerReading.{Peer, with_unread, read_peer}
 use Rattle.h3_connection.specs.Pulling.{pull_stream}
+use Rattle.h3_connection.specs.Skipping.{skipped}
 use Rattle.h3_connection.specs.State.{EndpointState, StandsFor}
 use Rattle.h3_connection.specs.StreamSets.{stream_at}
+use Rattle.h3_connection.specs.declared.event.Item.TheVariants as item
+use Rattle.h3_connection.specs.declared.event.Pull.{Pull}
+use Rattle.h3_connection.specs.declared.event.Pull.TheVariants as pull
 use Rattle.h3_wire.specs.declared.frame.kinds.FrameKinds.{FrameKinds}
 use Rattle.h3_connection.specs.StrictConnection.{kinds_of, knows_sessions}
 use Rattle.h3_connection.specs.Unidirectional.{Role, role_after, with_bytes}
@@ -130,14 +137,37 @@ abbrev pub with_more : Incoming → List (List ℕ) → Bool → Incoming
 with_more i pieces true = with_end (with_pieces i pieces)
 with_more i pieces false = with_pieces i pieces
 
+-- an answer for which no section was decoded, or only a malformed one
+abbrev pub HasNoSection : Pull → Type 0
+HasNoSection (pull.Item (item.Interim head)) = ⊥
+HasNoSection (pull.Item (item.Head head)) = ⊥
+HasNoSection (pull.Item (item.Trailer head)) = ⊥
+HasNoSection (pull.Item (item.TooLarge size)) = ⊥
+HasNoSection _ = Unit {0}
+
+-- no section waits, and no payload is under way
+abbrev pub IsBetweenFrames : Incoming → Type 0
+IsBetweenFrames i = (i.section ≡ None) × (i.body_left ≡ 0)
+
+-- Between frames the same stands next, behind those that give nothing, whatever follows; if not, what the next frame gives has begun.
+abbrev pub StandsNext : FrameKinds → Incoming → Incoming → Type 0
+StandsNext kinds old new =
+    IsBetweenFrames new
+    → IsBetweenFrames old × ((more : List ℕ) → skipped kinds (is_body old.place) (concat new.unread ++ more) ≡ skipped kinds (is_body old.place) (concat old.unread ++ more))
+
+-- as much content is left, or what a payload that has begun leaves behind (RFC 9114, section 4.1.2)
+abbrev pub CountsOn : Content → Content → Type 0
+CountsOn old new = (new ≡ old) ⊎ ((size : ℕ) × (new ≡ left_behind old size))
+
 -- The stream goes on as if it had not been asked: whatever comes later, and whatever the table then is, its next pull does the same, and if
--- that has a header, the list that comes next is the same. It may have passed frames that give nothing, or hold the section of a frame that
--- it read.
+-- that has a section, the list that comes next is the same. It may have passed frames that give nothing, or hold the section of a frame that
+-- it read, or have begun a payload.
 pub record Resumes (side : Side) (own : Announced) (id : ℕ) (old new : Incoming) : Type 0 where
   pub same : new ≡ record old { unread = new.unread; section = new.section; body_left = new.body_left; content = new.content }
   pub pulls : (r : DecoderState) (pieces : List (List ℕ)) (ended : Bool) → pull_stream side own id r (with_more old pieces ended) ≡ pull_stream side own id r (with_more new pieces ended)
   pub lists : (r : DecoderState) (pieces : List (List ℕ)) (ended : Bool)
-      → HasNoHeader (pull_stream side own id r (with_more old pieces ended)).answer ⊎ (fields_next own r (with_more new pieces ended) ≡ fields_next own r (with_more old pieces ended))
+      → HasNoSection (pull_stream side own id r (with_more old pieces ended)).answer ⊎ (fields_next own r (with_more new pieces ended) ≡ fields_next own r (with_more old pieces ended))
+  pub next : StandsNext (kinds_of own) old new
 
 -- the stream where nothing is known of its content
 abbrev pub unsaid : Incoming → Incoming
@@ -156,4 +186,5 @@ pub record StandsAsked (s : EndpointState) (e : EndpointHistory) (id : ℕ) : Ty
   pub here : stream_at e.incoming id ≡ Some old
   pub resumes : Resumes e.side e.announced id old new
   pub plainly : ResumesPlainly e.side e.announced id old new
+  pub counts : CountsOn old.content new.content
   pub stands : StandsFor s (with_incoming e id new)

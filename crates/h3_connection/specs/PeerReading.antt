@@ -2,7 +2,7 @@
 use Rattle.std.specs.Prelude.{ℕ, zero, suc, ◌%◌, Bool, false, not, ◌||◌, List, [], ◌∷◌, ◌++◌, length, if◌then◌else◌, ◌==◌, nat_lt, Option, Some, None}
 use Rattle.h3_proto.specs.declared.stream.Side.{Side}
 use Rattle.h3_proto.specs.declared.stream.Side.TheVariants.{Client, Server}
-use Rattle.h3_wire.specs.ExcessiveFrames.{is_excessive}
+use Rattle.h3_wire.specs.ExcessiveFrames.{is_excessive_by}
 use Rattle.h3_wire.specs.Frames.{Front, Whole, Unknown, Refused, Unfinished, frame_by}
 use Rattle.h3_wire.specs.Known.{known_by}
 use Rattle.h3_wire.specs.declared.frame.kinds.FrameKinds.{FrameKinds}
@@ -11,17 +11,26 @@ use Rattle.h3_wire.specs.declared.proto.frame.Frame.{Frame}
 use Rattle.h3_wire.specs.declared.proto.frame.Frame.TheVariants as frame
 use Rattle.h3_wire.specs.declared.proto.frame.FrameError.{FrameError}
 use Rattle.h3_wire.specs.declared.proto.frame.FrameError.TheVariants as error
-use Rattle.h3_connection.specs.Codes.{excessive_load, frame_unexpected, id_error, missing_settings, refusal_code, settings_code}
+use Rattle.h3_connection.specs.Codes.{excessive_load, frame_unexpected, general_protocol_error, id_error, missing_settings, refusal_code, settings_code}
 use Rattle.h3_connection.specs.Lasts.{last_id}
+use Rattle.h3_connection.specs.Updates.{Updates, no_updates, with_update}
+use Rattle.h3_priority.specs.Priority.{PriorityParameters, priority_of}
+use Rattle.h3_proto.specs.StreamIds.{is_request_stream}
+use Rattle.h3_wire.specs.Update.{Update}
 
 pub record Peer : Type 0 where
   pub unread : List ℕ
   pub settings : Option (List (ℕ × ℕ))
   pub goaways : List ℕ
   pub most_pushes : Option ℕ
+  pub updates : Updates
+
+-- of a peer of whose updates so many are kept
+abbrev pub none_read : ℕ → Peer
+none_read most = record { unread = []; settings = None; goaways = []; most_pushes = None; updates = no_updates most }
 
 abbrev pub nothing_read : Peer
-nothing_read = record { unread = []; settings = None; goaways = []; most_pushes = None }
+nothing_read = none_read 0
 
 -- the peer after its bytes were read, and the code of a connection fault
 abbrev pub PeerFound : Type 0
@@ -55,6 +64,21 @@ read_max_push Client p id = (p, Some frame_unexpected)
 read_max_push Server p id =
     if is_below id p.most_pushes then (p, Some id_error) else (record p { most_pushes = Some id }, None)
 
+-- RFC 9218 7.2: PRIORITY_UPDATE, received
+-- a text that says no priority is a fault (RFC 9218, section 7)
+abbrev pub read_priority : Peer → ℕ → Option PriorityParameters → PeerFound
+read_priority p id None = (p, Some general_protocol_error)
+read_priority p id (Some priority) = (record p { updates = with_update p.updates id priority }, None)
+
+-- no push was promised, and a response has the id of its request stream
+abbrev pub is_no_element : Update → Bool
+is_no_element u = u.is_push || not (is_request_stream u.id)
+
+-- a client sends it, and no server
+abbrev pub read_update : Side → Peer → Update → PeerFound
+read_update Client p u = (p, Some frame_unexpected)
+read_update Server p u = if is_no_element u then (p, Some id_error) else read_priority p u.id (priority_of u.value)
+
 -- RFC 9114 7.2: frames out of place on a control stream
 -- RFC 9114 6.2.1: SETTINGS first
 -- a frame: the first has to be the settings, and no later one may
@@ -64,6 +88,7 @@ read_frame side p None _ = (p, Some missing_settings)
 read_frame side p (Some pairs) (frame.Goaway id) = read_goaway side p id
 read_frame side p (Some pairs) (frame.CancelPush id) = (p, Some id_error)
 read_frame side p (Some pairs) (frame.MaxPushId id) = read_max_push side p id
+read_frame side p (Some pairs) (frame.PriorityUpdate u) = read_update side p u
 read_frame side p (Some pairs) _ = (p, Some frame_unexpected)
 
 -- a frame that is refused: before the settings it counts as another frame, unless it is theirs
@@ -85,8 +110,8 @@ at_front go side p bytes (Unfinished least) = (with_unread p bytes, None)
 
 -- A frame that is longer than the endpoint takes is a fault of the connection (RFC 9114, sections 8.1 and 10.5), whether its payload came or
 -- not: its head is enough. What came is let go
-abbrev pub unless_excessive : ℕ → List ℕ → Peer → PeerFound → PeerFound
-unless_excessive limit bytes p found = if is_excessive limit bytes then (with_unread p [], Some excessive_load) else found
+abbrev pub unless_excessive : FrameKinds → ℕ → List ℕ → Peer → PeerFound → PeerFound
+unless_excessive kinds limit bytes p found = if is_excessive_by kinds limit bytes then (with_unread p [], Some excessive_load) else found
 
 -- Frames of unknown types are passed over before the settings too: that SETTINGS comes first (RFC 9114, section 6.2.1) is enforced against
 -- those by an endpoint that asks for a strict connection, in front of this reading.
@@ -94,7 +119,7 @@ abbrev pub read_within : FrameKinds → ℕ → ℕ → Side → Peer → PeerFo
 read_within kinds zero limit side p = (p, None)
 read_within kinds (suc most) limit side p =
     let bytes = known_by kinds p.unread in
-    unless_excessive limit bytes p (at_front (read_within kinds most limit side) side p bytes (frame_by kinds bytes))
+    unless_excessive kinds limit bytes p (at_front (read_within kinds most limit side) side p bytes (frame_by kinds bytes))
 
 -- all whole frames that were not read, up to the first fault, where the endpoint knows these kinds and takes no longer ones than this limit
 unfoldable pub read_peer : FrameKinds → ℕ → Side → Peer → PeerFound

@@ -10,7 +10,7 @@ use Rattle.h3_qpack.specs.Sizes.{last_value}
 use Rattle.h3_header.specs.Head.{Head, is_request, is_response, has_pseudo}
 use Rattle.h3_proto.specs.declared.stream.Side.{Side}
 use Rattle.h3_proto.specs.declared.stream.Side.TheVariants.{Client, Server}
-use Rattle.h3_wire.specs.ExcessiveFrames.{begins_section, is_excessive}
+use Rattle.h3_wire.specs.ExcessiveFrames.{begins_section, is_excessive_by}
 use Rattle.h3_wire.specs.Frames.{Front, Whole, Unknown, Refused, Unfinished, frame_by}
 use Rattle.h3_wire.specs.Pieces.{first_of, chunk_of, ending}
 use Rattle.h3_wire.specs.declared.proto.frame.PayloadLen.{PayloadLen}
@@ -249,7 +249,7 @@ module _ (side : Side) (own : Announced) (id : ℕ) (r : DecoderState) where
   abbrev pub between_frames : Incoming → Pulled
   between_frames i =
       let bytes = skipped (kinds_of own) (is_body i.place) (concat i.unread) in
-      if is_excessive own.choices.unfinished_limit bytes then excess id i bytes else next_frame (left_with i bytes) bytes
+      if is_excessive_by (kinds_of own) own.choices.unfinished_limit bytes then excess id i bytes else next_frame (left_with i bytes) bytes
 
   abbrev pub in_message : Incoming → Option (List ℕ) → Pulled
   in_message i (Some bytes) = at_section i bytes

@@ -1,6 +1,6 @@
 -- What is stored stands for the endpoint's history, when one part of both changes.
-use Rattle.std.proofs.Common.{◌≡◌, ℕ, Option, Some, None, refl, ap, sym, subst, ◌∙◌, inl, inr}
-use Rattle.std.specs.Prelude.{◌≢◌, ◌⊎◌, true, option_map, unwrap_or, IsSome, IfSome}
+use Rattle.std.proofs.Common.{◌≡◌, ℕ, length, Option, Some, None, refl, ap, sym, subst, ◌∙◌, inl, inr}
+use Rattle.std.specs.Prelude.{◌≢◌, ◌⊎◌, true, All, option_map, unwrap_or, IsSome, IfSome}
 use Rattle.std.proofs.lemmas.Bool.{cases_eq}
 use Rattle.std.proofs.lemmas.List.Elements.{All-weaker}
 use Rattle.h3_proto.specs.declared.stream.Side.{Side}
@@ -11,7 +11,7 @@ use Rattle.h3_connection.specs.Endpoint.{EndpointHistory}
 use Rattle.h3_connection.specs.Incoming.{Incoming}
 use Rattle.h3_connection.specs.Outgoing.{Outgoing}
 use Rattle.h3_connection.specs.Sending.{with_outgoing}
-use Rattle.h3_connection.specs.State.{EndpointState, RequestState, OwnState, StandsFor, OwnStands, IsOfOutgoing, IsReached, IsToldPeer, KeepsOpen, SameAt, kept_at}
+use Rattle.h3_connection.specs.State.{EndpointState, RequestState, OwnState, StandsFor, OwnStands, IsOfOutgoing, IsBehind, IsReached, IsToldPeer, KeepsOpen, SameAt, kept_at}
 use Rattle.h3_connection.specs.StreamSets.{Streams, stream_at, set_stream}
 use Rattle.h3_connection.specs.StreamSetLaws.{other_id, set-here, set-other, set-distinct}
 use Rattle.h3_connection.specs.Unidirectional.{Unidirectional, untold, is_critical}
@@ -26,8 +26,20 @@ own_same own e f is h = subst (OwnStands own) (sym is) (record {
 })
 
 -- what every history has in common, of one that differs elsewhere
-pub reached_same : (e f : EndpointHistory) → f ≡ record e { outgoing = f.outgoing; sent = f.sent; next_id = f.next_id; closed = f.closed; own = f.own } → IsReached e → IsReached f
-reached_same e f is h = subst IsReached (sym is) (record { unlearned = h.unlearned; control = h.control; encoder = h.encoder; decoder = h.decoder; told_control = h.told_control; told_encoder = h.told_encoder; told_decoder = h.told_decoder; kept = h.kept })
+pub reached_same : (e f : EndpointHistory) → f ≡ record e { outgoing = f.outgoing; sent = f.sent; next_id = f.next_id; closed = f.closed; own = f.own } → All (IsBehind (length f.own.goaways)) f.own.updates
+    → IsReached e → IsReached f
+reached_same e f is own_updates h =
+    subst IsReached (sym is) (record {
+      unlearned = h.unlearned;
+      control = h.control;
+      encoder = h.encoder;
+      decoder = h.decoder;
+      told_control = h.told_control;
+      told_encoder = h.told_encoder;
+      told_decoder = h.told_decoder;
+      kept = h.kept;
+      own_updates = own_updates;
+    })
 
 -- a stream that is there stays there
 there_by : (streams : Streams Incoming) (id q : ℕ) (i : Incoming) → q ≡ id ⊎ q ≢ id → IsSome (stream_at streams q) → IsSome (stream_at (set_stream streams id i) q)
@@ -49,6 +61,7 @@ reached_receiving e id i h =
       told_encoder = h.told_encoder;
       told_decoder = h.told_decoder;
       kept = All-weaker (KeepsOpen e.side e.incoming) (KeepsOpen e.side (set_stream e.incoming id i)) (λ a keeps is. still_there e.incoming id (stream_of a) i (keeps is)) e.kept h.kept;
+      own_updates = h.own_updates;
     }
 
 -- a map whose stream at this id is now another one, seen through one part of its streams
@@ -110,7 +123,7 @@ stands_sending s e new id before x o h was same is sets =
       kept = h.kept;
       sent = h.sent;
       order = h.order;
-      reached = reached_same e (with_outgoing e id o) refl h.reached;
+      reached = reached_same e (with_outgoing e id o) refl h.reached.own_updates h.reached;
     }
 
 -- The receiver's part of a request stream changes.
@@ -168,7 +181,7 @@ stands_both s e new id x o h is sets =
       kept = h.kept;
       sent = h.sent;
       order = h.order;
-      reached = reached_same (with_incoming e id x.incoming) after refl (reached_receiving e id x.incoming h.reached);
+      reached = reached_same (with_incoming e id x.incoming) after refl h.reached.own_updates (reached_receiving e id x.incoming h.reached);
     }
 
 -- A stream that is read as one of the connection's is one still where a stream changes that stays told.
@@ -197,6 +210,7 @@ reached_unidirectional e id o keeps h =
       told_encoder = told_set e.side e.unidirectional id o e.encoder_on keeps h.told_encoder;
       told_decoder = told_set e.side e.unidirectional id o e.decoder_on keeps h.told_decoder;
       kept = h.kept;
+      own_updates = h.own_updates;
     }
 
 -- A unidirectional stream of the peer changes, or is the first that comes of it. One that told to be the connection's stays so.

@@ -22,7 +22,8 @@ use Rattle.h3_connection.specs.OwnIds.{control_id, encoder_id, decoder_id}
 use Rattle.h3_connection.specs.PeerReading.{Peer}
 use Rattle.h3_connection.specs.Arrivals.{Arrival, stream_of}
 use Rattle.h3_connection.specs.StreamSets.{Streams, HaveDistinctIds, stream_at}
-use Rattle.h3_connection.specs.Endpoint.{EndpointHistory, goaway_encoding, own_waiting, kind_of}
+use Rattle.h3_connection.specs.Endpoint.{EndpointHistory, own_waiting, kind_of}
+use Rattle.h3_connection.specs.OwnUpdates.{OwnUpdate, control_frames}
 use Rattle.h3_connection.specs.Endpoint.Kind.{Request, PeerUnidirectional}
 use Rattle.h3_connection.specs.declared.setup.Announced.{Announced}
 use Rattle.h3_connection.specs.Order.{default_precedence}
@@ -102,7 +103,7 @@ SameAt same (Some x) None = ⊥
 
 -- of each own text no more was taken than there is
 pub record TakesWhatIsThere (e : EndpointHistory) : Type 0 where
-  pub control : e.own.control_taken ≤ length (control_encoding e.announced.settings ++ flat_map goaway_encoding e.own.goaways)
+  pub control : e.own.control_taken ≤ length (control_encoding e.announced.settings ++ control_frames 0 e.own.goaways e.own.updates)
   pub encoder : e.own.encoder_taken ≤ length (encoding 2 ++ flat_map encoder_bytes e.own.instructions)
   pub decoder : e.own.decoder_taken ≤ length (encoding 3 ++ flat_map decoder_bytes e.own.replies)
 
@@ -121,6 +122,10 @@ KeepsOpen side streams a = kind_of side (stream_of a) ≡ Request → IsSome (st
 abbrev pub IsToldPeer : Side → Streams Unidirectional → ℕ → Type 0
 IsToldPeer side streams id = (kind_of side id ≡ PeerUnidirectional) × (is_critical (unwrap_or (stream_at streams id) untold).role ≡ true)
 
+-- an update that stands after no more than so many GOAWAY frames
+abbrev pub IsBehind : ℕ → OwnUpdate → Type 0
+IsBehind written u = u.behind ≤ written
+
 -- What every history has in common that calls made: no other one is stood for.
 pub record IsReached (e : EndpointHistory) : Type 0 where
   -- no table is used before the peer's settings came
@@ -135,6 +140,8 @@ pub record IsReached (e : EndpointHistory) : Type 0 where
   pub told_decoder : IfSome e.decoder_on (IsToldPeer e.side e.unidirectional)
   -- a request stream of which something is kept is open
   pub kept : All (KeepsOpen e.side e.incoming) e.kept
+  -- each update that was written stands after GOAWAY frames that were
+  pub own_updates : All (IsBehind (length e.own.goaways)) e.own.updates
 
 -- What is stored is what this history leaves.
 pub record StandsFor (s : EndpointState) (e : EndpointHistory) : Type 0 where

@@ -61,8 +61,12 @@ session_fault own id = if is_no_session own id then Some id_error else None
 abbrev pub knows_sessions : Announced → Bool
 knows_sessions own = not (is_strict own) || is_enabled 0x2b603742 own.settings
 
+-- PRIORITY_UPDATE is known if what it says is kept (RFC 9218, section 7.2)
+abbrev pub knows_updates : Announced → Bool
+knows_updates own = nat_lt 0 own.choices.extensions.priority_updates
+
 abbrev pub kinds_of : Announced → FrameKinds
-kinds_of own = record { sessions = knows_sessions own }
+kinds_of own = record { sessions = knows_sessions own; updates = knows_updates own }
 
 -- A client begins no request once its peer's GOAWAY came (RFC 9114, section 5.2), on a stream that was opened before either
 abbrev pub begins_none_after : Announced → Side → Option ℕ → Option ℕ

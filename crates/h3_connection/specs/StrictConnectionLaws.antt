@@ -7,8 +7,6 @@ use Rattle.h3_proto.specs.StreamIds.{is_request_stream}
 use Rattle.h3_proto.specs.declared.stream.Side.{Side}
 use Rattle.h3_proto.specs.declared.stream.Side.TheVariants.{Client, Server}
 use Rattle.h3_proto.specs.Config.{is_enabled}
-use Rattle.h3_wire.specs.declared.frame.kinds.FrameKinds.{FrameKinds}
-use Rattle.h3_wire.specs.Frames.{plain_frames}
 use Rattle.h3_wire.specs.FirstFrames.{begins_other, is_other}
 use Rattle.h3_connection.specs.Announcing.{unless_alone, unless_below}
 use Rattle.h3_connection.specs.Codes.{id_error, missing_settings, settings_error}
@@ -52,12 +50,9 @@ begins_any own Server last off = refl
 pub announces_any : (own : Announced) → is_strict own ≡ false → unless_alone own ≡ unless_below own
 announces_any own off = ap (λ b. if b && lacks_datagrams own.settings then Err (Settings (InvalidSettingValue 0x2b603742 1)) else unless_below own) off
 
--- it knows frames of all kinds, and sessions on unidirectional streams
+-- it knows frames of sessions, and sessions on unidirectional streams
 pub knows_all : (own : Announced) → is_strict own ≡ false → knows_sessions own ≡ true
 knows_all own off = ap (λ b. not b || is_enabled 0x2b603742 own.settings) off
-
-pub kinds_off : (own : Announced) → is_strict own ≡ false → kinds_of own ≡ plain_frames
-kinds_off own off = ap (λ (b : Bool). let kinds : FrameKinds = record { sessions = b } in kinds) (knows_all own off)
 
 -- what the control stream says
 refused_none : (e : EndpointHistory) (before after : Option (List (ℕ × ℕ))) → is_strict e.announced ≡ false → are_refused e before after ≡ false

@@ -3,7 +3,7 @@ use Rattle.std.specs.Prelude.{◌≡◌, ◌≢◌, ℕ, Bool, false, ◌==◌, 
 use Rattle.std.specs.List.{concat, AllByRecursion, list_any}
 use Rattle.h3_coding.specs.Encodings.{IsEncoding}
 use Rattle.h3_wire.specs.declared.frame.kinds.FrameKinds.{FrameKinds}
-use Rattle.h3_wire.specs.Frames.{is_http2, is_session}
+use Rattle.h3_wire.specs.Frames.{is_http2, is_session, is_update}
 use Rattle.h3_connection.specs.Control.{awaits_settings}
 use Rattle.h3_connection.specs.Delivering.{delivery_refusal, unidirectional_at}
 use Rattle.h3_connection.specs.Endpoint.{EndpointHistory, kind_of}
@@ -13,9 +13,9 @@ use Rattle.h3_connection.specs.StreamSets.{stream_at}
 use Rattle.h3_connection.specs.Unidirectional.Role.{Control}
 use Rattle.h3_connection.specs.declared.place.Place.TheVariants.{InSession}
 
--- the types that have a meaning (RFC 9114, section 7.2; 0x41 where sessions of WebTransport are known)
+-- the types that have a meaning (RFC 9114, section 7.2; 0x41 if sessions of WebTransport are known, those of PRIORITY_UPDATE if it is)
 abbrev pub has_meaning : FrameKinds → ℕ → Bool
-has_meaning kinds kind = is_session kinds kind || list_any (λ k. kind == k) (0 ∷ 1 ∷ 3 ∷ 4 ∷ 5 ∷ 7 ∷ 13 ∷ [])
+has_meaning kinds kind = is_session kinds kind || (is_update kinds kind || list_any (λ k. kind == k) (0 ∷ 1 ∷ 3 ∷ 4 ∷ 5 ∷ 7 ∷ 13 ∷ []))
 
 -- The bytes are one whole frame of another type (RFC 9114, section 7.1): its type and length in any encoding, and its payload. Reserved
 -- types (RFC 9114, section 7.2.8) are among them.

@@ -58,7 +58,7 @@ pub fn a_connection_fault_stays()
 ghost use Rattle.h3_connection.specs.Arrivals.{Arrival};
 ghost use Rattle.h3_field.specs.Field.{Field};
 ghost use Rattle.h3_connection.specs.Bounds.{IsBounded, StandsBounded};
-ghost use Rattle.h3_connection.specs.PartReading.{ReadsPart};
+ghost use Rattle.h3_connection.specs.PartReading.{ReadsPart, Resumes};
 ghost use Rattle.h3_connection.specs.ReceivingContracts.{StoresArrival, LosesNothing};
 ghost use Rattle.h3_connection.specs.SendingContracts.{CutsOff};
 ghost use Rattle.h3_connection.specs.Shown.{block_tries, waiting_heads};
@@ -76,6 +76,7 @@ pub fn tries_and_waiting_streams_are_bounded()
     ensures lost { (e : EndpointHistory) (id : ℕ) (new : EndpointState) → IsBounded e → LosesNothing e id new → StandsBounded new }
     ensures cut_off { (e : EndpointHistory) (id : ℕ) (fields : List Field) (new : EndpointState) → IsBounded e → CutsOff e id fields new → StandsBounded new }
     ensures part { (e after : EndpointHistory) (arrivals : List Arrival) → IsBounded e → ReadsPart e arrivals after → IsBounded after }
+    ensures asked { (e : EndpointHistory) (id : ℕ) (old new : Incoming) → stream_at e.incoming id ≡ Some old → Resumes e.side e.announced id old new → IsBounded e → IsBounded (with_incoming e id new) }
     ensures tries { (e : EndpointHistory) (id : ℕ) → IsBounded e → block_tries e id ≤ 2 }
     ensures waiting { (e : EndpointHistory) → IsBounded e → waiting_heads e ≤ e.announced.limits.blocked }
 {}
@@ -321,14 +322,13 @@ ghost use Rattle.h3_connection.specs.Endpoint.{limit_of};
 ghost use Rattle.h3_connection.specs.Announcing.{unless_alone, unless_below};
 ghost use Rattle.h3_connection.specs.Pulling.{at_session, just};
 ghost use Rattle.h3_connection.specs.StrictConnection.{begins_none_after, is_strict, session_fault, settings_refused, stream_fault};
-ghost use Rattle.h3_wire.specs.Frames.{plain_frames};
 ghost use Rattle.h3_connection.specs.declared.place.Place.TheVariants.{InSession};
 ghost use Rattle.std.specs.Prelude.{Option, false};
 
 /// If an endpoint does not ask for a strict connection, it judges by no rule of `Config::with_strict_connection`: neither settings, nor the
 /// first frame of the control stream (`control`), nor the ids of sessions (`stream`, `place`), nor what a section names (`decoder`), nor what
 /// it sends after a GOAWAY (`begins`) or announces (`announces`). A fault of the encoder or decoder stream keeps its code (`fault`). Frames of
-/// all kinds are known to it, and sessions on unidirectional streams (`kinds`, `sessions`).
+/// sessions are known to it, and sessions on unidirectional streams (`kinds`, `sessions`).
 pub fn without_a_strict_connection_nothing_more_is_judged()
     ensures settings { (side : Side) (own : Announced) (settings : Option (List (ℕ × ℕ))) → is_strict own ≡ false → settings_refused side own settings ≡ false }
     ensures control { (e : EndpointHistory) (bytes : List ℕ) → is_strict e.announced ≡ false →
@@ -340,6 +340,36 @@ pub fn without_a_strict_connection_nothing_more_is_judged()
     ensures decoder { (own : Announced) → is_strict own ≡ false → first_decoder own ≡ announcing own.limits.table }
     ensures begins { (own : Announced) (side : Side) (last : Option ℕ) → is_strict own ≡ false → begins_none_after own side last ≡ None }
     ensures announces { (own : Announced) → is_strict own ≡ false → unless_alone own ≡ unless_below own }
-    ensures kinds { (own : Announced) → is_strict own ≡ false → kinds_of own ≡ plain_frames }
+    ensures kinds { (own : Announced) → is_strict own ≡ false → (kinds_of own).sessions ≡ true }
     ensures sessions { (own : Announced) → is_strict own ≡ false → knows_sessions own ≡ true }
+{}
+
+ghost use Rattle.std.specs.Prelude.{flat_map};
+ghost use Rattle.h3_wire.specs.ExcessiveFrames.{is_excessive, is_excessive_by};
+ghost use Rattle.h3_wire.specs.Frames.{frame_known, frame_of};
+ghost use Rattle.h3_wire.specs.declared.frame.kinds.FrameKinds.{FrameKinds};
+ghost use Rattle.h3_connection.specs.OwnUpdates.{control_frames, goaway_encoding};
+ghost use Rattle.h3_connection.specs.Prioritizing.{use_updates, with_waiting};
+
+/// If an endpoint keeps nothing of what updates of priorities say, PRIORITY_UPDATE is of an unknown type to it (`kinds`): such a frame has no
+/// meaning (`front`), and its length no limit (`long`). If no update waits there is nothing to use (`used`), and without updates that were
+/// written a control stream has its GOAWAY frames alone (`text`).
+pub fn without_updates_nothing_of_them_is_read()
+    ensures kinds { (own : Announced) → own.choices.extensions.priority_updates ≡ 0 → (kinds_of own).updates ≡ false }
+    ensures front { (kinds : FrameKinds) (kind : ℕ) (payload rest : List ℕ) → kinds.updates ≡ false → frame_known kinds kind payload rest ≡ frame_of kind payload rest }
+    ensures long { (kinds : FrameKinds) (most : ℕ) (bytes : List ℕ) → kinds.updates ≡ false → is_excessive_by kinds most bytes ≡ is_excessive most bytes }
+    ensures used { (e : EndpointHistory) (count : ℕ) → e.peer.updates.waiting ≡ [] → use_updates e count ≡ with_waiting e [] }
+    ensures text { (ids : List ℕ) → control_frames 0 ids [] ≡ flat_map goaway_encoding ids }
+{}
+
+ghost use Rattle.std.specs.Prelude.{◌<◌, length};
+ghost use Rattle.h3_scheduler.specs.declared.round.Rounds.{Rounds};
+ghost use Rattle.h3_connection.specs.EndpointTurns.{turns_of, EndpointTurn, WaitsForTurn};
+
+/// None of an endpoint's request streams starves (RFC 9218, section 10): while one waits for its turn, and `advance` is called for the streams
+/// of its urgency that `next_by_priority` names, none of these has a third turn. Streams may come, end and change between turns.
+#[tactic(auto, using(crate::proofs::EndpointTurns::two_turns))]
+pub fn none_has_a_third_turn()
+    ensures { (urgency waiting id : ℕ) (r : Rounds) (turns : List EndpointTurn) → urgency < length r.rounds → WaitsForTurn urgency waiting (Some r) turns →
+        turns_of urgency id turns ≤ 2 }
 {}

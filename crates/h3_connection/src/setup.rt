@@ -1,11 +1,14 @@
 //! What an endpoint announces.
-ghost use Rattle.std.specs.Prelude.{◌≡◌, ◌<◌, ◌^◌};
+ghost use Rattle.std.specs.Prelude.{◌≡◌, ◌<◌, ◌≤◌, ◌^◌};
 ghost use Rattle.h3_proto.specs.Config.{announced, is_enabled};
 ghost use Rattle.h3_connection.specs.Announcing.{announced_by, connects, is_below_announced, least_limit, section_of};
 ghost use Rattle.h3_connection.specs.StrictConnection.{announces_alone, have_bad_value, is_no_flag, is_no_session, judges_connect, kinds_of, knows_sessions, lacks_datagrams, refuses_settings};
+ghost use Rattle.h3_connection.specs.Updates.{most_updates};
 
 use h3_coding::varint::VarInt;
-use h3_proto::config::{Choices, Config, MAX_BLOCKED_STREAMS, MAX_TABLE_CAPACITY};
+use h3_proto::config::{
+    Choices, Config, MAX_BLOCKED_STREAMS, MAX_PRIORITY_UPDATES, MAX_TABLE_CAPACITY,
+};
 use h3_proto::frame::{SettingId, Settings, SettingsError};
 use h3_proto::stream::Side;
 use h3_wire::frame::FrameKinds;
@@ -138,7 +141,19 @@ impl Announced {
     {
         FrameKinds {
             sessions: self.knows_sessions(),
+            updates: self.choices.extensions.priority_updates > 0,
         }
+    }
+
+    /// Of how many streams it keeps what PRIORITY_UPDATE frames said (RFC 9218, section 7.2).
+    pub fn most_updates(&self) -> usize
+        ensures value { result ≡ most_updates self.now }
+        ensures few { result ≤ 128 }
+    {
+        self.choices
+            .extensions
+            .priority_updates
+            .min(MAX_PRIORITY_UPDATES) as usize
     }
 
     /// Whether it limits what is unfinished to less than what a peer may send that keeps to what is announced.

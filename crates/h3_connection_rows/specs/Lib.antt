@@ -22,3 +22,4 @@ pub mod ServerCases4
 pub mod ServerCases5
 pub mod ServerCases6
 pub mod OrderRows
+pub mod UpdateRows

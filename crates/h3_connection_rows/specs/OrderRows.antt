@@ -2,8 +2,7 @@
 use Rattle.std.specs.Prelude.{ℕ, zero, suc, Bool, true, false, ◌||◌, List, [], ◌∷◌, length, map, nat_lt, Option, Some, None}
 use Rattle.h3_priority.specs.Priority.{PriorityParameters}
 use Rattle.h3_proto.specs.declared.stream.Side.TheVariants.{Client}
-use Rattle.h3_scheduler.specs.Streams.{next_of}
-use Rattle.h3_scheduler.specs.declared.stream.Stream.{Stream}
+use Rattle.h3_scheduler.specs.Streams.{Stream, next_of}
 use Rattle.h3_connection.specs.ByPriority.{first_own, hold, set_priority}
 use Rattle.h3_connection.specs.CallLists.{endpoint_after}
 use Rattle.h3_connection.specs.CallLists.Call.{Advance, OpenRequest}

@@ -24,3 +24,4 @@ pub mod server_cases_6;
 pub mod strict_rows;
 pub mod table_rows;
 pub mod unread_rows;
+pub mod update_rows;

@@ -83,17 +83,17 @@ pub record StepsSo (setup : Setup) (k : KeepingWorld) (e : Event) (a : Answer) (
 pub sound_of : (setup : Setup) (k : KeepingWorld) (ends : Ends) → StandsKeeping setup k ends → IsSoundKeeping setup k
 sound_of setup k ends h = record { sound = h.stands.sound; client = h.client.may; server = h.server.may }
 
-pulled_is : (ends : Ends) (side : Side) (x : Pull × EndpointHistory) → was_pulled ends side x ≡ (answer.Pulled x.0, with_end ends side x.1)
+pub pulled_is : (ends : Ends) (side : Side) (x : Pull × EndpointHistory) → was_pulled ends side x ≡ (answer.Pulled x.0, with_end ends side x.1)
 pulled_is ends side (a, e) = refl
 
-listed_is : (ends : Ends) (side : Side) (id : ℕ) (x : Pull × EndpointHistory) → was_listed ends side id x ≡ (answer.Listed (listed_pull (fields_behind (end_at ends side).kept (end_at ends side) id) x.0), with_end ends side x.1)
+pub listed_is : (ends : Ends) (side : Side) (id : ℕ) (x : Pull × EndpointHistory) → was_listed ends side id x ≡ (answer.Listed (listed_pull (fields_behind (end_at ends side).kept (end_at ends side) id) x.0), with_end ends side x.1)
 listed_is ends side id (a, e) = refl
 
-end_set : (ends : Ends) (side : Side) (e : EndpointHistory) → end_at (with_end ends side e) side ≡ e
+pub end_set : (ends : Ends) (side : Side) (e : EndpointHistory) → end_at (with_end ends side e) side ≡ e
 end_set ends Client e = refl
 end_set ends Server e = refl
 
-set_twice : (ends : Ends) (side : Side) (e f : EndpointHistory) → with_end (with_end ends side e) side f ≡ with_end ends side f
+pub set_twice : (ends : Ends) (side : Side) (e f : EndpointHistory) → with_end (with_end ends side e) side f ≡ with_end ends side f
 set_twice ends Client e f = refl
 set_twice ends Server e f = refl
 
@@ -131,7 +131,7 @@ end_keeps : (setup : Setup) (k : KeepingWorld) (ends : Ends) (side : Side) → S
 end_keeps setup k ends Client h none = ap (λ (e : EndpointHistory). e.kept) h.client.is ∙ none_came _ _ _ k.at_client h.client.arrivals none h.client.kept
 end_keeps setup k ends Server h none = ap (λ (e : EndpointHistory). e.kept) h.server.is ∙ none_came _ _ _ k.at_server h.server.arrivals none h.server.kept
 
-reads_none : (e : EndpointHistory) → e.kept ≡ [] → read_all e.kept (unkept e) ≡ (e, None)
+pub reads_none : (e : EndpointHistory) → e.kept ≡ [] → read_all e.kept (unkept e) ≡ (e, None)
 reads_none e none = ap (λ l. read_all l (unkept e)) none ∙ ap (λ l. let x : Found = (record e { kept = l }, None) in x) (sym none)
 
 neither : (x y : Bool) → x ≡ false → y ≡ false → (x || y) ≡ false
@@ -170,7 +170,7 @@ module _ (laws : StepLaws) (moves : MemoryMoves) (setup : Setup) (made : IsMadeS
     other_pull : answered pe (event.Pull side id) ≡ (answer.Pulled (pulls (plainly e) id).0, with_end pe side (pulls (plainly e) id).1)
     other_pull = pulled_is pe side (pulls (end_at pe side) id) ∙ ap (λ z. let x : Answer × Ends = (answer.Pulled (pulls z id).0, with_end pe side (pulls z id).1) in x) (at_end ends side)
 
-    unsettled_before : settled u side id ≡ None → is_settled k.world side id ≡ false
+    pub unsettled_before : settled u side id ≡ None → is_settled k.world side id ≡ false
     unsettled_before unsettled =
         let c = moves.caught ps k side sound in
         let f = flow k.world (other side) id in

@@ -3,7 +3,6 @@ mod AnyPull
 mod AnyStep
 mod Quiet
 mod Runs
-mod UntilMemory
 mod SoundSteps
 mod Accounts
 mod Takes
@@ -11,3 +10,10 @@ mod Ordered
 mod Telling
 mod Delivered
 mod Joined
+mod BehindBoth
+mod CaughtUpEnds
+mod PullsNext
+mod ArrivesNext
+mod AlikeFaultless
+mod AlikeSteps
+mod AlikeRuns

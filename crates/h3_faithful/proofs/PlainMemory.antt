@@ -161,6 +161,7 @@ module _ (does : (e : EndpointHistory) → DoesPlainly e) (ends new : Ends) wher
         here = (does after).stream id ∙ ap (option_map plain_incoming) a.here;
         resumes = a.plainly (plain after.announced) refl refl;
         plainly = λ own known none. a.plainly own known none;
+        counts = inl refl;
         is = at_end new side ∙ ap plainly a.is ∙ sym ((does after).sets id a.asked);
       }
 

@@ -22,7 +22,6 @@ use Rattle.h3_memory.specs.Keeping.{StandsKeeping}
 use Rattle.h3_memory.specs.Refused.{AnswerOf, EndsRun, EndsStep}
 use Rattle.h3_memory.specs.Theorem.{RunsWithMemory}
 use Rattle.h3_strict.specs.PlainEnds.{Alike, Judges, RefusesMalformed as RefusedSo, StepsPlainly, is_malformed_refusal, judges, plain_ends, plain_setup}
-use Rattle.h3_faithful.specs.FaultFree.{JudgesNoFault}
 use Rattle.h3_faithful.specs.Faithful.{is_without_fault}
 use Rattle.h3_faithful.specs.Steps.{HappensAnywhere, RunsUntilFault, is_send}
 use Rattle.h3_faithful.proofs.Accounts.{MemoryMoves}
@@ -49,12 +48,12 @@ pub record RanTo (setup : Setup) (k : KeepingWorld) (n : ℕ) (events : List Eve
   pub rest : EndsRun ends (drop n events) (drop n answers) last
 
 -- two that are none
-neither : (x y : Bool) → (x || y) ≡ false → (x ≡ false) × (y ≡ false)
+pub neither : (x y : Bool) → (x || y) ≡ false → (x ≡ false) × (y ≡ false)
 neither true y h = absurd (cc)
 neither false y h = (refl, h)
 
 -- what is told of memory is no fault of the connection
-memory_faultless : (a : Answer) → is_out_of_memory a ≡ true → is_connection_fault a ≡ false
+pub memory_faultless : (a : Answer) → is_out_of_memory a ≡ true → is_connection_fault a ≡ false
 memory_faultless (answer.Refused refusal.OutOfMemory) h = refl
 memory_faultless (answer.Refused refusal.Kept) h = refl
 memory_faultless (answer.Pulled (pull.Fault fault.Memory)) h = refl
@@ -62,12 +61,12 @@ memory_faultless (answer.Listed (list.Fault fault.Memory)) h = refl
 memory_faultless a h = absurd (cc)
 
 -- nor is a malformed send
-malformed_faultless : (a : Answer) → is_malformed_refusal a ≡ true → is_connection_fault a ≡ false
+pub malformed_faultless : (a : Answer) → is_malformed_refusal a ≡ true → is_connection_fault a ≡ false
 malformed_faultless (answer.Refused (refusal.Malformed why)) h = refl
 malformed_faultless a h = absurd (cc)
 
 -- a send judges nothing
-send_judges : (ends : Ends) (e : Event) → is_send e ≡ true → judges ends e ≡ false
+pub send_judges : (ends : Ends) (e : Event) → is_send e ≡ true → judges ends e ≡ false
 send_judges ends (event.Head side id head) h = refl
 send_judges ends (event.Fields side id fields) h = refl
 send_judges ends (event.Body side id bytes) h = refl
@@ -114,11 +113,11 @@ module _ (laws : RunLaws) (setup : Setup) (made : IsMadeSetup setup) where
   send_faultless k ends new e a stands sendable step sends =
       unjudged_faultless k ends new e a stands sendable step (λ judged. absurd (let never : true ≡ false = sym judged ∙ send_judges ends e sends in cc))
 
-  abbrev first : KeepingWorld
+  abbrev pub first : KeepingWorld
   first = nothing_kept (empty_world ps)
 
   -- two new ends stand in the empty world
-  new_stand : StandsKeeping ps first (plain_ends (new_ends setup))
+  pub new_stand : StandsKeeping ps first (plain_ends (new_ends setup))
   new_stand =
       let r = laws.runs ps [] [] (new_ends ps) (laws.steps.made setup made) (laws.steps.judges setup) tt refl in
       subst (StandsKeeping ps first) (sym (laws.new_plain setup)) (subst (λ k. StandsKeeping ps k (new_ends ps)) r.run r.stands)
@@ -136,19 +135,3 @@ module _ (laws : RunLaws) (setup : Setup) (made : IsMadeSetup setup) where
     where
       front : (n : ℕ) → is_without_fault n answers → RanTo setup first n events answers ends
       front n none = ran n first (new_ends setup) events answers ends new_stand (new_quiet laws.quiet setup) sendable run none
-
-  -- **And no answer is a fault where no event that judges finds one.**
-  pub fault_free : (events : List Event) (answers : List Answer) (ends : Ends) → AllByRecursion (IsSendable setup) events → (run : EndsRun (new_ends setup) events answers ends) → JudgesNoFault (new_ends setup) events answers ends run
-      → list_any is_connection_fault answers ≡ false
-  fault_free events answers last sendable run free = from events answers first (new_ends setup) new_stand (new_quiet laws.quiet setup) sendable run free
-    where
-      from : (events : List Event) (answers : List Answer) (k : KeepingWorld) (ends : Ends) → StandsKeeping ps k (plain_ends ends) → QuietSides setup ends → AllByRecursion (IsSendable setup) events
-          → (run : EndsRun ends events answers last) → JudgesNoFault ends events answers last run → list_any is_connection_fault answers ≡ false
-      from [] [] k ends stands quiet sendable run free = refl
-      from (e ∷ events) (a ∷ answers) k ends stands quiet sendable run free =
-          let faultless = unjudged_faultless k ends run.0 e a stands sendable.0 run.1 free.0 in
-          let on = any_step laws.steps laws.moves setup made k ends stands run.0 e a sendable.0 (refuses_plainly laws.quiet setup ends e quiet) run.1 faultless in
-          let rest = from events answers on.after run.0 on.stands (quiet_step laws.quiet setup ends run.0 e a quiet run.1) sendable.1 run.2 free.1 in
-          ap (λ b. b || list_any is_connection_fault answers) faultless ∙ rest
-      from [] (a ∷ answers) k ends stands quiet sendable run free = absurd run
-      from (e ∷ events) [] k ends stands quiet sendable run free = absurd run

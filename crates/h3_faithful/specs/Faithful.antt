@@ -3,9 +3,7 @@ use Rattle.std.specs.Prelude.{◌≡◌, ℕ, Bool, true, false, ◌&&◌, ◌||
 use Rattle.std.specs.List.{list_any}
 use Rattle.h3_proto.specs.declared.stream.Side.{Side}
 use Rattle.h3_connection.specs.OwnIds.{other, encoder_id}
-use Rattle.h3_connection.specs.declared.event.Fault.TheVariants as fault
 use Rattle.h3_connection.specs.declared.event.Pull.{Pull}
-use Rattle.h3_connection.specs.declared.event.Pull.TheVariants as pull
 use Rattle.h3_connection.specs.declared.event.Refusal.TheVariants as refusal
 use Rattle.h3_world.specs.Headline.{is_connection_fault}
 use Rattle.h3_world.specs.Lists.{pull_of}
@@ -15,7 +13,6 @@ use Rattle.h3_world.specs.declared.event.Answer.{Answer}
 use Rattle.h3_world.specs.declared.event.Answer.TheVariants as answer
 use Rattle.h3_world.specs.declared.event.Event.{Event}
 use Rattle.h3_world.specs.declared.event.Event.TheVariants as event
-use Rattle.h3_world.specs.declared.lists.ListPull.TheVariants as list
 use Rattle.h3_world.specs.declared.setup.Setup.{Setup}
 use Rattle.h3_headline.specs.Changes.{resets_on}
 use Rattle.h3_headline.specs.Exactly.{IsAllOf, IsExactly, reader_at}
@@ -84,15 +81,3 @@ pub record UntilFault (setup : Setup) (events : List Event) (answers : List Answ
 pub record Faithful (setup : Setup) (events : List Event) (answers : List Answer) : Type 0 where
   pub until_fault : UntilFault setup events answers
   pub no_connection_fault : JudgeAlike setup → list_any is_connection_fault answers ≡ false
-
--- What was handed over is kept until there is memory, or a pull waits for it.
-abbrev pub waits_for_memory : Answer → Bool
-waits_for_memory (answer.Refused refusal.Kept) = true
-waits_for_memory (answer.Pulled (pull.Fault fault.Memory)) = true
-waits_for_memory (answer.Listed (list.Fault fault.Memory)) = true
-waits_for_memory _ = false
-
--- Between sides that judge alike there is no such fault up to the first answer that tells so. An allocation for what is sent, opened, cancelled or handed
--- over may fail.
-abbrev pub NoFaultUntilKept : Setup → List Answer → Type 0
-NoFaultUntilKept setup answers = JudgeAlike setup → (n : ℕ) → list_any waits_for_memory (take n answers) ≡ false → list_any is_connection_fault (take n answers) ≡ false

@@ -1,5 +1,5 @@
 -- Worked schedules of sides that judge plainly, and of such as are strict or limit what is unfinished.
-use Rattle.std.specs.Prelude.{ℕ, Bool, true, false, ◌&&◌, List, [], ◌∷◌, ◌++◌, codes, Some, None}
+use Rattle.std.specs.Prelude.{ℕ, Bool, true, false, ◌&&◌, List, [], ◌∷◌, ◌++◌, codes}
 use Rattle.h3_header.specs.Head.{Head as Fields, head_fields}
 use Rattle.h3_proto.specs.Config.{no_choices, no_extensions}
 use Rattle.h3_proto.specs.declared.stream.Side.{Side}
@@ -11,7 +11,7 @@ use Rattle.h3_connection.specs.declared.event.Pull.TheVariants as pull
 use Rattle.h3_connection.specs.declared.event.Refusal.TheVariants as refusal
 use Rattle.h3_connection.specs.declared.event.StreamFault.TheVariants as stream_fault
 use Rattle.h3_connection.specs.declared.setup.Announced.{Announced}
-use Rattle.h3_world.specs.WorkedHeads.{between, home, plain, status, trailer_of, with_one}
+use Rattle.h3_world.specs.WorkedHeads.{between, home, plain, status, with_one}
 use Rattle.h3_world.specs.WorkedLists.{by_name, in_order, trailer_list}
 use Rattle.h3_world.specs.declared.event.Answer.{Answer}
 use Rattle.h3_world.specs.declared.event.Answer.TheVariants as answer

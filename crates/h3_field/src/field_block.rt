@@ -104,6 +104,7 @@ impl FieldBlock {
     }
 
     /// Adds a copy of a field that lies elsewhere, with its flag. A refusal adds nothing.
+    #[inline(always)]
     pub fn push_field(&mut self, field: &FieldRef<'_>) -> Result<(), AllocError>
         ensures ok { OnOk result (self.new ≡ self.old ++ field.now ∷ []) }
         ensures err { OnErr result (self.new ≡ self.old) }

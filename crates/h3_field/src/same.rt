@@ -11,6 +11,7 @@ pub fn is_same(text: &[u8], other: &[u8]) -> bool
 }
 
 // The same for two of one length: by their first and their last bytes.
+#[inline(always)]
 fn is_same_in_words(text: &[u8], other: &[u8]) -> bool
     requires { length text.now ≡ length other.now }
     ensures { result ≡ bytes_eq text.now other.now }

@@ -143,6 +143,7 @@ fn has_grammar(text: &[u8]) -> bool
 }
 
 /// Whether the text is a path and a query, with or without a fragment after them (RFC 3986, 3.3 to 3.5).
+#[inline(always)]
 pub(crate) fn is_path_input(text: &[u8]) -> bool
     ensures { result ≡ is_path_input text.now }
 {

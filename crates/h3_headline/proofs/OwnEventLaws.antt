@@ -2,8 +2,8 @@
 -- after that.
 use Rattle.h3_world.specs.declared.event.Answer.{Answer}
 use Rattle.h3_world.specs.Ends.{Ends, answered, end_at, was_offered, with_end, done}
-use Rattle.h3_world.specs.World.{World}
-use Rattle.std.proofs.Common.{◌≡◌, ◌*◌, length, refl, sym, subst, ℕ, Bool, true, ◌||◌, ap, ◌∙◌, nat_lt, not, if◌then◌else◌, take, ◌&&◌, false}
+use Rattle.h3_world.specs.World.{World, party}
+use Rattle.std.proofs.Common.{◌≡◌, ◌*◌, [], length, refl, sym, subst, ℕ, Bool, true, ◌||◌, ap, ◌∙◌, nat_lt, not, if◌then◌else◌, take, ◌&&◌, false}
 use Rattle.h3_proto.specs.declared.stream.Side.TheVariants.{Client, Server}
 use Rattle.h3_world.specs.declared.setup.Setup.{Setup}
 use Rattle.h3_world.specs.declared.event.Answer.TheVariants as answer
@@ -42,16 +42,16 @@ pub own_first : (side acting : Side) (id : ℕ) (b : Bool) → side ≡ acting �
 own_first side acting id b same own = ap (λ s. is_own s id || b) same ∙ ap (λ t. t || b) own
 
 -- the answer of the ends to a delivery of bytes that are there, or not
-given_own : (setup : Setup) (w : World) (ends : Ends) (writer : Side) (id count : ℕ) (after : EndpointHistory) → StandsAt setup w writer (end_at ends writer) → is_own writer id ≡ true
+given_own : (setup : Setup) (w : World) (ends : Ends) (writer : Side) (id count : ℕ) (after : EndpointHistory) → StandsAt setup w writer (end_at ends writer) → (party w writer).own.updates ≡ [] → is_own writer id ≡ true
     → arrives (end_at ends (other writer)) (BytesCame id (take count (bytes_waiting (end_at ends writer) id))) ≡ accepted after
     → (short : Bool) → nat_lt (waiting setup w writer id) count ≡ short
     → answered ends (event.Deliver writer id count)
     ≡ (if short then given_as (answer.Short (waiting setup w writer id)) ends else given_as (answer.Delivered count) (with_end (with_end ends writer (advance (end_at ends writer) id count)) (other writer) after))
-given_own setup w ends writer id count after h own arrived short test =
+given_own setup w ends writer id count after h none own arrived short test =
     let e = end_at ends writer in
     let offered = was_offered ends writer id count (arrives (end_at ends (other writer)) (BytesCame id (take count (bytes_waiting e id)))) in
     ap (λ b. if not b then given_as answer.NoStream ends else (if nat_lt (shown.waiting e id) count then given_as (answer.Short (shown.waiting e id)) ends else offered)) (own_first e.side writer id _ h.side_is own)
-    ∙ ap (λ n. if nat_lt n count then given_as (answer.Short n) ends else offered) (own_waits setup w writer id e h own)
+    ∙ ap (λ n. if nat_lt n count then given_as (answer.Short n) ends else offered) (own_waits setup w writer id e h none own)
     ∙ ap (λ b. if b then given_as (answer.Short (waiting setup w writer id)) ends else offered) test
     ∙ ap (λ x. if short then given_as (answer.Short (waiting setup w writer id)) ends else was_offered ends writer id count x) arrived
 
@@ -69,18 +69,18 @@ served_own setup w writer id count own short test =
 delivers_client : (setup : Setup) (w : World) (ends : Ends) (id count : ℕ) → Stands setup w ends → is_own Client id ≡ true → OwnCome setup w Server ends.server ends.client count id
     → (short : Bool) → nat_lt (waiting setup w Client id) count ≡ short → AnswersAlike setup (answered ends (event.Deliver Client id count)) (served setup w (event.Deliver Client id count))
 delivers_client setup w ends id count h own o true test =
-    alike setup _ _ (answer.Short (waiting setup w Client id)) ends w (given_own setup w ends Client id count o.after h.at_client own o.arrived true test) (served_own setup w Client id count own true test) h.at_client h.at_server h.next_id
+    alike setup _ _ (answer.Short (waiting setup w Client id)) ends w (given_own setup w ends Client id count o.after h.at_client h.client_writes.updates own o.arrived true test) (served_own setup w Client id count own true test) h.at_client h.at_server h.next_id
 delivers_client setup w ends id count h own o false test =
     alike setup _ _ (answer.Delivered count) (record { client = advance ends.client id count; server = o.after }) (delivered_own setup w Client id count)
-    (given_own setup w ends Client id count o.after h.at_client own o.arrived false test) (served_own setup w Client id count own false test) o.writer o.reader (o.writer_next ∙ h.next_id)
+    (given_own setup w ends Client id count o.after h.at_client h.client_writes.updates own o.arrived false test) (served_own setup w Client id count own false test) o.writer o.reader (o.writer_next ∙ h.next_id)
 
 delivers_server : (setup : Setup) (w : World) (ends : Ends) (id count : ℕ) → Stands setup w ends → is_own Server id ≡ true → OwnCome setup w Client ends.client ends.server count id
     → (short : Bool) → nat_lt (waiting setup w Server id) count ≡ short → AnswersAlike setup (answered ends (event.Deliver Server id count)) (served setup w (event.Deliver Server id count))
 delivers_server setup w ends id count h own o true test =
-    alike setup _ _ (answer.Short (waiting setup w Server id)) ends w (given_own setup w ends Server id count o.after h.at_server own o.arrived true test) (served_own setup w Server id count own true test) h.at_client h.at_server h.next_id
+    alike setup _ _ (answer.Short (waiting setup w Server id)) ends w (given_own setup w ends Server id count o.after h.at_server h.server_writes.updates own o.arrived true test) (served_own setup w Server id count own true test) h.at_client h.at_server h.next_id
 delivers_server setup w ends id count h own o false test =
     alike setup _ _ (answer.Delivered count) (record { client = o.after; server = advance ends.server id count }) (delivered_own setup w Server id count)
-    (given_own setup w ends Server id count o.after h.at_server own o.arrived false test) (served_own setup w Server id count own false test) o.reader o.writer (o.reader_next ∙ h.next_id)
+    (given_own setup w ends Server id count o.after h.at_server h.server_writes.updates own o.arrived false test) (served_own setup w Server id count own false test) o.reader o.writer (o.reader_next ∙ h.next_id)
 
 -- **A delivery on an own stream.**
 pub own_delivered : (laws : StreamLaws) (setup : Setup) (w : World) (ends : Ends) (writer : Side) (id count : ℕ) → IsMadeSetup setup → Stands setup w ends → is_own writer id ≡ true

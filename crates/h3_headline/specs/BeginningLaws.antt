@@ -10,7 +10,8 @@ use Rattle.h3_world.specs.World.{empty_world, no_exchange}
 use Rattle.h3_proto.specs.declared.stream.Side.{Side}
 use Rattle.h3_world.specs.Setup.{JudgesPlainly, TakesAnyLength, announced_at}
 use Rattle.h3_connection.specs.OwnIds.{other}
-use Rattle.h3_connection.specs.PeerReading.{nothing_read}
+use Rattle.h3_connection.specs.PeerReading.{none_read}
+use Rattle.h3_connection.specs.Updates.{most_updates}
 use Rattle.h3_connection.specs.Endpoint.{new_endpoint}
 use Rattle.std.specs.List.{AllByRecursion}
 use Rattle.h3_world.specs.Ends.{new_ends}
@@ -41,7 +42,7 @@ above_none n = grind (arith, common_steps)
 no_settings : (setup : Setup) (side : Side) → are_settings_there setup side 0 ≡ false
 no_settings setup side = ap (λ n. nat_le n 0) (length_settings (announced_at setup side)) ∙ above_none (length (settings_frame_of (announced_at setup side)))
 
-control_at : (setup : Setup) (side : Side) → HasControl setup side 0 [] None None nothing_read
+control_at : (setup : Setup) (side : Side) → HasControl setup side 0 [] None None (none_read (most_updates (announced_at setup side)))
 control_at setup side =
     let none = no_settings setup (other side) in
     record {
@@ -50,6 +51,7 @@ control_at setup side =
       settings = rw none refl;
       goaways_are = refl;
       most_pushes = refl;
+      updates = refl;
       unread = rw none refl;
     }
 
@@ -115,8 +117,8 @@ begins setup plain sound =
       next_id = refl;
       few = omega arith;
       sound = sound;
-      client_writes = record { goaways = tt; instructions = tt; replies = tt };
-      server_writes = record { goaways = tt; instructions = tt; replies = tt };
+      client_writes = record { goaways = tt; instructions = tt; replies = tt; updates = refl };
+      server_writes = record { goaways = tt; instructions = tt; replies = tt; updates = refl };
       requests = λ id. nothing_sent setup Client id;
       responses = λ id. nothing_sent setup Server id;
     }

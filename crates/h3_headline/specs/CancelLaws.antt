@@ -105,7 +105,7 @@ module _ (setup : Setup) (w : World) (ends : Ends) (side : Side) (id : ℕ) (h :
       decoder_stream_more (other side) (are_settings_there setup (other (other side)) own.control_taken) own.decoder_taken own.replies more (stream_at f.unidirectional (decoder_id (other (other side)))) f.decoder_on f.decoder_unread
       (sound_party setup w side h.sound).writer.decoder (hears setup w side f b.there).decoder_stream in
       let writes : IsWritable side (saying own more) =
-      record { goaways = b.writes_here.goaways; instructions = b.writes_here.instructions; replies = all_then IsReply own.replies (CancelStream id) b.writes_here.replies (open_is_small setup w ends side id h opened) } in
+      record { goaways = b.writes_here.goaways; instructions = b.writes_here.instructions; replies = all_then IsReply own.replies (CancelStream id) b.writes_here.replies (open_is_small setup w ends side id h opened); updates = b.writes_here.updates } in
       does_on setup w v ends side answer.Done (giving_up e id j) h refl
       (flow_count (with_party w side (saying_more (party w side) more)) (other side) id g ∙ party_count w side (saying_more (party w side) more))
       (record {

@@ -48,14 +48,14 @@ fits_of a n e = grind (arith, common_steps, e)
 
 -- the settings were there before
 known_before : (writer : Side) (a : Announced) (came count : ℕ) (gs : List ℕ) → AreGoaways writer None gs → length (settings_bytes a) ≤ came → Reads writer a came count gs true true
-known_before writer a came count gs all fits kinds =
+known_before writer a came count gs all fits kinds top =
     let L = length (settings_bytes a) in
     let S = settings_frame_of a in
     let G = flat_map goaway_encoding gs in
     let size = length_settings a in
     let few = came - L in
     let many = came + count - L in
-    let p = peer_by a true came gs in
+    let p = peer_by top a true came gs in
     let g = goes_on goaway_encoding few many gs (omega arith) in
     let behind = drop (whole_in goaway_encoding few gs) gs in
     let ids = take (whole_in goaway_encoding g.count behind) behind in
@@ -113,12 +113,12 @@ no_goaways a n gs short =
     ap (λ m. take (whole_in goaway_encoding m gs) gs) none ∙ ap (λ k. take k gs) (none_whole goaway_encoding goaways_some gs)
 
 still_unknown : (writer : Side) (a : Announced) (came count : ℕ) (gs : List ℕ) → Announces a → came + count < length (settings_bytes a) → Reads writer a came count gs false false
-still_unknown writer a came count gs h short kinds =
+still_unknown writer a came count gs h short kinds top =
     let S = settings_frame_of a in
     let G = flat_map goaway_encoding gs in
     let size = length_settings a in
     let some = some_settings a in
-    let p = peer_by a false came gs in
+    let p = peer_by top a false came gs in
     let many = came + count - 1 in
     let less : many < length S = omega (arith, size, short, some) in
     let all : p.unread ++ new_bytes writer a came count gs ≡ take many S =
@@ -131,13 +131,13 @@ still_unknown writer a came count gs h short kinds =
     ∙ ap (λ n. no_fault (record p { unread = drop 1 (take (came + count) (settings_bytes a)); goaways = take (whole_in goaway_encoding n gs) gs })) same
 
 now_known : (writer : Side) (a : Announced) (came count : ℕ) (gs : List ℕ) → Announces a → AreGoaways writer None gs → came < length (settings_bytes a) → length (settings_bytes a) ≤ came + count → Reads writer a came count gs false true
-now_known writer a came count gs h all short fits kinds =
+now_known writer a came count gs h all short fits kinds top =
     let L = length (settings_bytes a) in
     let S = settings_frame_of a in
     let G = flat_map goaway_encoding gs in
     let size = length_settings a in
     let some = some_settings a in
-    let p = peer_by a false came gs in
+    let p = peer_by top a false came gs in
     let n = came + count - L in
     let ids = take (whole_in goaway_encoding n gs) gs in
     let rest = rest_in goaway_encoding n gs in

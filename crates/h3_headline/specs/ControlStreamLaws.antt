@@ -1,7 +1,7 @@
 -- What came of a control stream is read as its settings and its GOAWAY frames.
 use Rattle.std.proofs.Common.{◌≡◌, ℕ, ◌-◌, List, sym, subst, zero, suc, refl, ap, ◌∙◌, ◌++◌, Some, None, ◌<◌, lit<, length, take, ◌^◌, false, ◌||◌, if◌then◌else◌, [], ◌∷◌, length-append, arith, ◌≤◌, flat_map, append-nil, append_assoc, nat_le, Bool, true, Option, drop}
 use Rattle.h3_proto.specs.Config.{is_limit}
-use Rattle.h3_wire.specs.ExcessiveLaws.{none_excessive}
+use Rattle.h3_wire.specs.ExcessiveLaws.{none_excessive_by}
 use Rattle.h3_wire.specs.Known.{known_by}
 use Rattle.h3_wire.specs.KnownLaws.{known-other}
 use Rattle.h3_wire.specs.Fronts.{IsKnown, IsUnfinishedFront}
@@ -40,11 +40,18 @@ front_alike go both side p bytes (Unknown kind rest) h = refl
 front_alike go both side p bytes (Refused e) h = refl
 front_alike go both side p bytes (Unfinished least) h = refl
 
+-- With the greatest limit nothing is too long.
+pub unlimited : (kinds : FrameKinds) (most : ℕ) (side : Side) (p : Peer)
+    → read_within kinds (suc most) no_limit side p ≡ at_front (read_within kinds most no_limit side) side p (known_by kinds p.unread) (frame_by kinds (known_by kinds p.unread))
+unlimited kinds most side p =
+    ap (λ b. if b then (with_unread p [], Some excessive_load) else at_front (read_within kinds most no_limit side) side p (known_by kinds p.unread) (frame_by kinds (known_by kinds p.unread))) (none_excessive_by kinds no_limit (known_by kinds p.unread) refl)
+
 within_alike : (kinds : FrameKinds) (most limit : ℕ) (side : Side) (p : Peer) → is_limit limit ≡ false → read_within kinds most limit side p ≡ read_within kinds most no_limit side p
 within_alike kinds zero limit side p any = refl
 within_alike kinds (suc most) limit side p any =
-    ap (λ b. if b then (with_unread p [], Some excessive_load) else at_front (read_within kinds most limit side) side p (known_by kinds p.unread) (frame_by kinds (known_by kinds p.unread))) (none_excessive limit (known_by kinds p.unread) any)
+    ap (λ b. if b then (with_unread p [], Some excessive_load) else at_front (read_within kinds most limit side) side p (known_by kinds p.unread) (frame_by kinds (known_by kinds p.unread))) (none_excessive_by kinds limit (known_by kinds p.unread) any)
     ∙ front_alike (read_within kinds most limit side) (read_within kinds most no_limit side) side p (known_by kinds p.unread) (frame_by kinds (known_by kinds p.unread)) (λ q. within_alike kinds most limit side q any)
+    ∙ sym (unlimited kinds most side p)
 
 pub without_limit : (kinds : FrameKinds) (limit : ℕ) (side : Side) (p : Peer) → is_limit limit ≡ false → read_peer kinds limit side p ≡ read_peer kinds no_limit side p
 unfolding read_peer
@@ -57,14 +64,16 @@ unfinished_known kinds bytes u = known-other kinds bytes (subst IsKnown (sym u.1
 pub waits : (kinds : FrameKinds) (most : ℕ) (side : Side) (p : Peer) (bytes : List ℕ) → IsUnfinishedFront kinds bytes → read_within kinds most no_limit side (with_unread p bytes) ≡ no_fault (with_unread p bytes)
 waits kinds zero side p bytes u = refl
 waits kinds (suc most) side p bytes u =
-    ap (λ l. at_front (read_within kinds most no_limit side) side (with_unread p bytes) l (frame_by kinds l)) (unfinished_known kinds bytes u)
+    unlimited kinds most side (with_unread p bytes)
+    ∙ ap (λ l. at_front (read_within kinds most no_limit side) side (with_unread p bytes) l (frame_by kinds l)) (unfinished_known kinds bytes u)
     ∙ ap (λ x. at_front (read_within kinds most no_limit side) side (with_unread p bytes) bytes x) u.1
 
 -- a whole frame at the front
 frame_read : (kinds : FrameKinds) (most : ℕ) (side : Side) (p : Peer) (bytes rest : List ℕ) (f : Frame PayloadLen) → frame_by kinds bytes ≡ Whole f rest
     → read_within kinds (suc most) no_limit side (with_unread p bytes) ≡ unless_fault (read_frame side (with_unread p rest) p.settings f) (read_within kinds most no_limit side)
 frame_read kinds most side p bytes rest f e =
-    ap (λ l. at_front (read_within kinds most no_limit side) side (with_unread p bytes) l (frame_by kinds l)) (known-other kinds bytes (subst IsKnown (sym e) tt))
+    unlimited kinds most side (with_unread p bytes)
+    ∙ ap (λ l. at_front (read_within kinds most no_limit side) side (with_unread p bytes) l (frame_by kinds l)) (known-other kinds bytes (subst IsKnown (sym e) tt))
     ∙ ap (λ x. at_front (read_within kinds most no_limit side) side (with_unread p bytes) bytes x) e
 
 -- The settings.

@@ -97,6 +97,7 @@ section_does setup w ends side id fields kind own h of_section opened unfinished
       goaways = b.writes_here.goaways;
       instructions = all_joined IsWrittenInstruction old.own.instructions (own_instructions old.encoder id fields) b.writes_here.instructions instructions;
       replies = b.writes_here.replies;
+      updates = b.writes_here.updates;
     } in
     let midway : Both setup u side mid f = party_writes setup w side p e f b heard writes in
     let extends : Extends setup side (flow u side id) g =

@@ -27,6 +27,7 @@ use Rattle.h3_connection.specs.StrictConnection.{is_strict, settings_refused, ki
 use Rattle.h3_connection.specs.StrictConnectionLaws.{held_taken, known_missed}
 use Rattle.h3_connection.specs.PeerReading.{Peer, PeerFound, with_unread, read_peer}
 use Rattle.h3_connection.specs.Unidirectional.{Unidirectional}
+use Rattle.h3_connection.specs.Updates.{most_updates}
 use Rattle.h3_world.specs.declared.setup.Setup.{Setup}
 use Rattle.h3_world.specs.OwnStreams.{settings_bytes}
 use Rattle.std.proofs.lemmas.Grind.{common_steps}
@@ -84,13 +85,14 @@ settles laws a x before false true came replies any h was now left written accep
 
 -- what it knows, as a value
 pub peer_is : (setup : Setup) (side : Side) (came : ℕ) (gs : List ℕ) (stream : Option Unidirectional) (on : Option ℕ) (peer : Peer) → HasControl setup side came gs stream on peer
-    → peer ≡ peer_by (announced_at setup (other side)) (nat_le (length (settings_bytes (announced_at setup (other side)))) came) came gs
+    → peer ≡ peer_by (most_updates (announced_at setup side)) (announced_at setup (other side)) (nat_le (length (settings_bytes (announced_at setup (other side)))) came) came gs
 peer_is setup side came gs stream on peer h =
-    let p = peer_by (announced_at setup (other side)) (nat_le (length (settings_bytes (announced_at setup (other side)))) came) came gs in
-    ap (λ x. peer_of x peer.settings peer.goaways peer.most_pushes) h.unread
-    ∙ ap (λ x. peer_of p.unread x peer.goaways peer.most_pushes) h.settings
-    ∙ ap (λ x. peer_of p.unread p.settings x peer.most_pushes) h.goaways_are
-    ∙ ap (λ x. peer_of p.unread p.settings p.goaways x) h.most_pushes
+    let p = peer_by (most_updates (announced_at setup side)) (announced_at setup (other side)) (nat_le (length (settings_bytes (announced_at setup (other side)))) came) came gs in
+    ap (λ x. peer_of x peer.settings peer.goaways peer.most_pushes peer.updates) h.unread
+    ∙ ap (λ x. peer_of p.unread x peer.goaways peer.most_pushes peer.updates) h.settings
+    ∙ ap (λ x. peer_of p.unread p.settings x peer.most_pushes peer.updates) h.goaways_are
+    ∙ ap (λ x. peer_of p.unread p.settings p.goaways x peer.updates) h.most_pushes
+    ∙ ap (λ x. peer_of p.unread p.settings p.goaways p.most_pushes x) h.updates
 
 not_yet : (a n : ℕ) → nat_le a n ≡ false → n < a
 not_yet a n e = grind (arith, common_steps, e)
@@ -108,7 +110,7 @@ pub control_came : (laws : StreamLaws) (setup : Setup) (side : Side) (e : Endpoi
     (behind_type came count (settings_frame_of (announced_at setup (other side)) ++ flat_map goaway_encoding gs))
     ≡ without_fault (after_control (nat_le (length (settings_bytes (announced_at setup (other side)))) came) (nat_le (length (settings_bytes (announced_at setup (other side)))) (came + count))
     (controlling e (control_id (other side)) (with_role (role_by (came + count) Control)) (came_on (came + count) (control_id (other side)))
-    (peer_by (announced_at setup (other side)) (nat_le (length (settings_bytes (announced_at setup (other side)))) (came + count)) (came + count) gs))
+    (peer_by (most_updates (announced_at setup side)) (announced_at setup (other side)) (nat_le (length (settings_bytes (announced_at setup (other side)))) (came + count)) (came + count) gs))
     (announced_at setup (other side)).limits replies_came replies)
 control_came laws setup side e came count gs replies_came replies stream h m = by_test (came + count == 0) refl
   where
@@ -117,6 +119,9 @@ control_came laws setup side e came count gs replies_came replies stream h m = b
 
     a : Announced
     a = announced_at setup (other side)
+
+    top : ℕ
+    top = most_updates (announced_at setup side)
 
     L : ℕ
     L = length (settings_bytes a)
@@ -131,7 +136,7 @@ control_came laws setup side e came count gs replies_came replies stream h m = b
     knows = nat_le L (came + count)
 
     peer : Peer
-    peer = peer_by a knows (came + count) gs
+    peer = peer_by top a knows (came + count) gs
 
     some : 0 < L
     some = omega (arith, length_settings a)
@@ -142,7 +147,7 @@ control_came laws setup side e came count gs replies_came replies stream h m = b
     none_missing false t =
         let is = peer_is setup side came gs stream e.control_on e.peer h in
         let unread : e.peer.unread ≡ drop 1 (take came (settings_bytes a)) =
-        ap (λ (p : Peer). p.unread) is ∙ ap (λ b. (peer_by a b came gs).unread) t in
+        ap (λ (p : Peer). p.unread) is ∙ ap (λ b. (peer_by top a b came gs).unread) t in
         and_right (is_strict e.announced && is_none e.peer.settings) (begins_other (e.peer.unread ++ bytes))
         (ap (λ l. begins_other (l ++ bytes)) unread ∙ nothing_else_first a came count (flat_map goaway_encoding gs) (not_yet L came t))
 
@@ -156,10 +161,10 @@ control_came laws setup side e came count gs replies_came replies stream h m = b
     some_came =
         let first = with_unidirectional e id (with_role Control) in
         let on = record first { control_on = Some id } in
-        let before = peer_by a knew came gs in
+        let before = peer_by top a knew came gs in
         let is = peer_is setup side came gs stream e.control_on e.peer h in
         let reads : read_peer (kinds_of e.announced) no_limit side (with_unread before (before.unread ++ bytes)) ≡ (peer, None) =
-        subst (λ s. read_peer (kinds_of e.announced) no_limit s (with_unread before (before.unread ++ bytes)) ≡ (peer, None)) (other-other side) (peer_came (other side) a came count gs m.announces m.goaways knew knows refl refl (kinds_of e.announced)) in
+        subst (λ s. read_peer (kinds_of e.announced) no_limit s (with_unread before (before.unread ++ bytes)) ≡ (peer, None)) (other-other side) (peer_came (other side) a came count gs m.announces m.goaways knew knows refl refl (kinds_of e.announced) top) in
         let h_on = holding on bytes in
         let found : read_peer (kinds_of e.announced) (limit_of e) e.side h_on.peer ≡ (peer, None) =
         without_limit (kinds_of e.announced) (limit_of e) e.side (with_unread e.peer (e.peer.unread ++ bytes)) m.any
@@ -191,7 +196,7 @@ control_came laws setup side e came count gs replies_came replies stream h m = b
         let whole : came ≡ came + count = omega (arith, nothing) in
         let o = with_role (Untold []) in
         let on : e.control_on ≡ None = h.is_on ∙ ap (λ n. came_on n id) none in
-        let same : e.peer ≡ peer = peer_is setup side came gs stream e.control_on e.peer h ∙ ap (λ n. peer_by a (nat_le L n) n gs) whole in
+        let same : e.peer ≡ peer = peer_is setup side came gs stream e.control_on e.peer h ∙ ap (λ n. peer_by top a (nat_le L n) n gs) whole in
         ap (λ x. without_fault (controlling e id o x e.peer)) on
         ∙ ap (λ x. without_fault (controlling e id o None x)) same
         ∙ ap without_fault (nothing_learned knew knows (controlling e id o None peer) (never L (came + count) some (omega (arith, none, nothing))))

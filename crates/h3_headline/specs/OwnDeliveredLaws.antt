@@ -20,6 +20,7 @@ use Rattle.h3_world.specs.Setup.{announced_at}
 use Rattle.std.specs.Prelude.{is_some}
 use Rattle.h3_field.specs.InstructionAnswer.{IsReply}
 use Rattle.h3_qpack.specs.Instructions.{AreAccepted}
+use Rattle.h3_connection.specs.Updates.{most_updates}
 use Rattle.h3_world.specs.OwnStreams.{settings_bytes}
 use Rattle.h3_headline.specs.Cited.{IsRead, StreamLaws}
 use Rattle.h3_headline.specs.LearningLaws.{control_came}
@@ -76,7 +77,7 @@ pub control_delivered : (laws : StreamLaws) (setup : Setup) (side : Side) (e : E
     → arrives e (BytesCame (control_id (other side)) (take count (drop came (settings_bytes (announced_at setup (other side)) ++ flat_map goaway_encoding gs))))
     ≡ accepted (after_control (nat_le (length (settings_bytes (announced_at setup (other side)))) came) (nat_le (length (settings_bytes (announced_at setup (other side)))) (came + count))
     (controlling e (control_id (other side)) (with_role (role_by (came + count) Control)) (came_on (came + count) (control_id (other side)))
-    (peer_by (announced_at setup (other side)) (nat_le (length (settings_bytes (announced_at setup (other side)))) (came + count)) (came + count) gs))
+    (peer_by (most_updates (announced_at setup side)) (announced_at setup (other side)) (nat_le (length (settings_bytes (announced_at setup (other side)))) (came + count)) (came + count) gs))
     (announced_at setup (other side)).limits replies_came replies)
 control_delivered laws setup side e came count gs replies_came replies t h m =
     let id = control_id (other side) in
@@ -86,7 +87,7 @@ control_delivered laws setup side e came count gs replies_came replies t h m =
     let G = flat_map goaway_encoding gs in
     let bytes = take count (drop came (settings_bytes a ++ G)) in
     let new =
-    after_control (nat_le L came) (nat_le L (came + count)) (controlling e id (with_role (role_by (came + count) Control)) (came_on (came + count) id) (peer_by a (nat_le L (came + count)) (came + count) gs)) a.limits replies_came replies in
+    after_control (nat_le L came) (nat_le L (came + count)) (controlling e id (with_role (role_by (came + count) Control)) (came_on (came + count) id) (peer_by (most_updates (announced_at setup side)) a (nat_le L (came + count)) (came + count) gs)) a.limits replies_came replies in
     arrives_plain e id bytes t.nothing_kept
     ∙ delivered_typed e new id came Control bytes t.no_fault (ap (λ s. kind_of s id) t.side_is ∙ kind_of_control side) h.stream_is
     (ap (λ l. bytes_at e id (take count (drop came l)) PeerUnidirectional) (append_assoc (encoding 0) S G)

@@ -7,7 +7,8 @@ use Rattle.h3_connection.specs.OwnIds.{control_id, encoder_id, decoder_id, is_ow
 use Rattle.h3_world.specs.Streams.{is_open, flow, waiting}
 use Rattle.h3_world.specs.World.{World, party}
 use Rattle.std.specs.Prelude.{◌==◌}
-use Rattle.h3_connection.specs.Endpoint.{EndpointHistory}
+use Rattle.h3_connection.specs.Endpoint.{EndpointHistory, Own}
+use Rattle.h3_connection.specs.declared.setup.Announced.{Announced}
 use Rattle.h3_connection.specs.StreamSets.{stream_at}
 use Rattle.h3_world.specs.declared.setup.Setup.{Setup}
 use Rattle.h3_world.specs.Order.{outgoing_of}
@@ -62,10 +63,14 @@ waits_by false true c n m k other_waits xs ys zs h = length-drop m ys
 waits_by false false true n m k other_waits xs ys zs h = length-drop k zs
 waits_by false false false n m k other_waits xs ys zs h = absurd (cc)
 
-pub own_waits : (setup : Setup) (w : World) (side : Side) (id : ℕ) (e : EndpointHistory) → StandsAt setup w side e → is_own side id ≡ true → shown.waiting e id ≡ waiting setup w side id
-own_waits setup w side id e h own =
+-- no update is written
+pub without_updates : (side : Side) (own : Own) (a : Announced) (id : ℕ) → own.updates ≡ [] → left_of side own a id ≡ left_of side (record own { updates = [] }) a id
+without_updates side own a id none = ap (λ us. left_of side (record own { updates = us }) a id) none
+
+pub own_waits : (setup : Setup) (w : World) (side : Side) (id : ℕ) (e : EndpointHistory) → StandsAt setup w side e → (party w side).own.updates ≡ [] → is_own side id ≡ true → shown.waiting e id ≡ waiting setup w side id
+own_waits setup w side id e h none own =
     let p = party w side in
-    ap length (waiting_own setup w side id e h (own_outgoing setup w side id e h own))
+    ap length (waiting_own setup w side id e h (own_outgoing setup w side id e h own) ∙ without_updates side p.own (announced_at setup side) id none)
     ∙ waits_by (id == control_id side) (id == encoder_id side) (id == decoder_id side) p.own.control_taken p.own.encoder_taken p.own.decoder_taken (flows.bytes_waiting (flow w side id))
     (control_stream (announced_at setup side) p) (encoder_stream p) (decoder_stream p) own
 
@@ -89,6 +94,6 @@ own_come laws setup w side er ew count id made sound writable hr hw own =
     let o = (party w s).own in
     let a = announced_at setup s in
     each_own (OwnCome setup w side er ew count) s id own
-    (come_over setup w side er ew count (control_id s) _ hw sound (control_closed w s) (left_control s o a) (control_over laws setup w side count er made sound writable hr))
+    (come_over setup w side er ew count (control_id s) _ hw sound (control_closed w s) (left_control s o a writable.updates) (control_over laws setup w side count er made sound writable hr))
     (come_over setup w side er ew count (encoder_id s) _ hw sound (encoder_closed w s) (left_encoder s o a) (encoder_over laws setup w side count er made sound writable hr))
     (come_over setup w side er ew count (decoder_id s) _ hw sound (decoder_closed w s) (left_decoder s o a) (decoder_over laws setup w side count er sound writable hr))

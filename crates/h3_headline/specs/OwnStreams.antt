@@ -4,7 +4,8 @@ use Rattle.h3_proto.specs.declared.stream.Side.{Side}
 use Rattle.h3_world.specs.Streams.{flow, is_open}
 use Rattle.h3_world.specs.World.{World, party, Party}
 use Rattle.h3_field.specs.Instruction.{EncoderInstruction, DecoderInstruction, encoder_bytes, decoder_bytes}
-use Rattle.h3_connection.specs.Endpoint.{Own, EndpointHistory, goaway_encoding, bytes_waiting}
+use Rattle.h3_connection.specs.Endpoint.{Own, EndpointHistory, bytes_waiting}
+use Rattle.h3_connection.specs.OwnUpdates.{control_frames}
 use Rattle.h3_connection.specs.OwnIds.{other, is_own, control_id, encoder_id, decoder_id}
 use Rattle.h3_connection.specs.StreamSets.{stream_at}
 use Rattle.h3_world.specs.declared.setup.Setup.{Setup}
@@ -120,7 +121,7 @@ accepted e = (None, e)
 -- The writer: what waits, and the endpoint once it was taken.
 abbrev pub left_of : Side → Own → Announced → ℕ → List ℕ
 left_of side own a id =
-    if id == control_id side then drop own.control_taken (control_encoding a.settings ++ flat_map goaway_encoding own.goaways) else (
+    if id == control_id side then drop own.control_taken (control_encoding a.settings ++ control_frames 0 own.goaways own.updates) else (
     if id == encoder_id side then drop own.encoder_taken (encoding 2 ++ flat_map encoder_bytes own.instructions) else (
     if id == decoder_id side then drop own.decoder_taken (encoding 3 ++ flat_map decoder_bytes own.replies) else []))
 

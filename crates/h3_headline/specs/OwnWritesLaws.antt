@@ -61,9 +61,9 @@ further_writable side own id count h = by_test (id == control_id side) (id == en
         → IsWritable side (if a then record own { control_taken = own.control_taken + count } else (
         if b then record own { encoder_taken = own.encoder_taken + count } else (
         if c then record own { decoder_taken = own.decoder_taken + count } else own)))
-    by_test true b c = record { goaways = h.goaways; instructions = h.instructions; replies = h.replies }
-    by_test false true c = record { goaways = h.goaways; instructions = h.instructions; replies = h.replies }
-    by_test false false true = record { goaways = h.goaways; instructions = h.instructions; replies = h.replies }
+    by_test true b c = record { goaways = h.goaways; instructions = h.instructions; replies = h.replies; updates = h.updates }
+    by_test false true c = record { goaways = h.goaways; instructions = h.instructions; replies = h.replies; updates = h.updates }
+    by_test false false true = record { goaways = h.goaways; instructions = h.instructions; replies = h.replies; updates = h.updates }
     by_test false false false = h
 
 further_insertions : (side : Side) (own : Own) (id count : ℕ) → insertions_of (own_advanced own side id count) ≡ insertions_in ((own_advanced own side id count).encoder_taken - 1) own.instructions
@@ -84,7 +84,7 @@ increment_is_reply n h = by_test (n == 0)
     by_test false = (h, tt)
 
 pub saying_writable : (side : Side) (own : Own) (more : List DecoderInstruction) → IsWritable side own → AllByRecursion IsReply more → IsWritable side (record own { replies = own.replies ++ more })
-saying_writable side own more h k = record { goaways = h.goaways; instructions = h.instructions; replies = all_join IsReply own.replies more h.replies k }
+saying_writable side own more h k = record { goaways = h.goaways; instructions = h.instructions; replies = all_join IsReply own.replies more h.replies k; updates = h.updates }
 
 learned_writable : (side : Side) (limits : Limits) (p : Party) (learns : Bool) → limits.table < 2 ^ 30 → IsWritable side p.own → IsWritable side (if learns then having_learned p limits else p).own
 learned_writable side limits p false low h = h
@@ -92,7 +92,7 @@ learned_writable side limits p true low h = by_table (has_table p.encoder.most_c
   where
     by_table : (b : Bool)
         → IsWritable side (if b then record { own = record p.own { instructions = p.own.instructions ++ SetCapacity (min p.encoder.most_capacity limits.table) ∷ [] }; encoder = using_table p.encoder limits.table limits.blocked } else p).own
-    by_table true = record { goaways = h.goaways; instructions = all_join IsWrittenInstruction p.own.instructions (SetCapacity (min p.encoder.most_capacity limits.table) ∷ []) h.instructions (capacity_written (min p.encoder.most_capacity limits.table) (omega (arith, low, least_right p.encoder.most_capacity limits.table)), tt); replies = h.replies }
+    by_table true = record { goaways = h.goaways; instructions = all_join IsWrittenInstruction p.own.instructions (SetCapacity (min p.encoder.most_capacity limits.table) ∷ []) h.instructions (capacity_written (min p.encoder.most_capacity limits.table) (omega (arith, low, least_right p.encoder.most_capacity limits.table)), tt); replies = h.replies; updates = h.updates }
     by_table false = h
 
 listened_writable : (side : Side) (knew knows : Bool) (limits : Limits) (p : Party) (more : ℕ) (is : List DecoderInstruction) → limits.table < 2 ^ 30 → more < 2 ^ 62 → IsWritable side p.own → IsWritable side (listened knew knows limits p more is).own

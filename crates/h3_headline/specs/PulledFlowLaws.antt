@@ -11,7 +11,7 @@ use Rattle.h3_connection.specs.Pulling.{just, left_with, at_end, at_frame, frame
 use Rattle.h3_connection.specs.declared.event.Pull.TheVariants as pull
 use Rattle.h3_world.specs.Pauses.{pause_before}
 use Rattle.h3_qpack.specs.DecoderState.{DecoderState}
-use Rattle.h3_wire.specs.ExcessiveLaws.{none_excessive}
+use Rattle.h3_wire.specs.ExcessiveLaws.{none_excessive_by}
 use Rattle.h3_wire.specs.Frames.{Whole, Unfinished, frame_by}
 use Rattle.h3_wire.specs.Fronts.{IsUnfinishedFront}
 use Rattle.h3_wire.specs.declared.proto.frame.PayloadLen.{PayloadLen}
@@ -58,7 +58,7 @@ module _ (side : Side) (announced : Announced) (any : TakesAnyLength announced) 
   pub looks : (i : Incoming) → skipped (kinds_of announced) (is_body i.place) (concat i.unread) ≡ concat i.unread → between_frames side announced id r i ≡ next_frame side announced id r i (concat i.unread)
   looks i all =
       let bytes = skipped (kinds_of announced) (is_body i.place) (concat i.unread) in
-      ap (λ b. if b then excess id i bytes else next_frame side announced id r (left_with i bytes) bytes) (none_excessive announced.choices.unfinished_limit bytes any)
+      ap (λ b. if b then excess id i bytes else next_frame side announced id r (left_with i bytes) bytes) (none_excessive_by (kinds_of announced) announced.choices.unfinished_limit bytes any)
       ∙ ap (λ l. next_frame side announced id r (left_with i l) l) all ∙ ap (λ x. next_frame side announced id r x (concat i.unread)) (left_all i)
 
   -- less than a frame is there

@@ -23,6 +23,7 @@ use Rattle.h3_field.specs.Instruction.{DecoderInstruction, decoder_bytes, Encode
 use Rattle.h3_proto.specs.Settings.{is_known}
 use Rattle.h3_connection.specs.PeerReading.{Peer, is_above, is_no_goaway}
 use Rattle.h3_qpack.specs.DecoderState.{decoder_after_all}
+use Rattle.h3_connection.specs.Updates.{most_updates, no_updates}
 use Rattle.h3_connection.specs.Listeners.{Decoding}
 use Rattle.h3_connection.specs.StreamSets.{stream_at, HaveDistinctIds}
 use Rattle.h3_world.specs.World.{World, party}
@@ -135,6 +136,8 @@ pub record HasControl (setup : Setup) (side : Side) (came : ℕ) (goaways : List
   pub settings : peer.settings ≡ (if are_settings_there setup (other side) came then Some (with_meaning (announced_at setup (other side)).settings) else None)
   pub goaways_are : peer.goaways ≡ take (whole_in goaway_encoding (came - length (settings_bytes (announced_at setup (other side)))) goaways) goaways
   pub most_pushes : peer.most_pushes ≡ None
+  -- no side writes PRIORITY_UPDATE
+  pub updates : peer.updates ≡ no_updates (most_updates (announced_at setup side))
   pub unread : peer.unread ≡ control_left setup (other side) came goaways
 
 -- of its encoder stream, on which these instructions were written
@@ -191,6 +194,7 @@ pub record IsWritable (side : Side) (own : Own) : Type 0 where
   pub goaways : AreGoaways side None own.goaways
   pub instructions : AllByRecursion IsWrittenInstruction own.instructions
   pub replies : AllByRecursion IsReply own.replies
+  pub updates : own.updates ≡ []
 
 -- A section is read as the kind of part that it was sent as (RFC 9114, sections 4.1 and 4.3), by who takes any protocol or the two names
 -- alone: a head is for that side, and an interim one has such a status, and no other; a trailer has no pseudo-header fields; and each reads as

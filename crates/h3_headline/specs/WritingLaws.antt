@@ -132,6 +132,7 @@ goaway_served setup w ends side id h small =
       goaways = goaways_then side None old.own.goaways id b.writes_here.goaways small a.0 (ap (is_above id) (last_of_none old.own.goaways) ∙ not_raised id (last_id old.own.goaways) a.1);
       instructions = b.writes_here.instructions;
       replies = b.writes_here.replies;
+      updates = b.writes_here.updates;
     } in
     let is : new ≡ record e { own = p.own; encoder = p.encoder } =
     ap (λ (o : Own). with_own e (with_goaways o (o.goaways ++ id ∷ []))) b.here.own ∙ ap (λ s. record e { own = p.own; encoder = s }) b.here.encoder in

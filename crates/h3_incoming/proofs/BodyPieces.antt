@@ -7,7 +7,7 @@ use Rattle.std.proofs.lemmas.List.{length-take-le, drop-take, take-append-drop, 
 use Rattle.h3_coding.specs.Begins.{Begins}
 use Rattle.h3_coding.specs.Varint.{varint_at}
 use Rattle.h3_coding.specs.VarintLaws.{begins, of_front}
-use Rattle.h3_wire.specs.ExcessiveFrames.{is_excessive}
+use Rattle.h3_wire.specs.ExcessiveFrames.{is_excessive_by}
 use Rattle.h3_wire.specs.ExcessiveLaws.{no_data}
 use Rattle.h3_wire.specs.FrameLaws.{at_head}
 use Rattle.h3_wire.specs.Frames.{Whole, frame_by}
@@ -241,10 +241,10 @@ module _ (i : Incoming) (bytes : List ℕ) (clear : keeps_nothing i ≡ true) (n
             ∙ ap (pull_stream side own id r) (kept_is i fr c.fault none (omega (arith, length-append d.head piece, d.some)))
             ∙ pull_of_frame side own id r j c.fault c.goes_on c.message c.section closed
             ∙ between_frame side own id r j k f passes (found (kinds_of own))
-            (ap (λ l. is_excessive own.choices.unfinished_limit (skipped (kinds_of own) (is_body i.place) l)) joined_is
+            (ap (λ l. is_excessive_by (kinds_of own) own.choices.unfinished_limit (skipped (kinds_of own) (is_body i.place) l)) joined_is
             ∙ within_now (kinds_of own) own.choices.unfinished_limit (is_body i.place) f fr
             (within_frame (kinds_of own) own.choices.unfinished_limit (is_body i.place) fr piece f (at_known (kinds_of own)) not_empty
-            (not_true (is_excessive own.choices.unfinished_limit (known_by (kinds_of own) fr)) (no_data (kinds_of own) own.choices.unfinished_limit (known_by (kinds_of own) fr) piece (record { 0 = size }) (at_known (kinds_of own))))))
+            (not_true (is_excessive_by (kinds_of own) own.choices.unfinished_limit (known_by (kinds_of own) fr)) (no_data (kinds_of own) own.choices.unfinished_limit (known_by (kinds_of own) fr) piece (record { 0 = size }) (at_known (kinds_of own))))))
             ∙ at_data side own id r k i.place size body
             ∙ in_one id (begun_payload k size) piece within c.open_still refl (omega (arith, piece_size, few))
             ∙ ap (λ x. just (pull.Item (item.Body piece)) x) new_is

@@ -2,7 +2,7 @@
 use Rattle.std.proofs.Common.{◌≡◌, ℕ, Bool, true, false, ◌&&◌, if◌then◌else◌, List, [], ◌++◌, refl, ap, sym, ◌∙◌, subst, append-nil}
 use Rattle.std.specs.Prelude.{Err}
 use Rattle.std.specs.List.{concat}
-use Rattle.h3_wire.specs.ExcessiveFrames.{begins_section, is_excessive}
+use Rattle.h3_wire.specs.ExcessiveFrames.{begins_section, is_excessive_by}
 use Rattle.h3_wire.specs.ExcessiveLaws.{excessive_more, no_data}
 use Rattle.h3_wire.specs.Frames.{Front, Whole, Unknown, Refused, Unfinished, frame_by}
 use Rattle.h3_wire.specs.FrameLaws.{frame_by-more}
@@ -104,7 +104,7 @@ front_stays kinds in_body bytes (Unknown kind rest) e full = skipped_step kinds 
 front_stays kinds in_body bytes (Refused why) e full = skipped_step kinds in_body bytes ∙ ap (λ x. skip_front (skipped kinds in_body) in_body (known_by kinds bytes) x) e
 
 -- What is too long gives something: DATA never is.
-long_is_front : (kinds : FrameKinds) (most : ℕ) (in_body : Bool) (bytes : List ℕ) → is_excessive most (known_by kinds bytes) ≡ true → skipped kinds in_body bytes ≡ known_by kinds bytes
+long_is_front : (kinds : FrameKinds) (most : ℕ) (in_body : Bool) (bytes : List ℕ) → is_excessive_by kinds most (known_by kinds bytes) ≡ true → skipped kinds in_body bytes ≡ known_by kinds bytes
 long_is_front kinds most in_body bytes e = front_stays kinds in_body bytes (frame_by kinds (known_by kinds bytes)) refl full
   where
     empty_is : (a b : Bool) → (a && b) ≡ true → b ≡ true
@@ -120,6 +120,7 @@ long_is_front kinds most in_body bytes e = front_stays kinds in_body bytes (fram
         not_empty (frame.CancelPush push) at t = cc
         not_empty (frame.Settings settings) at t = cc
         not_empty (frame.PushPromise promise) at t = cc
+        not_empty (frame.PriorityUpdate update) at t = cc
         not_empty (frame.Goaway number) at t = cc
         not_empty (frame.MaxPushId push) at t = cc
         not_empty (frame.WebTransportStream session) at t = cc
@@ -129,20 +130,20 @@ long_is_front kinds most in_body bytes e = front_stays kinds in_body bytes (fram
         by_test true t = absurd (not_empty f at (empty_is in_body (is_empty_data f) t))
         by_test false t = refl
 
-pub long_stays : (kinds : FrameKinds) (most : ℕ) (in_body : Bool) (bytes : List ℕ) → is_excessive most (known_by kinds bytes) ≡ true → is_excessive most (skipped kinds in_body bytes) ≡ true
-long_stays kinds most in_body bytes e = ap (is_excessive most) (long_is_front kinds most in_body bytes e) ∙ e
+pub long_stays : (kinds : FrameKinds) (most : ℕ) (in_body : Bool) (bytes : List ℕ) → is_excessive_by kinds most (known_by kinds bytes) ≡ true → is_excessive_by kinds most (skipped kinds in_body bytes) ≡ true
+long_stays kinds most in_body bytes e = ap (is_excessive_by kinds most) (long_is_front kinds most in_body bytes e) ∙ e
 
-pub section_stays : (kinds : FrameKinds) (most : ℕ) (in_body is_section : Bool) (bytes : List ℕ) → is_excessive most (known_by kinds bytes) ≡ true → begins_section (known_by kinds bytes) ≡ is_section → begins_section (skipped kinds in_body bytes) ≡ is_section
+pub section_stays : (kinds : FrameKinds) (most : ℕ) (in_body is_section : Bool) (bytes : List ℕ) → is_excessive_by kinds most (known_by kinds bytes) ≡ true → begins_section (known_by kinds bytes) ≡ is_section → begins_section (skipped kinds in_body bytes) ≡ is_section
 section_stays kinds most in_body is_section bytes e is = ap begins_section (long_is_front kinds most in_body bytes e) ∙ is
 
-pub within_unfinished : (kinds : FrameKinds) (most : ℕ) (in_body : Bool) (bytes left : List ℕ) → left ≡ known_by kinds bytes → IsWaiting (frame_by kinds left) → is_excessive most (known_by kinds bytes) ≡ false → IsWithin kinds most in_body found.Unfinished bytes
-within_unfinished kinds most in_body bytes left is h e = ap (is_excessive most) (sym (finds_unfinished kinds in_body bytes left is h).0 ∙ is) ∙ e
+pub within_unfinished : (kinds : FrameKinds) (most : ℕ) (in_body : Bool) (bytes left : List ℕ) → left ≡ known_by kinds bytes → IsWaiting (frame_by kinds left) → is_excessive_by kinds most (known_by kinds bytes) ≡ false → IsWithin kinds most in_body found.Unfinished bytes
+within_unfinished kinds most in_body bytes left is h e = ap (is_excessive_by kinds most) (sym (finds_unfinished kinds in_body bytes left is h).0 ∙ is) ∙ e
 
-pub within_refused : (kinds : FrameKinds) (most : ℕ) (in_body : Bool) (bytes left : List ℕ) (why : FrameProtocolError) → left ≡ known_by kinds bytes → frame_by kinds left ≡ Refused (refusal why) → is_excessive most (known_by kinds bytes) ≡ false
+pub within_refused : (kinds : FrameKinds) (most : ℕ) (in_body : Bool) (bytes left : List ℕ) (why : FrameProtocolError) → left ≡ known_by kinds bytes → frame_by kinds left ≡ Refused (refusal why) → is_excessive_by kinds most (known_by kinds bytes) ≡ false
     → IsWithin kinds most in_body (found.Refused why) bytes
-within_refused kinds most in_body bytes left why is h e = ap (is_excessive most) (sym (finds_refused kinds in_body bytes left why is h).0 ∙ is) ∙ e
+within_refused kinds most in_body bytes left why is h e = ap (is_excessive_by kinds most) (sym (finds_refused kinds in_body bytes left why is h).0 ∙ is) ∙ e
 
-pub within_frame : (kinds : FrameKinds) (most : ℕ) (in_body : Bool) (bytes rest : List ℕ) (f : Frame PayloadLen) → frame_by kinds (known_by kinds bytes) ≡ Whole f rest → (in_body && is_empty_data f) ≡ false → is_excessive most (known_by kinds bytes) ≡ false
+pub within_frame : (kinds : FrameKinds) (most : ℕ) (in_body : Bool) (bytes rest : List ℕ) (f : Frame PayloadLen) → frame_by kinds (known_by kinds bytes) ≡ Whole f rest → (in_body && is_empty_data f) ≡ false → is_excessive_by kinds most (known_by kinds bytes) ≡ false
     → KeepsWithin kinds most in_body bytes
 within_frame kinds most in_body bytes rest f e t none more =
     let finished : IsFinished (frame_by kinds (known_by kinds bytes)) = subst IsFinished (sym e) tt in
@@ -151,22 +152,22 @@ within_frame kinds most in_body bytes rest f e t none more =
     let all : skipped kinds in_body (bytes ++ more) ≡ known_by kinds (bytes ++ more) =
     skipped_step kinds in_body (bytes ++ more) ∙ ap (λ x. skip_front (skipped kinds in_body) in_body (known_by kinds (bytes ++ more)) x) (known_frame-more kinds bytes rest more f e)
     ∙ ap (λ b. if b then skipped kinds in_body (rest ++ more) else known_by kinds (bytes ++ more)) t in
-    ap (is_excessive most) (all ∙ same) ∙ excessive_more kinds most (known_by kinds bytes) more finished ∙ none
+    ap (is_excessive_by kinds most) (all ∙ same) ∙ excessive_more kinds most (known_by kinds bytes) more finished ∙ none
 
 too_long_on : (kinds : FrameKinds) (most : ℕ) (in_body is_section : Bool) (old mid : List ℕ) → PassesFrames kinds in_body old mid → IsTooLong kinds most in_body is_section mid → IsTooLong kinds most in_body is_section old
 too_long_on kinds most in_body is_section old mid p h =
     let same = sym (passed_now kinds in_body old mid p) in
-    (ap (is_excessive most) same ∙ h.0, ap begins_section same ∙ h.1)
+    (ap (is_excessive_by kinds most) same ∙ h.0, ap begins_section same ∙ h.1)
 
 pub within_on : (kinds : FrameKinds) (most : ℕ) (in_body : Bool) (f : Found) (old mid : List ℕ) → PassesFrames kinds in_body old mid → IsWithin kinds most in_body f mid → IsWithin kinds most in_body f old
-within_on kinds most in_body (found.Begun b) old mid p h = λ more. ap (is_excessive most) (sym (p more)) ∙ h more
-within_on kinds most in_body found.Unfinished old mid p h = ap (is_excessive most) (sym (passed_now kinds in_body old mid p)) ∙ h
-within_on kinds most in_body (found.Refused why) old mid p h = ap (is_excessive most) (sym (passed_now kinds in_body old mid p)) ∙ h
+within_on kinds most in_body (found.Begun b) old mid p h = λ more. ap (is_excessive_by kinds most) (sym (p more)) ∙ h more
+within_on kinds most in_body found.Unfinished old mid p h = ap (is_excessive_by kinds most) (sym (passed_now kinds in_body old mid p)) ∙ h
+within_on kinds most in_body (found.Refused why) old mid p h = ap (is_excessive_by kinds most) (sym (passed_now kinds in_body old mid p)) ∙ h
 within_on kinds most in_body found.LongSection old mid p h = too_long_on kinds most in_body true old mid p h
 within_on kinds most in_body found.Excessive old mid p h = too_long_on kinds most in_body false old mid p h
 
-pub within_now : (kinds : FrameKinds) (most : ℕ) (in_body : Bool) (f : Frame PayloadLen) (old : List ℕ) → KeepsWithin kinds most in_body old → is_excessive most (skipped kinds in_body old) ≡ false
-within_now kinds most in_body f old h = ap (λ l. is_excessive most (skipped kinds in_body l)) (sym (append-nil old)) ∙ h []
+pub within_now : (kinds : FrameKinds) (most : ℕ) (in_body : Bool) (f : Frame PayloadLen) (old : List ℕ) → KeepsWithin kinds most in_body old → is_excessive_by kinds most (skipped kinds in_body old) ≡ false
+within_now kinds most in_body f old h = ap (λ l. is_excessive_by kinds most (skipped kinds in_body l)) (sym (append-nil old)) ∙ h []
 
 pub finds_on : (kinds : FrameKinds) (side : Side) (place : Place) (message : Content) (f : Found) (old mid new : List ℕ) → PassesFrames kinds (is_body place) old mid → Finds kinds side place message f mid new → Finds kinds side place message f old new
 finds_on kinds side place message (found.Begun b) old mid new p h = (h.0, h.1, λ more. ap (frame_by kinds) (sym (p more)) ∙ h.2 more)

@@ -4,7 +4,7 @@ use Rattle.std.specs.Prelude.{Option, Some, None, IfSome, is_some}
 use Rattle.std.specs.List.{concat}
 use Rattle.std.proofs.lemmas.Bool.{lt-ltb}
 use Rattle.std.proofs.lemmas.List.{length-drop}
-use Rattle.h3_wire.specs.ExcessiveFrames.{is_excessive}
+use Rattle.h3_wire.specs.ExcessiveFrames.{is_excessive_by}
 use Rattle.h3_wire.specs.Frames.{Front, Whole, Refused, Unfinished, frame_by}
 use Rattle.h3_wire.specs.FrameLaws.{frame_by-nil, frame_by-shorter}
 use Rattle.h3_wire.specs.Fronts.{IsFinished, IsShorter}
@@ -145,26 +145,26 @@ module _ (side : Side) (own : Announced) (id : ℕ) (r : DecoderState) where
       ap (λ b. if b then excess id i bytes else next_frame side own id r (left_with i bytes) bytes) h.0
       ∙ ap (λ b. if b then malformed id malformation.TooLong i [] else connection_fault excessive_load (record i { unread = [] })) h.1
 
-  pub between_within : (i : Incoming) → is_excessive own.choices.unfinished_limit (skipped (kinds_of own) (is_body i.place) (concat i.unread)) ≡ false
+  pub between_within : (i : Incoming) → is_excessive_by (kinds_of own) own.choices.unfinished_limit (skipped (kinds_of own) (is_body i.place) (concat i.unread)) ≡ false
       → between_frames side own id r i ≡ next_frame side own id r (left_with i (skipped (kinds_of own) (is_body i.place) (concat i.unread))) (skipped (kinds_of own) (is_body i.place) (concat i.unread))
   between_within i e =
       let bytes = skipped (kinds_of own) (is_body i.place) (concat i.unread) in
       ap (λ b. if b then excess id i bytes else next_frame side own id r (left_with i bytes) bytes) e
 
   pub between_unfinished : (i new : Incoming) → Passes i new → concat new.unread ≡ skipped (kinds_of own) (is_body i.place) (concat i.unread)
-      → is_excessive own.choices.unfinished_limit (skipped (kinds_of own) (is_body i.place) (concat i.unread)) ≡ false
+      → is_excessive_by (kinds_of own) own.choices.unfinished_limit (skipped (kinds_of own) (is_body i.place) (concat i.unread)) ≡ false
       → between_frames side own id r i ≡ next_frame side own id r new (concat new.unread)
   between_unfinished i new p e within =
       between_within i within ∙ ap (λ bytes. next_frame side own id r (left_with i bytes) bytes) (sym e)
       ∙ ap (λ j. next_frame side own id r j (concat new.unread)) (sym (left_is i new p))
 
   pub between_refused : (i new : Incoming) (e : FrameProtocolError) → Passes i new → FindsRefused (kinds_of own) (is_body i.place) e (concat i.unread) (concat new.unread)
-      → is_excessive own.choices.unfinished_limit (skipped (kinds_of own) (is_body i.place) (concat i.unread)) ≡ false
+      → is_excessive_by (kinds_of own) own.choices.unfinished_limit (skipped (kinds_of own) (is_body i.place) (concat i.unread)) ≡ false
       → between_frames side own id r i ≡ connection_fault (refusal_code (refusal e)) new
   between_refused i new e p h within = between_unfinished i new p h.0 within ∙ next_is new (concat new.unread) (Refused (refusal e)) h.1 tt
 
   pub between_frame : (i new : Incoming) (f : Frame PayloadLen) → Passes i new → frame_by (kinds_of own) (skipped (kinds_of own) (is_body i.place) (concat i.unread)) ≡ Whole f (concat new.unread)
-      → is_excessive own.choices.unfinished_limit (skipped (kinds_of own) (is_body i.place) (concat i.unread)) ≡ false
+      → is_excessive_by (kinds_of own) own.choices.unfinished_limit (skipped (kinds_of own) (is_body i.place) (concat i.unread)) ≡ false
       → between_frames side own id r i ≡ at_frame side own id r side new i.place f
   between_frame i new f p e within =
       let bytes = skipped (kinds_of own) (is_body i.place) (concat i.unread) in

@@ -1,10 +1,15 @@
 -- What a pull makes of the frame that it has read.
-use Rattle.std.proofs.Common.{◌≡◌, ℕ, Bool, true, false, List, [], ap, sym, ◌∙◌, subst}
+use Rattle.std.proofs.Common.{◌≡◌, ℕ, Bool, true, false, ◌&&◌, ◌||◌, List, [], ◌∷◌, length, refl, ap, sym, ◌∙◌, subst}
 use Rattle.std.specs.List.{concat}
-use Rattle.h3_wire.specs.Known.{refusal}
+use Rattle.h3_coding.specs.Varint.{varint_at}
+use Rattle.h3_wire.specs.Frames.{frame_by}
+use Rattle.h3_wire.specs.Known.{IsWaiting, refusal}
+use Rattle.h3_wire.specs.PieceLaws.{rest_same}
+use Rattle.h3_wire.specs.declared.frame.kinds.FrameKinds.{FrameKinds}
 use Rattle.h3_wire.specs.declared.frame.errors.FrameProtocolError.{FrameProtocolError}
 use Rattle.h3_wire.specs.declared.proto.frame.PayloadLen.{PayloadLen}
 use Rattle.h3_wire.specs.declared.proto.frame.Frame.{Frame}
+use Rattle.h3_proto.specs.Config.{is_limit}
 use Rattle.h3_proto.specs.declared.stream.Side.{Side}
 use Rattle.h3_qpack.specs.DecoderState.{DecoderState}
 use Rattle.h3_messages.specs.Content.{left_behind}
@@ -16,6 +21,7 @@ use Rattle.h3_connection.specs.declared.setup.Announced.{Announced}
 use Rattle.h3_connection.specs.Codes.{excessive_load, refusal_code}
 use Rattle.h3_connection.specs.Incoming.{Incoming, is_body}
 use Rattle.h3_connection.specs.Pulling.{Pulled, connection_fault, just, malformed, at_payload, at_session, begun_payload, at_frame, next_frame, between_frames}
+use Rattle.h3_connection.specs.Skipping.{skipped}
 use Rattle.h3_incoming.specs.Finding.{FindsFrame, FindsLess, FindsRefused, IsWithin, KeepsWithin, PassesFrames}
 use Rattle.h3_incoming.specs.Gives.{Gives}
 use Rattle.h3_incoming.specs.Resuming.{Begins, Resumes}
@@ -44,6 +50,34 @@ pub pulled_unfinished : (side : Side) (own : Announced) (id : ℕ) (r : DecoderS
 pulled_unfinished side own id r old stored left in_body reads h small =
     between_unfinished side own id r old (with_left stored left) (passes old stored left in_body reads) (stored_is (λ b l. FindsLess (kinds_of own) b l (concat left)) old stored left in_body reads h).0
     (stored_is (λ b l. IsWithin (kinds_of own) own.choices.unfinished_limit b found.Unfinished l) old stored left in_body reads small)
+
+-- no bytes are less than a frame
+pub waits_empty : (kinds : FrameKinds) (bytes : List ℕ) → length bytes ≡ 0 → IsWaiting (frame_by kinds bytes)
+unfolding frame_by varint_at
+waits_empty kinds [] none = tt
+waits_empty kinds (byte ∷ bytes) none = absurd (cc)
+
+finds_nothing : (kinds : FrameKinds) (in_body : Bool) (bytes : List ℕ) → length bytes ≡ 0 → FindsLess kinds in_body bytes bytes
+unfolding skipped
+finds_nothing kinds in_body [] none = (refl, waits_empty kinds [] none, λ more. refl)
+finds_nothing kinds in_body (byte ∷ bytes) none = absurd (cc)
+
+none_within : (updates limits : Bool) → ((updates && (limits && false)) || (limits && false)) ≡ false
+none_within true true = refl
+none_within true false = refl
+none_within false true = refl
+none_within false false = refl
+
+nothing_within : (kinds : FrameKinds) (most : ℕ) (in_body : Bool) (bytes : List ℕ) → length bytes ≡ 0 → IsWithin kinds most in_body found.Unfinished bytes
+unfolding skipped varint_at
+nothing_within kinds most in_body [] none = none_within kinds.updates (is_limit most)
+nothing_within kinds most in_body (byte ∷ bytes) none = absurd (cc)
+
+pub pulled_nothing : (side : Side) (own : Announced) (id : ℕ) (r : DecoderState) (old stored : Incoming) → stored ≡ old → length (concat stored.unread) ≡ 0
+    → between_frames side own id r old ≡ next_frame side own id r stored (concat stored.unread)
+pulled_nothing side own id r old stored same none =
+    pulled_unfinished side own id r old stored stored.unread (is_body old.place) (record { is = same; body = refl; rest = rest_same stored.unread stored.unread refl })
+    (finds_nothing (kinds_of own) (is_body old.place) (concat stored.unread) none) (nothing_within (kinds_of own) own.choices.unfinished_limit (is_body old.place) (concat stored.unread) none)
 
 pub pulled_refused : (side : Side) (own : Announced) (id : ℕ) (r : DecoderState) (old stored : Incoming) (left : List (List ℕ)) (in_body : Bool) (e : FrameProtocolError) (code : ℕ) → Reads old stored left in_body
     → FindsRefused (kinds_of own) in_body e (concat stored.unread) (concat left) → IsWithin (kinds_of own) own.choices.unfinished_limit in_body (found.Refused e) (concat stored.unread) → code ≡ refusal_code (refusal e)

@@ -1,11 +1,11 @@
 -- A pull that memory cut short loses nothing.
 use Rattle.std.proofs.Common.{◌≡◌, ℕ, zero, suc, ◌<◌, ◌≤◌, Bool, true, false, if◌then◌else◌, ◌&&◌, ◌==◌, List, [], ◌++◌, length, refl, ap, sym, ◌∙◌, subst, arith, inl, inr, ◌⊎◌}
 use Rattle.std.specs.Prelude.{None, Some, Option, nat_lt, ◌-◌}
-use Rattle.h3_coding.specs.Varint.{varint_at}
 use Rattle.std.specs.List.{concat}
 use Rattle.std.proofs.lemmas.List.{length-drop}
 use Rattle.std.proofs.lemmas.List.Folds.{concat-append}
-use Rattle.h3_wire.specs.ExcessiveFrames.{is_excessive, says_too_much}
+use Rattle.h3_wire.specs.ExcessiveFrames.{is_excessive_by}
+use Rattle.h3_wire.specs.ExcessiveLaws.{none_excessive_by}
 use Rattle.h3_wire.specs.Frames.{Whole, frame_by}
 use Rattle.h3_wire.specs.Pieces.{IsRest, chunk_of}
 use Rattle.h3_wire.specs.PieceLaws.{rest_behind, concat-without}
@@ -19,7 +19,7 @@ use Rattle.h3_connection.specs.declared.event.StreamFault.{StreamFault}
 use Rattle.h3_connection.specs.declared.place.Place.{Place}
 use Rattle.h3_connection.specs.declared.place.Place.TheVariants.{BeforeHead, InBody, AfterTrailer, InSession}
 use Rattle.h3_connection.specs.declared.setup.Announced.{Announced}
-use Rattle.h3_connection.specs.Coming.{HasNoHeader, fields_in, fields_next, next_section, section_in, section_of_frame}
+use Rattle.h3_connection.specs.Coming.{fields_in, fields_next, next_section, section_in, section_of_frame}
 use Rattle.h3_connection.specs.Incoming.{Incoming, Passes, is_body, given_up}
 use Rattle.h3_connection.specs.Skipping.{skipped, is_empty_data}
 use Rattle.h3_connection.specs.Codes.{frame_error, frame_unexpected}
@@ -28,7 +28,7 @@ use Rattle.h3_messages.specs.Content.{is_exceeded}
 use Rattle.h3_connection.specs.Pulling.{Pulled, begun_section, begun_payload, left_with, at_payload, body_of, in_payload, malformed, new_section, connection_fault, excess, at_frame, next_frame, between_frames, pull_stream}
 use Rattle.h3_incoming.specs.Finding.{FindsFrame, KeepsWithin, PassesFrames}
 use Rattle.h3_incoming.specs.Placing.{is_session}
-use Rattle.h3_connection.specs.PartReading.{unsaid}
+use Rattle.h3_connection.specs.PartReading.{CountsOn, HasNoSection, StandsNext, unsaid}
 use Rattle.h3_incoming.specs.Resuming.{Begins, PullsAlike, Resumes, delivered}
 use Rattle.h3_connection.specs.SkippingLaws.{skipped-length, found_not_empty}
 use Rattle.h3_incoming.proofs.PullLaws.{pull_of_section, pull_of_payload, pull_of_frame, left_is, left_left, place_passed, between_frame}
@@ -38,6 +38,8 @@ pub resumes_same : (own : Announced) (old new : Incoming) → new ≡ old → Re
 resumes_same own old new e = subst (λ x. Resumes own old x) (sym e) (record {
   alike = record { pulls = λ side id r pieces ends. refl; lists = λ side id r pieces ends. inr refl };
   plainly = λ other known none. record { pulls = λ side id r pieces ends. refl; lists = λ side id r pieces ends. inr refl };
+  next = λ between. (between, λ more. refl);
+  counts = inl refl;
   gives_up = λ fault. refl;
   place = refl;
   response = refl;
@@ -126,9 +128,9 @@ passed_alike own old new b p skips = record { pulls = λ side id r pieces ends. 
         ap (λ (i : Incoming). left_with i bytes) (left_is o n behind)
         ∙ left_left o (concat n.unread) bytes short (rest_short o.unread n.unread behind.rest) in
         between_pull side own id r new pieces ends (between_passed old new p b)
-        ∙ ap (λ l. if is_excessive own.choices.unfinished_limit l then excess id n l else next_frame side own id r (left_with n l) l) same
-        ∙ ap (λ (i : Incoming). if is_excessive own.choices.unfinished_limit bytes then excess id n bytes else next_frame side own id r i bytes) left
-        ∙ ap (λ x. if is_excessive own.choices.unfinished_limit bytes then x else next_frame side own id r (left_with o bytes) bytes) (let_go_alike id bytes o n behind)
+        ∙ ap (λ l. if is_excessive_by (kinds_of own) own.choices.unfinished_limit l then excess id n l else next_frame side own id r (left_with n l) l) same
+        ∙ ap (λ (i : Incoming). if is_excessive_by (kinds_of own) own.choices.unfinished_limit bytes then excess id n bytes else next_frame side own id r i bytes) left
+        ∙ ap (λ x. if is_excessive_by (kinds_of own) own.choices.unfinished_limit bytes then x else next_frame side own id r (left_with o bytes) bytes) (let_go_alike id bytes o n behind)
         ∙ sym (between_pull side own id r old pieces ends b)
 
 pub resumes_passed : (own : Announced) (old new : Incoming) → IsBetween old → Passes old new → PassesFrames (kinds_of own) (is_body old.place) (concat old.unread) (concat new.unread) → Resumes own old new
@@ -137,6 +139,8 @@ resumes_passed own old new b p skips = record {
   plainly = λ other known none.
       passed_alike other (unsaid old) (unsaid new) (between_unsaid old b) (passes_unsaid old new p)
       (subst (λ (kinds : FrameKinds). PassesFrames kinds (is_body old.place) (concat old.unread) (concat new.unread)) (sym known) skips);
+  next = λ between. ((b.none, b.closed), skips);
+  counts = inl (ap {A = Incoming} (λ i. i.content) p.same);
   gives_up = λ fault. ap {A = Incoming} (λ i. given_up i fault) p.same;
   place = ap {A = Incoming} (λ i. i.place) p.same;
   response = ap {A = Incoming} (λ i. i.response) p.same;
@@ -183,6 +187,7 @@ begun_alike side own id r pieces ends mid new (frame.Data len) InSession b h som
 begun_alike side own id r pieces ends mid new (frame.CancelPush push) place b h some = absurd h
 begun_alike side own id r pieces ends mid new (frame.Settings settings) place b h some = absurd h
 begun_alike side own id r pieces ends mid new (frame.PushPromise promise) place b h some = absurd h
+begun_alike side own id r pieces ends mid new (frame.PriorityUpdate update) place b h some = absurd h
 begun_alike side own id r pieces ends mid new (frame.Goaway number) place b h some = absurd h
 begun_alike side own id r pieces ends mid new (frame.MaxPushId push) place b h some = absurd h
 begun_alike side own id r pieces ends mid new (frame.WebTransportStream session) place b h some = absurd h
@@ -212,34 +217,35 @@ is_begun mid new (frame.Data len) place none h = subst (λ x. IsBegun mid x) (sy
 is_begun mid new (frame.CancelPush push) place none h = absurd h
 is_begun mid new (frame.Settings settings) place none h = absurd h
 is_begun mid new (frame.PushPromise promise) place none h = absurd h
+is_begun mid new (frame.PriorityUpdate update) place none h = absurd h
 is_begun mid new (frame.Goaway number) place none h = absurd h
 is_begun mid new (frame.MaxPushId push) place none h = absurd h
 is_begun mid new (frame.WebTransportStream session) place none h = absurd h
 is_begun mid new (frame.Grease kind) place none h = absurd h
 
--- what a payload gives has no header
-body_without : (i : Incoming) (chunk : Option (List ℕ) × List (List ℕ)) → HasNoHeader (body_of i chunk).answer
+-- what a payload gives has no section
+body_without : (i : Incoming) (chunk : Option (List ℕ) × List (List ℕ)) → HasNoSection (body_of i chunk).answer
 body_without i (None, pieces) = tt
 body_without i (Some bytes, pieces) = tt
 
-payload_without : (id : ℕ) (i : Incoming) → HasNoHeader (at_payload id i).answer
+payload_without : (id : ℕ) (i : Incoming) → HasNoSection (at_payload id i).answer
 payload_without id i = by_content (is_exceeded i.content)
   where
-    by_end : (b : Bool) → HasNoHeader (if b then connection_fault frame_error i else body_of i (chunk_of i.body_left i.unread)).answer
+    by_end : (b : Bool) → HasNoSection (if b then connection_fault frame_error i else body_of i (chunk_of i.body_left i.unread)).answer
     by_end true = tt
     by_end false = body_without i (chunk_of i.body_left i.unread)
 
-    by_content : (b : Bool) → HasNoHeader (if b then malformed id malformation.ContentLength i [] else in_payload i).answer
+    by_content : (b : Bool) → HasNoSection (if b then malformed id malformation.ContentLength i [] else in_payload i).answer
     by_content true = tt
     by_content false = by_end (i.ended && nat_lt (length (concat i.unread)) i.body_left)
 
--- the list that comes next, if the frame has a section; else the answer has no header
+-- the list that comes next, if the frame has a section; else the answer has no section
 begun_lists : (side : Side) (own : Announced) (id : ℕ) (r : DecoderState) (pieces : List (List ℕ)) (ends : Bool) (mid new : Incoming) (f : Frame PayloadLen) (place : Place)
     → IsBetween mid → Begins place f mid new → (is_body place && is_empty_data f) ≡ false
-    → HasNoHeader (pull_stream side own id r (delivered new pieces ends)).answer ⊎ (fields_next own r (delivered new pieces ends) ≡ fields_in r (section_of_frame f))
+    → HasNoSection (pull_stream side own id r (delivered new pieces ends)).answer ⊎ (fields_next own r (delivered new pieces ends) ≡ fields_in r (section_of_frame f))
 begun_lists side own id r pieces ends mid new (frame.Headers bytes) place b h some = inr (ap (λ (i : Incoming). fields_next own r (delivered i pieces ends)) h.1)
 begun_lists side own id r pieces ends mid new (frame.Data len) InBody b h some =
-    inl (subst (λ (x : Pulled). HasNoHeader x.answer) (sym (ap (λ (i : Incoming). pull_stream side own id r (delivered i pieces ends)) h.1 ∙ payload_alike side own id r pieces ends mid len.0 b (some_left len.0 some)))
+    inl (subst (λ (x : Pulled). HasNoSection x.answer) (sym (ap (λ (i : Incoming). pull_stream side own id r (delivered i pieces ends)) h.1 ∙ payload_alike side own id r pieces ends mid len.0 b (some_left len.0 some)))
     (payload_without id (begun_payload (delivered mid pieces ends) len.0)))
 begun_lists side own id r pieces ends mid new (frame.Data len) BeforeHead b h some = absurd (not_true h.0)
 begun_lists side own id r pieces ends mid new (frame.Data len) AfterTrailer b h some = absurd (not_true h.0)
@@ -247,6 +253,7 @@ begun_lists side own id r pieces ends mid new (frame.Data len) InSession b h som
 begun_lists side own id r pieces ends mid new (frame.CancelPush push) place b h some = absurd h
 begun_lists side own id r pieces ends mid new (frame.Settings settings) place b h some = absurd h
 begun_lists side own id r pieces ends mid new (frame.PushPromise promise) place b h some = absurd h
+begun_lists side own id r pieces ends mid new (frame.PriorityUpdate update) place b h some = absurd h
 begun_lists side own id r pieces ends mid new (frame.Goaway number) place b h some = absurd h
 begun_lists side own id r pieces ends mid new (frame.MaxPushId push) place b h some = absurd h
 begun_lists side own id r pieces ends mid new (frame.WebTransportStream session) place b h some = absurd h
@@ -275,11 +282,11 @@ begun_pulls own old mid new f b p finds small begins =
         begun_alike side own id r pieces ends mid new f mid.place here begins (subst (λ q. (is_body q && is_empty_data f) ≡ false) (sym place) some)
         ∙ ap (λ q. at_frame side own id r side m q f) place
         ∙ sym (between_frame side own id r o m f (passes_behind old mid pieces ends p) there
-        (ap (λ l. is_excessive own.choices.unfinished_limit (skipped (kinds_of own) (is_body old.place) l)) (concat-append old.unread pieces) ∙ small (concat pieces)))
+        (ap (λ l. is_excessive_by (kinds_of own) own.choices.unfinished_limit (skipped (kinds_of own) (is_body old.place) l)) (concat-append old.unread pieces) ∙ small (concat pieces)))
         ∙ sym (between_pull side own id r old pieces ends b)
 
     lists_alike : (side : Side) (id : ℕ) (r : DecoderState) (pieces : List (List ℕ)) (ends : Bool) → IsBetween mid
-        → HasNoHeader (pull_stream side own id r (delivered old pieces ends)).answer ⊎ (fields_next own r (delivered new pieces ends) ≡ fields_next own r (delivered old pieces ends))
+        → HasNoSection (pull_stream side own id r (delivered old pieces ends)).answer ⊎ (fields_next own r (delivered new pieces ends) ≡ fields_next own r (delivered old pieces ends))
     lists_alike side id r pieces ends here =
         let o = delivered old pieces ends in
         let m = delivered mid pieces ends in
@@ -288,11 +295,11 @@ begun_pulls own old mid new f b p finds small begins =
         let old_list : fields_next own r o ≡ fields_in r (section_of_frame f) = none_next own r o b.none ∙ ap (λ x. fields_in r (section_in x)) (found_there pieces) in
         either (begun_lists side own id r pieces ends mid new f mid.place here begins (subst (λ q. (is_body q && is_empty_data f) ≡ false) (sym place) some)) old_list (goes_on_alike side id r pieces ends here)
       where
-        either : HasNoHeader (pull_stream side own id r (delivered new pieces ends)).answer ⊎ (fields_next own r (delivered new pieces ends) ≡ fields_in r (section_of_frame f))
+        either : HasNoSection (pull_stream side own id r (delivered new pieces ends)).answer ⊎ (fields_next own r (delivered new pieces ends) ≡ fields_in r (section_of_frame f))
             → fields_next own r (delivered old pieces ends) ≡ fields_in r (section_of_frame f)
             → pull_stream side own id r (delivered new pieces ends) ≡ pull_stream side own id r (delivered old pieces ends)
-            → HasNoHeader (pull_stream side own id r (delivered old pieces ends)).answer ⊎ (fields_next own r (delivered new pieces ends) ≡ fields_next own r (delivered old pieces ends))
-        either (inl without) is same = inl (subst (λ (x : Pulled). HasNoHeader x.answer) same without)
+            → HasNoSection (pull_stream side own id r (delivered old pieces ends)).answer ⊎ (fields_next own r (delivered new pieces ends) ≡ fields_next own r (delivered old pieces ends))
+        either (inl without) is same = inl (subst (λ (x : Pulled). HasNoSection x.answer) same without)
         either (inr lists) is same = inr (lists ∙ sym is)
 
 -- what it gives is begun where nothing is known of the content
@@ -305,23 +312,59 @@ begins_unsaid place (frame.Data len) old new h = (h.0, ap unsaid h.1)
 begins_unsaid place (frame.CancelPush push) old new h = absurd h
 begins_unsaid place (frame.Settings settings) old new h = absurd h
 begins_unsaid place (frame.PushPromise promise) old new h = absurd h
+begins_unsaid place (frame.PriorityUpdate update) old new h = absurd h
 begins_unsaid place (frame.Goaway number) old new h = absurd h
 begins_unsaid place (frame.MaxPushId push) old new h = absurd h
 begins_unsaid place (frame.WebTransportStream session) old new h = absurd h
 begins_unsaid place (frame.Grease kind) old new h = absurd h
+
+-- what the next frame gives has begun, so nothing stands there
+begun_next : (kinds : FrameKinds) (first mid new : Incoming) (f : Frame PayloadLen) (place : Place) → Begins place f mid new → (is_body place && is_empty_data f) ≡ false → StandsNext kinds first new
+begun_next kinds first mid new (frame.Headers bytes) place h some = λ between. absurd (let never : Some bytes ≡ None = sym (ap {A = Incoming} (λ i. i.section) h.1) ∙ between.0 in cc)
+begun_next kinds first mid new (frame.Data len) InBody h some =
+    λ between. absurd (let left : 0 < len.0 = some_left len.0 some in let none : len.0 ≡ 0 = sym (ap {A = Incoming} (λ i. i.body_left) h.1) ∙ between.1 in omega (arith, left, none))
+begun_next kinds first mid new (frame.Data len) BeforeHead h some = absurd (not_true h.0)
+begun_next kinds first mid new (frame.Data len) AfterTrailer h some = absurd (not_true h.0)
+begun_next kinds first mid new (frame.Data len) InSession h some = absurd (not_true h.0)
+begun_next kinds first mid new (frame.CancelPush push) place h some = absurd h
+begun_next kinds first mid new (frame.Settings settings) place h some = absurd h
+begun_next kinds first mid new (frame.PushPromise promise) place h some = absurd h
+begun_next kinds first mid new (frame.PriorityUpdate update) place h some = absurd h
+begun_next kinds first mid new (frame.Goaway number) place h some = absurd h
+begun_next kinds first mid new (frame.MaxPushId push) place h some = absurd h
+begun_next kinds first mid new (frame.WebTransportStream session) place h some = absurd h
+begun_next kinds first mid new (frame.Grease kind) place h some = absurd h
+
+-- a payload counts as content
+begun_counts : (mid new : Incoming) (f : Frame PayloadLen) (place : Place) → Begins place f mid new → CountsOn mid.content new.content
+begun_counts mid new (frame.Headers bytes) place h = inl (ap {A = Incoming} (λ i. i.content) h.1)
+begun_counts mid new (frame.Data len) place h = inr (len.0, ap {A = Incoming} (λ i. i.content) h.1)
+begun_counts mid new (frame.CancelPush push) place h = absurd h
+begun_counts mid new (frame.Settings settings) place h = absurd h
+begun_counts mid new (frame.PushPromise promise) place h = absurd h
+begun_counts mid new (frame.PriorityUpdate update) place h = absurd h
+begun_counts mid new (frame.Goaway number) place h = absurd h
+begun_counts mid new (frame.MaxPushId push) place h = absurd h
+begun_counts mid new (frame.WebTransportStream session) place h = absurd h
+begun_counts mid new (frame.Grease kind) place h = absurd h
 
 pub resumes_begun : (own : Announced) (old mid new : Incoming) (f : Frame PayloadLen) → IsBetween old → Passes old mid → FindsFrame (kinds_of own) (is_body old.place) f (concat old.unread) (concat mid.unread)
     → KeepsWithin (kinds_of own) own.choices.unfinished_limit (is_body old.place) (concat old.unread) → Begins mid.place f mid new → Resumes own old new
 resumes_begun own old mid new f b p finds small begins =
     let here = between_passed old mid p b in
     let begun = is_begun mid new f mid.place here.waits begins in
+    let some : (is_body mid.place && is_empty_data f) ≡ false =
+    subst (λ q. (is_body q && is_empty_data f) ≡ false) (sym (place_passed old mid p))
+    (found_not_empty (kinds_of own) (is_body old.place) (concat old.unread ++ []) (concat mid.unread ++ []) f (finds [])) in
     record {
       alike = begun_pulls own old mid new f b p finds small begins;
       plainly = λ other known none.
           begun_pulls other (unsaid old) (unsaid mid) (unsaid new) f (between_unsaid old b) (passes_unsaid old mid p)
           (subst (λ (kinds : FrameKinds). FindsFrame kinds (is_body old.place) f (concat old.unread) (concat mid.unread)) (sym known) finds)
-          (λ more. ap (λ b. b && says_too_much other.choices.unfinished_limit (varint_at (skipped (kinds_of other) (is_body old.place) (concat old.unread ++ more)))) none)
+          (λ more. none_excessive_by (kinds_of other) other.choices.unfinished_limit (skipped (kinds_of other) (is_body old.place) (concat old.unread ++ more)) none)
           (begins_unsaid mid.place f mid new begins);
+      next = begun_next (kinds_of own) old mid new f mid.place begins some;
+      counts = subst (λ c. CountsOn c new.content) (ap {A = Incoming} (λ i. i.content) p.same) (begun_counts mid new f mid.place begins);
       gives_up = λ fault. begun.gives_up fault ∙ ap {A = Incoming} (λ i. given_up i fault) p.same;
       place = begun.place ∙ ap {A = Incoming} (λ i. i.place) p.same;
       response = begun.response ∙ ap {A = Incoming} (λ i. i.response) p.same;

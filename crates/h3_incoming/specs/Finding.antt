@@ -7,7 +7,7 @@ use Rattle.h3_wire.specs.declared.frame.errors.FrameStreamError.TheVariants as s
 use Rattle.h3_wire.specs.declared.frame.kinds.FrameKinds.{FrameKinds}
 use Rattle.h3_wire.specs.declared.proto.frame.PayloadLen.{PayloadLen}
 use Rattle.h3_wire.specs.declared.proto.frame.Frame.{Frame}
-use Rattle.h3_wire.specs.ExcessiveFrames.{begins_section, is_excessive}
+use Rattle.h3_wire.specs.ExcessiveFrames.{begins_section, is_excessive_by}
 use Rattle.h3_wire.specs.Frames.{Whole, Refused, frame_by}
 use Rattle.h3_wire.specs.Known.{Gives, known_by, refusal, IsWaiting}
 use Rattle.h3_wire.specs.UnreadFrames.{UnreadFrames, AreBetween}
@@ -53,18 +53,18 @@ Finds kinds _ place _ found.Excessive old new = Unit {0}
 
 -- The frame that stands there is no longer than this, whatever follows.
 abbrev pub KeepsWithin : FrameKinds → ℕ → Bool → List ℕ → Type 0
-KeepsWithin kinds most in_body old = (more : List ℕ) → is_excessive most (skipped kinds in_body (old ++ more)) ≡ false
+KeepsWithin kinds most in_body old = (more : List ℕ) → is_excessive_by kinds most (skipped kinds in_body (old ++ more)) ≡ false
 
 -- The frame that stands there is longer, and is a field section or none.
 abbrev pub IsTooLong : FrameKinds → ℕ → Bool → Bool → List ℕ → Type 0
-IsTooLong kinds most in_body is_section old = (is_excessive most (skipped kinds in_body old) ≡ true) × (begins_section (skipped kinds in_body old) ≡ is_section)
+IsTooLong kinds most in_body is_section old = (is_excessive_by kinds most (skipped kinds in_body old) ≡ true) × (begins_section (skipped kinds in_body old) ≡ is_section)
 
 -- What stands behind the frames that give nothing is no longer than this, or is told as longer.
 abbrev pub IsWithin : FrameKinds → ℕ → Bool → Found → List ℕ → Type 0
 IsWithin kinds most in_body (found.Begun b) old = KeepsWithin kinds most in_body old
 IsWithin kinds most in_body found.LongSection old = IsTooLong kinds most in_body true old
 IsWithin kinds most in_body found.Excessive old = IsTooLong kinds most in_body false old
-IsWithin kinds most in_body _ old = is_excessive most (skipped kinds in_body old) ≡ false
+IsWithin kinds most in_body _ old = is_excessive_by kinds most (skipped kinds in_body old) ≡ false
 
 -- Behind a frame no other one is under way, and it begins no empty payload.
 abbrev pub LeavesBetween : Found → UnreadFrames → Type 0

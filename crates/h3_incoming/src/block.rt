@@ -115,6 +115,7 @@ impl Answer for BlockPull {
         self.told = Told::Plain(answer);
     }
 
+    #[inline(always)]
     fn give_message(
         &mut self,
         alloc: Global,

@@ -61,6 +61,7 @@ pub(crate) fn read_at(
 }
 
 // The same of a list of so few fields that a map has room for all their names, if messages are strict.
+#[inline(always)]
 fn read_once(
     side: Side,
     announced: &Announced,

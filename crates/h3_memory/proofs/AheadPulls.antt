@@ -25,7 +25,7 @@ use Rattle.h3_memory.specs.Keeping.{Held, ahead, EachResumes}
 
 module _ (side : Side) (own : Announced) where
   pub resumes_itself : (id : ℕ) (i : Incoming) → Resumes side own id i i
-  resumes_itself id i = record { same = refl; pulls = λ r pieces ended. refl; lists = λ r pieces ended. inr refl }
+  resumes_itself id i = record { same = refl; pulls = λ r pieces ended. refl; lists = λ r pieces ended. inr refl; next = λ between. (between, λ more. refl) }
 
   abbrev pub ResumesAt : ℕ → Option Incoming → Option Incoming → Type 0
   ResumesAt id None None = Unit {0}

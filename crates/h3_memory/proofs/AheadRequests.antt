@@ -1,6 +1,9 @@
 -- What comes on a request stream is read by an endpoint ahead as by the one behind, and each stream goes on as there.
-use Rattle.std.proofs.Common.{◌≡◌, ℕ, ◌+◌, Bool, true, false, List, [], ◌∷◌, refl, sym, ap, ◌∙◌, subst, arith, if◌then◌else◌, Option, Some, None, ◌⊎◌}
-use Rattle.std.specs.Prelude.{map, unwrap_or}
+use Rattle.std.proofs.Common.{◌≡◌, ℕ, ◌+◌, Bool, true, false, List, [], ◌∷◌, ◌++◌, append-nil, append_assoc, refl, sym, ap, ◌∙◌, subst, arith, if◌then◌else◌, Option, Some, None, ◌⊎◌}
+use Rattle.std.specs.Prelude.{is_some, map, unwrap_or}
+use Rattle.std.specs.List.{concat}
+use Rattle.std.proofs.lemmas.List.Folds.{concat-append}
+use Rattle.h3_wire.specs.Pieces.{with_piece}
 use Rattle.h3_qpack.specs.DecoderState.{DecoderState}
 use Rattle.h3_proto.specs.declared.stream.Side.{Side}
 use Rattle.h3_connection.specs.declared.arrival.Arrival.{Arrival}
@@ -16,20 +19,27 @@ use Rattle.h3_connection.specs.Control.{Found}
 use Rattle.h3_connection.specs.Delivering.{bytes_at, end_at, reset_at, opened_at, with_incoming, kept, with_end, given_up_by, given_up_once, cancellation, give_up}
 use Rattle.h3_connection.specs.Endpoint.{EndpointHistory, kind_of, replied}
 use Rattle.h3_connection.specs.Endpoint.Kind.{Request}
-use Rattle.h3_connection.specs.Incoming.{Incoming, nothing_came, given_up}
+use Rattle.h3_connection.specs.Incoming.{Incoming, nothing_came, given_up, is_body}
 use Rattle.h3_connection.specs.Keeping.{read_arrival}
 use Rattle.h3_connection.specs.Outgoing.{nothing_sent}
 use Rattle.h3_connection.specs.PartReading.{with_pieces, with_more}
 use Rattle.h3_connection.specs.Coming.{fields_next}
-use Rattle.h3_connection.specs.Coming.{HasNoHeader}
-use Rattle.h3_connection.specs.PartReading.{Resumes}
+use Rattle.h3_connection.specs.PartReading.{HasNoSection, IsBetweenFrames, Resumes}
 use Rattle.h3_connection.specs.Pulling.{Pulled, just, next_item, pull_stream}
+use Rattle.h3_connection.specs.Skipping.{skipped}
 use Rattle.h3_connection.specs.StreamSetLaws.{set-distinct}
 use Rattle.h3_connection.specs.StreamSets.{HaveDistinctIds, Streams, stream_at, set_stream}
+use Rattle.h3_connection.specs.StrictConnection.{kinds_of}
 use Rattle.h3_memory.specs.Kept.{Delivery}
 use Rattle.h3_memory.specs.Keeping.{Held, EachResumes, ahead, bytes_in, handed_stream}
 use Rattle.h3_memory.proofs.Ahead.{further_taken, set_mapped}
 use Rattle.h3_memory.proofs.AheadPulls.{ResumesAt, at_resumed, set_resumed, resumes_itself}
+
+-- the bytes of pieces, of which one comes at the end, and what follows
+piece_more : (pieces : List (List ℕ)) (bytes more : List ℕ) → concat (with_piece pieces bytes) ++ more ≡ concat pieces ++ (bytes ++ more)
+piece_more pieces [] more = refl
+piece_more pieces (byte ∷ bytes) more =
+    ap (λ l. l ++ more) (concat-append pieces ((byte ∷ bytes) ∷ []) ∙ ap (λ l. concat pieces ++ l) (append-nil (byte ∷ bytes))) ∙ append_assoc (concat pieces) (byte ∷ bytes) more
 
 module _ (side : Side) (own : Announced) (id : ℕ) where
   -- Bytes come to both.
@@ -39,14 +49,25 @@ module _ (side : Side) (own : Announced) (id : ℕ) where
         same = ap (λ (i : Incoming). record i { unread = (kept new bytes).unread }) h.same;
         pulls = λ r pieces ended. by_end r pieces ended;
         lists = λ r pieces ended. lists_by_end r pieces ended;
+        next = λ between. ((h.next between).0, λ more. same_next between more);
       }
     where
+      same_next : IsBetweenFrames new → (more : List ℕ) → skipped (kinds_of own) (is_body old.place) (concat (kept new bytes).unread ++ more) ≡ skipped (kinds_of own) (is_body old.place) (concat (kept old bytes).unread ++ more)
+      same_next between more =
+          ap (λ o. skipped (kinds_of own) (is_body old.place) (concat (if is_some o then [] else with_piece new.unread bytes) ++ more)) (ap (λ (i : Incoming). i.fault) h.same) ∙ by_fault old.fault
+        where
+          by_fault : (o : Option StreamFault)
+              → skipped (kinds_of own) (is_body old.place) (concat (if is_some o then [] else with_piece new.unread bytes) ++ more) ≡ skipped (kinds_of own) (is_body old.place) (concat (if is_some o then [] else with_piece old.unread bytes) ++ more)
+          by_fault (Some why) = refl
+          by_fault None =
+              ap (skipped (kinds_of own) (is_body old.place)) (piece_more new.unread bytes more) ∙ (h.next between).1 (bytes ++ more) ∙ sym (ap (skipped (kinds_of own) (is_body old.place)) (piece_more old.unread bytes more))
+
       by_end : (r : DecoderState) (pieces : List (List ℕ)) (ended : Bool) → pull_stream side own id r (with_more (kept old bytes) pieces ended) ≡ pull_stream side own id r (with_more (kept new bytes) pieces ended)
       by_end r pieces true = h.pulls r (bytes ∷ pieces) true
       by_end r pieces false = h.pulls r (bytes ∷ pieces) false
 
       lists_by_end : (r : DecoderState) (pieces : List (List ℕ)) (ended : Bool)
-          → HasNoHeader (pull_stream side own id r (with_more (kept old bytes) pieces ended)).answer ⊎ (fields_next own r (with_more (kept new bytes) pieces ended) ≡ fields_next own r (with_more (kept old bytes) pieces ended))
+          → HasNoSection (pull_stream side own id r (with_more (kept old bytes) pieces ended)).answer ⊎ (fields_next own r (with_more (kept new bytes) pieces ended) ≡ fields_next own r (with_more (kept old bytes) pieces ended))
       lists_by_end r pieces true = h.lists r (bytes ∷ pieces) true
       lists_by_end r pieces false = h.lists r (bytes ∷ pieces) false
 
@@ -65,8 +86,9 @@ module _ (side : Side) (own : Announced) (id : ℕ) where
         same = ap with_end h.same;
         pulls = λ r pieces ended. ap (pull_stream side own id r) (ended_more old pieces ended) ∙ h.pulls r pieces true ∙ sym (ap (pull_stream side own id r) (ended_more new pieces ended));
         lists = λ r pieces ended.
-            subst (λ x. HasNoHeader (pull_stream side own id r x).answer ⊎ (fields_next own r (with_more (with_end new) pieces ended) ≡ fields_next own r x)) (sym (ended_more old pieces ended))
-            (subst (λ x. HasNoHeader (pull_stream side own id r (with_more old pieces true)).answer ⊎ (fields_next own r x ≡ fields_next own r (with_more old pieces true))) (sym (ended_more new pieces ended)) (h.lists r pieces true));
+            subst (λ x. HasNoSection (pull_stream side own id r x).answer ⊎ (fields_next own r (with_more (with_end new) pieces ended) ≡ fields_next own r x)) (sym (ended_more old pieces ended))
+            (subst (λ x. HasNoSection (pull_stream side own id r (with_more old pieces true)).answer ⊎ (fields_next own r x ≡ fields_next own r (with_more old pieces true))) (sym (ended_more new pieces ended)) (h.lists r pieces true));
+        next = h.next;
       }
 
   -- One that was given up is told so again by each pull, and stays.

@@ -106,7 +106,7 @@ own_reads qpack laws setup w side er ew id count ds made t own may =
     none = own_outgoing setup w s id ew t.both.there own
 
     left : bytes_waiting ew id ≡ drop (came_of w s id) (text_of setup w s id)
-    left = waiting_own setup w s id ew t.both.there none ∙ own_left_is setup w s id own
+    left = waiting_own setup w s id ew t.both.there none ∙ own_left_is setup w s id t.both.writes_there.updates own
 
     streams : SameStreams w v
     streams = streams_after setup w s id count

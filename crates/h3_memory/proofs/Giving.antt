@@ -102,7 +102,7 @@ module _ (qpack : KeptLaws) (laws : Laws) (setup : Setup) (w : World) (side : Si
   pub waits_then : (id : ℕ) → has_outgoing W s id ≡ true → Waits setup W s g id
   waits_then id there =
       let c = caught.then_reads in
-      subst (λ x. Waits setup W s x id) (sym c.there.is) (waits_at setup W s c.ew c.there.held c.there.incoming c.there.arrivals id c.two.both.there there)
+      subst (λ x. Waits setup W s x id) (sym c.there.is) (waits_at setup W s c.ew c.there.held c.there.incoming c.there.arrivals id c.two.both.there c.two.both.writes_there.updates there)
 
   -- as before: nothing is read of what is not taken
   pub still : StandsKeeping setup (keeping_so side w mine ds) (ends_of side f g)

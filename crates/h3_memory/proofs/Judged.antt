@@ -23,7 +23,7 @@ use Rattle.h3_world.specs.Delivering.{is_closed}
 use Rattle.h3_world.specs.Flow as flows
 use Rattle.h3_world.specs.Flow.{Flow, flow_bytes}
 use Rattle.h3_world.specs.Streams.{flow, is_open, has_outgoing, waiting}
-use Rattle.h3_world.specs.World.{World}
+use Rattle.h3_world.specs.World.{World, party}
 use Rattle.h3_headline.specs.ComingLaws.{coming_refusal, kind_is}
 use Rattle.h3_headline.specs.DeliverLaws.{sends_at, waiting_is}
 use Rattle.h3_headline.specs.FlowLaws.{open_there}
@@ -81,9 +81,9 @@ pub record Waits (setup : Setup) (w : World) (side : Side) (g : EndpointHistory)
   pub waits : shown.waiting g id ≡ waiting setup w side id
   pub front : (count : ℕ) → count ≤ waiting setup w side id → take count (bytes_waiting g id) ≡ take count (drop (came_of w side id) (text_of setup w side id))
 
-pub waits_at : (setup : Setup) (w : World) (side : Side) (e : EndpointHistory) (held : Held) (incoming : Streams Incoming) (kept : List Arrival) (id : ℕ) → StandsAt setup w side e → has_outgoing w side id ≡ true
+pub waits_at : (setup : Setup) (w : World) (side : Side) (e : EndpointHistory) (held : Held) (incoming : Streams Incoming) (kept : List Arrival) (id : ℕ) → StandsAt setup w side e → (party w side).own.updates ≡ [] → has_outgoing w side id ≡ true
     → Waits setup w side (ahead e [] held incoming kept) id
-waits_at setup w side e held incoming kept id h there = by_truth (is_own side id) own_waits_so message_waits
+waits_at setup w side e held incoming kept id h none there = by_truth (is_own side id) own_waits_so message_waits
   where
     same : bytes_waiting (ahead e [] held incoming kept) id ≡ bytes_waiting e id
     same = waiting_ahead e held incoming kept id
@@ -91,8 +91,8 @@ waits_at setup w side e held incoming kept id h there = by_truth (is_own side id
     own_waits_so : is_own side id ≡ true → Waits setup w side (ahead e [] held incoming kept) id
     own_waits_so own =
         record {
-          waits = ap length same ∙ own_waits setup w side id e h own;
-          front = λ count fits. ap (take count) (same ∙ waiting_own setup w side id e h (own_outgoing setup w side id e h own) ∙ own_left_is setup w side id own);
+          waits = ap length same ∙ own_waits setup w side id e h none own;
+          front = λ count fits. ap (take count) (same ∙ waiting_own setup w side id e h (own_outgoing setup w side id e h own) ∙ own_left_is setup w side id none own);
         }
 
     f : Flow

@@ -90,3 +90,5 @@ pub mod Unfinished
 pub mod UnsettledPull
 pub mod WorldsWritten
 pub mod Written
+pub mod KeptInOrder
+pub mod PartsStay

@@ -3,12 +3,14 @@ use Rattle.std.proofs.Common.{◌≡◌, ◌⊎◌, inl, inr, ℕ, Bool, true, f
 use Rattle.h3_qpack.specs.DecoderState.{DecoderState}
 use Rattle.h3_connection.specs.declared.arrival.Arrival.{Arrival}
 use Rattle.h3_connection.specs.declared.event.Fault.TheVariants as fault
+use Rattle.h3_connection.specs.declared.event.Item.TheVariants as item
 use Rattle.h3_connection.specs.declared.event.Pull.{Pull}
 use Rattle.h3_connection.specs.declared.event.Pull.TheVariants as pull
 use Rattle.h3_connection.specs.Delivering.{with_incoming}
 use Rattle.h3_connection.specs.Endpoint.{EndpointHistory, Kind, heads_waiting, replied}
 use Rattle.h3_connection.specs.Endpoint.Kind.{Request, ServerOpened, OwnUnidirectional, PeerUnidirectional}
 use Rattle.h3_connection.specs.Incoming.{Incoming}
+use Rattle.h3_connection.specs.PartReading.{HasNoSection}
 use Rattle.h3_connection.specs.Pulling.{Pulled, pull_stream}
 use Rattle.h3_connection.specs.Sending.{after_answer, if_too_many, pull_at, pull_request, within_limit}
 use Rattle.h3_connection.specs.StreamSets.{Streams, set_stream, stream_at}
@@ -20,7 +22,13 @@ use Rattle.h3_memory.specs.Kept.{Delivery}
 use Rattle.h3_memory.specs.Keeping.{EachResumes, Held, ahead}
 use Rattle.h3_memory.proofs.AheadPulls.{ResumesAt, at_resumed}
 
--- an answer without a header stays one
+-- an answer without a section has no header, and stays one
+no_header : (a : Pull) → HasNoSection a → HasNoHeader a
+no_header (pull.Item (item.Interim head)) none = none
+no_header (pull.Item (item.Head head)) none = none
+no_header (pull.Item (item.Trailer head)) none = none
+no_header a none = tt
+
 answered_none : (a : Pull) (e : EndpointHistory) → HasNoHeader a → HasNoHeader (after_answer a e).0
 answered_none (pull.Item i) e none = none
 answered_none pull.Pending e none = tt
@@ -47,7 +55,7 @@ lists_ahead mine held kept behind news id Request h = by_stream (stream_at behin
     given : Option Incoming → Pull
     given o = (pull_request behind id o).0
 
-    by_lists : (old new : Incoming) → HasNoHeader (pull_stream behind.side behind.announced id r old).answer ⊎ (fields_next behind.announced r new ≡ fields_next behind.announced r old)
+    by_lists : (old new : Incoming) → HasNoSection (pull_stream behind.side behind.announced id r old).answer ⊎ (fields_next behind.announced r new ≡ fields_next behind.announced r old)
         → listed_pull (fields_next behind.announced r new) (given (Some old)) ≡ listed_pull (fields_next behind.announced r old) (given (Some old))
     by_lists old new (inr same) = ap (λ o. listed_pull o (given (Some old))) same
     by_lists old new (inl none) =
@@ -55,7 +63,7 @@ lists_ahead mine held kept behind news id Request h = by_stream (stream_at behin
         let q = within_limit behind id p in
         any_list (fields_next behind.announced r new) (fields_next behind.announced r old) (given (Some old))
         (answered_none q.answer (replied (with_incoming behind id q.incoming) q.replies)
-        (within_none (nat_lt behind.announced.limits.blocked (heads_waiting r (set_stream behind.incoming id p.incoming))) p none))
+        (within_none (nat_lt behind.announced.limits.blocked (heads_waiting r (set_stream behind.incoming id p.incoming))) p (no_header p.answer none)))
 
     by_stream : (o n : Option Incoming) → ResumesAt behind.side behind.announced id o n → listed_pull (fields_there behind.announced r n) (given o) ≡ listed_pull (fields_there behind.announced r o) (given o)
     by_stream None None h = refl

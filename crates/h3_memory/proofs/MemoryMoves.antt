@@ -63,15 +63,15 @@ kept_world : (k : KeepingWorld) (side : Side) (v : World) (ds : List Delivery) �
 kept_world k Client v ds = refl
 kept_world k Server v ds = refl
 
-read_keeps : (k new : KeepingWorld) (reader : Side) (v : World) → KeepsParts k.world v → (new ≡ k) ⊎ (new ≡ with_kept k reader v []) → KeepsParts k.world new.world
+pub read_keeps : (k new : KeepingWorld) (reader : Side) (v : World) → KeepsParts k.world v → (new ≡ k) ⊎ (new ≡ with_kept k reader v []) → KeepsParts k.world new.world
 read_keeps k new reader v keeps (inl e) = subst (λ x. KeepsParts k.world x.world) (sym e) (keeps_same k.world)
 read_keeps k new reader v keeps (inr e) = subst (KeepsParts k.world) (sym (ap (λ x. x.world) e ∙ kept_world k reader v [])) keeps
 
-reset_keeps : (q : KeptLaws) (setup : Setup) (k : KeepingWorld) (side : Side) (id : ℕ) → IsSoundKeeping setup k → reset_refusal (caught_up setup k (other side)) side id ≡ None → KeepsParts k.world (cut_off k.world side id)
+pub reset_keeps : (q : KeptLaws) (setup : Setup) (k : KeepingWorld) (side : Side) (id : ℕ) → IsSoundKeeping setup k → reset_refusal (caught_up setup k (other side)) side id ≡ None → KeepsParts k.world (cut_off k.world side id)
 reset_keeps q setup k side id h e =
     keeps_with_flow k.world side id (record (flow k.world side id) { is_reset = true }) (open_there k.world side id (resets_at q setup k side id h e).opened) (record { sent = refl; parts_out = refl; body_out = refl })
 
-does_keep : (w after v : World) (given : Answer) (o : Option Refusal) → (o ≡ None → KeepsParts w after) → Does o w answer.Done after given v → KeepsParts w v
+pub does_keep : (w after v : World) (given : Answer) (o : Option Refusal) → (o ≡ None → KeepsParts w after) → Does o w answer.Done after given v → KeepsParts w v
 does_keep w after v given (Some r) keeps d = subst (KeepsParts w) (sym d.1) (keeps_same w)
 does_keep w after v given None keeps d = subst (KeepsParts w) (sym d.1) (keeps refl)
 
@@ -116,7 +116,7 @@ same_keeps k new e = subst (λ x. KeepsParts k.world x.world) (sym e) (keeps_sam
 cut_keeps : (k new : KeepingWorld) (side : Side) (i : ℕ) (fields : List Field) → Left k side i fields new → KeepsParts k.world new.world
 cut_keeps k new side i fields left = left_holds (KeepsParts k.world) k new side i fields (λ front. insertions_keep k.world side i front) (keeps_same k.world) left
 
-no_room : (setup : Setup) (k new : KeepingWorld) (e : Event) → LacksMemory setup k e (answer.Refused refusal.OutOfMemory) new → KeepsParts k.world new.world
+pub no_room : (setup : Setup) (k new : KeepingWorld) (e : Event) → LacksMemory setup k e (answer.Refused refusal.OutOfMemory) new → KeepsParts k.world new.world
 no_room setup k new (event.OpenRequest side) step = same_keeps k new step.1
 no_room setup k new (event.Head side i head) step = cut_keeps k new side i (head_fields head) (section_left k new side i (head_fields head) (head_refusal setup k.world side i head) step)
 no_room setup k new (event.Fields side i fields) step = cut_keeps k new side i fields (list_left k new side i fields (fields_refusal setup k.world side i fields) step)
@@ -144,7 +144,7 @@ stores_keeps q setup k new writer d h t keeps =
     let left = kept_at new (other writer) in
     left_keeps k new (other writer) (noticed_all keeps.mid writer left) left (part_noticed q setup writer k.world keeps.mid (kept_at k (other writer) ++ d ∷ []) left h.sound t.may keeps.read) keeps.same
 
-stored : (q : KeptLaws) (setup : Setup) (k new : KeepingWorld) (e : Event) → IsSoundKeeping setup k → LacksMemory setup k e (answer.Refused refusal.Kept) new → KeepsParts k.world new.world
+pub stored : (q : KeptLaws) (setup : Setup) (k new : KeepingWorld) (e : Event) → IsSoundKeeping setup k → LacksMemory setup k e (answer.Refused refusal.Kept) new → KeepsParts k.world new.world
 stored q setup k new (event.Deliver side i count) h step = stores_keeps q setup k new side (Bytes i count) h (takes_bytes q setup k side i count h step.0) step.1
 stored q setup k new (event.DeliverEnd side i) h step = stores_keeps q setup k new side (End i) h (takes_end q setup k side i h step.0) step.1
 stored q setup k new (event.DeliverReset side i) h step = stores_keeps q setup k new side (Reset i) h (takes_reset q setup k side i h step.0) step.1
@@ -168,7 +168,7 @@ none_out q setup k new side id h step =
     let left = kept_at new side in
     left_keeps k new side (noticed_all step.mid (other side) left) left (part_noticed q setup (other side) k.world step.mid (kept_at k side) left h.sound (kept_readable setup k side h) step.read) step.same
 
-nothing_out : (q : KeptLaws) (setup : Setup) (k new : KeepingWorld) (e : Event) → IsSoundKeeping setup k → LacksMemory setup k e (answer.Pulled (pull.Fault fault.Memory)) new → KeepsParts k.world new.world
+pub nothing_out : (q : KeptLaws) (setup : Setup) (k new : KeepingWorld) (e : Event) → IsSoundKeeping setup k → LacksMemory setup k e (answer.Pulled (pull.Fault fault.Memory)) new → KeepsParts k.world new.world
 nothing_out q setup k new (event.Pull side id) h step = none_out q setup k new side id h step
 nothing_out q setup k new (event.OpenRequest side) h step = absurd step
 nothing_out q setup k new (event.Head side id head) h step = absurd step
@@ -186,7 +186,7 @@ nothing_out q setup k new (event.DeliverReset writer id) h step = absurd step
 nothing_out q setup k new (event.PullFields side id) h step = absurd step
 nothing_out q setup k new (event.Show side) h step = absurd step
 
-no_list : (q : KeptLaws) (setup : Setup) (k new : KeepingWorld) (e : Event) → IsSoundKeeping setup k → LacksMemory setup k e (answer.Listed (list.Fault fault.Memory)) new → KeepsParts k.world new.world
+pub no_list : (q : KeptLaws) (setup : Setup) (k new : KeepingWorld) (e : Event) → IsSoundKeeping setup k → LacksMemory setup k e (answer.Listed (list.Fault fault.Memory)) new → KeepsParts k.world new.world
 no_list q setup k new (event.PullFields side id) h step = none_out q setup k new side id h step
 no_list q setup k new (event.OpenRequest side) h step = absurd step
 no_list q setup k new (event.Head side id head) h step = absurd step

@@ -1,22 +1,24 @@
 -- A pull that is refused memory hands nothing out, and reads a part of what its side keeps; or it reads all, and the stream goes on as if it had not
 -- been asked.
-use Rattle.std.proofs.Common.{◌≡◌, ◌⊎◌, inl, inr, ℕ, Bool, false, List, [], ◌∷◌, refl, sym, ap, ◌∙◌, subst, Option, Some, None}
+use Rattle.std.proofs.Common.{◌≡◌, ◌⊎◌, inl, inr, ℕ, Bool, false, List, [], ◌∷◌, ◌++◌, refl, sym, ap, ◌∙◌, subst, Option, Some, None}
+use Rattle.std.specs.List.{concat}
 use Rattle.h3_proto.specs.declared.stream.Side.{Side}
 use Rattle.h3_proto.specs.declared.stream.Side.TheVariants.{Client, Server}
 use Rattle.h3_connection.specs.declared.arrival.Arrival.{Arrival}
 use Rattle.h3_connection.specs.declared.setup.Announced.{Announced}
 use Rattle.h3_connection.specs.Delivering.{with_incoming}
 use Rattle.h3_connection.specs.Endpoint.{EndpointHistory}
-use Rattle.h3_connection.specs.Incoming.{Incoming}
+use Rattle.h3_connection.specs.Incoming.{Incoming, is_body}
 use Rattle.h3_connection.specs.Keeping.{keeping, settles}
 use Rattle.h3_connection.specs.OwnIds.{other}
 use Rattle.h3_connection.specs.PartReading.{with_more}
 use Rattle.h3_connection.specs.Pulling.{Pulled, pull_stream}
 use Rattle.h3_qpack.specs.DecoderState.{DecoderState}
 use Rattle.h3_connection.specs.Coming.{fields_next}
-use Rattle.h3_connection.specs.Coming.{HasNoHeader}
-use Rattle.h3_connection.specs.PartReading.{Resumes}
+use Rattle.h3_connection.specs.PartReading.{HasNoSection, IsBetweenFrames, Resumes, StandsNext}
+use Rattle.h3_connection.specs.Skipping.{skipped}
 use Rattle.h3_connection.specs.StreamSets.{Streams, stream_at, set_stream}
+use Rattle.h3_connection.specs.StrictConnection.{kinds_of}
 use Rattle.h3_world.specs.declared.setup.Setup.{Setup}
 use Rattle.h3_world.specs.Ends.{Ends, end_at, with_end}
 use Rattle.h3_world.specs.World.{World}
@@ -63,7 +65,7 @@ hands_nothing setup k side id mid v left unsettled read is =
     }
 
 -- where nothing came nothing is kept
-none_left : (text : ℕ → List ℕ) (came : ℕ → ℕ) (held : ℕ → List ℕ) (ds : List Delivery) (arrivals : List Arrival) → arrivals ≡ [] → AreKept text came held ds arrivals → ds ≡ []
+pub none_left : (text : ℕ → List ℕ) (came : ℕ → ℕ) (held : ℕ → List ℕ) (ds : List Delivery) (arrivals : List Arrival) → arrivals ≡ [] → AreKept text came held ds arrivals → ds ≡ []
 none_left text came held [] arrivals none h = refl
 none_left text came held (Bytes id count ∷ ds) [] none h = absurd h
 none_left text came held (End id ∷ ds) [] none h = absurd h
@@ -79,13 +81,23 @@ resumes_then side own id first second third h k =
       same = k.same ∙ ap (λ (i : Incoming). record i { unread = third.unread; section = third.section; body_left = third.body_left; content = third.content }) h.same;
       pulls = λ r pieces ended. h.pulls r pieces ended ∙ k.pulls r pieces ended;
       lists = λ r pieces ended. joined r pieces ended (h.lists r pieces ended) (k.lists r pieces ended);
+      next = next_then;
     }
   where
-    joined : (r : DecoderState) (pieces : List (List ℕ)) (ended : Bool) → HasNoHeader (pull_stream side own id r (with_more first pieces ended)).answer ⊎ (fields_next own r (with_more second pieces ended) ≡ fields_next own r (with_more first pieces ended))
-        → HasNoHeader (pull_stream side own id r (with_more second pieces ended)).answer ⊎ (fields_next own r (with_more third pieces ended) ≡ fields_next own r (with_more second pieces ended))
-        → HasNoHeader (pull_stream side own id r (with_more first pieces ended)).answer ⊎ (fields_next own r (with_more third pieces ended) ≡ fields_next own r (with_more first pieces ended))
+    place_is : second.place ≡ first.place
+    place_is = ap (λ (i : Incoming). i.place) h.same
+
+    next_then : StandsNext (kinds_of own) first third
+    next_then between =
+        let later = subst (λ q. IsBetweenFrames second × ((more : List ℕ) → skipped (kinds_of own) (is_body q) (concat third.unread ++ more) ≡ skipped (kinds_of own) (is_body q) (concat second.unread ++ more))) place_is (k.next between) in
+        let before = h.next later.0 in
+        (before.0, λ more. later.1 more ∙ before.1 more)
+
+    joined : (r : DecoderState) (pieces : List (List ℕ)) (ended : Bool) → HasNoSection (pull_stream side own id r (with_more first pieces ended)).answer ⊎ (fields_next own r (with_more second pieces ended) ≡ fields_next own r (with_more first pieces ended))
+        → HasNoSection (pull_stream side own id r (with_more second pieces ended)).answer ⊎ (fields_next own r (with_more third pieces ended) ≡ fields_next own r (with_more second pieces ended))
+        → HasNoSection (pull_stream side own id r (with_more first pieces ended)).answer ⊎ (fields_next own r (with_more third pieces ended) ≡ fields_next own r (with_more first pieces ended))
     joined r pieces ended (inl none) later = inl none
-    joined r pieces ended (inr same) (inl none) = inl (subst (λ (p : Pulled). HasNoHeader p.answer) (sym (h.pulls r pieces ended)) none)
+    joined r pieces ended (inr same) (inl none) = inl (subst (λ (p : Pulled). HasNoSection p.answer) (sym (h.pulls r pieces ended)) none)
     joined r pieces ended (inr same) (inr later) = inr (later ∙ same)
 
 asked_resumes : (side : Side) (own : Announced) (olds news : Streams Incoming) (id : ℕ) (old asked : Incoming) → EachResumes side own olds news → stream_at news id ≡ Some old → Resumes side own id old asked

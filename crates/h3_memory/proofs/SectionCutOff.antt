@@ -119,6 +119,7 @@ cut_off_stands qpack laws setup w ends side id fields of_bytes small h =
       instructions = all_joined IsWrittenInstruction old.own.instructions (own_instructions old.encoder id fields) b.writes_here.instructions
           (laws.written old.encoder id fields (few_inserted laws.streams setup w side h.sound) of_bytes small);
       replies = b.writes_here.replies;
+      updates = b.writes_here.updates;
     } in
     let is : sections.with_insertions e id fields ≡ record e { own = q.own; encoder = q.encoder } =
     ap (λ (o : Own). inserted_by e id fields o e.encoder) b.here.own ∙ ap (λ s. inserted_by e id fields old.own s) b.here.encoder in

@@ -5,3 +5,5 @@ pub mod Refused
 pub mod SoundKeeping
 pub mod Theorem
 pub mod Writing
+pub mod ReadsNext
+pub mod QuietEvents

@@ -14,7 +14,7 @@ use Rattle.h3_connection.specs.Incoming.{Incoming}
 use Rattle.h3_connection.specs.Keeping.{settles, unkept}
 use Rattle.h3_connection.specs.OwnIds.{other}
 use Rattle.h3_connection.specs.PartReading.{ReadsPart}
-use Rattle.h3_connection.specs.PartReading.{Resumes, ResumesPlainly}
+use Rattle.h3_connection.specs.PartReading.{CountsOn, Resumes, ResumesPlainly}
 use Rattle.h3_connection.specs.ReceivingContracts.{IsTaken}
 use Rattle.h3_connection.specs.Sections.{with_insertions}
 use Rattle.h3_connection.specs.Sending as sender
@@ -73,6 +73,7 @@ pub record IsAsked (e : EndpointHistory) (id : ℕ) (new : EndpointHistory) : Ty
   pub here : stream_at e.incoming id ≡ Some old
   pub resumes : Resumes e.side e.announced id old asked
   pub plainly : ResumesPlainly e.side e.announced id old asked
+  pub counts : CountsOn old.content asked.content
   pub is : new ≡ with_incoming e id asked
 
 pub record LosesNothing (ends : Ends) (side : Side) (id : ℕ) (new : Ends) : Type 0 where

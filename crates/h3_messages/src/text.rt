@@ -132,7 +132,7 @@ fn are_scheme_bytes(text: &[u8]) -> bool
 pub(crate) fn is_scheme(text: &[u8]) -> bool
     ensures { result ≡ is_scheme text.now }
 {
-    byte_at(text, 0).is_ascii_alphabetic() && are_scheme_bytes(text)
+    is_same(text, b"https") || (byte_at(text, 0).is_ascii_alphabetic() && are_scheme_bytes(text))
 }
 
 // Whether the text is the port of a CONNECT request: a number of 16 bits other than 0 (RFC 9110, 9.3.6).

@@ -102,7 +102,7 @@ impl Frame {
 
     /// Copies what is left into a buffer from a place on: up to a payload that the caller holds, and as much as fits. Returns the place
     /// after it, how many bytes of that payload follow, and whether nothing more is to be copied after this frame.
-    #[inline]
+    #[inline(always)]
     pub(crate) fn put(&self, at: usize, out: &mut [u8]) -> (usize, usize, bool)
         requires { at ≤ length out.old }
         ensures { FrontsAt (all_of self.now) at out.old result.0 result.1 result.2 out.new }
@@ -112,6 +112,7 @@ impl Frame {
     }
 
     // The same without whether more is to be copied.
+    #[inline(always)]
     fn put_from(&self, at: usize, out: &mut [u8]) -> (usize, usize)
         requires { at ≤ length out.old }
         ensures copied { Puts (front_of (all_of self.now)) at out.old result.0 out.new }

@@ -249,6 +249,7 @@ fn put_queue(frames: &VecDeque<Frame>, out: &mut [u8]) -> (usize, usize)
 }
 
 /// Takes up to `count` bytes of a frame, if there is one, and returns how many. One that is wholly taken goes.
+#[inline(always)]
 fn take_of(place: &mut Option<Frame>, count: usize) -> usize
     requires { All (λ f. 0 < length (all_of f)) (at_most_one place.old) }
     ensures taken { result ≡ min count (length (bytes_of (at_most_one place.old))) }

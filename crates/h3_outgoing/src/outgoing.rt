@@ -15,7 +15,7 @@ use crate::section::EncodedSection;
 use bytes::{Buf, Bytes};
 use h3_connection::arrival::MOST_HELD;
 use h3_connection::event::Malformation;
-use h3_connection::order::Precedence;
+use h3_connection::order::{Precedence, PrioritySource};
 use h3_connection::place::SendPlace;
 use h3_messages::Content;
 use h3_priority::priority::Priority;
@@ -78,6 +78,7 @@ impl OutgoingStream {
             end_taken: false,
             precedence: Precedence {
                 priority: Priority::default(),
+                source: PrioritySource::Unsaid,
                 is_held: false,
             },
         }

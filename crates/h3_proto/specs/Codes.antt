@@ -46,6 +46,9 @@ name_or_number code None = codes "0x" ++ digits 16 false code
 abbrev pub code_text : ℕ → List ℕ
 code_text code = name_or_number code (code_name code)
 
+abbrev pub general_protocol_error : ℕ
+general_protocol_error = 0x101
+
 abbrev pub internal_error : ℕ
 internal_error = 0x102
 

@@ -82,6 +82,9 @@ pub const MAX_TABLE_CAPACITY: u64 = (1 << 30) - 1;
 /// The most streams that an end announces as blocked at its decoder (RFC 9204, section 2.1.2).
 pub const MAX_BLOCKED_STREAMS: u64 = 65535;
 
+/// The most streams of which a server keeps what PRIORITY_UPDATE frames said (RFC 9218, section 7.2).
+pub const MAX_PRIORITY_UPDATES: u64 = 128;
+
 /// What an end chooses for itself beyond what it announces. None of it is sent to the peer, and by default nothing is asked for.
 #[derive(Clone, Copy, Debug)]
 pub struct Choices {
@@ -115,6 +118,9 @@ pub struct Extensions {
     pub shortest_strings: bool,
     /// The connection is judged by the rules of the standards that peers may be forgiven, as `Config::with_strict_connection` says.
     pub strict_connection: bool,
+    /// Of so many streams a server keeps what PRIORITY_UPDATE frames said, until it is used. 0: such frames are of unknown types (RFC 9218,
+    /// section 7.2). More than `MAX_PRIORITY_UPDATES` is the same as that.
+    pub priority_updates: u64,
 }
 
 impl Default for Extensions {
@@ -128,6 +134,7 @@ impl Default for Extensions {
             secrets_guarded: false,
             shortest_strings: false,
             strict_connection: false,
+            priority_updates: 0,
         }
     }
 }
@@ -363,6 +370,19 @@ impl Config {
         } }
     {
         self.choices.extensions.strict_connection = strict;
+        self
+    }
+
+    /// Of how many streams a server keeps what the client's PRIORITY_UPDATE frames said (RFC 9218, section 7.2) until it is used, at most
+    /// 128. What comes of a further one while so many wait is dropped. A greater value is the same as 128. With 0 such frames mean nothing,
+    /// as any of an unknown type (RFC 9114, section 9). Otherwise one that is out of place or malformed is a fault of the connection. 0 by
+    /// default.
+    pub fn with_priority_updates(mut self, most: u64) -> Self
+        ensures { result ≡ record self {
+          choices = record self.choices { extensions = record self.choices.extensions { priority_updates = most } };
+        } }
+    {
+        self.choices.extensions.priority_updates = most;
         self
     }
 

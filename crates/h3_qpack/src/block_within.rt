@@ -46,6 +46,7 @@ fn size_of_block(block: &FieldBlock) -> u64
 }
 
 /// Adds a copy of a field.
+#[inline(always)]
 fn put(block: &mut FieldBlock, field: &FieldRef<'_>) -> Result<(), DecoderError>
     ensures ok { OnOk result (block.new ≡ block.old ++ field.now ∷ []) }
     ensures err { IfErr result (λ e. e ≡ OutOfMemory) }

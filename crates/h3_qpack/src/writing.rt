@@ -72,6 +72,7 @@ fn put_insertion(
 
 /// Inserts a field that may be, and appends the instruction for it. No entry up to the number that was searched equals the field. A refusal
 /// changes nothing.
+#[inline(never)]
 fn put_entry(
     table: &mut DynamicTable,
     searched: usize,
@@ -129,6 +130,7 @@ fn put_inserted(
 
 /// Appends the line of a literal value with the name of a dynamic entry, and that bit N. If `shortest`, the value is Huffman coded only
 /// if that is shorter.
+#[inline(never)]
 fn put_entry_name(
     base: usize,
     number: usize,

@@ -7,6 +7,7 @@ use Rattle.h3_proto.specs.declared.stream.Side.TheVariants.{Client, Server}
 use Rattle.h3_connection.specs.Delivering.{closed_refusal}
 use Rattle.h3_connection.specs.Incoming.{nothing_came}
 use Rattle.h3_connection.specs.Keeping.{is_settled_request}
+use Rattle.h3_connection.specs.Prioritizing.{takes_no_response}
 use Rattle.h3_connection.specs.Unread.{counted, held_of_request}
 use Rattle.h3_connection.specs.State.{RequestState, kept_at}
 use Rattle.h3_connection.specs.declared.event.Refusal.{Refusal}
@@ -55,6 +56,13 @@ pub settled_is : (streams model : Streams RequestState) (id : ℕ) (a : Option R
     → is_settled_request (option_map (λ r. r.incoming) a) ≡ is_settled_request (option_map (λ r. r.incoming) (kept_at model id))
 settled_is streams model id a view alike =
     settled_of a ∙ ap (λ o. unwrap_or o false) (part_is is_settled_stream (λ r. ap (λ given_up. given_up || r.incoming.is_over) (fault_stays r.incoming.fault)) streams model id a view alike) ∙ sym (settled_of (kept_at model id))
+
+-- whether no response comes any more,
+pub response_is : (streams model : Streams RequestState) (id : ℕ) (a : Option RequestState) → streams ≡ model → AreAlike a (kept_at streams id)
+    → unwrap_or (option_map (λ r. takes_no_response r.incoming) a) false ≡ unwrap_or (option_map (λ r. takes_no_response r.incoming) (kept_at model id)) false
+response_is streams model id a view alike =
+    ap (λ o. unwrap_or o false)
+    (part_is (λ r. takes_no_response r.incoming) (λ r. ap (λ given_up. (r.incoming.ended || r.incoming.was_reset) || given_up) (fault_stays r.incoming.fault)) streams model id a view alike)
 
 abbrev refused_by : Side → Option Bool → Option Refusal
 refused_by Client None = Some refusal.NotOpen

@@ -244,12 +244,13 @@ one_of_greatest passes None h = h
 one_of_greatest passes (Some id) h = h.0
 
 -- Streams that are marked with the ways in which they are over are over, and one is there where its mark is not 0.
-pub all_over : (ways : List Way) (marks codes : ℕ → ℕ) (model : Streams RequestState) → streams_of (over_in ways marks codes) ≡ model → AreMarked ways marks → (id : ℕ) → IfSome (kept_at model id) IsOver
-all_over ways marks codes model view h id = kept_there (λ o. IfSome o IsOver) (over_in ways marks codes) model id view tt (told_over (way_at ways (marks id)) (codes id) (h.over (marks id)))
+pub all_over : (ways : ℕ → List Way) (groups marks codes : ℕ → ℕ) (model : Streams RequestState) → streams_of (over_in ways groups marks codes) ≡ model → AreMarked ways groups marks → (id : ℕ) → IfSome (kept_at model id) IsOver
+all_over ways groups marks codes model view h id =
+    kept_there (λ o. IfSome o IsOver) (over_in ways groups marks codes) model id view tt (told_over (way_at (ways (groups id)) (marks id)) (codes id) (h.over (groups id) (marks id)))
 
-pub greatest_marked : (ways : List Way) (marks codes : ℕ → ℕ) (model : Streams RequestState) (one : Option ℕ) → streams_of (over_in ways marks codes) ≡ model → AreMarked ways marks → IfSome one (λ id. id < 2 ^ 64)
+pub greatest_marked : (ways : ℕ → List Way) (groups marks codes : ℕ → ℕ) (model : Streams RequestState) (one : Option ℕ) → streams_of (over_in ways groups marks codes) ≡ model → AreMarked ways groups marks → IfSome one (λ id. id < 2 ^ 64)
     → IsGreatest (λ q. nat_lt 0 (marks q)) one → IsGreatest (λ q. is_some (kept_at model q)) one
-greatest_marked ways marks codes model one view h few greatest =
-    greatest_listed is_some (over_in ways marks codes) model one view refl few
-    (greatest_alike (λ q. nat_lt 0 (marks q)) (λ q. is_some (over_in ways marks codes q)) one
-    (λ q. told_some (way_at ways (marks q)) (codes q) ∙ way_there ways (marks q) (h.known q)) greatest)
+greatest_marked ways groups marks codes model one view h few greatest =
+    greatest_listed is_some (over_in ways groups marks codes) model one view refl few
+    (greatest_alike (λ q. nat_lt 0 (marks q)) (λ q. is_some (over_in ways groups marks codes q)) one
+    (λ q. told_some (way_at (ways (groups q)) (marks q)) (codes q) ∙ way_there (ways (groups q)) (marks q) (h.known q)) greatest)

@@ -2,6 +2,9 @@
 use Rattle.std.proofs.Common.{arith, Bor, ◌≡◌, ◌<◌, ◌≤◌, ℕ, zero, suc, ◌+◌, ◌-◌, Bool, true, false, List, [], ◌∷◌, ◌++◌, length, ◌^◌, get_or, length-append, refl, sym, ◌∙◌, ap, subst, min, inl, inr}
 use Rattle.std.specs.Prelude.{◌≢◌, ◌&&◌, ◌||◌, ◌==◌, not, Option, Some, None, if◌then◌else◌, is_some, option_copied, option_map, slice_get, IfSome, nat_lt}
 use Rattle.std.proofs.lemmas.Bool.{cases_eq, lt-ltb}
+use Rattle.std.specs.BTreeMap.{is_at}
+use Rattle.std.specs.Map.{lookup}
+use Rattle.std.specs.Ordering.{nat_cmp}
 use Rattle.std.proofs.Math.Seq.{get_or-append_seam}
 use Rattle.std.proofs.lemmas.Grind.{common_steps}
 use Rattle.std.proofs.lemmas.List.{get_or_append_left}
@@ -20,8 +23,9 @@ use Rattle.h3_outgoing.specs.Sent.{end_waits, is_sent_off, is_open, takes_head, 
 use Rattle.h3_requests.specs.HasBytes.{has_bytes}
 use Rattle.h3_requests.specs.Listed.{streams_of}
 use Rattle.h3_requests.specs.Marks.{HaveSameMarks, IsOneMark}
-use Rattle.h3_requests.specs.Over.{AddsWays, AreAlike, AreMarked, HasWays, IsOver, IsPaired, IsWay, codeless, ended_way, over_in, over_so, reset_with, way_at, with_end_taken, without_code, ReceivesAlike, SendsAlike}
+use Rattle.h3_requests.specs.Over.{AddsWays, AreAlike, AreMarked, HasWays, IsOver, IsPaired, IsWay, codeless, ended_way, over_in, over_so, reset_with, way_at, ways_in, ways_of, with_end_taken, without_code, ReceivesAlike, SendsAlike}
 use Rattle.h3_requests.specs.declared.over.Way.{Way}
+use Rattle.h3_requests.specs.declared.over.ways.Ways.{Ways}
 use Rattle.h3_connection.specs.declared.event.StreamFault.TheVariants.{Reset}
 use Rattle.h3_requests.specs.Refused.{refused_over, head_refused_at, body_refused_at, data_refused_at, end_refused_at, reset_refused_at, cancel_refused_at}
 use Rattle.h3_requests.proofs.Found.{few, found, sets, takes_out}
@@ -208,23 +212,32 @@ pub told_some : (o : Option Way) (code : ℕ) → is_some (told o code) ≡ is_s
 told_some None code = refl
 told_some (Some w) code = refl
 
--- What is found among the streams that are over, by the mark of an id.
-pub over_found : (ways : List Way) (marks codes : ℕ → ℕ) (model : Streams RequestState) (number id way : ℕ) → streams_of (over_in ways marks codes) ≡ model → number ≡ id → number < 2 ^ 62 → way ≡ marks number
-    → kept_at model id ≡ told (way_at ways way) (codes number)
-over_found ways marks codes model number id way is same below marked =
-    ap (λ l. kept_at l id) (sym is) ∙ found (over_in ways marks codes) id (few number id same below) ∙ ap (over_in ways marks codes) (sym same) ∙ ap (λ m. told (way_at ways m) (codes number)) (sym marked)
+-- What is found among the streams that are over, by the group and the mark of an id.
+pub over_found : (ways : ℕ → List Way) (groups marks codes : ℕ → ℕ) (model : Streams RequestState) (number id way : ℕ) → streams_of (over_in ways groups marks codes) ≡ model → number ≡ id → number < 2 ^ 62 → way ≡ marks number
+    → kept_at model id ≡ told (way_at (ways (groups number)) way) (codes number)
+over_found ways groups marks codes model number id way is same below marked =
+    ap (λ l. kept_at l id) (sym is) ∙ found (over_in ways groups marks codes) id (few number id same below) ∙ ap (over_in ways groups marks codes) (sym same)
+    ∙ ap (λ m. told (way_at (ways (groups number)) m) (codes number)) (sym marked)
+
+-- the same by the way that is lent
+pub over_lent : (ways : ℕ → List Way) (groups marks codes : ℕ → ℕ) (model : Streams RequestState) (number id group way : ℕ) (o : Option Way) → streams_of (over_in ways groups marks codes) ≡ model → number ≡ id → number < 2 ^ 62 → group ≡ groups number
+    → way ≡ marks number → o ≡ way_at (ways group) way → kept_at model id ≡ told o (codes number)
+over_lent ways groups marks codes model number id group way o is same below grouped marked lends =
+    over_found ways groups marks codes model number id way is same below marked ∙ ap (λ g. told (way_at (ways g) way) (codes number)) (sym grouped) ∙ ap (λ w. told w (codes number)) (sym lends)
 
 -- It is over.
-pub over_known : (ways : List Way) (marks codes : ℕ → ℕ) (model : Streams RequestState) (number id : ℕ) → streams_of (over_in ways marks codes) ≡ model → number ≡ id → number < 2 ^ 62 → AreMarked ways marks
+pub over_known : (ways : ℕ → List Way) (groups marks codes : ℕ → ℕ) (model : Streams RequestState) (number id : ℕ) → streams_of (over_in ways groups marks codes) ≡ model → number ≡ id → number < 2 ^ 62 → AreMarked ways groups marks
     → IfSome (kept_at model id) IsOver
-over_known ways marks codes model number id is same below h =
-    subst (λ o. IfSome o IsOver) (sym (over_found ways marks codes model number id (marks number) is same below refl)) (told_over (way_at ways (marks number)) (codes number) (h.over (marks number)))
+over_known ways groups marks codes model number id is same below h =
+    subst (λ o. IfSome o IsOver) (sym (over_found ways groups marks codes model number id (marks number) is same below refl))
+    (told_over (way_at (ways (groups number)) (marks number)) (codes number) (h.over (groups number) (marks number)))
 
 -- What stands for its way is like it.
-pub over_alike_found : (ways : List Way) (marks codes : ℕ → ℕ) (model : Streams RequestState) (number id way : ℕ) → streams_of (over_in ways marks codes) ≡ model → number ≡ id → number < 2 ^ 62 → way ≡ marks number → AreMarked ways marks
-    → AreAlike (option_map (λ w. w.stream) (way_at ways way)) (kept_at model id)
-over_alike_found ways marks codes model number id way is same below marked h =
-    told_alike (way_at ways way) (codes number) (h.over way) ∙ ap (option_map codeless) (sym (over_found ways marks codes model number id way is same below marked))
+pub over_alike_found : (ways : ℕ → List Way) (groups marks codes : ℕ → ℕ) (model : Streams RequestState) (number id group way : ℕ) (o : Option Way) → streams_of (over_in ways groups marks codes) ≡ model → number ≡ id → number < 2 ^ 62
+    → group ≡ groups number → way ≡ marks number → o ≡ way_at (ways group) way → AreMarked ways groups marks → AreAlike (option_map (λ w. w.stream) o) (kept_at model id)
+over_alike_found ways groups marks codes model number id group way o is same below grouped marked lends h =
+    told_alike o (codes number) (subst (λ w. IfSome w IsWay) (sym lends) (h.over group way))
+    ∙ ap (option_map codeless) (sym (over_lent ways groups marks codes model number id group way o is same below grouped marked lends))
 
 there : (ways : List Way) (n : ℕ) → n < length ways → is_some (slice_get ways n) ≡ true
 there [] n within = absurd (omega (arith, within))
@@ -237,44 +250,98 @@ way_there ways (suc n) known =
     ap is_some (behind ways n) ∙ there ways n within ∙ sym (lt-ltb 0 (suc n) (omega arith))
 
 -- A mark that is not 0 is one of a stream that is there.
-pub over_there : (ways : List Way) (marks codes : ℕ → ℕ) (model : Streams RequestState) (number id way : ℕ) → streams_of (over_in ways marks codes) ≡ model → number ≡ id → number < 2 ^ 62 → way ≡ marks number → AreMarked ways marks
-    → nat_lt 0 way ≡ is_some (kept_at model id)
-over_there ways marks codes model number id way is same below marked h =
-    let known : way ≤ length ways = omega (arith, marked, h.known number) in
-    sym (ap is_some (over_found ways marks codes model number id way is same below marked) ∙ told_some (way_at ways way) (codes number) ∙ way_there ways way known)
+pub over_there : (ways : ℕ → List Way) (groups marks codes : ℕ → ℕ) (model : Streams RequestState) (number id way : ℕ) → streams_of (over_in ways groups marks codes) ≡ model → number ≡ id → number < 2 ^ 62 → way ≡ marks number
+    → AreMarked ways groups marks → nat_lt 0 way ≡ is_some (kept_at model id)
+over_there ways groups marks codes model number id way is same below marked h =
+    let known : way ≤ length (ways (groups number)) = omega (arith, marked, h.known number) in
+    sym (ap is_some (over_found ways groups marks codes model number id way is same below marked) ∙ told_some (way_at (ways (groups number)) way) (codes number) ∙ way_there (ways (groups number)) way known)
 
 -- where nothing is marked none is
-pub none_marked : (ways : List Way) (marks codes : ℕ → ℕ) → ((id : ℕ) → marks id ≡ 0) → streams_of (over_in ways marks codes) ≡ []
-none_marked ways marks codes none = listed.nothing (over_in ways marks codes) (λ id. rw (none id) refl)
+pub none_marked : (ways : ℕ → List Way) (groups marks codes : ℕ → ℕ) → ((id : ℕ) → marks id ≡ 0) → streams_of (over_in ways groups marks codes) ≡ []
+none_marked ways groups marks codes none = listed.nothing (over_in ways groups marks codes) (λ id. rw (none id) refl)
 
--- the marks are the same, and the ways that they name, and the codes of what is marked
-pub same_marked : (ways others : List Way) (marks later codes recodes : ℕ → ℕ) → AreMarked ways marks → HasWays ways others → HaveSameMarks marks later → ((q : ℕ) → marks q ≢ 0 → recodes q ≡ codes q)
-    → streams_of (over_in others later recodes) ≡ streams_of (over_in ways marks codes)
-same_marked ways others marks later codes recodes h has same kept =
-    listed.same_streams (over_in ways marks codes) (over_in others later recodes) (λ q. elim (cases_eq (marks q) 0) [
+-- and none is marked there
+pub nothing_marked : (ways : ℕ → List Way) (groups marks : ℕ → ℕ) → ((group : ℕ) → ways group ≡ []) → ((id : ℕ) → marks id ≡ 0) → AreMarked ways groups marks
+nothing_marked ways groups marks empty none = record {
+  over = λ group way. subst (λ l. IfSome (way_at l way) IsWay) (sym (empty group)) (nowhere IsWay way);
+  known = λ id. omega (arith, none id);
+  paired = λ group way. subst (λ l. IfSome (way_at l way) (IsPaired l way)) (sym (empty group)) (nowhere (IsPaired [] way) way);
+  few = λ group. omega (arith, ap length (empty group));
+}
+  where
+    nowhere : (P : Way → Type 0) (way : ℕ) → IfSome (way_at [] way) P
+    nowhere P zero = tt
+    nowhere P (suc n) = subst (λ o. IfSome o P) (sym (behind [] n)) tt
+
+-- the marks are the same, and the ways that they name, and the groups and the codes of what is marked
+pub same_marked : (ways others : ℕ → List Way) (groups regroups marks later codes recodes : ℕ → ℕ) → AreMarked ways groups marks → ((group : ℕ) → HasWays (ways group) (others group)) → HaveSameMarks marks later
+    → ((q : ℕ) → marks q ≢ 0 → regroups q ≡ groups q) → ((q : ℕ) → marks q ≢ 0 → recodes q ≡ codes q) → streams_of (over_in others regroups later recodes) ≡ streams_of (over_in ways groups marks codes)
+same_marked ways others groups regroups marks later codes recodes h has same grouped kept =
+    listed.same_streams (over_in ways groups marks codes) (over_in others regroups later recodes) (λ q. elim (cases_eq (marks q) 0) [
       | inl none ↦
-          let before : over_in ways marks codes q ≡ None = ap (λ m. told (way_at ways m) (codes q)) none in
-          let after : over_in others later recodes q ≡ None = ap (λ m. told (way_at others m) (recodes q)) (same q ∙ none) in
+          let before : over_in ways groups marks codes q ≡ None = ap (λ m. told (way_at (ways (groups q)) m) (codes q)) none in
+          let after : over_in others regroups later recodes q ≡ None = ap (λ m. told (way_at (others (regroups q)) m) (recodes q)) (same q ∙ none) in
           after ∙ sym before
-      | inr some ↦ ap (told (way_at others (later q))) (kept q some) ∙ ap (λ o. told o (codes q)) (ap (way_at others) (same q) ∙ has.same (marks q) (h.known q))
+      | inr some ↦
+          ap (told (way_at (others (regroups q)) (later q))) (kept q some) ∙ ap (λ g. told (way_at (others g) (later q)) (codes q)) (grouped q some)
+          ∙ ap (λ o. told o (codes q)) (ap (way_at (others (groups q))) (same q) ∙ (has (groups q)).same (marks q) (h.known q))
     ])
 
 -- one stream is marked
-pub one_marked : (ways others : List Way) (marks later codes recodes : ℕ → ℕ) (number id way : ℕ) (r : RequestState) → AreMarked ways marks → HasWays ways others → number ≡ id → number < 2 ^ 62
-    → IsOneMark number way marks later → ((q : ℕ) → q ≢ number → recodes q ≡ codes q) → told (way_at others way) (recodes number) ≡ Some r
-    → Sets (streams_of (over_in ways marks codes)) (streams_of (over_in others later recodes)) id r
-one_marked ways others marks later codes recodes number id way r h has is below one kept found_ =
-    sets (over_in ways marks codes) (over_in others later recodes) id r (few number id is below)
-    (ap (over_in others later recodes) (sym is) ∙ ap (λ m. told (way_at others m) (recodes number)) one.own ∙ found_)
+pub one_marked : (ways others : ℕ → List Way) (groups regroups marks later codes recodes : ℕ → ℕ) (number id group way : ℕ) (r : RequestState) → AreMarked ways groups marks → ((group : ℕ) → HasWays (ways group) (others group)) → number ≡ id
+    → number < 2 ^ 62 → IsOneMark number group groups regroups → IsOneMark number way marks later → ((q : ℕ) → q ≢ number → recodes q ≡ codes q) → told (way_at (others group) way) (recodes number) ≡ Some r
+    → Sets (streams_of (over_in ways groups marks codes)) (streams_of (over_in others regroups later recodes)) id r
+one_marked ways others groups regroups marks later codes recodes number id group way r h has is below grouped one kept found_ =
+    sets (over_in ways groups marks codes) (over_in others regroups later recodes) id r (few number id is below)
+    (ap (over_in others regroups later recodes) (sym is) ∙ ap (λ g. told (way_at (others g) (later number)) (recodes number)) grouped.own ∙ ap (λ m. told (way_at (others group) m) (recodes number)) one.own ∙ found_)
     (λ q differs.
     let other : q ≢ number = λ same. differs (same ∙ is) in
-    ap (told (way_at others (later q))) (kept q other) ∙ ap (λ o. told o (codes q)) (ap (way_at others) (one.others q other) ∙ has.same (marks q) (h.known q)))
+    ap (told (way_at (others (regroups q)) (later q))) (kept q other) ∙ ap (λ g. told (way_at (others g) (later q)) (codes q)) (grouped.others q other)
+    ∙ ap (λ o. told o (codes q)) (ap (way_at (others (groups q))) (one.others q other) ∙ (has (groups q)).same (marks q) (h.known q)))
 
-pub marked_in : (ways others : List Way) (marks later codes recodes : ℕ → ℕ) (model : Streams RequestState) (number id way : ℕ) (r : RequestState) → streams_of (over_in ways marks codes) ≡ model → AreMarked ways marks
-    → HasWays ways others → number ≡ id → number < 2 ^ 62 → IsOneMark number way marks later → ((q : ℕ) → q ≢ number → recodes q ≡ codes q) → told (way_at others way) (recodes number) ≡ Some r
-    → Sets model (streams_of (over_in others later recodes)) id r
-marked_in ways others marks later codes recodes model number id way r view h has is below one kept found_ =
-    subst (λ l. Sets l (streams_of (over_in others later recodes)) id r) view (one_marked ways others marks later codes recodes number id way r h has is below one kept found_)
+pub marked_in : (ways others : ℕ → List Way) (groups regroups marks later codes recodes : ℕ → ℕ) (model : Streams RequestState) (number id group way : ℕ) (r : RequestState) → streams_of (over_in ways groups marks codes) ≡ model
+    → AreMarked ways groups marks → ((group : ℕ) → HasWays (ways group) (others group)) → number ≡ id → number < 2 ^ 62 → IsOneMark number group groups regroups → IsOneMark number way marks later
+    → ((q : ℕ) → q ≢ number → recodes q ≡ codes q) → told (way_at (others group) way) (recodes number) ≡ Some r → Sets model (streams_of (over_in others regroups later recodes)) id r
+marked_in ways others groups regroups marks later codes recodes model number id group way r view h has is below grouped one kept found_ =
+    subst (λ l. Sets l (streams_of (over_in others regroups later recodes)) id r) view
+    (one_marked ways others groups regroups marks later codes recodes number id group way r h has is below grouped one kept found_)
+
+-- the ways are there
+pub same_ways : (ways : List Way) → HasWays ways ways
+same_ways ways = record { longer = omega arith; same = λ way least. refl }
+
+-- no way more
+pub none_more : (ways : List Way) → AddsWays ways ways
+none_more ways = record {
+  over = λ way more. past IsWay way more;
+  paired = λ way more. past (IsPaired ways way) way more;
+  few = λ known. known;
+}
+  where
+    past : (P : Way → Type 0) (way : ℕ) → length ways < way → IfSome (way_at ways way) P
+    past P way more =
+        let some : way ≢ 0 = omega (arith, more) in
+        subst (λ o. IfSome o P) (sym (way_found ways way some ∙ slice_get_past ways (way - 1) (omega (arith, more)))) tt
+
+-- Groups are the same if those of plain streams and of others are.
+pub same_groups : (old new : Ways) → new.plain.items ≡ old.plain.items → new.others ≡ old.others → ways_in new ≡ ways_in old
+same_groups old new plain others =
+    ap (λ items. λ group. if group == 0 then items else ways_of (lookup (is_at (nat_cmp group)) new.others.entries)) plain
+    ∙ ap (λ o. λ group. if group == 0 then old.plain.items else ways_of (lookup (is_at (nat_cmp group)) o.entries)) others
+
+-- A change in one group is one in which the ways of all are there still,
+pub have_ways : (ways others : ℕ → List Way) (group : ℕ) → HasWays (ways group) (others group) → ((other : ℕ) → other ≢ group → others other ≡ ways other) → (other : ℕ) → HasWays (ways other) (others other)
+have_ways ways others group has rest other = elim (cases_eq other group) [
+  | inl same ↦ subst (λ g. HasWays (ways g) (others g)) (sym same) has
+  | inr differs ↦ subst (HasWays (ways other)) (sym (rest other differs)) (same_ways (ways other))
+]
+
+-- and what is added to one is added to all
+pub add_ways : (ways others : ℕ → List Way) (group : ℕ) → AddsWays (ways group) (others group) → ((other : ℕ) → other ≢ group → others other ≡ ways other) → (other : ℕ) → AddsWays (ways other) (others other)
+add_ways ways others group adds rest other = elim (cases_eq other group) [
+  | inl same ↦ subst (λ g. AddsWays (ways g) (others g)) (sym same) adds
+  | inr differs ↦ subst (AddsWays (ways other)) (sym (rest other differs)) (none_more (ways other))
+]
 
 -- by a way of its own,
 pub told_plain : (ways : List Way) (way code : ℕ) (r : RequestState) → way_at ways way ≡ Some (record { stream = r; has_code = false }) → told (way_at ways way) code ≡ Some r
@@ -286,24 +353,27 @@ pub told_coded : (ways : List Way) (way code kept : ℕ) (r alike : RequestState
 told_coded ways way code kept r alike is stands same reset = ap (λ o. told o kept) is ∙ ap (λ s. Some (reset_with s kept)) stands ∙ ap (λ n. Some (reset_with r n)) same ∙ ap Some (reset_again r code reset)
 
 -- or none is in its place
-pub one_unmarked : (ways : List Way) (marks later codes : ℕ → ℕ) (number id : ℕ) → number ≡ id → number < 2 ^ 62 → IsOneMark number 0 marks later
-    → TakesOut (streams_of (over_in ways marks codes)) (streams_of (over_in ways later codes)) id
-one_unmarked ways marks later codes number id is below one =
-    takes_out (over_in ways marks codes) (over_in ways later codes) id (few number id is below) (ap (over_in ways later codes) (sym is) ∙ ap (λ m. told (way_at ways m) (codes number)) one.own)
-    (λ q differs. ap (λ m. told (way_at ways m) (codes q)) (one.others q (λ same. differs (same ∙ is))))
+pub one_unmarked : (ways : ℕ → List Way) (groups marks later codes : ℕ → ℕ) (number id : ℕ) → number ≡ id → number < 2 ^ 62 → IsOneMark number 0 marks later
+    → TakesOut (streams_of (over_in ways groups marks codes)) (streams_of (over_in ways groups later codes)) id
+one_unmarked ways groups marks later codes number id is below one =
+    takes_out (over_in ways groups marks codes) (over_in ways groups later codes) id (few number id is below)
+    (ap (over_in ways groups later codes) (sym is) ∙ ap (λ m. told (way_at (ways (groups number)) m) (codes number)) one.own)
+    (λ q differs. ap (λ m. told (way_at (ways (groups q)) m) (codes q)) (one.others q (λ same. differs (same ∙ is))))
 
-pub none_unmarked : (ways : List Way) (marks later codes : ℕ → ℕ) (number id : ℕ) → number ≡ id → number < 2 ^ 62 → HaveSameMarks marks later → marks number ≡ 0
-    → TakesOut (streams_of (over_in ways marks codes)) (streams_of (over_in ways later codes)) id
-none_unmarked ways marks later codes number id is below same none =
-    takes_out (over_in ways marks codes) (over_in ways later codes) id (few number id is below) (ap (over_in ways later codes) (sym is) ∙ ap (λ m. told (way_at ways m) (codes number)) (same number ∙ none))
-    (λ q differs. ap (λ m. told (way_at ways m) (codes q)) (same q))
+pub none_unmarked : (ways : ℕ → List Way) (groups marks later codes : ℕ → ℕ) (number id : ℕ) → number ≡ id → number < 2 ^ 62 → HaveSameMarks marks later → marks number ≡ 0
+    → TakesOut (streams_of (over_in ways groups marks codes)) (streams_of (over_in ways groups later codes)) id
+none_unmarked ways groups marks later codes number id is below same none =
+    takes_out (over_in ways groups marks codes) (over_in ways groups later codes) id (few number id is below)
+    (ap (over_in ways groups later codes) (sym is) ∙ ap (λ m. told (way_at (ways (groups number)) m) (codes number)) (same number ∙ none))
+    (λ q differs. ap (λ m. told (way_at (ways (groups q)) m) (codes q)) (same q))
 
 -- or may be, whether its mark was set or was none
-pub unmarked : (ways : List Way) (marks later codes : ℕ → ℕ) (model : Streams RequestState) (number id : ℕ) (is_set : Bool) → streams_of (over_in ways marks codes) ≡ model → number ≡ id → number < 2 ^ 62
-    → (is_set ≡ true → IsOneMark number 0 marks later) → (is_set ≡ false → HaveSameMarks marks later) → (is_set ≡ false → marks number ≡ 0) → TakesOut model (streams_of (over_in ways later codes)) id
-unmarked ways marks later codes model number id true view is below set same none = subst (λ l. TakesOut l (streams_of (over_in ways later codes)) id) view (one_unmarked ways marks later codes number id is below (set refl))
-unmarked ways marks later codes model number id false view is below set same none =
-    subst (λ l. TakesOut l (streams_of (over_in ways later codes)) id) view (none_unmarked ways marks later codes number id is below (same refl) (none refl))
+pub unmarked : (ways : ℕ → List Way) (groups marks later codes : ℕ → ℕ) (model : Streams RequestState) (number id : ℕ) (is_set : Bool) → streams_of (over_in ways groups marks codes) ≡ model → number ≡ id → number < 2 ^ 62
+    → (is_set ≡ true → IsOneMark number 0 marks later) → (is_set ≡ false → HaveSameMarks marks later) → (is_set ≡ false → marks number ≡ 0) → TakesOut model (streams_of (over_in ways groups later codes)) id
+unmarked ways groups marks later codes model number id true view is below set same none =
+    subst (λ l. TakesOut l (streams_of (over_in ways groups later codes)) id) view (one_unmarked ways groups marks later codes number id is below (set refl))
+unmarked ways groups marks later codes model number id false view is below set same none =
+    subst (λ l. TakesOut l (streams_of (over_in ways groups later codes)) id) view (none_unmarked ways groups marks later codes number id is below (same refl) (none refl))
 
 -- what is lent of a row
 lent : (xs : List Way) (i : ℕ) (o : Option (Bor Way)) → is_some o ≡ nat_lt i (length xs) → IfSome o (λ x. x.now ≡ get_or xs i x.now) → option_copied o ≡ slice_get xs i
@@ -311,9 +381,8 @@ lent xs i None is h = let past : length xs ≤ i = grind (arith, common_steps, i
 lent xs i (Some x) is h = let within : i < length xs = grind (arith, common_steps, is) in sym (slice_get_read xs (length xs) i x.now refl within h)
 
 -- the way that is lent
-pub way_is : (xs ways : List Way) (way : ℕ) (o : Option (Bor Way)) (w : Bor Way) → xs ≡ ways → way ≢ 0 → is_some o ≡ nat_lt (way - 1) (length xs) → IfSome o (λ x. x.now ≡ get_or xs (way - 1) x.now) → o ≡ Some w
-    → way_at ways way ≡ Some w.now
-way_is xs ways way o w same some is h lends = way_found ways way some ∙ ap (λ l. slice_get l (way - 1)) (sym same) ∙ sym (lent xs (way - 1) o is h) ∙ ap option_copied lends
+pub way_is : (ways : List Way) (way : ℕ) (o : Option (Bor Way)) → way ≢ 0 → is_some o ≡ nat_lt (way - 1) (length ways) → IfSome o (λ x. x.now ≡ get_or ways (way - 1) x.now) → option_copied o ≡ way_at ways way
+way_is ways way o some is h = lent ways (way - 1) o is h ∙ sym (way_found ways way some)
 
 -- a way more
 seen : (ways : List Way) (r : Way) (way : ℕ) → way ≤ length ways → way_at (ways ++ r ∷ []) way ≡ way_at ways way
@@ -419,31 +488,17 @@ at_first ways r t way is =
     let up : way ≡ suc (length ways) = omega (arith, is) in
     (grown (ways ++ r ∷ []) t).same way least ∙ ap (way_at (ways ++ r ∷ [])) up ∙ behind (ways ++ r ∷ []) (length ways) ∙ at_last ways r (length ways) refl
 
--- no way more
-pub none_more : (ways : List Way) → AddsWays ways ways
-none_more ways = record {
-  over = λ way more. past IsWay way more;
-  paired = λ way more. past (IsPaired ways way) way more;
-  few = λ known. known;
-}
-  where
-    past : (P : Way → Type 0) (way : ℕ) → length ways < way → IfSome (way_at ways way) P
-    past P way more =
-        let some : way ≢ 0 = omega (arith, more) in
-        subst (λ o. IfSome o P) (sym (way_found ways way some ∙ slice_get_past ways (way - 1) (omega (arith, more)))) tt
-
 -- the number of a way is one more than its place
 pub at_place : (ways : List Way) (place way : ℕ) (r : Way) → way ≡ place + 1 → place < length ways → get_or ways place r ≡ r → way_at ways way ≡ Some r
 at_place ways place way r is within same =
     rw is (let e : way_at ways (place + 1) ≡ slice_get ways place = grind (arith, common_steps) in e ∙ slice_get-get_or ways place r within ∙ ap Some same)
 
-over_each : (ways others : List Way) (marks : ℕ → ℕ) → AreMarked ways marks → HasWays ways others → ((way : ℕ) → length ways < way → IfSome (way_at others way) IsWay) → (way : ℕ)
-    → IfSome (way_at others way) IsWay
-over_each ways others marks h has over way = by_test (nat_lt (length ways) way) refl
+over_each : (ways others : List Way) → ((way : ℕ) → IfSome (way_at ways way) IsWay) → HasWays ways others → ((way : ℕ) → length ways < way → IfSome (way_at others way) IsWay) → (way : ℕ) → IfSome (way_at others way) IsWay
+over_each ways others h has over way = by_test (nat_lt (length ways) way) refl
   where
     by_test : (t : Bool) → nat_lt (length ways) way ≡ t → IfSome (way_at others way) IsWay
     by_test true e = over way (grind (arith, common_steps, e))
-    by_test false e = let least : way ≤ length ways = grind (arith, common_steps, e) in subst (λ o. IfSome o IsWay) (sym (has.same way least)) (h.over way)
+    by_test false e = let least : way ≤ length ways = grind (arith, common_steps, e) in subst (λ o. IfSome o IsWay) (sym (has.same way least)) (h way)
 
 -- a way that is there has a place
 within_ways : (ways : List Way) (way : ℕ) (r : Way) → way_at ways way ≡ Some r → way ≤ length ways
@@ -457,9 +512,9 @@ within_ways ways way r there = by_test (nat_lt (length ways) way) refl
         let none : way_at ways way ≡ None = way_found ways way some ∙ slice_get_past ways (way - 1) (omega (arith, past)) in
         absurd (let wrong : None ≡ Some r = sym none ∙ there in cc)
 
-paired_each : (ways others : List Way) (marks : ℕ → ℕ) → AreMarked ways marks → HasWays ways others → ((way : ℕ) → length ways < way → IfSome (way_at others way) (IsPaired others way)) → (way : ℕ)
+paired_each : (ways others : List Way) → ((way : ℕ) → IfSome (way_at ways way) (IsPaired ways way)) → HasWays ways others → ((way : ℕ) → length ways < way → IfSome (way_at others way) (IsPaired others way)) → (way : ℕ)
     → IfSome (way_at others way) (IsPaired others way)
-paired_each ways others marks h has paired way = by_test (nat_lt (length ways) way) refl
+paired_each ways others h has paired way = by_test (nat_lt (length ways) way) refl
   where
     there : (o : Option Way) → way_at ways way ≡ o → IfSome o (IsPaired ways way) → IfSome o (IsPaired others way)
     there None is p = tt
@@ -469,34 +524,58 @@ paired_each ways others marks h has paired way = by_test (nat_lt (length ways) w
     by_test true e = paired way (grind (arith, common_steps, e))
     by_test false e =
         let least : way ≤ length ways = grind (arith, common_steps, e) in
-        subst (λ o. IfSome o (IsPaired others way)) (sym (has.same way least)) (there (way_at ways way) refl (h.paired way))
+        subst (λ o. IfSome o (IsPaired others way)) (sym (has.same way least)) (there (way_at ways way) refl (h way))
 
--- marks name ways that are there still
-pub still_marked : (ways others : List Way) (marks later : ℕ → ℕ) → AreMarked ways marks → HasWays ways others → AddsWays ways others → HaveSameMarks marks later → AreMarked others later
-still_marked ways others marks later h has adds same = record {
-  over = λ way. over_each ways others marks h has adds.over way;
-  known = λ id. let k = h.known id in let e = same id in omega (arith, k, e, has.longer);
-  paired = paired_each ways others marks h has adds.paired;
-  few = adds.few h.few;
+-- Marks name ways that are there still, if each mark that is one is of a way of its group.
+still_known : (ways others : ℕ → List Way) (groups marks regroups later : ℕ → ℕ) → AreMarked ways groups marks → ((group : ℕ) → HasWays (ways group) (others group)) → ((group : ℕ) → AddsWays (ways group) (others group))
+    → ((id : ℕ) → later id ≤ length (others (regroups id))) → AreMarked others regroups later
+still_known ways others groups marks regroups later h has adds known = record {
+  over = λ group way. over_each (ways group) (others group) (h.over group) (has group) (adds group).over way;
+  known = known;
+  paired = λ group way. paired_each (ways group) (others group) (h.paired group) (has group) (adds group).paired way;
+  few = λ group. (adds group).few (h.few group);
 }
 
-pub marked_too : (ways others : List Way) (marks later : ℕ → ℕ) (number way : ℕ) → AreMarked ways marks → HasWays ways others → AddsWays ways others → IsOneMark number way marks later → way ≤ length others
-    → AreMarked others later
-marked_too ways others marks later number way h has adds one known = record {
-  over = λ way. over_each ways others marks h has adds.over way;
-  known = λ id. elim (cases_eq id number) [
-    | inl same ↦ let e = ap later same ∙ one.own in omega (arith, known, e)
-    | inr differs ↦ let k = h.known id in let e = one.others id differs in omega (arith, k, e, has.longer)
-  ];
-  paired = paired_each ways others marks h has adds.paired;
-  few = adds.few h.few;
-}
+-- marks that stay do,
+pub still_marked : (ways others : ℕ → List Way) (groups regroups marks later : ℕ → ℕ) → AreMarked ways groups marks → ((group : ℕ) → HasWays (ways group) (others group)) → ((group : ℕ) → AddsWays (ways group) (others group))
+    → HaveSameMarks marks later → ((q : ℕ) → marks q ≢ 0 → regroups q ≡ groups q) → AreMarked others regroups later
+still_marked ways others groups regroups marks later h has adds same grouped =
+    still_known ways others groups marks regroups later h has adds (λ id. elim (cases_eq (marks id) 0) [
+      | inl none ↦ let e = same id in omega (arith, none, e)
+      | inr some ↦
+          let k = h.known id in
+          let e = same id in
+          let longer = (has (groups id)).longer in
+          let least : later id ≤ length (others (groups id)) = omega (arith, k, e, longer) in
+          subst (λ g. later id ≤ length (others g)) (sym (grouped id some)) least
+    ])
+
+-- and so does one that is set
+pub marked_too : (ways others : ℕ → List Way) (groups regroups marks later : ℕ → ℕ) (number group way : ℕ) → AreMarked ways groups marks → ((group : ℕ) → HasWays (ways group) (others group)) → ((group : ℕ) → AddsWays (ways group) (others group))
+    → IsOneMark number group groups regroups → IsOneMark number way marks later → way ≤ length (others group) → AreMarked others regroups later
+marked_too ways others groups regroups marks later number group way h has adds grouped one known =
+    still_known ways others groups marks regroups later h has adds (λ id. elim (cases_eq id number) [
+      | inl same ↦
+          let e : later id ≡ way = ap later same ∙ one.own in
+          let g : regroups id ≡ group = ap regroups same ∙ grouped.own in
+          let least : later id ≤ length (others group) = omega (arith, known, e) in
+          subst (λ g. later id ≤ length (others g)) (sym g) least
+      | inr differs ↦
+          let k = h.known id in
+          let e = one.others id differs in
+          let longer = (has (groups id)).longer in
+          let least : later id ≤ length (others (groups id)) = omega (arith, k, e, longer) in
+          subst (λ g. later id ≤ length (others g)) (sym (grouped.others id differs)) least
+    ])
 
 -- whether the mark was set or was not
-pub still_or_too : (ways others : List Way) (marks later : ℕ → ℕ) (number way : ℕ) (is_set : Bool) → AreMarked ways marks → HasWays ways others → AddsWays ways others
-    → (is_set ≡ true → IsOneMark number way marks later) → (is_set ≡ false → HaveSameMarks marks later) → way ≤ length others → AreMarked others later
-still_or_too ways others marks later number way true h has adds set same known = marked_too ways others marks later number way h has adds (set refl) known
-still_or_too ways others marks later number way false h has adds set same known = still_marked ways others marks later h has adds (same refl)
+pub still_or_too : (ways others : ℕ → List Way) (groups regroups marks later : ℕ → ℕ) (number group way : ℕ) (is_set : Bool) → AreMarked ways groups marks → ((group : ℕ) → HasWays (ways group) (others group))
+    → ((group : ℕ) → AddsWays (ways group) (others group)) → (is_set ≡ true → IsOneMark number group groups regroups) → (is_set ≡ false → (q : ℕ) → marks q ≢ 0 → regroups q ≡ groups q)
+    → (is_set ≡ true → IsOneMark number way marks later) → (is_set ≡ false → HaveSameMarks marks later) → way ≤ length (others group) → AreMarked others regroups later
+still_or_too ways others groups regroups marks later number group way true h has adds regrouped grouped set same known =
+    marked_too ways others groups regroups marks later number group way h has adds (regrouped refl) (set refl) known
+still_or_too ways others groups regroups marks later number group way false h has adds regrouped grouped set same known =
+    still_marked ways others groups regroups marks later h has adds (same refl) (grouped refl)
 
 -- Nothing is taken of a stream that is over.
 pub over_advanced : (m : Streams RequestState) (id count : ℕ) (o : Option RequestState) → kept_at m id ≡ o → IfSome o IsOver
@@ -536,16 +615,31 @@ refused_cancel None h = refl
 refused_cancel (Some r) h = rw (over_settled r h) refl
 
 -- the way with the end taken is one of the ways
-pub next_way : (ways : List Way) (marks : ℕ → ℕ) (way : ℕ) (w : Way) → AreMarked ways marks → way_at ways way ≡ Some w → end_waits w.stream.outgoing ≡ true
-    → (way_at ways (way + 1) ≡ Some (ended_way w)) × (way + 1 ≤ 255) × (way + 1 ≤ length ways)
-next_way ways marks way w h there waits =
-    let paired : IsPaired ways way w = subst (λ o. IfSome o (IsPaired ways way)) there (h.paired way) in
+pub next_way : (ways : ℕ → List Way) (groups marks : ℕ → ℕ) (group way : ℕ) (w : Way) → AreMarked ways groups marks → way_at (ways group) way ≡ Some w → end_waits w.stream.outgoing ≡ true
+    → (way_at (ways group) (way + 1) ≡ Some (ended_way w)) × (way + 1 ≤ 255) × (way + 1 ≤ length (ways group))
+next_way ways groups marks group way w h there waits =
+    let paired : IsPaired (ways group) way w = subst (λ o. IfSome o (IsPaired (ways group) way)) there (h.paired group way) in
     let next = paired waits in
-    let within = within_ways ways (way + 1) (ended_way w) next in
-    (next, omega (arith, within, h.few), within)
+    let within = within_ways (ways group) (way + 1) (ended_way w) next in
+    let few_ = h.few group in
+    (next, omega (arith, within, few_), within)
 
-pub same_ways : (ways : List Way) → HasWays ways ways
-same_ways ways = record { longer = omega arith; same = λ way least. refl }
+-- a number that is there already is set
+pub own_set : (number mark : ℕ) (old : ℕ → ℕ) (is : mark ≡ old number) → IsOneMark number mark old old
+own_set number mark old is = record { own = sym is; others = λ q differs. refl }
+
+-- a number is set if it could not be, but where it was 0, and only for 0
+pub one_set : (number mark : ℕ) (old new : ℕ → ℕ) (is_set : Bool) → (is_set ≡ true → IsOneMark number mark old new) → (is_set ≡ false → HaveSameMarks old new) → (is_set ≡ false → old number ≡ 0) → (old number ≡ 0 → mark ≡ 0)
+    → IsOneMark number mark old new
+one_set number mark old new true set same none only = set refl
+one_set number mark old new false set same none only = record { own = same refl number ∙ none refl ∙ sym (only (none refl)); others = λ q differs. same refl q }
+
+-- once it is set back all are as before
+pub set_again : (number mark before : ℕ) (old set new : ℕ → ℕ) → IsOneMark number mark old set → IsOneMark number before set new → before ≡ old number → HaveSameMarks old new
+set_again number mark before old set new one back is q = elim (cases_eq q number) [
+  | inl same ↦ ap new same ∙ back.own ∙ is ∙ ap old (sym same)
+  | inr differs ↦ back.others q differs ∙ one.others q differs
+]
 
 -- a mark that is not 0 can be set
 pub was_set : (is_set : Bool) (mark way : ℕ) → (is_set ≡ false → mark ≡ 0) → way ≡ mark → way ≢ 0 → is_set ≡ true
@@ -569,11 +663,12 @@ so_taken w code = by_test w.has_code
     by_test false = refl
 
 -- the stream is in that way then
-pub goes_on : (ways : List Way) (marks later codes : ℕ → ℕ) (model : Streams RequestState) (number id way : ℕ) (w : Way) → streams_of (over_in ways marks codes) ≡ model → AreMarked ways marks → number ≡ id → number < 2 ^ 62
-    → IsOneMark number (way + 1) marks later → way_at ways way ≡ Some w → end_waits w.stream.outgoing ≡ true → kept_at model id ≡ Some (over_so w (codes number))
-    → IfSome (kept_at model id) (λ s. Sets model (streams_of (over_in ways later codes)) id (with_end_taken s))
-goes_on ways marks later codes model number id way w view h is below one there waits found_ =
-    let next = (next_way ways marks way w h there waits).0 in
-    let so : told (way_at ways (way + 1)) (codes number) ≡ Some (with_end_taken (over_so w (codes number))) = ap (λ o. told o (codes number)) next ∙ ap Some (so_taken w (codes number)) in
-    subst (λ o. IfSome o (λ s. Sets model (streams_of (over_in ways later codes)) id (with_end_taken s))) (sym found_)
-    (marked_in ways ways marks later codes codes model number id (way + 1) (with_end_taken (over_so w (codes number))) view h (same_ways ways) is below one (λ q differs. refl) so)
+pub goes_on : (ways : ℕ → List Way) (groups marks later codes : ℕ → ℕ) (model : Streams RequestState) (number id group way : ℕ) (w : Way) → streams_of (over_in ways groups marks codes) ≡ model → AreMarked ways groups marks → number ≡ id
+    → number < 2 ^ 62 → group ≡ groups number → IsOneMark number (way + 1) marks later → way_at (ways group) way ≡ Some w → end_waits w.stream.outgoing ≡ true → kept_at model id ≡ Some (over_so w (codes number))
+    → IfSome (kept_at model id) (λ s. Sets model (streams_of (over_in ways groups later codes)) id (with_end_taken s))
+goes_on ways groups marks later codes model number id group way w view h is below grouped one there waits found_ =
+    let next = (next_way ways groups marks group way w h there waits).0 in
+    let so : told (way_at (ways group) (way + 1)) (codes number) ≡ Some (with_end_taken (over_so w (codes number))) = ap (λ o. told o (codes number)) next ∙ ap Some (so_taken w (codes number)) in
+    let own : IsOneMark number group groups groups = record { own = sym grouped; others = λ q differs. refl } in
+    subst (λ o. IfSome o (λ s. Sets model (streams_of (over_in ways groups later codes)) id (with_end_taken s))) (sym found_)
+    (marked_in ways ways groups groups marks later codes codes model number id group (way + 1) (with_end_taken (over_so w (codes number))) view h (λ g. same_ways (ways g)) is below own one (λ q differs. refl) so)

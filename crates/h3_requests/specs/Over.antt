@@ -1,12 +1,19 @@
 -- Streams that are over: no call changes them any more, but for one that says that the FIN was taken.
-use Rattle.std.specs.Prelude.{◌≡◌, ℕ, ◌+◌, ◌-◌, ◌<◌, ◌≤◌, Bool, true, ◌&&◌, ◌||◌, ◌==◌, if◌then◌else◌, List, length, slice_get, Option, Some, None, is_some, option_map, IfSome}
+use Rattle.std.specs.Prelude.{◌≡◌, ℕ, ◌+◌, ◌-◌, ◌*◌, ◌%◌, ◌<◌, ◌≤◌, [], Bool, true, ◌&&◌, ◌||◌, ◌==◌, if◌then◌else◌, List, length, slice_get, Option, Some, None, is_some, option_map, IfSome}
+use Rattle.std.specs.BTreeMap.{is_at}
+use Rattle.std.specs.Global.{Vec}
+use Rattle.std.specs.Map.{lookup}
+use Rattle.std.specs.Ordering.{nat_cmp}
 use Rattle.h3_connection.specs.Incoming.{Incoming}
+use Rattle.h3_connection.specs.Order.{rank}
 use Rattle.h3_connection.specs.State.{OutgoingState, RequestState}
 use Rattle.h3_connection.specs.declared.event.StreamFault.{StreamFault}
 use Rattle.h3_connection.specs.declared.event.StreamFault.TheVariants.{Reset}
+use Rattle.h3_connection.specs.declared.order.Precedence.{Precedence}
 use Rattle.h3_incoming.specs.Left.{is_drained}
 use Rattle.h3_outgoing.specs.Sent.{end_waits, has_end_taken, is_sent_off}
 use Rattle.h3_requests.specs.declared.over.Way.{Way}
+use Rattle.h3_requests.specs.declared.over.ways.Ways.{Ways}
 
 -- Nothing more comes on it, nothing more is handed out of it, nothing is left of it to be read, and nothing of it is left to be sent.
 abbrev pub is_over : RequestState → Bool
@@ -27,9 +34,21 @@ over_so w code = if w.has_code then reset_with w.stream code else w.stream
 abbrev pub way_at : List Way → ℕ → Option Way
 way_at ways way = if way == 0 then None else slice_get ways (way - 1)
 
--- What is marked with the number of a way is over in that way, with its code.
-abbrev pub over_in : List Way → (ℕ → ℕ) → (ℕ → ℕ) → ℕ → Option RequestState
-over_in ways marks codes id = option_map (λ w. over_so w (codes id)) (way_at ways (marks id))
+-- the ways of a group, and none where it is not there
+abbrev pub ways_of : Option (Vec Way) → List Way
+ways_of None = []
+ways_of (Some ways) = ways.items
+
+-- Each precedence has a group of its own, 0 where no priority was said of a stream and it is not held.
+abbrev pub group_of : Precedence → ℕ
+group_of p = (p.priority.urgency + 5) % 8 * 16 + (if p.priority.incremental then 1 else 0) * 8 + (if p.is_held then 1 else 0) * 4 + rank p.source
+
+abbrev pub ways_in : Ways → ℕ → List Way
+ways_in w group = if group == 0 then w.plain.items else ways_of (lookup (is_at (nat_cmp group)) w.others.entries)
+
+-- What is marked with a group and the number of one of its ways is over in that way, with its code.
+abbrev pub over_in : (ℕ → List Way) → (ℕ → ℕ) → (ℕ → ℕ) → (ℕ → ℕ) → ℕ → Option RequestState
+over_in ways groups marks codes id = option_map (λ w. over_so w (codes id)) (way_at (ways (groups id)) (marks id))
 
 -- A stream in this way is over; where each has a code of its own, the one that stands for them has the code 0.
 pub record IsWay (w : Way) : Type 0 where
@@ -48,12 +67,12 @@ ended_way w = record w { stream = with_end_taken w.stream }
 abbrev pub IsPaired : List Way → ℕ → Way → Type 0
 IsPaired ways way w = end_waits w.stream.outgoing ≡ true → way_at ways (way + 1) ≡ Some (ended_way w)
 
--- Streams in these ways are over, and each mark is the number of one of them, or 0.
-pub record AreMarked (ways : List Way) (marks : ℕ → ℕ) : Type 0 where
-  pub over : (way : ℕ) → IfSome (way_at ways way) IsWay
-  pub known : (id : ℕ) → marks id ≤ length ways
-  pub paired : (way : ℕ) → IfSome (way_at ways way) (IsPaired ways way)
-  pub few : length ways ≤ 255
+-- Streams in these ways are over, and each mark is the number of one of its group, or 0.
+pub record AreMarked (ways : ℕ → List Way) (groups marks : ℕ → ℕ) : Type 0 where
+  pub over : (group way : ℕ) → IfSome (way_at (ways group) way) IsWay
+  pub known : (id : ℕ) → marks id ≤ length (ways (groups id))
+  pub paired : (group way : ℕ) → IfSome (way_at (ways group) way) (IsPaired (ways group) way)
+  pub few : (group : ℕ) → length (ways group) ≤ 255
 
 -- the ways are there still, under their numbers
 pub record HasWays (old new : List Way) : Type 0 where

@@ -2,12 +2,14 @@
 ghost use Rattle.std.specs.Prelude.{◌≡◌, ◌≢◌, ◌≤◌, ◌||◌, ℕ, true, false, OnErr, OnOk};
 ghost use Rattle.h3_connection.specs.NextWaiting.{IsLeast};
 ghost use Rattle.h3_scheduler.specs.Places.{IsNext};
+ghost use Rattle.h3_requests.specs.Classes.{class_of};
 ghost use Rattle.h3_requests.specs.Waiting.{has_place, is_any, is_waiting, IsFirstClass, IsOnePlace, KeepsOtherPlaces};
 ghost use Rattle.h3_requests.specs.Ready.{is_listed, is_ready, stands, stands_in, ArePlain, Moves};
 
-use crate::class::{HELD, PLAIN};
+use crate::class::{HELD, PLAIN, class_of};
 use crate::lesser::lesser;
 use crate::waiting::WaitingStreams;
+use h3_connection::order::Precedence;
 use h3_proto::stream::StreamId;
 use h3_scheduler::round::Rounds;
 use std::alloc::{AllocError, Global};
@@ -55,6 +57,7 @@ impl ReadyStreams {
 
     /// Room for a stream of this class, so that bytes can come to wait on it with no memory. Room that was taken in vain before goes. Which
     /// streams are ready stays as it was.
+    #[inline(always)]
     pub(crate) fn reserve(&mut self, class: u64, id: StreamId) -> Result<(), AllocError>
         requires { class ≤ 16 }
         ensures listed { OnOk result (is_listed self.new class id ≡ true) }
@@ -128,6 +131,7 @@ impl ReadyStreams {
     }
 
     /// Bytes wait on a stream of this class from now on, for which room was taken, or none do. It takes no memory.
+    #[inline(always)]
     pub(crate) fn settle(&mut self, class: u64, id: StreamId, waits: bool)
         requires few { class ≤ 16 }
         requires place { waits ≡ true → is_listed self.old class id ≡ true }
@@ -143,16 +147,17 @@ impl ReadyStreams {
         self.bytes.put(class, id);
     }
 
-    /// Bytes were taken of a stream of this class on which they waited: more wait, or none do any longer. It takes no memory.
-    pub(crate) fn settle_rest(&mut self, class: u64, id: StreamId, waits: bool)
-        requires few { class ≤ 16 }
-        requires waits { waits ≡ true → is_ready self.old class id ≡ true }
-        ensures bytes { IsOnePlace class id waits (is_ready self.old) (is_ready self.new) }
+    /// Bytes were taken of a stream on which they waited: more wait, or none do any longer. It takes no memory. (The class is asked only
+    /// if none do.)
+    #[inline(always)]
+    pub(crate) fn settle_rest(&mut self, precedence: &Precedence, id: StreamId, waits: bool)
+        requires { waits ≡ true → is_ready self.old (class_of precedence.now) id ≡ true }
+        ensures bytes { IsOnePlace (class_of precedence.now) id waits (is_ready self.old) (is_ready self.new) }
         ensures ends { self.new.ends ≡ self.old.ends }
         ensures classes { self.new.has_classes ≡ self.old.has_classes }
     {
         if !waits {
-            self.bytes.take(class, id);
+            self.bytes.take(class_of(precedence), id);
         }
     }
 
@@ -269,6 +274,7 @@ impl ReadyStreams {
     }
 
     /// The first stream from this id on whose end waits.
+    #[inline(always)]
     pub(crate) fn next_end(&self, from: u64) -> Option<StreamId>
         requires { ArePlain self.now }
         ensures { IsLeast (is_any (is_waiting self.now.ends)) from result }
@@ -280,6 +286,7 @@ impl ReadyStreams {
     }
 
     /// The first stream from this id on on which bytes wait.
+    #[inline(always)]
     pub(crate) fn next(&self, from: u64) -> Option<StreamId>
         requires { ArePlain self.now }
         ensures { IsLeast (is_any (is_ready self.now)) from result }

@@ -241,5 +241,6 @@ fn precede_alike(one: &Precedence, other: &Precedence) -> bool
 {
     one.priority.urgency() == other.priority.urgency()
         && one.priority.is_incremental() == other.priority.is_incremental()
+        && one.source == other.source
         && one.is_held == other.is_held
 }

@@ -222,6 +222,7 @@ impl WaitingStreams {
     }
 
     /// Nothing waits on a stream any longer, and its place goes. It takes no memory.
+    #[inline(always)]
     pub(crate) fn take(&mut self, class: u64, id: StreamId)
         requires { class ≤ 16 }
         ensures taken { IsOnePlace class id false (is_waiting self.old) (is_waiting self.new) }
@@ -272,6 +273,7 @@ impl WaitingStreams {
     }
 
     /// The first stream of a class from this id on on which something waits. It takes no memory, and looks at 64 streams at once.
+    #[inline(always)]
     pub(crate) fn next(&self, class: u64, from: u64) -> Option<StreamId>
         requires { class ≤ 16 }
         ensures { IsLeast (is_waiting self.now class) from result }
@@ -400,6 +402,7 @@ impl WaitingStreams {
     }
 
     // The first word from this number on that has a stream on which something waits.
+    #[inline(always)]
     fn next_word(&self, from: u64) -> Option<(u64, u64)>
         ensures { IsFirstWord (waiting_at self.now) from result }
     {

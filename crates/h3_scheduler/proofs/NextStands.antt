@@ -8,9 +8,8 @@ use Rattle.h3_priority.specs.Priority.{default_parameters}
 use Rattle.h3_scheduler.specs.Least.{IsLeast}
 use Rattle.h3_scheduler.specs.Next.{some_stands, stands_at, AreDefault, IsDefault, IsLowest, IsMostUrgent}
 use Rattle.h3_scheduler.specs.Rounds.{is_in, round_at, within}
-use Rattle.h3_scheduler.specs.Streams.{Streams, any_by, first_plain, first_urgency, id_of, is_class, is_it, least_by, next_at, next_of, next_turn, or_else, stands, stands_as, takes_turn, urgency_of}
+use Rattle.h3_scheduler.specs.Streams.{Stream, Streams, any_by, first_plain, first_urgency, id_of, is_class, is_it, least_by, next_at, next_of, next_turn, or_else, stands, stands_as, takes_turn, urgency_of}
 use Rattle.h3_scheduler.specs.declared.round.Round.{Round}
-use Rattle.h3_scheduler.specs.declared.stream.Stream.{Stream}
 use Rattle.h3_scheduler.proofs.Found.{any_either, any_with, least_is}
 use Rattle.h3_scheduler.specs.LeastLaws.{least_alike, one_least}
 use Rattle.h3_scheduler.specs.TurnLaws.{either_one, either_other, plain_only, plain_within}

@@ -1,31 +1,31 @@
 -- The rows hold, each by computing both sides.
 use Rattle.std.proofs.Common.{refl}
 use Rattle.h3_scheduler.specs.Rows.{late_one, lowest_first, newer_ones, nobody, other_priority, urgent_first, RowsHold}
-use Rattle.h3_scheduler.specs.Schedule.{nothing_open}
+use Rattle.h3_scheduler.specs.Rounds.{no_rounds}
 use Rattle.h3_scheduler.specs.Streams.{next_of}
 use Rattle.h3_scheduler.specs.Turning.{Told}
 
-urgent : Told nothing_open urgent_first
+urgent : Told no_rounds urgent_first
 unfolding next_of
 urgent = (refl, (refl, (refl, (refl, (refl, (refl, tt))))))
 
-late : Told nothing_open late_one
+late : Told no_rounds late_one
 unfolding next_of
 late = (refl, (refl, tt))
 
-newer : Told nothing_open newer_ones
+newer : Told no_rounds newer_ones
 unfolding next_of
 newer = (refl, (refl, (refl, (refl, tt))))
 
-lowest : Told nothing_open lowest_first
+lowest : Told no_rounds lowest_first
 unfolding next_of
 lowest = (refl, (refl, (refl, (refl, tt))))
 
-other : Told nothing_open other_priority
+other : Told no_rounds other_priority
 unfolding next_of
 other = (refl, (refl, (refl, tt)))
 
-none : Told nothing_open nobody
+none : Told no_rounds nobody
 unfolding next_of
 none = (refl, (refl, (refl, (refl, tt))))
 

@@ -1,9 +1,7 @@
 pub mod Least
 pub mod Rounds
-pub mod Standing
 pub mod Streams
-pub mod Schedule
-pub mod Calls
+pub mod Turns
 pub mod Next
 pub mod Turning
 pub mod Rows
@@ -11,3 +9,7 @@ pub mod LeastLaws
 pub mod TurnLaws
 pub mod Moments
 pub mod Places
+pub mod PlaceTurns
+pub mod TurnsLeft
+pub mod ThirdTurnLaws
+pub mod PlaceTurnLaws

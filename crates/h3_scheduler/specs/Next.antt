@@ -3,8 +3,12 @@ use Rattle.std.specs.Prelude.{◌≡◌, ◌<◌, ℕ, Bool, true, false, ◌&&�
 use Rattle.std.specs.List.{AllByRecursion}
 use Rattle.h3_priority.specs.Priority.{default_parameters}
 use Rattle.h3_scheduler.specs.Least.{IsLeast}
-use Rattle.h3_scheduler.specs.Streams.{Streams, any_by, id_of, stands, urgency_of}
-use Rattle.h3_scheduler.specs.declared.stream.Stream.{Stream}
+use Rattle.h3_scheduler.specs.Places.{Places}
+use Rattle.h3_scheduler.specs.Streams.{Stream, Streams, any_by, id_of, stands, stands_as, urgency_of}
+
+-- The places are those of the streams.
+abbrev pub ArePlaces : Places → Streams → Type 0
+ArePlaces places streams = (urgency : ℕ) (incremental : Bool) (q : ℕ) → places urgency incremental q ≡ any_by id_of (stands_as urgency incremental) streams q
 
 -- it stands at this urgency
 abbrev pub stands_at : ℕ → ℕ × Stream → Bool

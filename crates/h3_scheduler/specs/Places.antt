@@ -1,29 +1,13 @@
 -- Where streams stand: at an urgency, incremental or not, with an id. And whose turn it is there.
-use Rattle.std.specs.Prelude.{◌≡◌, ◌⊎◌, ◌<◌, ℕ, Bool, true, false, ◌&&◌, ◌||◌, ◌==◌, List, Option, Some, None, if◌then◌else◌}
-use Rattle.h3_priority.specs.Priority.{PriorityParameters}
+use Rattle.std.specs.Prelude.{◌≡◌, ◌⊎◌, ◌<◌, ℕ, Bool, true, false, ◌&&◌, ◌||◌, List, Option, Some, None}
 use Rattle.h3_scheduler.specs.Least.{IsLeast}
 use Rattle.h3_scheduler.specs.Rounds.{is_in, round_at}
-use Rattle.h3_scheduler.specs.Streams.{is_class, is_it}
+use Rattle.h3_scheduler.specs.Streams.{is_it}
 use Rattle.h3_scheduler.specs.declared.round.Round.{Round}
 
 -- whether a stream stands there
 abbrev pub Places : Type 0
 Places = ℕ → Bool → ℕ → Bool
-
-abbrev pub StandSame : Places → Places → Type 0
-StandSame before after = (urgency : ℕ) (incremental : Bool) (q : ℕ) → after urgency incremental q ≡ before urgency incremental q
-
--- this place is that of a stream with this priority
-abbrev pub is_place : PriorityParameters → ℕ → ℕ → Bool → ℕ → Bool
-is_place p id urgency incremental q = (q == id) && is_class (Some p) urgency incremental
-
--- One stream stands at one place, or does not, and all else is as before.
-abbrev pub StandsAt : PriorityParameters → ℕ → Bool → Places → Places → Type 0
-StandsAt p id is before after = (urgency : ℕ) (incremental : Bool) (q : ℕ) → after urgency incremental q ≡ (if is_place p id urgency incremental q then is else before urgency incremental q)
-
--- One stream stands there alone, and all others as before.
-abbrev pub Settles : ℕ → Option PriorityParameters → Places → Places → Type 0
-Settles id class before after = (urgency : ℕ) (incremental : Bool) (q : ℕ) → after urgency incremental q ≡ (if q == id then is_class class urgency incremental else before urgency incremental q)
 
 -- the least urgency at which some stream stands
 abbrev pub IsFirstUrgency : Places → Option ℕ → Type 0

@@ -7,7 +7,12 @@ use Rattle.h3_priority.specs.Priority.{PriorityParameters}
 use Rattle.h3_scheduler.specs.Least.{lesser_of}
 use Rattle.h3_scheduler.specs.Rounds.{is_in, round_at}
 use Rattle.h3_scheduler.specs.declared.round.Round.{Round}
-use Rattle.h3_scheduler.specs.declared.stream.Stream.{Stream}
+
+-- a stream: its priority, whether it has something to send, and whether it is held
+pub record Stream : Type 0 where
+  pub priority : PriorityParameters
+  pub is_ready : Bool
+  pub is_held : Bool
 
 -- streams by their ids, in the order of these
 abbrev pub Streams : Type 0

@@ -13,6 +13,9 @@ pub mod SectionsSent
 pub mod Endings
 pub mod Ordering
 pub mod OrderingCalls
+pub mod TellingPriorities
+pub mod UsingUpdates
+pub mod LookingAtUpdates
 pub mod Held
 pub mod Inserting
 pub mod SendingSections

@@ -44,7 +44,7 @@ module _ (ends : Ends) (side : Side) (id : ℕ) (old new : EndpointState) where
           record { after = after; stands = there; lacks = record { unsettled = settled; after = after; read = read; is = inl refl } }
       by after read (inr (none, asked)) =
           let goes_on = with_incoming after id asked.new in
-          let is : IsAsked after id goes_on = record { old = asked.old; asked = asked.new; here = asked.here; resumes = asked.resumes; plainly = asked.plainly; is = refl } in
+          let is : IsAsked after id goes_on = record { old = asked.old; asked = asked.new; here = asked.here; resumes = asked.resumes; plainly = asked.plainly; counts = asked.counts; is = refl } in
           record {
             after = goes_on;
             stands = asked.stands;

@@ -45,7 +45,7 @@ stands_requests s e new ins outs h received sent distinct keeps =
       kept = h.kept;
       sent = h.sent;
       order = h.order;
-      reached = record { unlearned = h.reached.unlearned; control = h.reached.control; encoder = h.reached.encoder; decoder = h.reached.decoder; told_control = h.reached.told_control; told_encoder = h.reached.told_encoder; told_decoder = h.reached.told_decoder; kept = keeps };
+      reached = record { unlearned = h.reached.unlearned; control = h.reached.control; encoder = h.reached.encoder; decoder = h.reached.decoder; told_control = h.reached.told_control; told_encoder = h.reached.told_encoder; told_decoder = h.reached.told_decoder; kept = keeps; own_updates = h.reached.own_updates };
     }
 
 -- the same streams are found
@@ -131,7 +131,7 @@ stands_replied s e bytes replies h is =
       kept = h.kept;
       sent = h.sent;
       order = h.order;
-      reached = reached_same e (replied e replies) refl h.reached;
+      reached = reached_same e (replied e replies) refl h.reached.own_updates h.reached;
     }
 
 -- The connection has a fault.
@@ -158,7 +158,7 @@ stands_closed s e code h =
       kept = h.kept;
       sent = h.sent;
       order = h.order;
-      reached = reached_same e (record e { closed = Some code }) refl h.reached;
+      reached = reached_same e (record e { closed = Some code }) refl h.reached.own_updates h.reached;
     }
 
 -- Other arrivals are kept.
@@ -191,5 +191,5 @@ stands_keeping s e kept h keeps =
       kept = refl;
       sent = h.sent;
       order = h.order;
-      reached = record { unlearned = h.reached.unlearned; control = h.reached.control; encoder = h.reached.encoder; decoder = h.reached.decoder; told_control = h.reached.told_control; told_encoder = h.reached.told_encoder; told_decoder = h.reached.told_decoder; kept = keeps };
+      reached = record { unlearned = h.reached.unlearned; control = h.reached.control; encoder = h.reached.encoder; decoder = h.reached.decoder; told_control = h.reached.told_control; told_encoder = h.reached.told_encoder; told_decoder = h.reached.told_decoder; kept = keeps; own_updates = h.reached.own_updates };
     }

@@ -1,12 +1,14 @@
 -- Turns and what goes first: what is stored stands for the history.
 use Rattle.std.proofs.Common.{arith, ◌≡◌, ◌≢◌, ℕ, ◌+◌, Bool, true, false, if◌then◌else◌, ◌&&◌, ◌||◌, List, length, refl, ap, sym, subst, ◌∙◌}
 use Rattle.std.proofs.lemmas.Grind.{common_steps}
-use Rattle.std.specs.Prelude.{◌==◌, not, min, nat_lt, Option, Some, None, option_map, unwrap_or}
+use Rattle.std.specs.Prelude.{◌==◌, not, min, nat_lt, Option, Some, None, is_some, option_map, slice_set, unwrap_or}
 use Rattle.h3_priority.specs.Priority.{PriorityParameters}
 use Rattle.h3_scheduler.specs.Places.{IsNext}
 use Rattle.h3_scheduler.specs.TurnLaws.{next_alike}
+use Rattle.h3_scheduler.specs.Rounds.{is_in, round_at}
 use Rattle.h3_scheduler.specs.Streams.{is_class}
 use Rattle.h3_scheduler.specs.declared.round.Round.{Round}
+use Rattle.h3_scheduler.specs.declared.round.Rounds.{Rounds}
 use Rattle.h3_proto.specs.declared.stream.Side.{Side}
 use Rattle.h3_proto.specs.declared.stream.Side.TheVariants.{Client, Server}
 use Rattle.h3_connection.specs.ByPriority.{first_own, own_sends, places_of, sends_at, IsNextBehind, ShowsNextByPriority}
@@ -16,7 +18,7 @@ use Rattle.h3_connection.specs.Outgoing.{Outgoing, end_waits, part_bytes_waiting
 use Rattle.h3_connection.specs.OwnIds.{control_id, encoder_id, decoder_id}
 use Rattle.h3_connection.specs.Sending.{order_after, take_at, turned}
 use Rattle.h3_connection.specs.SendingContracts.{Advances}
-use Rattle.h3_connection.specs.Shutdown.{ShowsFirstUnseen}
+use Rattle.h3_connection.specs.Shutdown.{bounded, first_unseen, ShowsFirstUnseen}
 use Rattle.h3_connection.specs.State.{EndpointState, OutgoingState, RequestState, StandsFor, kept_at}
 use Rattle.h3_connection.specs.StreamSets.{stream_at}
 use Rattle.h3_connection.specs.WaitingPieces.{bytes_of}
@@ -27,7 +29,7 @@ use Rattle.h3_outgoing.specs.Sent as sent
 use Rattle.h3_requests.specs.Ordered as stored
 use Rattle.h3_session.proofs.Taking.{found, not_found, request_waits}
 use Rattle.h3_session.specs.Refused.{sender_in}
-use Rattle.h3_session.specs.Turns.{first_own_in, own_sends_in, or_else, turn_in, EndsTurn, TakesBytes}
+use Rattle.h3_session.specs.Turns.{first_own_in, has_turn_in, own_sends_in, or_else, turn_in, BoundsTurn, EndsTurn, TakesBytes}
 use Rattle.h3_unidirectional.specs.Owned.{waiting_on}
 use Rattle.h3_unidirectional.specs.OwnLaws.{waiting_is}
 
@@ -69,6 +71,7 @@ stands_order s e order h =
         told_encoder = h.reached.told_encoder;
         told_decoder = h.reached.told_decoder;
         kept = h.reached.kept;
+        own_updates = h.reached.own_updates;
       };
     }
 
@@ -102,6 +105,13 @@ no_turns s id count none e h =
     let here : e.order.rounds ≡ None = ap (λ (o : SendOrder). o.rounds) (sym h.order) ∙ none in
     ap (λ o. record s { order = o }) (h.order ∙ sym (none_after e id (min count (length (bytes_waiting e id))) (stream_at e.outgoing id) here))
 
+none_of : (rounds : Option Rounds) → is_some rounds ≡ false → rounds ≡ None
+none_of None is = refl
+none_of (Some r) is = absurd (cc)
+
+pub advances_with_no_turns : (s u : EndpointState) (id count : ℕ) → is_some s.order.rounds ≡ false → TakesBytes s u id count → Advances s u id count
+advances_with_no_turns s u id count none takes = advances s s u id count (no_turns s id count (none_of s.order.rounds none)) takes
+
 -- nor one of a stream that is not there, or of no bytes
 pub no_stream : (s : EndpointState) (id count : ℕ) → sender_in s id ≡ None → EndsTurn s s id count
 no_stream s id count was e h =
@@ -123,17 +133,39 @@ turned_by order p id until = record order { rounds = turn_over order.rounds p id
 some_turned : (order : SendOrder) (id count bound : ℕ) (o : Outgoing) → (count == 0) ≡ false → turned order id count o bound ≡ record order { rounds = turn_over order.rounds o.precedence.priority id bound }
 some_turned order id count bound o some = rw some refl
 
-pub a_turn : (s : EndpointState) (id count until : ℕ) (w : OutgoingState) (order : SendOrder) → sender_in s id ≡ Some w → (min count (length (bytes_of w.pieces)) == 0) ≡ false → ShowsFirstUnseen s until
+pub a_turn : (s : EndpointState) (id count until : ℕ) (w : OutgoingState) (order : SendOrder) → sender_in s id ≡ Some w → (min count (length (bytes_of w.pieces)) == 0) ≡ false → BoundsTurn s w.precedence.priority id until
     → order ≡ record s.order { rounds = turn_over s.order.rounds w.precedence.priority id until } → EndsTurn s (record s { order = order }) id count
-a_turn s id count until w order was some unseen is e h =
+a_turn s id count until w order was some bounds is e h =
     let f = found s e id w h was in
     let taken : ℕ = min count (length (bytes_waiting e id)) in
     let more : (taken == 0) ≡ false = ap (λ bytes. min count (length bytes) == 0) (sym (request_waits s e id w h was)) ∙ some in
-    let there : order_after e id taken (stream_at e.outgoing id) ≡ record e.order { rounds = turn_over e.order.rounds f.o.precedence.priority id until }
-    = ap (order_after e id taken) f.there ∙ some_turned e.order id taken _ f.o more ∙ ap (λ b. record e.order { rounds = turn_over e.order.rounds f.o.precedence.priority id b }) (sym (unseen e h)) in
-    let here : order ≡ record e.order { rounds = turn_over e.order.rounds f.o.precedence.priority id until }
-    = is ∙ ap (λ (o : SendOrder). record o { rounds = turn_over o.rounds w.precedence.priority id until }) h.order ∙ ap (λ p. record e.order { rounds = turn_over e.order.rounds p.priority id until }) f.is.precedence in
+    let bound : ℕ = bounded (first_unseen e) in
+    let there : order_after e id taken (stream_at e.outgoing id) ≡ record e.order { rounds = turn_over e.order.rounds f.o.precedence.priority id bound }
+    = ap (order_after e id taken) f.there ∙ some_turned e.order id taken bound f.o more in
+    let here : order ≡ record e.order { rounds = turn_over e.order.rounds f.o.precedence.priority id bound }
+    = is ∙ ap (λ rounds. record s.order { rounds = rounds }) (bounds e h) ∙ ap (λ (o : SendOrder). record o { rounds = turn_over o.rounds w.precedence.priority id bound }) h.order
+    ∙ ap (λ p. record e.order { rounds = turn_over e.order.rounds p.priority id bound }) f.is.precedence in
     ap (λ o. record s { order = o }) (here ∙ sym there)
+
+-- the first id that was not seen is a bound
+pub bounded_by_unseen : (s : EndpointState) (p : PriorityParameters) (id until : ℕ) → ShowsFirstUnseen s until → BoundsTurn s p id until
+bounded_by_unseen s p id until unseen e h = ap (turn_over s.order.rounds p id) (unseen e h)
+
+-- any number is one where no round begins
+chosen_same : (has : Bool) (id until one other : ℕ) → is_some (if has then Some id else None) ≡ true → (if has then until else one) ≡ (if has then until else other)
+chosen_same true id until one other is = refl
+chosen_same false id until one other is = absurd (cc)
+
+abbrev going_on : Rounds → PriorityParameters → ℕ → ℕ → Option Rounds
+going_on r p id until = Some (record { rounds = slice_set r.rounds p.urgency (record { from = id + 1; until = until }) })
+
+in_round : (rounds : Option Rounds) (p : PriorityParameters) (id one other : ℕ) → has_turn_in rounds p id ≡ true → turn_over rounds p id one ≡ turn_over rounds p id other
+in_round None p id one other has = refl
+in_round (Some r) p id one other has =
+    ap (going_on r p id) (chosen_same (is_in (round_at r.rounds p.urgency) id) id (round_at r.rounds p.urgency).until one other has)
+
+pub bounded_in_round : (s : EndpointState) (p : PriorityParameters) (id until : ℕ) → has_turn_in s.order.rounds p id ≡ true → BoundsTurn s p id until
+bounded_in_round s p id until has e h = in_round s.order.rounds p id until (bounded (first_unseen e)) has
 
 -- the same by what is told of the stream
 abbrev Turn : Type 0
@@ -162,18 +194,19 @@ empty_turn s id count taken turn is all none =
 not_zero : (n : ℕ) → n ≢ 0 → (n == 0) ≡ false
 not_zero n some = grind (arith, common_steps, some)
 
-turn_ended : (s : EndpointState) (id count until taken : ℕ) (turn : Turn) (order : SendOrder) → turn_in s id ≡ Some turn → taken ≡ min count turn.1 → taken ≢ 0 → ShowsFirstUnseen s until
+turn_ended : (s : EndpointState) (id count until taken : ℕ) (turn : Turn) (order : SendOrder) → turn_in s id ≡ Some turn → taken ≡ min count turn.1 → taken ≢ 0 → BoundsTurn s turn.0 id until
     → order ≡ record s.order { rounds = turn_over s.order.rounds turn.0 id until } → EndsTurn s (record s { order = order }) id count
-turn_ended s id count until taken turn order is all some unseen after =
+turn_ended s id count until taken turn order is all some bounds after =
     told_by s id turn (EndsTurn s (record s { order = order }) id count) (sender_in s id)
-    (λ w was told. a_turn s id count until w order was (ap (λ (t : Turn). min count t.1 == 0) told ∙ ap (λ n. n == 0) (sym all) ∙ not_zero taken some) unseen
+    (λ w was told. a_turn s id count until w order was (ap (λ (t : Turn). min count t.1 == 0) told ∙ ap (λ n. n == 0) (sym all) ∙ not_zero taken some)
+    (subst (λ (t : Turn). BoundsTurn s t.0 id until) (sym told) bounds)
     (after ∙ sym (ap (λ (t : Turn). turned_by s.order t.0 id until) told))) refl is
 
-pub ended_turn : (s now : EndpointState) (id count until taken : ℕ) (turn : Turn) (order : SendOrder) → s ≡ now → turn_in now id ≡ Some turn → taken ≡ min count turn.1 → taken ≢ 0 → ShowsFirstUnseen now until
+pub ended_turn : (s now : EndpointState) (id count until taken : ℕ) (turn : Turn) (order : SendOrder) → s ≡ now → turn_in now id ≡ Some turn → taken ≡ min count turn.1 → taken ≢ 0 → BoundsTurn now turn.0 id until
     → order ≡ record s.order { rounds = turn_over s.order.rounds turn.0 id until } → EndsTurn now (record s { order = order }) id count
-ended_turn s now id count until taken turn order view is all some unseen after =
+ended_turn s now id count until taken turn order view is all some bounds after =
     subst (λ v. EndsTurn now (record v { order = order }) id count) (sym view)
-    (turn_ended now id count until taken turn order is all some unseen (after ∙ ap (λ (v : EndpointState). turned_by v.order turn.0 id until) view))
+    (turn_ended now id count until taken turn order is all some bounds (after ∙ ap (λ (v : EndpointState). turned_by v.order turn.0 id until) view))
 
 -- `next_by_priority`: an own stream waits as the history says
 own_same : (s : EndpointState) (e : EndpointHistory) (held : Bool) (id : ℕ) → StandsFor s e → own_sends_in s held id ≡ (if own_sends e held id then Some id else None)

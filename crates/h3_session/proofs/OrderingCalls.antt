@@ -1,29 +1,36 @@
--- `set_priority` and `hold`: what they do to what is stored is what their contracts say.
+-- Priorities that are said, and `hold`: what they do to what is stored is what their contracts say.
 use Rattle.std.proofs.Common.{◌≡◌, ℕ, Bool, true, false, if◌then◌else◌, ◌||◌, [], ◌∷◌, Option, Some, None, Ok, Err, refl, ap, sym, subst, ◌∙◌}
 use Rattle.std.specs.Prelude.{◌≢◌, ◌==◌, not, IfErr, IfSome, IsSome, OnOk, OnErr, Result, is_some, option_map}
 use Rattle.h3_outgoing.specs.Sent.{preceding}
 use Rattle.h3_priority.specs.Priority.{PriorityParameters}
 use Rattle.h3_proto.specs.StreamIds.{is_request_stream}
 use Rattle.h3_proto.specs.declared.stream.Side.{Side}
+use Rattle.h3_connection.specs.Answers.{call_refused}
 use Rattle.h3_connection.specs.ByPriority.{held, hold, hold_at, hold_refusal, prioritized, priority_refusal, set_priority, Holds, SetsPriority}
 use Rattle.h3_connection.specs.Calls.{AllSame, Sets}
 use Rattle.h3_connection.specs.Endpoint.{EndpointHistory}
-use Rattle.h3_connection.specs.Order.{own_held, rounds_begun}
+use Rattle.h3_connection.specs.Order.{gives_way, own_held, rounds_begun}
 use Rattle.h3_connection.specs.Outgoing.{Outgoing}
 use Rattle.h3_connection.specs.OwnIds.{control_id, encoder_id, decoder_id, is_own}
+use Rattle.h3_connection.specs.Prioritizing.{said, saying, set_initial_priority, SetsInitialPriority}
 use Rattle.h3_connection.specs.Refusals.{first_of}
-use Rattle.h3_connection.specs.Sending.{closed_or, is_open, outgoing_at, with_outgoing}
+use Rattle.h3_connection.specs.Sending.{closed_or, does, is_open, outgoing_at, with_outgoing}
+use Rattle.h3_connection.specs.SendingContracts.{DoesOrRefuses}
 use Rattle.h3_connection.specs.State.{EndpointState, RequestState, OutgoingState, StandsFor, IsOfOutgoing, SameAt, kept_at}
 use Rattle.h3_connection.specs.StandsLaws.{stands_sending}
 use Rattle.h3_connection.specs.StreamSets.{Streams, stream_at}
 use Rattle.h3_connection.specs.declared.event.Refusal.{Refusal}
 use Rattle.h3_connection.specs.declared.event.Refusal.TheVariants as refusal
 use Rattle.h3_connection.specs.declared.order.Precedence.{Precedence}
+use Rattle.h3_connection.specs.declared.order.PrioritySource.{PrioritySource}
+use Rattle.h3_connection.specs.declared.order.PrioritySource.TheVariants.{Unsaid, Field, Update, Own}
 use Rattle.h3_connection.specs.declared.order.SendOrder.{SendOrder}
 use Rattle.h3_requests.specs.Ordered.{refused_unless}
+use Rattle.h3_requests.specs.Ordered as stored
 use Rattle.h3_session.proofs.Ordering.{stands_order}
 use Rattle.h3_session.proofs.SendingCalls.{acts, alike, lacks, refuses, sends}
 use Rattle.h3_session.proofs.Taking.{found, not_found}
+use Rattle.h3_session.specs.Prioritized.{judged_in, said_if_open, ChangesTurns, IsSaid}
 
 -- A stream is open in the history where it is stored.
 same_there : (o : Option Outgoing) (r : Option RequestState) → SameAt IsOfOutgoing o (option_map (λ r. r.outgoing) r) → is_some r ≡ is_some o
@@ -32,69 +39,41 @@ same_there (Some o) (Some r) h = refl
 same_there None (Some r) h = absurd h
 same_there (Some o) None h = absurd h
 
-there_same : (s : EndpointState) (e : EndpointHistory) (id : ℕ) → StandsFor s e → is_some (kept_at s.requests id) ≡ is_open e id
+pub there_same : (s : EndpointState) (e : EndpointHistory) (id : ℕ) → StandsFor s e → is_some (kept_at s.requests id) ≡ is_open e id
 there_same s e id h = same_there (stream_at e.outgoing id) (kept_at s.requests id) (h.outgoing id)
 
 some_there : {X : Type 0} (o : Option X) → is_some o ≡ true → o ≢ None
 some_there None is none = absurd (cc)
 some_there (Some x) is none = absurd (cc)
 
--- `set_priority`
-abbrev after_priority : ℕ → PriorityParameters → EndpointHistory → EndpointHistory
-after_priority id p e = record (with_outgoing e id (prioritized p (outgoing_at e id))) { order = record e.order { rounds = rounds_begun e.order.rounds } }
+-- Somebody says a priority
+abbrev unless_open : Bool → Option Refusal
+unless_open is_there = first_of ((not is_there, refusal.NotOpen) ∷ [])
 
--- why it is refused, by what is stored
-abbrev unless_request : Bool → Bool → Option Refusal
-unless_request is_request is_there = first_of ((not is_request, refusal.NotRequestId) ∷ (not is_there, refusal.NotOpen) ∷ [])
+open_is : (s : EndpointState) (e : EndpointHistory) (id : ℕ) (there : Bool) → StandsFor s e → is_some (kept_at s.requests id) ≡ there → unless_open (is_open e id) ≡ unless_open there
+open_is s e id there h was = ap unless_open (sym (there_same s e id h) ∙ was)
 
-abbrev priority_refused : EndpointState → ℕ → Option Refusal
-priority_refused s id = closed_or s.closed (unless_request (is_request_stream id) (is_some (kept_at s.requests id)))
+said_lacks : (s : EndpointState) (id : ℕ) (source : PrioritySource) (p : PriorityParameters) (there : Bool) → is_some (kept_at s.requests id) ≡ there
+    → IsSaid s s id source p (Err (refused_unless there))
+said_lacks s id source p true was = lacks (λ e. unless_open (is_open e id)) (λ e. saying e id source p) s (λ e h. open_is s e id true h was)
+said_lacks s id source p false was =
+    refuses (λ e. unless_open (is_open e id)) (λ e. saying e id source p) s refusal.NotOpen (λ e h. open_is s e id false h was) (λ memory. absurd (cc))
 
-priority_refusal_is : (s : EndpointState) (e : EndpointHistory) (id : ℕ) → StandsFor s e → priority_refused s id ≡ priority_refusal e id
-priority_refusal_is s e id h =
-    ap (λ c. closed_or c (unless_request (is_request_stream id) (is_some (kept_at s.requests id)))) h.closed
-    ∙ ap (λ b. closed_or e.closed (unless_request (is_request_stream id) b)) (there_same s e id h)
+pub said_refused : (s n : EndpointState) (id : ℕ) (source : PrioritySource) (p : PriorityParameters) (r : Refusal) → n ≡ record s { requests = n.requests }
+    → r ≡ refused_unless (is_some (kept_at s.requests id)) → AllSame s.requests n.requests → IsSaid s n id source p (Err r)
+said_refused s n id source p r rest why same =
+    subst (λ v. IsSaid s v id source p (Err r)) (sym rest)
+    (subst (λ x. IsSaid s (record s { requests = n.requests }) id source p (Err x)) (sym why)
+    (alike (λ e. said_if_open e id source p) s n.requests (refused_unless (is_some (kept_at s.requests id))) same
+    (said_lacks s id source p (is_some (kept_at s.requests id)) refl)))
 
--- of a stream that may have one
-priority_of : (s : EndpointState) (id : ℕ) (there : Bool) → s.closed ≡ None → is_request_stream id ≡ true → is_some (kept_at s.requests id) ≡ there → priority_refused s id ≡ unless_request true there
-priority_of s id there closed request was =
-    ap (λ c. closed_or c (unless_request (is_request_stream id) (is_some (kept_at s.requests id)))) closed
-    ∙ ap (λ b. unless_request b (is_some (kept_at s.requests id))) request
-    ∙ ap (unless_request true) was
+-- the sender's part with another priority, if that counts
+abbrev precedence_said : Bool → PrioritySource → PriorityParameters → Precedence → Precedence
+precedence_said counts source p there = if counts then record there { priority = p; source = source } else there
 
-priority_refuses : (s : EndpointState) (id : ℕ) (p : PriorityParameters) (r : Refusal) → priority_refused s id ≡ Some r → r ≢ refusal.OutOfMemory → SetsPriority s s id p (Err r)
-priority_refuses s id p r is is_rule = refuses (λ e. priority_refusal e id) (after_priority id p) s r (λ e h. sym (priority_refusal_is s e id h) ∙ is) is_rule
-
-pub priority_closed : (s : EndpointState) (id code : ℕ) (p : PriorityParameters) → s.closed ≡ Some code → SetsPriority s s id p (Err (refusal.Closed code))
-priority_closed s id code p closed =
-    priority_refuses s id p (refusal.Closed code)
-    (ap (λ c. closed_or c (unless_request (is_request_stream id) (is_some (kept_at s.requests id)))) closed) (λ memory. absurd (cc))
-
-pub priority_of_none : (s : EndpointState) (id : ℕ) (p : PriorityParameters) (is_request : Bool) → s.closed ≡ None → is_request ≡ is_request_stream id → is_request ≡ false
-    → SetsPriority s s id p (Err refusal.NotRequestId)
-priority_of_none s id p is_request closed told other =
-    priority_refuses s id p refusal.NotRequestId
-    (ap (λ c. closed_or c (unless_request (is_request_stream id) (is_some (kept_at s.requests id)))) closed
-    ∙ ap (λ b. unless_request b (is_some (kept_at s.requests id))) (sym told ∙ other))
-    (λ memory. absurd (cc))
-
-priority_lacks : (s : EndpointState) (id : ℕ) (p : PriorityParameters) (there : Bool) → s.closed ≡ None → is_request_stream id ≡ true → is_some (kept_at s.requests id) ≡ there
-    → SetsPriority s s id p (Err (refused_unless there))
-priority_lacks s id p true closed request was =
-    lacks (λ e. priority_refusal e id) (after_priority id p) s (λ e h. sym (priority_refusal_is s e id h) ∙ priority_of s id true closed request was)
-priority_lacks s id p false closed request was = priority_refuses s id p refusal.NotOpen (priority_of s id false closed request was) (λ memory. absurd (cc))
-
-pub priority_refused_by : (s n : EndpointState) (id : ℕ) (p : PriorityParameters) (r : Refusal) (is_request : Bool) → s.closed ≡ None → is_request ≡ is_request_stream id → is_request ≡ true
-    → n ≡ record s { requests = n.requests } → r ≡ refused_unless (is_some (kept_at s.requests id)) → AllSame s.requests n.requests → SetsPriority s n id p (Err r)
-priority_refused_by s n id p r is_request closed told request rest why same =
-    subst (λ v. SetsPriority s v id p (Err r)) (sym rest)
-    (subst (λ x. SetsPriority s (record s { requests = n.requests }) id p (Err x)) (sym why)
-    (alike (λ e. set_priority e id p) s n.requests (refused_unless (is_some (kept_at s.requests id))) same
-    (priority_lacks s id p (is_some (kept_at s.requests id)) closed (sym told ∙ request) refl)))
-
--- the sender's part with another priority
-gives_priority : (p : PriorityParameters) (o : Outgoing) (w : OutgoingState) → IsOfOutgoing o w → IsOfOutgoing (prioritized p o) (preceding (record w.precedence { priority = p }) w)
-gives_priority p o w h =
+gives_if : (counts : Bool) (source : PrioritySource) (p : PriorityParameters) (o : Outgoing) (w : OutgoingState) → IsOfOutgoing o w
+    → IsOfOutgoing (if counts then record o { precedence = record o.precedence { priority = p; source = source } } else o) (preceding (precedence_said counts source p w.precedence) w)
+gives_if true source p o w h =
     record {
       pieces = h.pieces;
       place = h.place;
@@ -102,32 +81,121 @@ gives_priority p o w h =
       is_finished = h.is_finished;
       is_reset = h.is_reset;
       end_taken = h.end_taken;
-      precedence = ap (λ (q : Precedence). record q { priority = p }) h.precedence;
+      precedence = ap (λ (q : Precedence). record q { priority = p; source = source }) h.precedence;
       taken = h.taken;
     }
+gives_if false source p o w h = h
 
-priority_stands : (s : EndpointState) (new : Streams RequestState) (id : ℕ) (p : PriorityParameters) → is_some (kept_at s.requests id) ≡ true
-    → IfSome (kept_at s.requests id) (λ r. Sets s.requests new id (record r { outgoing = preceding (record r.outgoing.precedence { priority = p }) r.outgoing }))
-    → (e : EndpointHistory) → StandsFor s e → StandsFor (record s { requests = new; order = record s.order { rounds = rounds_begun s.order.rounds } }) (after_priority id p e)
-priority_stands s new id p there sets e h =
-    let changed : EndpointHistory = with_outgoing e id (prioritized p (outgoing_at e id)) in
+gives_priority : (source : PrioritySource) (p : PriorityParameters) (o : Outgoing) (w : OutgoingState) → IsOfOutgoing o w
+    → IsOfOutgoing (said source p o) (preceding (stored.saying w.precedence source p) w)
+gives_priority source p o w h =
+    subst (λ counts. IsOfOutgoing (said source p o) (preceding (precedence_said counts source p w.precedence) w)) (ap (λ (q : Precedence). gives_way q.source source) (sym h.precedence))
+    (gives_if (gives_way o.precedence.source source) source p o w h)
+
+said_stands : (s : EndpointState) (new : Streams RequestState) (id : ℕ) (source : PrioritySource) (p : PriorityParameters) → is_some (kept_at s.requests id) ≡ true
+    → IfSome (kept_at s.requests id) (λ r. Sets s.requests new id (record r { outgoing = preceding (stored.saying r.outgoing.precedence source p) r.outgoing }))
+    → (e : EndpointHistory) → StandsFor s e → StandsFor (record s { requests = new; order = record s.order { rounds = rounds_begun s.order.rounds } }) (saying e id source p)
+said_stands s new id source p there sets e h =
+    let changed : EndpointHistory = with_outgoing e id (said source p (outgoing_at e id)) in
     let stands : StandsFor (record s { requests = new }) changed
-    = sends s new id (λ w. preceding (record w.precedence { priority = p }) w) (prioritized p) (kept_at s.requests id) (gives_priority p) refl (some_there (kept_at s.requests id) there) sets e h in
-    subst (λ o. StandsFor (record s { requests = new; order = record o { rounds = rounds_begun o.rounds } }) (after_priority id p e)) (sym h.order)
+    = sends s new id (λ w. preceding (stored.saying w.precedence source p) w) (said source p) (kept_at s.requests id) (gives_priority source p) refl (some_there (kept_at s.requests id) there) sets e h in
+    subst (λ o. StandsFor (record s { requests = new; order = record o { rounds = rounds_begun o.rounds } }) (saying e id source p)) (sym h.order)
     (stands_order (record s { requests = new }) changed (record e.order { rounds = rounds_begun e.order.rounds }) stands)
 
-pub priority_set : (s n m : EndpointState) (id : ℕ) (p : PriorityParameters) (is_request : Bool) → s.closed ≡ None → is_request ≡ is_request_stream id → is_request ≡ true
-    → n ≡ record s { requests = n.requests } → IsSome (kept_at s.requests id)
-    → IfSome (kept_at s.requests id) (λ r. Sets s.requests n.requests id (record r { outgoing = preceding (record r.outgoing.precedence { priority = p }) r.outgoing }))
-    → m ≡ record n { order = record n.order { rounds = rounds_begun n.order.rounds } } → SetsPriority s m id p (Ok tt)
-priority_set s n m id p is_request closed told request rest some sets begun =
+pub said_now : (s n m : EndpointState) (id : ℕ) (source : PrioritySource) (p : PriorityParameters) → n ≡ record s { requests = n.requests } → IsSome (kept_at s.requests id)
+    → IfSome (kept_at s.requests id) (λ r. Sets s.requests n.requests id (record r { outgoing = preceding (stored.saying r.outgoing.precedence source p) r.outgoing }))
+    → m ≡ record n { order = record n.order { rounds = rounds_begun n.order.rounds } } → IsSaid s m id source p (Ok tt)
+said_now s n m id source p rest some sets begun =
     let there : is_some (kept_at s.requests id) ≡ true = some in
     let now : EndpointState = record s { requests = n.requests; order = record s.order { rounds = rounds_begun s.order.rounds } } in
     let same : m ≡ now = begun ∙ ap (λ (v : EndpointState). record v { order = record v.order { rounds = rounds_begun v.order.rounds } }) rest in
-    subst (λ v. SetsPriority s v id p (Ok tt)) (sym same)
-    (acts (λ e. priority_refusal e id) (after_priority id p) s now
-    (λ e h. sym (priority_refusal_is s e id h) ∙ priority_of s id true closed (sym told ∙ request) there)
-    (priority_stands s n.requests id p there sets))
+    subst (λ v. IsSaid s v id source p (Ok tt)) (sym same)
+    (acts (λ e. unless_open (is_open e id)) (λ e. saying e id source p) s now (λ e h. open_is s e id true h there) (said_stands s n.requests id source p there sets))
+
+-- and nothing else has changed
+pub changes_requests : (s n : EndpointState) → n ≡ record s { requests = n.requests } → ChangesTurns s n
+changes_requests s n rest = rest ∙ ap (λ o. record s { requests = n.requests; order = o }) (sym (ap (λ (v : EndpointState). v.order) rest))
+
+pub changes_turns : (s n m : EndpointState) (order : SendOrder) → n ≡ record s { requests = n.requests } → m ≡ record n { order = order } → ChangesTurns s m
+changes_turns s n m order rest begun =
+    begun ∙ ap (λ (v : EndpointState). record v { order = order }) rest
+    ∙ ap (λ r. record s { requests = r; order = order }) (sym (ap (λ (v : EndpointState). v.requests) begun))
+    ∙ ap (λ o. record s { requests = m.requests; order = o }) (sym (ap (λ (v : EndpointState). v.order) begun))
+
+-- `set_priority` and `set_initial_priority`: a rule comes first, whatever is stored of the stream
+abbrev unless_request : Bool → Bool → Option Refusal
+unless_request is_request is_there = first_of ((not is_request, refusal.NotRequestId) ∷ (not is_there, refusal.NotOpen) ∷ [])
+
+abbrev judged : Option ℕ → Bool → Option Refusal
+judged closed is_request = closed_or closed (first_of ((not is_request, refusal.NotRequestId) ∷ []))
+
+judged_well : (closed : Option ℕ) (is_request there : Bool) → judged closed is_request ≡ None → closed_or closed (unless_request is_request there) ≡ unless_open there
+judged_well None true there is = refl
+judged_well None false there is = absurd (cc)
+judged_well (Some code) is_request there is = absurd (cc)
+
+judged_before : (closed : Option ℕ) (is_request there : Bool) (r : Refusal) → judged closed is_request ≡ Some r → closed_or closed (unless_request is_request there) ≡ Some r
+judged_before None true there r is = absurd (cc)
+judged_before None false there r is = is
+judged_before (Some code) is_request there r is = is
+
+judged_by_rule : (closed : Option ℕ) (is_request : Bool) (r : Refusal) → judged closed is_request ≡ Some r → r ≢ refusal.OutOfMemory
+judged_by_rule None true r is memory = absurd (cc)
+judged_by_rule None false r is memory = absurd (cc)
+judged_by_rule (Some code) is_request r is memory = absurd (cc)
+
+refusal_in : (s : EndpointState) (e : EndpointHistory) (id : ℕ) → StandsFor s e → priority_refusal e id ≡ closed_or s.closed (unless_request (is_request_stream id) (is_open e id))
+refusal_in s e id h = ap (λ c. closed_or c (unless_request (is_request_stream id) (is_open e id))) (sym h.closed)
+
+rule_refuses : (after : EndpointHistory → EndpointHistory) (s : EndpointState) (id : ℕ) (r : Refusal) → judged_in s id ≡ Some r
+    → DoesOrRefuses (λ e. does (priority_refusal e id) e (after e)) s s (Some r)
+rule_refuses after s id r is =
+    refuses (λ e. priority_refusal e id) after s r (λ e h. refusal_in s e id h ∙ judged_before s.closed (is_request_stream id) (is_open e id) r is)
+    (judged_by_rule s.closed (is_request_stream id) r is)
+
+-- Two acts are the same for all that is stood for.
+acts_alike : (one other : EndpointHistory → Option Refusal × EndpointHistory) (s n : EndpointState) (r : Option Refusal) → ((e : EndpointHistory) → StandsFor s e → one e ≡ other e)
+    → DoesOrRefuses one s n r → DoesOrRefuses other s n r
+acts_alike one other s n r same h =
+    record {
+      done = λ e stands not_memory. subst (λ (a : Option Refusal × EndpointHistory). (r ≡ a.0) × StandsFor n a.1) (same e stands) (h.done e stands not_memory);
+      same = h.same;
+      memory = λ e stands memory. ap (λ (a : Option Refusal × EndpointHistory). a.0) (sym (same e stands)) ∙ h.memory e stands memory;
+    }
+
+said_is : (s : EndpointState) (e : EndpointHistory) (id : ℕ) (source : PrioritySource) (p : PriorityParameters) → judged_in s id ≡ None → StandsFor s e
+    → said_if_open e id source p ≡ does (priority_refusal e id) e (saying e id source p)
+said_is s e id source p well h =
+    ap (λ r. does r e (saying e id source p)) (sym (refusal_in s e id h ∙ judged_well s.closed (is_request_stream id) (is_open e id) well))
+
+-- What the endpoint says itself counts, whatever was said.
+own_counts : (there : PrioritySource) → gives_way there Own ≡ true
+own_counts Unsaid = refl
+own_counts Field = refl
+own_counts Update = refl
+own_counts Own = refl
+
+own_said : (e : EndpointHistory) (id : ℕ) (p : PriorityParameters) → does (priority_refusal e id) e (saying e id Own p) ≡ set_priority e id p
+own_said e id p =
+    let o : Outgoing = outgoing_at e id in
+    ap (λ counts. does (priority_refusal e id) e (record (with_outgoing e id (if counts then prioritized p o else o)) { order = record e.order { rounds = rounds_begun e.order.rounds } }))
+    (own_counts o.precedence.source)
+
+pub priority_judged : (s : EndpointState) (id : ℕ) (p : PriorityParameters) (r : Refusal) → judged_in s id ≡ Some r → SetsPriority s s id p (Err r)
+priority_judged s id p r is =
+    rule_refuses (λ e. record (with_outgoing e id (prioritized p (outgoing_at e id))) { order = record e.order { rounds = rounds_begun e.order.rounds } }) s id r is
+
+pub priority_said : (s n : EndpointState) (id : ℕ) (p : PriorityParameters) (result : Result Unit Refusal) → judged_in s id ≡ None → IsSaid s n id Own p result → SetsPriority s n id p result
+priority_said s n id p result well is =
+    acts_alike (λ e. said_if_open e id Own p) (λ e. set_priority e id p) s n (call_refused result) (λ e h. said_is s e id Own p well h ∙ own_said e id p) is
+
+pub initial_judged : (s : EndpointState) (id : ℕ) (p : PriorityParameters) (r : Refusal) → judged_in s id ≡ Some r → SetsInitialPriority s s id p (Err r)
+initial_judged s id p r is = rule_refuses (λ e. saying e id Field p) s id r is
+
+pub initial_said : (s n : EndpointState) (id : ℕ) (p : PriorityParameters) (result : Result Unit Refusal) → judged_in s id ≡ None → IsSaid s n id Field p result
+    → SetsInitialPriority s n id p result
+initial_said s n id p result well is =
+    acts_alike (λ e. said_if_open e id Field p) (λ e. set_initial_priority e id p) s n (call_refused result) (λ e h. said_is s e id Field p well h) is
 
 -- `hold`
 abbrev after_hold : ℕ → Bool → EndpointHistory → EndpointHistory

@@ -3,12 +3,14 @@ use Rattle.std.proofs.Common.{◌≡◌, ◌⊎◌, ℕ, Bool, true, false, List
 use Rattle.std.specs.Prelude.{◌||◌, is_some, if◌then◌else◌}
 use Rattle.h3_proto.specs.declared.stream.Side.{Side}
 use Rattle.h3_wire.specs.Pieces.{with_piece}
-use Rattle.h3_connection.specs.Coming.{HasNoHeader, fields_next}
+use Rattle.h3_wire.specs.declared.frame.kinds.FrameKinds.{FrameKinds}
+use Rattle.h3_connection.specs.Coming.{fields_next}
 use Rattle.h3_connection.specs.Delivering.{kept}
 use Rattle.h3_connection.specs.Incoming.{Incoming}
-use Rattle.h3_connection.specs.PartReading.{ResumesPlainly, unsaid, with_pieces, with_more}
+use Rattle.h3_connection.specs.PartReading.{HasNoSection, ResumesPlainly, StandsNext, unsaid, with_pieces, with_more}
 use Rattle.h3_connection.specs.PartReading.{Resumes as GoesOnAsBefore}
 use Rattle.h3_connection.specs.Pulling.{pull_stream}
+use Rattle.h3_connection.specs.StrictConnection.{kinds_of}
 use Rattle.h3_connection.specs.declared.setup.Announced.{Announced}
 use Rattle.h3_incoming.specs.Resuming.{PullsAlike, Resumes, delivered}
 
@@ -56,22 +58,24 @@ same_but own old new h =
     ∙ ap (λ x. record new { response = old.response; place = old.place; waits_for = old.waits_for; tries = old.tries; ended = old.ended; was_reset = old.was_reset; is_over = old.is_over; fault = x }) h.fault
 
 goes_on : (side : Side) (own : Announced) (id : ℕ) (old new : Incoming) → new ≡ record old { unread = new.unread; section = new.section; body_left = new.body_left; content = new.content }
-    → PullsAlike own old new → old.fault ≡ None → new.fault ≡ None → GoesOnAsBefore side own id old new
-goes_on side own id old new same alike none still = record {
+    → PullsAlike own old new → StandsNext (kinds_of own) old new → old.fault ≡ None → new.fault ≡ None → GoesOnAsBefore side own id old new
+goes_on side own id old new same alike next none still = record {
   same = same;
   pulls = λ r pieces ends. ap (pull_stream side own id r) (more_is old pieces ends none)
       ∙ sym (alike.pulls side id r (some_pieces pieces) ends)
       ∙ sym (ap (pull_stream side own id r) (more_is new pieces ends still));
   lists = λ r pieces ends.
-      subst (λ (i : Incoming). HasNoHeader (pull_stream side own id r i).answer ⊎ (fields_next own r (with_more new pieces ends) ≡ fields_next own r i)) (sym (more_is old pieces ends none))
-      (subst (λ (i : Incoming). HasNoHeader (pull_stream side own id r (delivered old (some_pieces pieces) ends)).answer ⊎ (fields_next own r i ≡ fields_next own r (delivered old (some_pieces pieces) ends))) (sym (more_is new pieces ends still))
+      subst (λ (i : Incoming). HasNoSection (pull_stream side own id r i).answer ⊎ (fields_next own r (with_more new pieces ends) ≡ fields_next own r i)) (sym (more_is old pieces ends none))
+      (subst (λ (i : Incoming). HasNoSection (pull_stream side own id r (delivered old (some_pieces pieces) ends)).answer ⊎ (fields_next own r i ≡ fields_next own r (delivered old (some_pieces pieces) ends))) (sym (more_is new pieces ends still))
       (alike.lists side id r (some_pieces pieces) ends));
+  next = next;
 }
 
 pub goes_on_as_before : (side : Side) (own : Announced) (id : ℕ) (old new : Incoming) → Resumes own old new → old.fault ≡ None → GoesOnAsBefore side own id old new
-goes_on_as_before side own id old new h none = goes_on side own id old new (same_but own old new h) h.alike none (h.fault ∙ none)
+goes_on_as_before side own id old new h none = goes_on side own id old new (same_but own old new h) h.alike h.next none (h.fault ∙ none)
 
 -- and so it does where nothing is known of the content
 pub goes_on_plainly : (side : Side) (own : Announced) (id : ℕ) (old new : Incoming) → Resumes own old new → old.fault ≡ None → ResumesPlainly side own id old new
 goes_on_plainly side own id old new h none other known no_limit =
-    goes_on side other id (unsaid old) (unsaid new) (ap unsaid (same_but own old new h)) (h.plainly other known no_limit) none (h.fault ∙ none)
+    goes_on side other id (unsaid old) (unsaid new) (ap unsaid (same_but own old new h)) (h.plainly other known no_limit)
+    (subst (λ (kinds : FrameKinds). StandsNext kinds (unsaid old) (unsaid new)) (sym known) h.next) none (h.fault ∙ none)

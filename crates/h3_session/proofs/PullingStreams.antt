@@ -110,6 +110,7 @@ resumed s mid e id before after h was goes rest r same = record {
   here = some_there s e id before h was;
   resumes = goes_on_as_before e.side e.announced id before.incoming after.incoming (subst (λ own. Resumes own before.incoming after.incoming) h.announced r.resumes) (no_fault before.incoming goes);
   plainly = goes_on_plainly e.side e.announced id before.incoming after.incoming (subst (λ own. Resumes own before.incoming after.incoming) h.announced r.resumes) (no_fault before.incoming goes);
+  counts = r.resumes.counts;
   stands =
       subst (λ n. StandsFor n (with_incoming e id after.incoming)) (sym rest)
       (subst (λ b. StandsFor (record s { requests = mid.requests; own = record s.own { decoder = b } }) (with_incoming e id after.incoming)) (sym same)

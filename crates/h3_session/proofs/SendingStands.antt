@@ -1,6 +1,7 @@
 -- What is stored stands for the endpoint's history, after what a call that sends has changed.
-use Rattle.std.proofs.Common.{◌≡◌, ◌==◌, ℕ, ◌+◌, ◌≤◌, Bool, true, false, if◌then◌else◌, List, [], ◌∷◌, ◌++◌, length, flat_map, Some, None, refl, ap, sym, subst, ◌∙◌, arith}
-use Rattle.std.proofs.lemmas.List.Elements.{All-weaker}
+use Rattle.std.proofs.Common.{◌≡◌, ◌==◌, ℕ, ◌+◌, ◌≤◌, Bool, true, false, if◌then◌else◌, List, [], ◌∷◌, ◌++◌, length, flat_map, Some, None, refl, ap, sym, subst, ◌∙◌, arith, length-append}
+use Rattle.std.specs.Prelude.{All}
+use Rattle.std.proofs.lemmas.List.Elements.{All-push, All-weaker}
 use Rattle.h3_field.specs.Instruction.{EncoderInstruction, encoder_bytes}
 use Rattle.h3_qpack.specs.EncoderHistory.{EncoderHistory}
 use Rattle.h3_qpack.specs.EncoderState.{encoder_state}
@@ -13,14 +14,15 @@ use Rattle.h3_connection.specs.Lasts.{last_id}
 use Rattle.h3_connection.specs.LastLaws.{last_appended}
 use Rattle.h3_connection.specs.Listeners.{Encoding}
 use Rattle.h3_connection.specs.OwnIds.{control_id, encoder_id, decoder_id}
+use Rattle.h3_connection.specs.OwnUpdates.{OwnUpdate, update_encoding}
 use Rattle.h3_connection.specs.Outgoing.{nothing_sent}
 use Rattle.h3_connection.specs.Sending.{counted, own_advanced}
-use Rattle.h3_connection.specs.State.{EndpointState, RequestState, StandsFor, OwnStands, IsOfOutgoing, IsReached, KeepsOpen, nothing_waits}
+use Rattle.h3_connection.specs.State.{EndpointState, RequestState, StandsFor, OwnStands, IsBehind, IsOfOutgoing, IsReached, KeepsOpen, nothing_waits}
 use Rattle.h3_connection.specs.StreamSets.{Streams, set_stream}
 use Rattle.h3_connection.specs.StreamSetLaws.{set-distinct}
 use Rattle.h3_connection.specs.StandsLaws.{own_same, reached_same, still_there, part_set, sent_set}
 use Rattle.h3_unidirectional.specs.Owned.{waiting_on, having_taken}
-use Rattle.h3_unidirectional.specs.OwnLaws.{goaway_stands, instructions_stand, taken_stands}
+use Rattle.h3_unidirectional.specs.OwnLaws.{goaway_stands, instructions_stand, taken_stands, update_stands}
 
 -- a stream on which nothing was sent
 fresh_sent : IsOfOutgoing nothing_sent nothing_waits
@@ -38,6 +40,7 @@ reached_opened e id h =
       told_decoder = h.told_decoder;
       kept = All-weaker (KeepsOpen e.side e.incoming) (KeepsOpen e.side (set_stream e.incoming id nothing_came))
           (λ a keeps is. still_there e.incoming id (stream_of a) nothing_came (keeps is)) e.kept h.kept;
+      own_updates = h.own_updates;
     }
 
 -- The next request stream was opened.
@@ -66,7 +69,7 @@ opened_stands s e new h sets =
       kept = h.kept;
       sent = h.sent;
       order = h.order;
-      reached = reached_same (opened_at e e.next_id None) (record (opened_at e e.next_id None) { next_id = e.next_id + 4 }) refl (reached_opened e e.next_id h.reached);
+      reached = reached_same (opened_at e e.next_id None) (record (opened_at e e.next_id None) { next_id = e.next_id + 4 }) refl h.reached.own_updates (reached_opened e e.next_id h.reached);
     }
 
 -- One more call was counted.
@@ -93,8 +96,12 @@ counted_stands s e cost h =
       kept = h.kept;
       sent = ap (λ n. n + cost + 64) h.sent;
       order = h.order;
-      reached = reached_same e (counted e cost) refl h.reached;
+      reached = reached_same e (counted e cost) refl h.reached.own_updates h.reached;
     }
+
+-- Updates that stand after no more than these stand after no more than these and one more.
+still_behind : (ids : List ℕ) (id : ℕ) (u : OwnUpdate) → IsBehind (length ids) u → IsBehind (length (ids ++ id ∷ [])) u
+still_behind ids id u behind = omega (arith, behind, length-append ids (id ∷ []))
 
 -- A GOAWAY frame was written.
 pub goaway_stands_for : (s : EndpointState) (e : EndpointHistory) (id : ℕ) → StandsFor s e
@@ -117,12 +124,44 @@ goaway_stands_for s e id h =
       decoding = h.decoding;
       encoder = h.encoder;
       decoder_unread = h.decoder_unread;
-      own = goaway_stands s.own e id h.own;
+      own = goaway_stands s.own e id h.reached.own_updates h.own;
       last_goaway = sym (last_appended e.own.goaways id);
       kept = h.kept;
       sent = h.sent;
       order = h.order;
-      reached = reached_same e (record e { own = record e.own { goaways = e.own.goaways ++ id ∷ [] } }) refl h.reached;
+      reached = reached_same e (record e { own = record e.own { goaways = e.own.goaways ++ id ∷ [] } }) refl
+          (All-weaker (IsBehind (length e.own.goaways)) (IsBehind (length (e.own.goaways ++ id ∷ []))) (λ u behind. still_behind e.own.goaways id u behind) e.own.updates h.reached.own_updates)
+          h.reached;
+    }
+
+-- A PRIORITY_UPDATE frame was written.
+pub update_stands_for : (s : EndpointState) (e : EndpointHistory) (u : OwnUpdate) → u.behind ≡ length e.own.goaways → StandsFor s e
+    → StandsFor (record s { own = record s.own { control = s.own.control ++ update_encoding u } }) (record e { own = record e.own { updates = e.own.updates ++ u ∷ [] } })
+update_stands_for s e u now h =
+    record {
+      side = h.side;
+      announced = h.announced;
+      closed = h.closed;
+      next_id = h.next_id;
+      incoming = h.incoming;
+      outgoing = h.outgoing;
+      unidirectional = h.unidirectional;
+      distinct = h.distinct;
+      control_on = h.control_on;
+      encoder_on = h.encoder_on;
+      decoder_on = h.decoder_on;
+      peer = h.peer;
+      decoding = h.decoding;
+      encoder = h.encoder;
+      decoder_unread = h.decoder_unread;
+      own = update_stands s.own e u now h.reached.own_updates h.own;
+      last_goaway = h.last_goaway;
+      kept = h.kept;
+      sent = h.sent;
+      order = h.order;
+      reached = reached_same e (record e { own = record e.own { updates = e.own.updates ++ u ∷ [] } }) refl
+          (All-push (IsBehind (length e.own.goaways)) e.own.updates u h.reached.own_updates (omega (arith, now)))
+          h.reached;
     }
 
 -- no GOAWAY is taken back
@@ -134,6 +173,16 @@ same_goaways own count true b c = refl
 same_goaways own count false true c = refl
 same_goaways own count false false true = refl
 same_goaways own count false false false = refl
+
+-- nor what was said of a priority
+same_updates : (own : Own) (count : ℕ) (a b c : Bool)
+    → (if a then record own { control_taken = own.control_taken + count } else (
+    if b then record own { encoder_taken = own.encoder_taken + count } else (
+    if c then record own { decoder_taken = own.decoder_taken + count } else own))).updates ≡ own.updates
+same_updates own count true b c = refl
+same_updates own count false true c = refl
+same_updates own count false false true = refl
+same_updates own count false false false = refl
 
 -- Bytes of an own stream were taken.
 pub own_taken_stands : (s : EndpointState) (e : EndpointHistory) (id count : ℕ) → StandsFor s e → count ≤ length (waiting_on s.own s.side id)
@@ -162,7 +211,10 @@ own_taken_stands s e id count h fits =
       kept = h.kept;
       sent = h.sent;
       order = h.order;
-      reached = reached_same e f refl h.reached;
+      reached = reached_same e f refl
+          (subst (λ ids. All (IsBehind (length ids)) f.own.updates) (sym (same_goaways e.own count (id == control_id e.side) (id == encoder_id e.side) (id == decoder_id e.side)))
+          (subst (λ updates. All (IsBehind (length e.own.goaways)) updates) (sym (same_updates e.own count (id == control_id e.side) (id == encoder_id e.side) (id == decoder_id e.side))) h.reached.own_updates))
+          h.reached;
     }
 
 -- The encoder changed, and its instructions were written.
@@ -208,5 +260,6 @@ encoding_stands s e encoding encoder is h stores unread unlearned =
         told_encoder = h.reached.told_encoder;
         told_decoder = h.reached.told_decoder;
         kept = h.reached.kept;
+        own_updates = h.reached.own_updates;
       };
     }

@@ -1,5 +1,5 @@
 -- What a new endpoint stores stands for the history of a new endpoint.
-use Rattle.std.proofs.Common.{arith, ◌≡◌, ℕ, Bool, true, false, List, [], Option, None, refl, sym, subst, append-nil}
+use Rattle.std.proofs.Common.{arith, ◌≡◌, ℕ, Bool, true, false, List, [], None, refl, sym, subst, append-nil}
 use Rattle.h3_coding.specs.Encodings.{encoding}
 use Rattle.h3_wire.specs.StreamHeaders.{control_encoding}
 use Rattle.h3_proto.specs.declared.stream.Side.{Side}
@@ -9,9 +9,10 @@ use Rattle.h3_connection.specs.declared.setup.Announced.{Announced}
 use Rattle.h3_connection.specs.Endpoint.{new_endpoint}
 use Rattle.h3_connection.specs.KeptGoaways.{keeps_last, kept_peer}
 use Rattle.h3_connection.specs.Order.{no_order}
-use Rattle.h3_connection.specs.PeerReading.{nothing_read}
+use Rattle.h3_connection.specs.PeerReading.{none_read}
 use Rattle.h3_connection.specs.State.{EndpointState, IsReached, OwnStands, RequestState, StandsFor, TakesWhatIsThere}
 use Rattle.h3_connection.specs.StreamSets.{Streams}
+use Rattle.h3_connection.specs.Updates.{most_updates}
 use Rattle.h3_streams.specs.Placed.{StreamsState, first_streams}
 use Rattle.h3_unidirectional.specs.Owned.{first_own}
 
@@ -26,7 +27,7 @@ own_waits Server announced = record
 
 nothing_came : (side : Side) (announced : Announced) → IsReached (new_endpoint side announced)
 nothing_came side announced = record
-    { unlearned = λ _. (refl, refl); control = λ _. refl; encoder = λ _. refl; decoder = λ _. refl; told_control = tt; told_encoder = tt; told_decoder = tt; kept = λ k a h. absurd (omega (arith, h)) }
+    { unlearned = λ _. (refl, refl); control = λ _. refl; encoder = λ _. refl; decoder = λ _. refl; told_control = tt; told_encoder = tt; told_decoder = tt; kept = λ k a h. absurd (omega (arith, h)); own_updates = λ k u h. absurd (omega (arith, h)) }
 
 abbrev stored : Side → Announced → Streams RequestState → StreamsState → List Arrival → EndpointState
 stored side announced requests streams kept = record {
@@ -50,9 +51,9 @@ stored side announced requests streams kept = record {
 }
 
 -- nothing is kept of nothing
-nothing_kept : (last : Bool) → nothing_read ≡ kept_peer last nothing_read
-nothing_kept true = refl
-nothing_kept false = refl
+nothing_kept : (last : Bool) (most : ℕ) → none_read most ≡ kept_peer last (none_read most)
+nothing_kept true most = refl
+nothing_kept false most = refl
 
 first_stands : (side : Side) (announced : Announced) → StandsFor (stored side announced [] (first_streams announced) []) (new_endpoint side announced)
 first_stands side announced = record {
@@ -67,7 +68,7 @@ first_stands side announced = record {
   control_on = refl;
   encoder_on = refl;
   decoder_on = refl;
-  peer = nothing_kept (keeps_last announced.choices);
+  peer = nothing_kept (keeps_last announced.choices) (most_updates announced);
   decoding = refl;
   encoder = refl;
   decoder_unread = refl;

@@ -18,6 +18,7 @@ pub mod Acting
 pub mod Copied
 pub mod Held
 pub mod Turns
+pub mod Prioritized
 pub mod Typed
 pub mod Headlines
 pub mod Messages

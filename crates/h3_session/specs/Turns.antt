@@ -1,12 +1,16 @@
 -- Turns of streams, by what is stored: bytes that go, and the order of sending.
-use Rattle.std.specs.Prelude.{◌≡◌, ℕ, Bool, not, ◌&&◌, if◌then◌else◌, length, min, nat_lt, Option, Some, None, option_map}
+use Rattle.std.specs.Prelude.{◌≡◌, ℕ, Bool, false, not, ◌&&◌, if◌then◌else◌, length, min, nat_lt, Option, Some, None, is_some, option_map}
 use Rattle.h3_connection.specs.Endpoint.{EndpointHistory, bytes_waiting}
+use Rattle.h3_connection.specs.Order.{turn_over}
 use Rattle.h3_connection.specs.OwnIds.{control_id, encoder_id, decoder_id}
 use Rattle.h3_connection.specs.Sending.{order_after, take_at}
+use Rattle.h3_connection.specs.Shutdown.{bounded, first_unseen}
 use Rattle.h3_connection.specs.State.{EndpointState, StandsFor}
 use Rattle.h3_connection.specs.StreamSets.{stream_at}
 use Rattle.h3_connection.specs.WaitingPieces.{bytes_of}
 use Rattle.h3_priority.specs.Priority.{PriorityParameters}
+use Rattle.h3_scheduler.specs.Rounds.{round_at, within}
+use Rattle.h3_scheduler.specs.declared.round.Rounds.{Rounds}
 use Rattle.h3_session.specs.Refused.{sender_in}
 use Rattle.h3_unidirectional.specs.Owned.{waiting_on}
 
@@ -24,6 +28,17 @@ EndsTurn old new id count =
 -- the priority of a request stream, and how many bytes wait on it
 abbrev pub turn_in : EndpointState → ℕ → Option (PriorityParameters × ℕ)
 turn_in s id = option_map (λ w. (w.precedence.priority, length (bytes_of w.pieces))) (sender_in s id)
+
+-- the stream has a turn in the round of its urgency that is under way
+abbrev pub has_turn_in : Option Rounds → PriorityParameters → ℕ → Bool
+has_turn_in None p id = false
+has_turn_in (Some r) p id = is_some (within (round_at r.rounds p.urgency) (Some id))
+
+-- by this bound a turn ends as by the first id that was not seen
+abbrev pub BoundsTurn : EndpointState → PriorityParameters → ℕ → ℕ → Type 0
+BoundsTurn s p id until =
+    (e : EndpointHistory) → StandsFor s e
+    → turn_over s.order.rounds p id until ≡ turn_over s.order.rounds p id (bounded (first_unseen e))
 
 -- the own stream of this number, if bytes wait on it and it is not held
 abbrev pub own_sends_in : EndpointState → Bool → ℕ → Option ℕ

@@ -32,6 +32,7 @@ mod lists;
 mod next;
 mod opening;
 mod ordering;
+mod prioritizing;
 mod pulling;
 mod reading;
 mod receiving;

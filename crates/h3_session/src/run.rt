@@ -5,7 +5,7 @@ ghost use Rattle.h3_world.specs.Ends.{new_ends};
 ghost use Rattle.h3_world.specs.Few.{AreFew};
 ghost use Rattle.h3_world.specs.Headline.{is_out_of_memory};
 ghost use Rattle.h3_world.specs.Setup.{IsMadeSetup, JudgesPlainly};
-ghost use Rattle.h3_faithful.specs.Faithful.{NoFaultUntilKept, UntilFault};
+ghost use Rattle.h3_faithful.specs.Faithful.{Faithful};
 ghost use Rattle.h3_session.specs.Headlines.{RunsInKeepingWorld, RunsInWorld};
 ghost use Rattle.h3_session.specs.Messages.{HandsOutAlways};
 ghost use Rattle.h3_session.specs.Strict.{RunsToEnd, RunsUntilMemory, TakesWhatIsSent, one_judges_more};
@@ -104,9 +104,7 @@ fn beside<A: Drop, B: Drop>(first: A, second: Result<B, AllocError>) -> Result<(
 ///   alone, up to a connection fault. By the events and their answers alone, after each event: what a side pulled from a stream is a front of
 ///   what the other side sent on it, and with the end it is all of that. A send that is next on its stream is accepted, or an allocation fails.
 ///   (A strict side, or a list, may be found malformed. And a strict connection begins no request after GOAWAY.) With nothing left to
-///   deliver, a pull pauses only after all that was sent.
-/// - `no_fault`: within the same bounds, between two sides that both ask for strict messages, or both do not, with limits or without. There is
-///   no connection fault up to the first answer that tells that what came, or a pull, waits for memory.
+///   deliver, a pull pauses only after all that was sent. If both sides ask for strict messages, or both do not, there is no connection fault.
 /// - `front`: in every setup, with both sides strict, one or none, with limits or without. The answers up to the first that reports out of
 ///   memory are those of a run of the world of a connection. In each of its steps all that `headline` says holds, and each side receives
 ///   what the other side sent. The bounds are those of `headline` on what is sent alone. If a side is strict or limits what is unfinished, a
@@ -138,8 +136,7 @@ pub fn run(alloc: Global, setup: Setup, events: &[Event]) -> Result<Outcome, All
     ensures each { IfOk result (λ out. AnswersEach (new_ends setup) events.now out.answers.items) }
     ensures messages { IfOk result (λ out. AreFew setup events.now → JudgesPlainly setup → HandsOutAlways setup events.now out.answers.items) }
     ensures memory { IfOk result (λ out. AreFew setup events.now → JudgesPlainly setup → RunsInKeepingWorld setup events.now out.answers.items out.client out.server) }
-    ensures faithful { IfOk result (λ out. AreFew setup events.now → UntilFault setup events.now out.answers.items) }
-    ensures no_fault { IfOk result (λ out. AreFew setup events.now → NoFaultUntilKept setup out.answers.items) }
+    ensures faithful { IfOk result (λ out. AreFew setup events.now → Faithful setup events.now out.answers.items) }
     ensures front { IfOk result (λ out. AreFew setup events.now → RunsUntilMemory setup events.now out.answers.items) }
     ensures runs { IfOk result (λ out. list_any is_out_of_memory out.answers.items ≡ false →
         RunsTo (new_ends setup) events.now out.answers.items out.client out.server) }

@@ -2,7 +2,7 @@
 use Rattle.std.proofs.Common.{◌≡◌, ℕ, zero, suc, ◌<◌, Bool, true, false, if◌then◌else◌, List, length, Option, Some, None, refl, ap, sym, ◌∙◌, subst, arith}
 use Rattle.h3_proto.specs.declared.stream.Side.{Side}
 use Rattle.h3_proto.specs.declared.stream.Side.TheVariants.{Client, Server}
-use Rattle.h3_wire.specs.ExcessiveFrames.{is_excessive}
+use Rattle.h3_wire.specs.ExcessiveFrames.{is_excessive_by}
 use Rattle.h3_wire.specs.Frames.{Front, Whole, Unknown, Refused, Unfinished, frame_by}
 use Rattle.h3_wire.specs.Known.{known_by, IsWaiting}
 use Rattle.h3_wire.specs.KnownLaws.{known_is, known_known}
@@ -11,7 +11,7 @@ use Rattle.h3_wire.specs.declared.proto.frame.PayloadLen.{PayloadLen}
 use Rattle.h3_wire.specs.declared.proto.frame.Frame.{Frame}
 use Rattle.h3_wire.specs.declared.proto.frame.Frame.TheVariants as frame
 use Rattle.h3_connection.specs.PeerReading.{Peer, PeerFound, with_unread, read_max_push, read_frame, unless_fault, at_front, read_peer}
-use Rattle.h3_connection.specs.PeerReadingLaws.{peer_step, step_excessive, step_within, frame_keeps}
+use Rattle.h3_connection.specs.PeerReadingLaws.{peer_step, step_excessive, step_within, frame_keeps, update_settings}
 use Rattle.h3_connection.specs.SkippingLaws.{rest_shorter}
 use Rattle.h3_unidirectional.specs.PeerLaws.{peer_waits}
 use Rattle.h3_wire.specs.declared.frame.kinds.FrameKinds.{FrameKinds}
@@ -36,6 +36,7 @@ settings_kept side p (frame.Headers section) (Some pairs) is h = h
 settings_kept side p (frame.CancelPush id) (Some pairs) is h = h
 settings_kept side p (frame.Settings others) (Some pairs) is h = h
 settings_kept side p (frame.PushPromise promise) (Some pairs) is h = h
+settings_kept side p (frame.PriorityUpdate u) (Some pairs) is h = sym (update_settings side p u) ∙ h
 settings_kept side p (frame.Goaway id) (Some pairs) is h = if_both (Keeps p) _ _ _ (λ k. k) (λ k. k) h
 settings_kept side p (frame.MaxPushId id) (Some pairs) is h = push_keeps side p id h
 settings_kept side p (frame.WebTransportStream id) (Some pairs) is h = h
@@ -73,7 +74,7 @@ settings_front kinds limit side p (Unfinished least) is each = λ h. h
 pub settings_stay : (kinds : FrameKinds) (limit : ℕ) (side : Side) (p : Peer) → (read_peer kinds limit side p).0.settings ≡ None → p.settings ≡ None
 settings_stay kinds limit side =
     along (λ p. Keeps p (read_peer kinds limit side p))
-    (λ p each. rw (peer_step kinds limit side p) (if_both (Keeps p) (is_excessive limit (known_by kinds p.unread)) _ _ (λ h. h) (settings_front kinds limit side p (frame_by kinds (known_by kinds p.unread)) refl each)))
+    (λ p each. rw (peer_step kinds limit side p) (if_both (Keeps p) (is_excessive_by kinds limit (known_by kinds p.unread)) _ _ (λ h. h) (settings_front kinds limit side p (frame_by kinds (known_by kinds p.unread)) refl each)))
 
 abbrev Again : FrameKinds → ℕ → Side → PeerFound → Type 0
 Again kinds limit side x = x.1 ≡ None → read_peer kinds limit side x.0 ≡ (x.0, None)
@@ -82,20 +83,20 @@ again_behind : (kinds : FrameKinds) (limit : ℕ) (side : Side) (x : PeerFound) 
 again_behind kinds limit side (q, Some code) h = λ none. absurd (cc)
 again_behind kinds limit side (q, None) h = h
 
-again_front : (kinds : FrameKinds) (limit : ℕ) (side : Side) (p : Peer) (x : Front) → frame_by kinds (known_by kinds p.unread) ≡ x → is_excessive limit (known_by kinds p.unread) ≡ false
+again_front : (kinds : FrameKinds) (limit : ℕ) (side : Side) (p : Peer) (x : Front) → frame_by kinds (known_by kinds p.unread) ≡ x → is_excessive_by kinds limit (known_by kinds p.unread) ≡ false
     → ((q : Peer) → length q.unread < length p.unread → Again kinds limit side (read_peer kinds limit side q)) → Again kinds limit side (at_front (read_peer kinds limit side) side p (known_by kinds p.unread) x)
 again_front kinds limit side p (Whole f rest) is small each =
     again_behind kinds limit side (read_frame side (with_unread p rest) p.settings f) (each (read_frame side (with_unread p rest) p.settings f).0 (fewer_after kinds side p f rest is))
 again_front kinds limit side p (Unknown kind rest) is small each = λ none. absurd (subst IsKnown is (known_is kinds p.unread))
 again_front kinds limit side p (Refused e) is small each = λ none. absurd (cc)
 again_front kinds limit side p (Unfinished least) is small each =
-    λ none. peer_waits kinds limit side (with_unread p (known_by kinds p.unread)) (known_by kinds p.unread) (ap (is_excessive limit) (known_known kinds p.unread) ∙ small) (sym (known_known kinds p.unread)) (subst IsWaiting (sym is) tt)
+    λ none. peer_waits kinds limit side (with_unread p (known_by kinds p.unread)) (known_by kinds p.unread) (ap (is_excessive_by kinds limit) (known_known kinds p.unread) ∙ small) (sym (known_known kinds p.unread)) (subst IsWaiting (sym is) tt)
 
-again_by : (kinds : FrameKinds) (large : Bool) (limit : ℕ) (side : Side) (p : Peer) → is_excessive limit (known_by kinds p.unread) ≡ large → ((q : Peer) → length q.unread < length p.unread → Again kinds limit side (read_peer kinds limit side q))
+again_by : (kinds : FrameKinds) (large : Bool) (limit : ℕ) (side : Side) (p : Peer) → is_excessive_by kinds limit (known_by kinds p.unread) ≡ large → ((q : Peer) → length q.unread < length p.unread → Again kinds limit side (read_peer kinds limit side q))
     → Again kinds limit side (read_peer kinds limit side p)
 again_by kinds true limit side p e each = rw (step_excessive kinds limit side p e) (λ none. absurd (cc))
 again_by kinds false limit side p e each = rw (step_within kinds limit side p e) (again_front kinds limit side p (frame_by kinds (known_by kinds p.unread)) refl e each)
 
 -- What was read whole gives nothing more.
 pub read_again : (kinds : FrameKinds) (limit : ℕ) (side : Side) (p : Peer) → (read_peer kinds limit side p).1 ≡ None → read_peer kinds limit side (read_peer kinds limit side p).0 ≡ ((read_peer kinds limit side p).0, None)
-read_again kinds limit side = along (λ p. Again kinds limit side (read_peer kinds limit side p)) (λ p each. again_by kinds (is_excessive limit (known_by kinds p.unread)) limit side p refl each)
+read_again kinds limit side = along (λ p. Again kinds limit side (read_peer kinds limit side p)) (λ p each. again_by kinds (is_excessive_by kinds limit (known_by kinds p.unread)) limit side p refl each)

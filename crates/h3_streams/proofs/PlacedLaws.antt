@@ -73,7 +73,7 @@ with_streams e f =
       decoding = f.decoding;
       encoder = f.encoder;
       decoder_unread = f.decoder_unread;
-      own = record f.own { goaways = e.own.goaways };
+      own = record f.own { goaways = e.own.goaways; updates = e.own.updates };
     }
 
 stands_with : (s : EndpointState) (x y : StreamsState) (e f : EndpointHistory) → StandsFor (placed s x) e → StreamsStand y (with_streams e f) → StandsFor (placed s y) (with_streams e f)
@@ -99,7 +99,7 @@ stands_with s x y e f h k =
       kept = h.kept;
       sent = h.sent;
       order = h.order;
-      reached = record { unlearned = k.unlearned; control = k.no_control; encoder = k.no_encoder; decoder = k.no_decoder; told_control = k.told_control; told_encoder = k.told_encoder; told_decoder = k.told_decoder; kept = h.reached.kept };
+      reached = record { unlearned = k.unlearned; control = k.no_control; encoder = k.no_encoder; decoder = k.no_decoder; told_control = k.told_control; told_encoder = k.told_encoder; told_decoder = k.told_decoder; kept = h.reached.kept; own_updates = h.reached.own_updates };
     }
 
 -- All of them change, and nothing else.

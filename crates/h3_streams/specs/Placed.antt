@@ -9,7 +9,8 @@ use Rattle.h3_connection.specs.Endpoint.{first_decoder, EndpointHistory, Kind, f
 use Rattle.h3_connection.specs.Endpoint.Kind.{Request, ServerOpened, OwnUnidirectional, PeerUnidirectional}
 use Rattle.h3_connection.specs.Listeners.{Decoding, Encoding}
 use Rattle.h3_connection.specs.OwnIds.{other, is_own}
-use Rattle.h3_connection.specs.PeerReading.{Peer, nothing_read}
+use Rattle.h3_connection.specs.PeerReading.{Peer, none_read}
+use Rattle.h3_connection.specs.Updates.{most_updates}
 use Rattle.h3_connection.specs.State.{EndpointState, OwnState, StandsFor, kept_at}
 use Rattle.h3_connection.specs.StreamSets.{Streams}
 use Rattle.h3_connection.specs.Unidirectional.{Unidirectional, Role, untold, is_critical, role_after, with_bytes, pull_unidirectional}
@@ -53,7 +54,7 @@ first_streams announced =
       control_on = None;
       encoder_on = None;
       decoder_on = None;
-      peer = nothing_read;
+      peer = none_read (most_updates announced);
       decoding = record { decoder = first_decoder announced; unread = [] };
       encoding = record { encoder = encoder_state (first_encoder announced); unread = [] };
       own = first_own announced.settings;

@@ -1,18 +1,17 @@
 -- What came of a control stream whose settings and GOAWAY frames its reader takes is never too long for it.
 use Rattle.std.proofs.Common.{◌≡◌, ℕ, ◌<◌, ◌≤◌, ◌^◌, zero, suc, Bool, true, false, ◌&&◌, ◌||◌, List, [], ◌∷◌, ◌++◌, flat_map, Option, Some, None, refl, sym, ap, ◌∙◌, subst, inl, inr, length, drop, append_assoc, arith, lit<, if◌then◌else◌, nat_lt}
 use Rattle.std.specs.List.{AllByRecursion}
-use Rattle.std.proofs.lemmas.Bool.{and_right, cases_lt, le-ltb}
+use Rattle.std.proofs.lemmas.Bool.{cases_lt, le-ltb}
 use Rattle.h3_coding.specs.Encodings.{encoding}
-use Rattle.h3_coding.specs.Varint.{varint_at}
 use Rattle.h3_coding.specs.VarintLaws.{none_at_end}
-use Rattle.h3_proto.specs.Config.{is_limit}
 use Rattle.h3_proto.specs.Pairs.{payload_of}
 use Rattle.h3_proto.specs.declared.stream.Side.{Side}
 use Rattle.h3_wire.specs.Encoded.{frame_encoding, head_encoding}
 use Rattle.h3_wire.specs.EncodedLaws.{length-encoding, written_goaway, written_settings}
-use Rattle.h3_wire.specs.ExcessiveFrames.{is_excessive, is_kept_whole, says_too_much}
+use Rattle.h3_wire.specs.ExcessiveFrames.{is_excessive_by, is_kept_whole}
+use Rattle.h3_wire.specs.ExcessiveLaws.{none_told}
 use Rattle.h3_wire.specs.FrameLaws.{frame_by-nil}
-use Rattle.h3_wire.specs.Frames.{Front, Unfinished, Whole, frame_by, settings_frame}
+use Rattle.h3_wire.specs.Frames.{Front, Unfinished, Whole, frame_by, is_update, settings_frame}
 use Rattle.h3_wire.specs.Fronts.{IsKnown, IsUnfinishedFront}
 use Rattle.h3_wire.specs.KnownLaws.{known-other}
 use Rattle.h3_wire.specs.UnfinishedLaws.{front_of_frame}
@@ -39,25 +38,25 @@ behind_fits (q, None) go h goes = goes refl
 
 module _ (kinds : FrameKinds) (limit : ℕ) where
   -- a frame at the front that is not too long
-  front_fits : (most : ℕ) (side : Side) (p : Peer) (x : Front) → frame_by kinds p.unread ≡ x → IsKnown x → is_excessive limit p.unread ≡ false
+  front_fits : (most : ℕ) (side : Side) (p : Peer) (x : Front) → frame_by kinds p.unread ≡ x → IsKnown x → is_excessive_by kinds limit p.unread ≡ false
       → Fits (at_front (read_within kinds most limit side) side p p.unread x) → Fits (read_within kinds (suc most) limit side p)
   front_fits most side p x at here small h =
       let go = read_within kinds most limit side in
-      ap (λ l. is_excess false (unless_excessive limit l p (at_front go side p l (frame_by kinds l))).1) (known-other kinds p.unread (subst IsKnown (sym at) here))
+      ap (λ l. is_excess false (unless_excessive kinds limit l p (at_front go side p l (frame_by kinds l))).1) (known-other kinds p.unread (subst IsKnown (sym at) here))
       ∙ ap (λ b. is_excess false (if b then (let y : PeerFound = (with_unread p [], Some excessive_load) in y) else at_front go side p p.unread (frame_by kinds p.unread)).1) small
       ∙ ap (λ y. is_excess false (at_front go side p p.unread y).1) at ∙ h
 
-  waits_fit : (most : ℕ) (side : Side) (p : Peer) → IsUnfinishedFront kinds p.unread → is_excessive limit p.unread ≡ false → Fits (read_within kinds (suc most) limit side p)
+  waits_fit : (most : ℕ) (side : Side) (p : Peer) → IsUnfinishedFront kinds p.unread → is_excessive_by kinds limit p.unread ≡ false → Fits (read_within kinds (suc most) limit side p)
   waits_fit most side p u small = front_fits most side p (Unfinished u.0) u.1 tt small refl
 
   -- a kept frame within the limit
-  frame_within : (kind : ℕ) (payload behind bytes more : List ℕ) → kind < 2 ^ 62 → length payload < 2 ^ 62 → length payload ≤ limit → is_kept_whole kind ≡ true → bytes ++ more ≡ frame_encoding kind payload ++ behind → is_excessive limit bytes ≡ false
+  frame_within : (kind : ℕ) (payload behind bytes more : List ℕ) → kind < 2 ^ 62 → length payload < 2 ^ 62 → length payload ≤ limit → is_kept_whole kind ≡ true → bytes ++ more ≡ frame_encoding kind payload ++ behind → is_excessive_by kinds limit bytes ≡ false
   frame_within kind payload behind bytes more low small taken kept e =
-      head_within limit kind (length payload) bytes more (payload ++ behind) low small (e ∙ append_assoc (head_encoding kind (length payload)) payload behind)
-      (ap (λ b. b && nat_lt limit (length payload)) kept ∙ le-ltb limit (length payload) taken)
+      head_within kinds limit kind (length payload) bytes more (payload ++ behind) low small (e ∙ append_assoc (head_encoding kind (length payload)) payload behind)
+      (ap (λ b. (b || is_update kinds kind) && nat_lt limit (length payload)) kept ∙ le-ltb limit (length payload) taken)
 
-  nothing_within : (bytes more : List ℕ) → bytes ++ more ≡ [] → (is_excessive limit bytes ≡ false) × IsUnfinishedFront kinds bytes
-  nothing_within [] more e = (and_right (is_limit limit) (says_too_much limit (varint_at [])) (ap (says_too_much limit) none_at_end), (1, frame_by-nil kinds))
+  nothing_within : (bytes more : List ℕ) → bytes ++ more ≡ [] → (is_excessive_by kinds limit bytes ≡ false) × IsUnfinishedFront kinds bytes
+  nothing_within [] more e = (none_told kinds limit [] none_at_end, (1, frame_by-nil kinds))
   nothing_within (byte ∷ bytes) more e = absurd (cc)
 
   abbrev are_small : List ℕ → Type 0

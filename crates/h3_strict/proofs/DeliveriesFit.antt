@@ -60,7 +60,7 @@ use Rattle.h3_strict.specs.Limits.{limited_end, unlimited_ends}
 use Rattle.h3_strict.specs.Plainly.{is_excess}
 
 -- it is not too long, as an end tells that asks for no strict connection
-abbrev FoundFits : Found → Type 0
+abbrev pub FoundFits : Found → Type 0
 FoundFits x = is_excess false x.1 ≡ false
 
 -- the settings come, and with them what waited of the decoder stream
@@ -95,13 +95,13 @@ session_fits true = refl
 session_fits false = refl
 
 -- what comes for a role
-abbrev RoleFits : EndpointHistory → ℕ → Role → List ℕ → Type 0
+abbrev pub RoleFits : EndpointHistory → ℕ → Role → List ℕ → Type 0
 RoleFits e id Control bytes = FoundFits (told_control (record e { control_on = Some id }) bytes)
 RoleFits e id Encoder bytes = FoundFits (read_encoder (record (loose e) { encoder_on = Some id }) bytes)
 RoleFits e id Decoder bytes = FoundFits (read_decoder (record (loose e) { decoder_on = Some id }) bytes)
 RoleFits e id _ bytes = Unit {0}
 
-heard_fits : (e : EndpointHistory) (id : ℕ) (role : Role) (bytes : List ℕ) → RoleFits e id role bytes → FoundFits (told_as e id role bytes)
+pub heard_fits : (e : EndpointHistory) (id : ℕ) (role : Role) (bytes : List ℕ) → RoleFits e id role bytes → FoundFits (told_as e id role bytes)
 heard_fits e id (Untold front) bytes h = refl
 heard_fits e id Control bytes h = second_fits (is_second e.control_on id) (loose e) (told_control (record e { control_on = Some id }) bytes) h
 heard_fits e id Encoder bytes h = second_fits (is_second e.encoder_on id) (loose e) (read_encoder (record (loose e) { encoder_on = Some id }) bytes) h
@@ -115,20 +115,20 @@ critical_fits : (b : Bool) → is_excess false (if b then Some closed_critical_s
 critical_fits true = refl
 critical_fits false = refl
 
-end_fits : (e : EndpointHistory) (id : ℕ) (k : Kind) → FoundFits (end_at e id k)
+pub end_fits : (e : EndpointHistory) (id : ℕ) (k : Kind) → FoundFits (end_at e id k)
 end_fits e id Request = refl
 end_fits e id ServerOpened = refl
 end_fits e id OwnUnidirectional = refl
 end_fits e id PeerUnidirectional = critical_fits (is_critical (unidirectional_at e id).role)
 
-reset_fits : (e : EndpointHistory) (id code : ℕ) (k : Kind) → FoundFits (reset_at e id code k)
+pub reset_fits : (e : EndpointHistory) (id code : ℕ) (k : Kind) → FoundFits (reset_at e id code k)
 reset_fits e id code Request = refl
 reset_fits e id code ServerOpened = refl
 reset_fits e id code OwnUnidirectional = refl
 reset_fits e id code PeerUnidirectional = critical_fits (is_critical (unidirectional_at e id).role)
 
 -- what the bytes of a stream do that told its type
-told_typed : (e : EndpointHistory) (id kind : ℕ) (role : Role) (came count : ℕ) (units : List ℕ) → IsTyped kind role → IsPeerStream came role (stream_at e.unidirectional id)
+pub told_typed : (e : EndpointHistory) (id kind : ℕ) (role : Role) (came count : ℕ) (units : List ℕ) → IsTyped kind role → IsPeerStream came role (stream_at e.unidirectional id)
     → told_bytes e id (take count (drop came (kind ∷ units))) PeerUnidirectional ≡ told_as (with_unidirectional e id (with_role (role_by (came + count) role))) id (role_by (came + count) role) (behind_type came count units)
 told_typed e id kind role came count units t h =
     let bytes = take count (drop came (kind ∷ units)) in
@@ -161,7 +161,7 @@ pub record Carries (setup_of : Announced) (limit : ℕ) (writer : Side) (own : O
   pub settings_taken : length (payload_of setup_of.settings) ≤ limit
   pub room : 10 ≤ limit
 
-replies_short : (limit : ℕ) (is : List DecoderInstruction) → 10 ≤ limit → AreShortReplies limit is
+pub replies_short : (limit : ℕ) (is : List DecoderInstruction) → 10 ≤ limit → AreShortReplies limit is
 replies_short limit [] room = tt
 replies_short limit (i ∷ is) room = (omega (arith, room, reply_short i), replies_short limit is room)
 
@@ -169,7 +169,7 @@ module _ (a : Announced) (limit : ℕ) (writer : Side) (own : Own) (er ew : Endp
   abbrev ComesFit : ℕ → ℕ → Type 0
   ComesFit count id = FoundFits (told_bytes er id (take count (bytes_waiting ew id)) (kind_of er.side id))
 
-  told_fits : (b : Bool) (e : EndpointHistory) (id : ℕ) (role : Role) (bytes : List ℕ) → RoleFits e id role bytes → RoleFits e id (if b then Untold [] else role) bytes
+  pub told_fits : (b : Bool) (e : EndpointHistory) (id : ℕ) (role : Role) (bytes : List ℕ) → RoleFits e id role bytes → RoleFits e id (if b then Untold [] else role) bytes
   told_fits true e id role bytes h = tt
   told_fits false e id role bytes h = h
 
@@ -186,7 +186,7 @@ module _ (a : Announced) (limit : ℕ) (writer : Side) (own : Own) (er ew : Endp
       ∙ heard_fits (reading count id came role) id (role_by (came + count) role) (behind_type came count units) (told_fits (came + count == 0) (reading count id came role) id role (behind_type came count units) fits)
 
   -- what waited of the decoder stream is read once the settings are known
-  listened_fits : (e : EndpointHistory) (is : List DecoderInstruction) (bytes more : List ℕ) → is_some e.peer.settings ≡ true → is_strict e.announced ≡ false → limit_of e ≡ limit → AllByRecursion IsReply is
+  pub listened_fits : (e : EndpointHistory) (is : List DecoderInstruction) (bytes more : List ℕ) → is_some e.peer.settings ≡ true → is_strict e.announced ≡ false → limit_of e ≡ limit → AllByRecursion IsReply is
       → (e.decoder_unread ++ bytes) ++ more ≡ flat_map decoder_bytes is → FoundFits (read_decoder e bytes)
   listened_fits e is bytes more known off same w all =
       ap (λ b. is_excess false (read_if b e bytes).1) known
@@ -203,13 +203,13 @@ module _ (a : Announced) (limit : ℕ) (writer : Side) (own : Own) (er ew : Endp
       listened_fits e own.replies [] (drop (own.decoder_taken - 1) all) (ap (λ (q : Peer). is_some q.settings) has ∙ ap (λ (o : Option (List (ℕ × ℕ))). is_some o) settings) off same c.replies
       (ap (λ l. l ++ drop (own.decoder_taken - 1) all) (append-nil e.decoder_unread ∙ waited) ∙ take-append-drop (own.decoder_taken - 1) all)
 
-  peer_fits : (e : EndpointHistory) (x : PeerFound) → Fits x → is_strict e.announced ≡ false → limit_of e ≡ limit → e.decoder_unread ≡ er.decoder_unread → e.peer ≡ er.peer → FoundFits (taken_peer e x)
+  pub peer_fits : (e : EndpointHistory) (x : PeerFound) → Fits x → is_strict e.announced ≡ false → limit_of e ≡ limit → (er.peer.settings ≡ None → e.decoder_unread ≡ er.decoder_unread) → e.peer.settings ≡ er.peer.settings → FoundFits (taken_peer e x)
   peer_fits e (p, fault) h off same unread known =
       let before = e.peer.settings in
       let f : EndpointHistory = record e { peer = p } in
       let kept = if_learned_keeps before p.settings f in
       then_fits before p.settings (if_learned before p.settings f) fault h
-      (λ pairs none some. waited_fits p pairs (if_learned before p.settings f) kept.0 some (ap is_strict (if_learned_same before p.settings f).announced ∙ off) (learned_limit before p.settings f ∙ same) (kept.1 ∙ unread) (sym (ap (λ (q : Peer). q.settings) known) ∙ none))
+      (λ pairs none some. waited_fits p pairs (if_learned before p.settings f) kept.0 some (ap is_strict (if_learned_same before p.settings f).announced ∙ off) (learned_limit before p.settings f ∙ same) (kept.1 ∙ unread (sym known ∙ none)) (sym known ∙ none))
 
   control_comes : (count : ℕ) → ComesFit count (control_id writer)
   control_comes count =
@@ -223,7 +223,7 @@ module _ (a : Announced) (limit : ℕ) (writer : Side) (own : Own) (er ew : Endp
       ap (λ n. is_excess false (read_peer (kinds_of er.announced) n er.side (with_unread er.peer (er.peer.unread ++ behind_type came count units))).1) c.limit_is
       ∙ control_fits (kinds_of er.announced) limit er.side writer er.peer a came count own.goaways c.announces c.settings_taken (omega (arith, c.room)) c.goaways (nat_le (length (settings_bytes a)) came) refl c.unread in
       typed_comes count id 0 came Control units typed_control (kind_at id (kind_of_own writer)) c.control_is (c.control_waits ∙ ap (drop came) text)
-      (peer_fits e (read_peer (kinds_of er.announced) (limit_of er) er.side (with_unread er.peer (er.peer.unread ++ behind_type came count units))) fits refl c.limit_is refl refl)
+      (peer_fits e (read_peer (kinds_of er.announced) (limit_of er) er.side (with_unread er.peer (er.peer.unread ++ behind_type came count units))) fits refl c.limit_is (λ none. refl) refl)
     where
       kind_of_own : (s : Side) → kind_of (other s) (control_id s) ≡ PeerUnidirectional
       kind_of_own Client = refl

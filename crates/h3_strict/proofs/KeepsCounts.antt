@@ -230,7 +230,7 @@ opened_in e id j = by_stream (stream_at e.incoming id) refl
     by_stream (Some i) is = refl
     by_stream None is = set_in e (opened_at e id None) id nothing_came refl j (λ n i. i ≡ incoming_at e n) (sym (ap (λ o. unwrap_or o nothing_came) is)) (λ h. refl)
 
-opened_announced : (e : EndpointHistory) (id : ℕ) → (opened e id).announced ≡ e.announced
+pub opened_announced : (e : EndpointHistory) (id : ℕ) → (opened e id).announced ≡ e.announced
 opened_announced e id = by_stream (stream_at e.incoming id)
   where
     by_stream : (o : Option Incoming) → (opened_at e id o).announced ≡ e.announced
@@ -253,7 +253,7 @@ found_keeps : (only : ℕ → Bool) (e : EndpointHistory) (x : Found) → KeepsB
 found_keeps only e (f, None) h = h
 found_keeps only e (f, Some code) h = record { out = h.out; same = h.same; kept = h.kept; announced = h.announced }
 
-taken_keeps : (only : ℕ → Bool) (closed : Option ℕ) (r : Option Refusal) (e : EndpointHistory) (x : Found) → KeepsBut only e x.0 → KeepsBut only e (taken closed r e x).1
+pub taken_keeps : (only : ℕ → Bool) (closed : Option ℕ) (r : Option Refusal) (e : EndpointHistory) (x : Found) → KeepsBut only e x.0 → KeepsBut only e (taken closed r e x).1
 taken_keeps only (Some code) r e x h = streams_keep only e e (same_streams e)
 taken_keeps only None (Some r) e x h = streams_keep only e e (same_streams e)
 taken_keeps only None None e x h = found_keeps only e x h
@@ -297,7 +297,7 @@ abbrev pub lost_by : Arrival → ℕ → Bool
 lost_by (ResetCame id code) i = id == i
 lost_by _ i = false
 
-arrival_keeps : (e : EndpointHistory) (a : Arrival) → KeepsBut (lost_by a) e (read_arrival e a).0
+pub arrival_keeps : (e : EndpointHistory) (a : Arrival) → KeepsBut (lost_by a) e (read_arrival e a).0
 arrival_keeps e (BytesCame id bytes) = bytes_keep e id bytes (kind_of e.side id)
 arrival_keeps e (EndCame id) = end_keeps e id (kind_of e.side id)
 arrival_keeps e (ResetCame id code) = resets_keep e id code (kind_of e.side id)

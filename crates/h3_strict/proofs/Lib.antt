@@ -57,7 +57,12 @@ mod LimitEarly
 mod AnyhowMessages
 mod TunnelParts
 mod TunnelPulls
-mod TunnelHeads
+mod BehindPulls
+mod KeepsAny
+mod TunnelKept
+mod BehindReads
+mod TunnelSees
+mod TunnelBeside
 mod TunnelFaults
 mod TunnelSends
 mod TunnelCalls
@@ -66,6 +71,7 @@ mod TunnelEvents
 mod TunnelLimits
 mod TunnelStreams
 mod TunnelPull
+mod SettledCalm
 mod TunnelFaultless
 mod UnkeptRuns
 mod TunnelRuns

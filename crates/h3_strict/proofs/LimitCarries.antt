@@ -45,15 +45,15 @@ use Rattle.h3_strict.specs.PlainEnds.{plain_ends, plain_setup}
 use Rattle.h3_strict.specs.Plainly.{plainly}
 
 -- The endpoint has of its peer's streams, and sends, what the other one does.
-record SameStreams (e f : EndpointHistory) : Type 0 where
-  side : f.side ≡ e.side
-  kept : f.kept ≡ e.kept
-  unidirectional : f.unidirectional ≡ e.unidirectional
-  peer : f.peer ≡ e.peer
-  decoding : f.decoding ≡ e.decoding
-  decoder_unread : f.decoder_unread ≡ e.decoder_unread
-  waits_for : (id : ℕ) → bytes_waiting f id ≡ bytes_waiting e id
-  has : (id : ℕ) → has_outgoing f id ≡ has_outgoing e id
+pub record SameStreams (e f : EndpointHistory) : Type 0 where
+  pub side : f.side ≡ e.side
+  pub kept : f.kept ≡ e.kept
+  pub unidirectional : f.unidirectional ≡ e.unidirectional
+  pub peer : f.peer ≡ e.peer
+  pub decoding : f.decoding ≡ e.decoding
+  pub decoder_unread : f.decoder_unread ≡ e.decoder_unread
+  pub waits_for : (id : ℕ) → bytes_waiting f id ≡ bytes_waiting e id
+  pub has : (id : ℕ) → has_outgoing f id ≡ has_outgoing e id
 
 unlimited_same : (e : EndpointHistory) → SameStreams e (limited_end (2 ^ 62 - 1) e)
 unlimited_same e = record { side = refl; kept = refl; unidirectional = refl; peer = refl; decoding = refl; decoder_unread = refl; waits_for = λ id. refl; has = λ id. refl }
@@ -113,7 +113,7 @@ module _ (streams : StreamLaws) (setup X : Setup) (made : IsMadeSetup setup) (st
   request_id id off has =
       (open_there w (other s) id (behind_own (is_own (other s) id) (is_open w (other s) id) off (sym (has_outgoing_is X w (other s) id fw hw) ∙ writes.has id ∙ has))).request
 
-  carries : Carries a (limit_at setup s) (other s) own er ew
+  pub carries : Carries a (limit_at setup s) (other s) own er ew
   carries = record {
     side_is = sym reads.side ∙ hr.side_is ∙ sym (other-other s);
     nothing_kept = sym reads.kept ∙ hr.nothing_kept;
@@ -123,7 +123,7 @@ module _ (streams : StreamLaws) (setup X : Setup) (made : IsMadeSetup setup) (st
     decoder_is = subst (λ l. IsPeerStream own.decoder_taken Decoder (stream_at l (decoder_id (other s)))) reads.unidirectional hr.decoder_stream.stream_is;
     unread = sym (ap (λ (p : Peer). p.unread) reads.peer) ∙ hr.control.unread ∙ ap unread_by same;
     control_waits = sym (writes.waits_for (control_id (other s))) ∙ waiting_own X w (other s) (control_id (other s)) fw hw (own_outgoing X w (other s) (control_id (other s)) fw hw (own_control (other s)))
-        ∙ left_control (other s) own (announced_at X (other s)) ∙ ap (λ pairs. drop own.control_taken (control_encoding pairs ++ flat_map goaway_encoding own.goaways)) same;
+        ∙ left_control (other s) own (announced_at X (other s)) writable.updates ∙ ap (λ pairs. drop own.control_taken (control_encoding pairs ++ flat_map goaway_encoding own.goaways)) same;
     encoder_waits = sym (writes.waits_for (encoder_id (other s))) ∙ waiting_own X w (other s) (encoder_id (other s)) fw hw (own_outgoing X w (other s) (encoder_id (other s)) fw hw (own_encoder (other s)))
         ∙ left_encoder (other s) own (announced_at X (other s));
     decoder_waits = sym (writes.waits_for (decoder_id (other s))) ∙ waiting_own X w (other s) (decoder_id (other s)) fw hw (own_outgoing X w (other s) (decoder_id (other s)) fw hw (own_decoder (other s)))

@@ -10,7 +10,7 @@ use Rattle.h3_proto.specs.declared.stream.Side.{Side}
 use Rattle.h3_proto.specs.declared.stream.Side.TheVariants.{Client, Server}
 use Rattle.h3_qpack.specs.DecodedSection.{BadSection, DecodedSection, Fields, Missing, decode_section}
 use Rattle.h3_qpack.specs.DecoderState.{DecoderState}
-use Rattle.h3_wire.specs.ExcessiveFrames.{is_excessive}
+use Rattle.h3_wire.specs.ExcessiveFrames.{is_excessive_by}
 use Rattle.h3_wire.specs.Frames.{Front, Refused, Unfinished, Unknown, Whole, frame_by}
 use Rattle.h3_wire.specs.declared.proto.frame.Frame.{Frame}
 use Rattle.h3_wire.specs.declared.proto.frame.Frame.TheVariants as frame
@@ -56,17 +56,17 @@ violation_same most side own InSession fields = refl
 
 -- The receiver finds no frame too long, where it looks for one.
 abbrev pub LooksWithin : ℕ → Incoming → Type 0
-LooksWithin most i = i.fault ≡ None → i.is_over ≡ false → i.section ≡ None → nat_lt 0 i.body_left ≡ false → (kinds : FrameKinds) → is_excessive most (skipped kinds (is_body i.place) (concat i.unread)) ≡ false
+LooksWithin most i = i.fault ≡ None → i.is_over ≡ false → i.section ≡ None → nat_lt 0 i.body_left ≡ false → (kinds : FrameKinds) → is_excessive_by kinds most (skipped kinds (is_body i.place) (concat i.unread)) ≡ false
 
 -- With either limit it finds one too long or not.
 abbrev pub LooksAlike : FrameKinds → (most other : ℕ) → Incoming → Type 0
 LooksAlike kinds most other i =
     i.fault ≡ None → i.is_over ≡ false → i.section ≡ None → nat_lt 0 i.body_left ≡ false
-    → is_excessive most (skipped kinds (is_body i.place) (concat i.unread)) ≡ is_excessive other (skipped kinds (is_body i.place) (concat i.unread))
+    → is_excessive_by kinds most (skipped kinds (is_body i.place) (concat i.unread)) ≡ is_excessive_by kinds other (skipped kinds (is_body i.place) (concat i.unread))
 
 module _ (most : ℕ) (side : Side) (own : Announced) (id : ℕ) (r : DecoderState) where
   abbrev IsAlike : Incoming → Type 0
-  IsAlike i = is_excessive most (skipped (kinds_of own) (is_body i.place) (concat i.unread)) ≡ is_excessive own.choices.unfinished_limit (skipped (kinds_of own) (is_body i.place) (concat i.unread))
+  IsAlike i = is_excessive_by (kinds_of own) most (skipped (kinds_of own) (is_body i.place) (concat i.unread)) ≡ is_excessive_by (kinds_of own) own.choices.unfinished_limit (skipped (kinds_of own) (is_body i.place) (concat i.unread))
 
   abbrev any : Announced
   any = limited most own
@@ -118,7 +118,7 @@ module _ (most : ℕ) (side : Side) (own : Announced) (id : ℕ) (r : DecoderSta
   frames_same i alike =
       let bytes = skipped (kinds_of own) (is_body i.place) (concat i.unread) in
       ap (λ b. if b then excess id i bytes else next_frame side any id r (left_with i bytes) bytes) alike
-      ∙ either (is_excessive own.choices.unfinished_limit bytes) _ _ _ _ refl (next_same (left_with i bytes) bytes)
+      ∙ either (is_excessive_by (kinds_of own) own.choices.unfinished_limit bytes) _ _ _ _ refl (next_same (left_with i bytes) bytes)
 
   message_same : (i : Incoming) (o : Option (List ℕ)) → i.section ≡ o → (o ≡ None → nat_lt 0 i.body_left ≡ false → IsAlike i)
       → in_message side any id r i o ≡ in_message side own id r i o

@@ -36,11 +36,11 @@ use Rattle.h3_strict.proofs.PlainReading.{IsLong, PeerPlainly, ReadsSame, alone,
 abbrev choosing : (Announced → Announced) → EndpointHistory → EndpointHistory
 choosing f e = record e { announced = f e.announced }
 
-abbrev endless : EndpointHistory → EndpointHistory
+abbrev pub endless : EndpointHistory → EndpointHistory
 endless e = limited_end no_limit e
 
 -- the same fault, at the endpoint without a limit
-abbrev endless_found : Found → Found
+abbrev pub endless_found : Found → Found
 endless_found x = (endless x.0, x.1)
 
 -- The endpoint that asks for no strict connection: it tells what is too long by one code alone.
@@ -244,7 +244,7 @@ module _ (e : EndpointHistory) (id : ℕ) where
   refused_same : delivery_refusal (endless e) id ≡ delivery_refusal e id
   refused_same = refused_at (kind_of e.side id)
 
-arrival_within : (e : EndpointHistory) (a : Arrival) → ReadsWithin e.announced (read_arrival e a) (read_arrival (endless e) a) (told_arrival e a)
+pub arrival_within : (e : EndpointHistory) (a : Arrival) → ReadsWithin e.announced (read_arrival e a) (read_arrival (endless e) a) (told_arrival e a)
 arrival_within e (BytesCame id bytes) = bytes_within e id bytes (kind_of e.side id)
 arrival_within e (EndCame id) = ReadsAlike (end_same e id (kind_of e.side id))
 arrival_within e (ResetCame id code) = ReadsAlike (reset_same e id code (kind_of e.side id))

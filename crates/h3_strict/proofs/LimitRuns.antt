@@ -4,8 +4,8 @@ use Rattle.std.specs.Prelude.{unwrap_or}
 use Rattle.std.specs.List.{concat}
 use Rattle.h3_proto.specs.declared.stream.Side.{Side}
 use Rattle.h3_proto.specs.declared.stream.Side.TheVariants.{Client, Server}
-use Rattle.h3_wire.specs.ExcessiveFrames.{is_excessive}
-use Rattle.h3_wire.specs.ExcessiveLaws.{none_excessive}
+use Rattle.h3_wire.specs.ExcessiveFrames.{is_excessive_by}
+use Rattle.h3_wire.specs.ExcessiveLaws.{none_excessive_by}
 use Rattle.h3_connection.specs.Endpoint.{EndpointHistory}
 use Rattle.h3_connection.specs.Incoming.{Incoming, is_body, nothing_came}
 use Rattle.h3_connection.specs.OwnIds.{other}
@@ -83,7 +83,7 @@ module _ (setup : Setup) where
   looks_alike : (kinds : FrameKinds) (most other : ℕ) (i : Incoming) → other ≡ most → LooksWithin most i → LooksAlike kinds (2 ^ 62 - 1) other i
   looks_alike kinds most other i same within alive over none whole =
       let bytes = skipped kinds (is_body i.place) (concat i.unread) in
-      none_excessive (2 ^ 62 - 1) bytes refl ∙ sym (ap (λ n. is_excessive n bytes) same ∙ within alive over none whole kinds)
+      none_excessive_by kinds (2 ^ 62 - 1) bytes refl ∙ sym (ap (λ n. is_excessive_by kinds n bytes) same ∙ within alive over none whole kinds)
 
   pulls_alike : (ends : Ends) (side : Side) (id : ℕ) → AnnounceAs setup ends → EndsWithin setup (unlimited_ends ends) → PullsAlike (2 ^ 62 - 1) (end_at ends side) id
   pulls_alike ends Client id own within = record { nothing_kept = (within Client).nothing_kept; looks = λ i is. looks_alike (kinds_of (end_at ends Client).announced) (limit_at setup Client) (limits_of ends Client) i (ap (λ (a : Announced). a.choices.unfinished_limit) (own Client)) ((within Client).looks id i is) }

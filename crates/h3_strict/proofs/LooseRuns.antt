@@ -22,7 +22,6 @@ use Rattle.h3_connection.specs.declared.event.StreamFault.{StreamFault}
 use Rattle.h3_connection.specs.declared.setup.Announced.{Announced}
 use Rattle.h3_world.specs.EndLists.{fields_refusal, send_fields, send_trailer_fields, trailer_fields_refusal}
 use Rattle.h3_world.specs.Ends.{Ends, answered, done, end_at, new_ends, with_end}
-use Rattle.h3_world.specs.Refusals.{next_id}
 use Rattle.h3_world.specs.Setup.{IsMadeSetup, announced_at}
 use Rattle.h3_world.specs.World.{World}
 use Rattle.h3_world.specs.declared.event.Answer.{Answer}
@@ -32,44 +31,44 @@ use Rattle.h3_world.specs.declared.event.Event.TheVariants as event
 use Rattle.h3_world.specs.declared.setup.Setup.{Setup}
 use Rattle.h3_headline.specs.Cited.{Laws}
 use Rattle.h3_headline.specs.Contents.{KeepsParts}
-use Rattle.h3_headline.specs.Standing.{Stands}
 use Rattle.h3_strict.proofs.KeepsCounts.{KeepsAt, KeepsBut}
 use Rattle.h3_strict.proofs.PlainSetups.{setup_plainly}
 use Rattle.h3_strict.proofs.PullEvents.{given_up_again}
 use Rattle.h3_strict.proofs.PulledTallies.{answer_streams, pulled_in}
 use Rattle.h3_strict.proofs.PullsAnyhow.{listed_is, pulled_is}
-use Rattle.h3_strict.proofs.SentTallies.{side_of}
 use Rattle.h3_strict.proofs.StepsAnyhow.{EveryStep}
+use Rattle.h3_strict.proofs.TunnelBeside.{anyhow_stands, none_kept, stands_itself}
 use Rattle.h3_strict.proofs.TunnelFaultless.{PullsSafely, event_faultless, malformed_stays}
-use Rattle.h3_strict.proofs.TunnelParts.{marked}
 use Rattle.h3_strict.proofs.TunnelPull.{pulls_so, safe_where}
 use Rattle.h3_strict.proofs.TunnelPulls.{leaves_loose, pull_stays}
 use Rattle.h3_strict.proofs.TunnelQuiet.{cancel_event, deliver_event, end_event, goaway_event, lost_event, open_event, reset_event}
+use Rattle.h3_strict.proofs.TunnelSees.{Sees, sees_behind}
 use Rattle.h3_strict.proofs.TunnelSends.{kept_at}
 use Rattle.h3_strict.proofs.UnkeptRuns.{Holds}
 use Rattle.h3_strict.proofs.TunnelStreams.{no_trailer_marked}
-use Rattle.h3_strict.specs.GivesUp.{AsPlainly, GivesUpSo, HappensAnyhow, RefusesSo}
-use Rattle.h3_strict.specs.PlainEnds.{is_malformed_refusal, plain_ends, plain_setup}
+use Rattle.h3_strict.specs.WorldSteps.{KeepsNone, WorldStep}
+use Rattle.h3_strict.specs.Tunnels.{AreBare, marked}
 
 -- A receiver that counts no tunnel, unless it was given up.
-abbrev IsBare : Side → Incoming → Type 0
+abbrev pub IsBare : Side → Incoming → Type 0
 IsBare side i = i.fault ≡ None → marked side i.content ≡ true → ⊥
-
--- Both ends receive so.
-pub record AreBare (setup : Setup) (ends : Ends) : Type 0 where
-  pub bare : (side : Side) (id : ℕ) → (incoming_at (end_at ends side) id).fault ≡ None → marked side (incoming_at (end_at ends side) id).content ≡ true → ⊥
-  pub announced : (side : Side) → (end_at ends side).announced ≡ announced_at setup side
 
 bare_keeps : (side : Side) (i j : Incoming) → KeepsAt i j → IsBare side i → IsBare side j
 bare_keeps side i j (inl k) h = λ alive mark. h (sym k.fault ∙ alive) (ap (marked side) (sym k.content) ∙ mark)
 bare_keeps side i j (inr k) h = λ alive mark. k.lost alive
+
+pub quiet_bare : (setup : Setup) (ends next : Ends) (only : Side → ℕ → Bool) → ((side : Side) → KeepsBut (only side) (end_at ends side) (end_at next side)) → AreBare setup ends → AreBare setup next
+quiet_bare setup ends next only keeps t = record {
+  bare = λ side id. bare_keeps side (incoming_at (end_at ends side) id) (incoming_at (end_at next side) id) (kept_at (only side) (end_at ends side) (end_at next side) id (keeps side)) (t.bare side id);
+  announced = λ side. (keeps side).announced ∙ t.announced side;
+}
 
 -- An end that receives the same.
 record ReceivesSame (e f : EndpointHistory) : Type 0 where
   incoming : f.incoming ≡ e.incoming
   announced : f.announced ≡ e.announced
 
-end_bare : (setup : Setup) (ends : Ends) (s : Side) (f : EndpointHistory) → ((id : ℕ) → IsBare s (incoming_at f id)) → f.announced ≡ (end_at ends s).announced → AreBare setup ends → AreBare setup (with_end ends s f)
+pub end_bare : (setup : Setup) (ends : Ends) (s : Side) (f : EndpointHistory) → ((id : ℕ) → IsBare s (incoming_at f id)) → f.announced ≡ (end_at ends s).announced → AreBare setup ends → AreBare setup (with_end ends s f)
 end_bare setup ends Client f bare same h = record { bare = bares; announced = told }
   where
     bares : (side : Side) (id : ℕ) → (incoming_at (end_at (with_end ends Client f) side) id).fault ≡ None → marked side (incoming_at (end_at (with_end ends Client f) side) id).content ≡ true → ⊥
@@ -105,19 +104,16 @@ bytes_same : (e : EndpointHistory) (id : ℕ) (bytes : List ℕ) → ReceivesSam
 bytes_same e id [] = record { incoming = refl; announced = refl }
 bytes_same e id (b ∷ bytes) = record { incoming = refl; announced = refl }
 
-module _ (laws : Laws) (setup : Setup) (made : IsMadeSetup setup) (loose : (side : Side) → (announced_at setup side).choices.strict_messages ≡ false) (w : World) (ends : Ends) (h : Stands (plain_setup setup) w (plain_ends ends)) (t : AreBare setup ends) where
+module _ (setup : Setup) (loose : (side : Side) → (announced_at setup side).choices.strict_messages ≡ false) (w : World) (ends : Ends) (sees : Sees setup w ends) (t : AreBare setup ends) where
   loose_end : (s : Side) → (end_at ends s).announced.choices.strict_messages ≡ false
   loose_end s = ap (λ (a : Announced). a.choices.strict_messages) (t.announced s) ∙ loose s
 
   quiet : (v : World) (next : Ends) (only : Side → ℕ → Bool) → KeepsParts w v → ((side : Side) → KeepsBut (only side) (end_at ends side) (end_at next side)) → AreBare setup next
-  quiet v next only parts keeps = record {
-    bare = λ side id. bare_keeps side (incoming_at (end_at ends side) id) (incoming_at (end_at next side) id) (kept_at (only side) (end_at ends side) (end_at next side) id (keeps side)) (t.bare side id);
-    announced = λ side. (keeps side).announced ∙ t.announced side;
-  }
+  quiet v next only parts keeps = quiet_bare setup ends next only keeps t
 
-  safely : PullsSafely ends
+  pub safely : PullsSafely ends
   safely side id i here =
-      safe_where laws setup (setup_plainly setup made) w ends h t.announced side id i here
+      safe_where setup w ends sees t.announced side id i here
       (λ alive takes at trailer. t.bare side id (ap (λ o. (unwrap_or o nothing_came).fault) here ∙ alive) (ap (λ o. marked side (unwrap_or o nothing_came).content) here ∙ no_trailer_marked side i.content takes))
 
   -- a head that is sent
@@ -125,9 +121,9 @@ module _ (laws : Laws) (setup : Setup) (made : IsMadeSetup setup) (loose : (side
   told_same s id fields = ap (λ b. if b then telling_at (end_at ends s).side (end_at ends s).incoming id fields (stream_at (end_at ends s).incoming id) else (end_at ends s).incoming) (loose_end s)
 
   -- what a pull leaves
-  module _ (side : Side) (id : ℕ) where
+  module _ (side : Side) (id : ℕ) (kept : (end_at ends side).kept ≡ []) where
     pull_bare : AreBare setup (with_end ends side (pulls (end_at ends side) id).1)
-    pull_bare = subst (λ (z : Pull × EndpointHistory). AreBare setup (with_end ends side z.1)) (sym (pulls_so laws setup (setup_plainly setup made) w ends h t.announced side id)) (by_kind (kind_of (end_at ends side).side id))
+    pull_bare = subst (λ (z : Pull × EndpointHistory). AreBare setup (with_end ends side z.1)) (sym (pulls_so setup w ends sees t.announced side id kept)) (by_kind (kind_of (end_at ends side).side id))
       where
         unchanged : AreBare setup (with_end ends side (end_at ends side))
         unchanged = same_bare setup ends side (end_at ends side) (record { incoming = refl; announced = refl }) t
@@ -154,17 +150,17 @@ module _ (laws : Laws) (setup : Setup) (made : IsMadeSetup setup) (loose : (side
             left : (b : Bool) → IsBare side (if_too_many b x).incoming
             left b = by_test b
               where
-                kept : x.incoming.fault ≡ None → marked side x.incoming.content ≡ true → ⊥
-                kept alive mark =
+                not_marked : x.incoming.fault ≡ None → marked side x.incoming.content ≡ true → ⊥
+                not_marked alive mark =
                     t.bare side id (ap (λ o. (unwrap_or o nothing_came).fault) here ∙ alive_before i.fault refl alive)
                     (ap (λ o. marked side (unwrap_or o nothing_came).content) here
-                    ∙ subst (λ s. marked s i.content ≡ true) (side_of setup w ends side h)
+                    ∙ subst (λ s. marked s i.content ≡ true) (sees.side_is side)
                     ((pull_stays (end_at ends side).side (end_at ends side).announced id (end_at ends side).decoding.decoder i (leaves_loose (end_at ends side).side (end_at ends side).announced i.place (loose_end side))).content alive
-                    (subst (λ s. marked s x.incoming.content ≡ true) (sym (side_of setup w ends side h)) mark)))
+                    (subst (λ s. marked s x.incoming.content ≡ true) (sym (sees.side_is side)) mark)))
 
                 by_test : (b : Bool) → IsBare side (if_too_many b x).incoming
-                by_test true = λ alive mark. kept alive mark
-                by_test false = λ alive mark. kept alive mark
+                by_test true = λ alive mark. not_marked alive mark
+                by_test false = λ alive mark. not_marked alive mark
 
             by_many : (b : Bool) → AreBare setup (with_end ends side (pulled (end_at ends side) id (if_too_many b x)).1)
             by_many b =
@@ -178,41 +174,37 @@ module _ (laws : Laws) (setup : Setup) (made : IsMadeSetup setup) (loose : (side
         by_kind OwnUnidirectional = unchanged
         by_kind PeerUnidirectional = by_peer (stream_at (end_at ends side).unidirectional id)
 
-  pulled_bare : (side : Side) (id : ℕ) → AreBare setup (answered ends (event.Pull side id)).1
-  pulled_bare side id = subst (λ x. AreBare setup x.1) (sym (pulled_is ends side (pulls (end_at ends side) id))) (pull_bare side id)
+  pulled_bare : (side : Side) (id : ℕ) → (end_at ends side).kept ≡ [] → AreBare setup (answered ends (event.Pull side id)).1
+  pulled_bare side id kept = subst (λ x. AreBare setup x.1) (sym (pulled_is ends side (pulls (end_at ends side) id))) (pull_bare side id kept)
 
-  listed_bare : (side : Side) (id : ℕ) → AreBare setup (answered ends (event.PullFields side id)).1
-  listed_bare side id = subst (λ x. AreBare setup x.1) (sym (listed_is ends side id (pulls (end_at ends side) id))) (pull_bare side id)
+  listed_bare : (side : Side) (id : ℕ) → (end_at ends side).kept ≡ [] → AreBare setup (answered ends (event.PullFields side id)).1
+  listed_bare side id kept = subst (λ x. AreBare setup x.1) (sym (listed_is ends side id (pulls (end_at ends side) id))) (pull_bare side id kept)
 
   -- **What an event leaves.**
-  event_bare : (e : Event) (v : World) → HappensAnyhow setup w e (answered ends e).0 v → (is_malformed_refusal (answered ends e).0 ≡ true → (answered ends e).1 ≡ ends) → AreBare setup (answered ends e).1
-  event_bare e v (RefusesSo malformed same) stays = subst (AreBare setup) (sym (stays malformed)) t
-  event_bare (event.Pull side id) v (GivesUpSo gives) stays = pulled_bare side id
-  event_bare (event.PullFields side id) v (GivesUpSo gives) stays = listed_bare side id
-  event_bare e v (GivesUpSo gives) stays = absurd gives
-  event_bare (event.OpenRequest s) v (AsPlainly step) stays = open_event setup w ends h (λ u n. AreBare setup n) quiet s v (answered ends (event.OpenRequest s)).0 (answered ends (event.OpenRequest s)).1 refl (answer.Opened (next_id w)) step.step
-  event_bare (event.Head s i head) v (AsPlainly step) stays =
+  pub event_bare : (e : Event) (v : World) → WorldStep setup w e (answered ends e).0 v → KeepsNone ends e → AreBare setup (answered ends e).1
+  event_bare (event.OpenRequest s) v step kept = open_event setup w ends (λ u n. AreBare setup n) quiet sees s v (answered ends (event.OpenRequest s)).0 (answered ends (event.OpenRequest s)).1 refl step
+  event_bare (event.Head s i head) v step kept =
       done_bare setup ends s answer.Done (sender.send_head (end_at ends s) i head) (does_same (sender.head_refusal (end_at ends s) i head) (end_at ends s) _ (record { incoming = told_same s i (head_fields head); announced = refl })) t
-  event_bare (event.Fields s i fields) v (AsPlainly step) stays =
+  event_bare (event.Fields s i fields) v step kept =
       done_bare setup ends s answer.Done (send_fields (end_at ends s) i fields) (does_same (fields_refusal (end_at ends s) i fields) (end_at ends s) _ (record { incoming = told_same s i fields; announced = refl })) t
-  event_bare (event.Body s i bytes) v (AsPlainly step) stays =
+  event_bare (event.Body s i bytes) v step kept =
       let k = bytes_same (end_at ends s) i bytes in
       done_bare setup ends s answer.Done (sender.send_body (end_at ends s) i bytes) (does_same (sender.body_refusal (end_at ends s) i (length bytes)) (end_at ends s) _ (record { incoming = k.incoming; announced = k.announced })) t
-  event_bare (event.Trailer s i trailer) v (AsPlainly step) stays =
+  event_bare (event.Trailer s i trailer) v step kept =
       done_bare setup ends s answer.Done (sender.send_trailer (end_at ends s) i trailer) (does_same (sender.trailer_refusal (end_at ends s) i trailer) (end_at ends s) _ (record { incoming = refl; announced = refl })) t
-  event_bare (event.TrailerFields s i fields) v (AsPlainly step) stays =
+  event_bare (event.TrailerFields s i fields) v step kept =
       done_bare setup ends s answer.Done (send_trailer_fields (end_at ends s) i fields) (does_same (trailer_fields_refusal (end_at ends s) i fields) (end_at ends s) _ (record { incoming = refl; announced = refl })) t
-  event_bare (event.Finish s i) v (AsPlainly step) stays =
+  event_bare (event.Finish s i) v step kept =
       done_bare setup ends s answer.Done (sender.finish (end_at ends s) i) (does_same (sender.finish_refusal (end_at ends s) i) (end_at ends s) _ (record { incoming = refl; announced = refl })) t
-  event_bare (event.Reset s i) v (AsPlainly step) stays = reset_event setup w ends h (λ u n. AreBare setup n) quiet s i v (answered ends (event.Reset s i)).0 (answered ends (event.Reset s i)).1 refl step.step
-  event_bare (event.Cancel s i) v (AsPlainly step) stays = cancel_event setup w ends h (λ u n. AreBare setup n) quiet s i v (answered ends (event.Cancel s i)).0 (answered ends (event.Cancel s i)).1 refl step.step
-  event_bare (event.Goaway s i) v (AsPlainly step) stays = goaway_event setup w ends h (λ u n. AreBare setup n) quiet s i v (answered ends (event.Goaway s i)).0 (answered ends (event.Goaway s i)).1 refl step.step
-  event_bare (event.Deliver s i count) v (AsPlainly step) stays = deliver_event setup w ends h (λ u n. AreBare setup n) quiet s i count v (answered ends (event.Deliver s i count)).0 (answered ends (event.Deliver s i count)).1 refl step.step
-  event_bare (event.DeliverEnd s i) v (AsPlainly step) stays = end_event setup w ends h (λ u n. AreBare setup n) quiet s i v (answered ends (event.DeliverEnd s i)).0 (answered ends (event.DeliverEnd s i)).1 refl step.step
-  event_bare (event.DeliverReset s i) v (AsPlainly step) stays = lost_event setup w ends h (λ u n. AreBare setup n) quiet s i v (answered ends (event.DeliverReset s i)).0 (answered ends (event.DeliverReset s i)).1 refl step.step
-  event_bare (event.Pull side id) v (AsPlainly step) stays = pulled_bare side id
-  event_bare (event.PullFields side id) v (AsPlainly step) stays = listed_bare side id
-  event_bare (event.Show s) v (AsPlainly step) stays = t
+  event_bare (event.Reset s i) v step kept = reset_event setup w ends (λ u n. AreBare setup n) quiet s i v (answered ends (event.Reset s i)).0 (answered ends (event.Reset s i)).1 refl step
+  event_bare (event.Cancel s i) v step kept = cancel_event setup w ends (λ u n. AreBare setup n) quiet s i v (answered ends (event.Cancel s i)).0 (answered ends (event.Cancel s i)).1 refl step
+  event_bare (event.Goaway s i) v step kept = goaway_event setup w ends (λ u n. AreBare setup n) quiet s i v (answered ends (event.Goaway s i)).0 (answered ends (event.Goaway s i)).1 refl step
+  event_bare (event.Deliver s i count) v step kept = deliver_event setup w ends (λ u n. AreBare setup n) quiet s i count v (answered ends (event.Deliver s i count)).0 (answered ends (event.Deliver s i count)).1 refl step
+  event_bare (event.DeliverEnd s i) v step kept = end_event setup w ends (λ u n. AreBare setup n) quiet s i v (answered ends (event.DeliverEnd s i)).0 (answered ends (event.DeliverEnd s i)).1 refl step
+  event_bare (event.DeliverReset s i) v step kept = lost_event setup w ends (λ u n. AreBare setup n) quiet s i v (answered ends (event.DeliverReset s i)).0 (answered ends (event.DeliverReset s i)).1 refl step
+  event_bare (event.Pull side id) v step kept = pulled_bare side id kept
+  event_bare (event.PullFields side id) v step kept = listed_bare side id kept
+  event_bare (event.Show s) v step kept = t
 
 pub new_bare : (setup : Setup) → AreBare setup (new_ends setup)
 new_bare setup = record { bare = bare; announced = announced }
@@ -228,7 +220,11 @@ new_bare setup = record { bare = bare; announced = announced }
 -- **Two ends that ask for no strict messages.**
 pub loose_holds : (laws : Laws) (steps : EveryStep) (setup : Setup) → IsMadeSetup setup → ((side : Side) → (announced_at setup side).choices.strict_messages ≡ false) → Holds setup (λ w ends. AreBare setup ends)
 loose_holds laws steps setup made loose = record {
-  faultless = λ w ends h t e sendable few. event_faultless laws steps setup made w ends h t.announced (safely laws setup made loose w ends h t) e sendable few;
-  leaves = λ w v ends h t e happens faultless g. event_bare laws setup made loose w ends h t e v happens (malformed_stays ends e);
+  faultless = λ w ends h t e sendable few.
+      let sees = sees_behind laws setup (setup_plainly setup made) w ends (stands_itself setup w ends h) in
+      event_faultless laws steps setup made w ends h sees t.announced (λ side. safely setup loose w ends sees t side) e sendable few;
+  leaves = λ w v ends h t e happens faultless g.
+      anyhow_stands setup (λ u n. AreBare setup n) w v ends e happens (malformed_stays ends e) t
+      (λ step. event_bare setup loose w ends (sees_behind laws setup (setup_plainly setup made) w ends (stands_itself setup w ends h)) t e v step (none_kept setup w ends h e));
   inserts = λ w ends side id fields t. same_bare setup ends side (section.with_insertions (end_at ends side) id fields) (record { incoming = refl; announced = refl }) t;
 }

@@ -11,8 +11,8 @@ use Rattle.h3_header.specs.HeadRead.{HeadRead, IsHead, IsNone, head_by}
 use Rattle.h3_messages.specs.Content.{is_exceeded, may_end, takes_trailer}
 use Rattle.h3_proto.specs.declared.stream.Side.{Side}
 use Rattle.h3_proto.specs.declared.stream.Side.TheVariants.{Client, Server}
-use Rattle.h3_wire.specs.ExcessiveFrames.{begins_section, is_excessive}
-use Rattle.h3_wire.specs.ExcessiveLaws.{none_excessive}
+use Rattle.h3_wire.specs.ExcessiveFrames.{begins_section, is_excessive_by}
+use Rattle.h3_wire.specs.ExcessiveLaws.{none_excessive_by}
 use Rattle.h3_wire.specs.Frames.{Front, Whole, Unknown, Refused, Unfinished, frame_by}
 use Rattle.h3_wire.specs.Pieces.{chunk_of, first_of}
 use Rattle.h3_wire.specs.declared.proto.frame.PayloadLen.{PayloadLen}
@@ -163,8 +163,8 @@ module _ (side : Side) (own : Announced) (id : ℕ) (r : DecoderState) where
   message_plain n i None few =
       let bytes = skipped (kinds_of own) (is_body i.place) (concat i.unread) in
       either n (nat_lt 0 i.body_left) _ _ _ _ (payload_plain n id i)
-      (subst (λ b. PullsPlainly n (between_frames side own id r i) (if b then excess id (plain_incoming i) bytes else next_frame side (plain own) id r (plain_incoming (left_with i bytes)) bytes)) (sym (none_excessive (2 ^ 62 - 1) bytes refl))
-      (unless n (is_excessive own.choices.unfinished_limit bytes) (excess id i bytes) _ _ (excess_told i bytes) (excess_waits n i bytes few) (next_plain n (left_with i bytes) bytes few)))
+      (subst (λ b. PullsPlainly n (between_frames side own id r i) (if b then excess id (plain_incoming i) bytes else next_frame side (plain own) id r (plain_incoming (left_with i bytes)) bytes)) (sym (none_excessive_by (kinds_of own) (2 ^ 62 - 1) bytes refl))
+      (unless n (is_excessive_by (kinds_of own) own.choices.unfinished_limit bytes) (excess id i bytes) _ _ (excess_told i bytes) (excess_waits n i bytes few) (next_plain n (left_with i bytes) bytes few)))
 
   item_plain : (n : ℕ) (i : Incoming) (place : Place) → i.waits_for ≤ n → PullsPlainly n (next_item side own id r i place) (next_item side (plain own) id r (plain_incoming i) place)
   item_plain n i BeforeHead few = message_plain n i i.section few

@@ -1,13 +1,12 @@
 -- What comes, beside the same without strict messages.
 use Rattle.std.proofs.Common.{◌≡◌, ℕ, zero, suc, length, Bool, true, false, if◌then◌else◌, List, [], ◌∷◌, ◌++◌, refl, ap, sym, ◌∙◌, subst, Option, Some, None}
 use Rattle.std.specs.Prelude.{is_some, option_map}
-use Rattle.std.proofs.lemmas.Bool.{and_parts}
-use Rattle.h3_coding.specs.Varint.{varint_at}
 use Rattle.h3_proto.specs.Config.{is_limit}
 use Rattle.h3_proto.specs.declared.stream.Side.{Side}
 use Rattle.h3_proto.specs.declared.stream.Side.TheVariants.{Client, Server}
 use Rattle.h3_qpack.specs.Hearing.{Heard, Listened}
-use Rattle.h3_wire.specs.ExcessiveFrames.{is_excessive, says_too_much}
+use Rattle.h3_wire.specs.ExcessiveFrames.{is_excessive_by}
+use Rattle.h3_wire.specs.ExcessiveLaws.{excessive_limited}
 use Rattle.h3_wire.specs.Frames.{Front, Whole, Unknown, Refused, Unfinished, frame_by}
 use Rattle.h3_wire.specs.Known.{known_by}
 use Rattle.h3_connection.specs.Arrivals.{stream_of, is_closed_in}
@@ -33,6 +32,7 @@ use Rattle.h3_connection.specs.declared.event.Refusal.{Refusal}
 use Rattle.h3_connection.specs.declared.event.Refusal.TheVariants as refusal
 use Rattle.h3_connection.specs.declared.event.StreamFault.TheVariants as stream_fault
 use Rattle.h3_connection.specs.declared.setup.Announced.{Announced}
+use Rattle.h3_headline.specs.ControlStreamLaws.{unlimited}
 use Rattle.h3_headline.specs.PeerStreams.{no_limit}
 use Rattle.h3_strict.specs.Plainly.{is_excess, plain_incoming, plainly}
 use Rattle.h3_strict.proofs.InstructionReading.{HearsAlike, HearsLong, HearsSame, ListensAlike, ListensLong, ListensSame, hears_alike, listens_alike}
@@ -168,16 +168,17 @@ front_plain limit go both side p bytes (Unknown kind rest) h = ReadsSame refl
 front_plain limit go both side p bytes (Refused e) h = ReadsSame refl
 front_plain limit go both side p bytes (Unfinished least) h = ReadsSame refl
 
-long_or : (limit : ℕ) (large : Bool) (bytes : List ℕ) (p : Peer) (x y : PeerFound) → is_excessive limit bytes ≡ large → ((pairs : List (ℕ × ℕ)) → p.settings ≡ Some pairs → y.0.settings ≡ Some pairs)
+long_or : (kinds : FrameKinds) (limit : ℕ) (large : Bool) (bytes : List ℕ) (p : Peer) (x y : PeerFound) → is_excessive_by kinds limit bytes ≡ large → ((pairs : List (ℕ × ℕ)) → p.settings ≡ Some pairs → y.0.settings ≡ Some pairs)
     → PeerPlainly limit x y → PeerPlainly limit (if large then (with_unread p [], Some excessive_load) else x) y
-long_or limit true bytes p x y e keeps h = IsLong (and_parts (is_limit limit) (says_too_much limit (varint_at bytes)) e).0 refl keeps
-long_or limit false bytes p x y e keeps h = h
+long_or kinds limit true bytes p x y e keeps h = IsLong (excessive_limited kinds limit bytes e) refl keeps
+long_or kinds limit false bytes p x y e keeps h = h
 
 within_plain : (kinds : FrameKinds) (most limit : ℕ) (side : Side) (p : Peer) → PeerPlainly limit (read_within kinds most limit side p) (read_within kinds most no_limit side p)
 within_plain kinds zero limit side p = ReadsSame refl
 within_plain kinds (suc most) limit side p =
-    long_or limit (is_excessive limit (known_by kinds p.unread)) (known_by kinds p.unread) p _ _ refl (λ pairs is. stay_within kinds (suc most) no_limit side p pairs is)
-    (front_plain limit (read_within kinds most limit side) (read_within kinds most no_limit side) side p (known_by kinds p.unread) (frame_by kinds (known_by kinds p.unread)) (λ q. within_plain kinds most limit side q))
+    subst (PeerPlainly limit (read_within kinds (suc most) limit side p)) (sym (unlimited kinds most side p))
+    (long_or kinds limit (is_excessive_by kinds limit (known_by kinds p.unread)) (known_by kinds p.unread) p _ _ refl (λ pairs is. ap (λ (x : PeerFound). x.0.settings) (sym (unlimited kinds most side p)) ∙ stay_within kinds (suc most) no_limit side p pairs is)
+    (front_plain limit (read_within kinds most limit side) (read_within kinds most no_limit side) side p (known_by kinds p.unread) (frame_by kinds (known_by kinds p.unread)) (λ q. within_plain kinds most limit side q)))
 
 pub peer_plain : (kinds : FrameKinds) (limit : ℕ) (side : Side) (p : Peer) → PeerPlainly limit (read_peer kinds limit side p) (read_peer kinds no_limit side p)
 unfolding read_peer

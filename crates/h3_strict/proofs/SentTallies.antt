@@ -47,12 +47,12 @@ pub stands_at : (setup : Setup) (w : World) (ends : Ends) (s : Side) → Stands 
 stands_at setup w ends Client h = h.at_client
 stands_at setup w ends Server h = h.at_server
 
-plain_settings : (setup : Setup) (s : Side) → (announced_at (plain_setup setup) s).settings ≡ (announced_at setup s).settings
+pub plain_settings : (setup : Setup) (s : Side) → (announced_at (plain_setup setup) s).settings ≡ (announced_at setup s).settings
 plain_settings setup Client = refl
 plain_settings setup Server = refl
 
 -- what an endpoint knows of extended CONNECT its peer announced
-connects_known : (announced : Announced) (settings : Option (List (ℕ × ℕ))) (there : Bool) → settings ≡ (if there then Some (with_meaning announced.settings) else None) → peer_connects settings ≡ true → connects announced ≡ true
+pub connects_known : (announced : Announced) (settings : Option (List (ℕ × ℕ))) (there : Bool) → settings ≡ (if there then Some (with_meaning announced.settings) else None) → peer_connects settings ≡ true → connects announced ≡ true
 connects_known announced settings true is known =
     ap (λ o. not (unwrap_or o 0 == 0)) (sym (value_with_meaning 8 announced.settings refl)) ∙ sym (ap peer_connects is) ∙ known
 connects_known announced settings false is known = absurd (let never : false ≡ true = sym (ap peer_connects is) ∙ known in cc)

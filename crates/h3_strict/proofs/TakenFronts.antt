@@ -1,6 +1,6 @@
 -- Where its reader takes each section that was sent, what came of a flow begins with no frame that is too long.
 use Rattle.std.proofs.Common.{◌≡◌, ◌⊎◌, inl, inr, ℕ, zero, suc, ◌^◌, ◌<◌, ◌≤◌, lit<, Bool, true, false, List, [], ◌∷◌, ◌++◌, Option, Some, None, refl, sym, ap, ◌∙◌, subst, drop, length, nat_lt, arith, append_assoc}
-use Rattle.std.specs.Prelude.{◌&&◌, unwrap_or}
+use Rattle.std.specs.Prelude.{◌&&◌, ◌||◌, unwrap_or}
 use Rattle.std.specs.List.{AllByRecursion, concat, flat_map}
 use Rattle.std.proofs.lemmas.Bool.{and_right, cases_lt, le-ltb, lt-ltb, ne_eqb}
 use Rattle.h3_coding.specs.Encodings.{encoding}
@@ -9,9 +9,10 @@ use Rattle.h3_coding.specs.VarintLaws.{cases_number, none_at_end, reads_more, re
 use Rattle.h3_proto.specs.Config.{is_limit}
 use Rattle.h3_wire.specs.Encoded.{frame_encoding, head_encoding}
 use Rattle.h3_wire.specs.EncodedLaws.{written_headers}
-use Rattle.h3_wire.specs.ExcessiveFrames.{is_excessive, is_kept_whole, is_too_long, says_too_much}
-use Rattle.h3_wire.specs.ExcessiveLaws.{none_excessive}
-use Rattle.h3_wire.specs.Frames.{frame_by}
+use Rattle.h3_wire.specs.ExcessiveFrames.{is_excessive_by, is_kept_whole}
+use Rattle.h3_wire.specs.ExcessiveLaws.{begun_told, none_excessive_by, none_told, said_of}
+use Rattle.h3_wire.specs.FrameLaws.{no_update}
+use Rattle.h3_wire.specs.Frames.{frame_by, is_update}
 use Rattle.h3_wire.specs.declared.proto.frame.Frame.TheVariants as frame
 use Rattle.h3_connection.specs.Incoming.{Incoming, is_body}
 use Rattle.h3_connection.specs.Skipping.{skipped}
@@ -63,23 +64,27 @@ one_read k kind mid behind e =
     let none : ℕ × List ℕ = (0, []) in
     (ap (λ o. (unwrap_or o none).0) e, ap (λ o. (unwrap_or o none).1) e)
 
-pub head_within : (most kind number : ℕ) (bytes more behind : List ℕ) → kind < 2 ^ 62 → number < 2 ^ 62 → bytes ++ more ≡ head_encoding kind number ++ behind → (is_kept_whole kind && nat_lt most number) ≡ false → is_excessive most bytes ≡ false
-head_within most kind number bytes more behind small few e within = and_right (is_limit most) (says_too_much most (varint_at bytes)) (elim (cases_number bytes) [
-  | inl none ↦ ap (says_too_much most) none
-  | inr (k, mid, at) ↦ ap (says_too_much most) at ∙ by_number k mid at (cases_number mid)
-])
+pub head_within : (kinds : FrameKinds) (most kind number : ℕ) (bytes more behind : List ℕ) → kind < 2 ^ 62 → number < 2 ^ 62 → bytes ++ more ≡ head_encoding kind number ++ behind → ((is_kept_whole kind || is_update kinds kind) && nat_lt most number) ≡ false
+    → is_excessive_by kinds most bytes ≡ false
+head_within kinds most kind number bytes more behind small few e within = elim (cases_number bytes) [
+  | inl none ↦ none_told kinds most bytes none
+  | inr (k, mid, at) ↦ by_number k mid at (cases_number mid)
+]
   where
-    by_number : (k : ℕ) (mid : List ℕ) → varint_at bytes ≡ Some (k, mid) → (varint_at mid ≡ None) ⊎ ((v : ℕ) × (rest : List ℕ) × (varint_at mid ≡ Some (v, rest))) → is_too_long most k (varint_at mid) ≡ false
-    by_number k mid at (inl none) = ap (is_too_long most k) none
+    by_number : (k : ℕ) (mid : List ℕ) → varint_at bytes ≡ Some (k, mid) → (varint_at mid ≡ None) ⊎ ((v : ℕ) × (rest : List ℕ) × (varint_at mid ≡ Some (v, rest))) → is_excessive_by kinds most bytes ≡ false
+    by_number k mid at (inl none) = begun_told kinds most k bytes mid at none
     by_number k mid at (inr (n, rest, there)) =
         let first = one_read k kind (mid ++ more) (encoding number ++ behind)
         (sym (reads_more k bytes mid more at) ∙ ap varint_at (e ∙ append_assoc (encoding kind) (encoding number) behind) ∙ reads_shortest kind (encoding number ++ behind) small) in
         let second = one_read n number (rest ++ more) behind (sym (reads_more n mid rest more there) ∙ ap varint_at first.1 ∙ reads_shortest number behind few) in
-        ap (is_too_long most k) there ∙ ap (λ x. is_kept_whole x && nat_lt most n) first.0 ∙ ap (λ x. is_kept_whole kind && nat_lt most x) second.0 ∙ within
+        said_of kinds most k n bytes mid rest at there
+        ∙ ap (λ x. is_limit most && ((is_kept_whole x || is_update kinds x) && nat_lt most n)) first.0
+        ∙ ap (λ x. is_limit most && ((is_kept_whole kind || is_update kinds kind) && nat_lt most x)) second.0
+        ∙ and_right (is_limit most) ((is_kept_whole kind || is_update kinds kind) && nat_lt most number) within
 
 module _ (kinds : FrameKinds) (most : ℕ) (in_body : Bool) where
   abbrev IsWithin : List ℕ → Type 0
-  IsWithin bytes = is_excessive most (skipped kinds in_body bytes) ≡ false
+  IsWithin bytes = is_excessive_by kinds most (skipped kinds in_body bytes) ≡ false
 
   section_within : (section behind bytes more : List ℕ) → (is_limit most ≡ true → length section ≤ most) → length section < 2 ^ 62 → bytes ++ more ≡ frame_encoding 1 section ++ behind → IsWithin bytes
   section_within section behind bytes more taken small e = by_limit (is_limit most) refl
@@ -96,14 +101,14 @@ module _ (kinds : FrameKinds) (most : ℕ) (in_body : Bool) where
       ]
 
       by_limit : (b : Bool) → is_limit most ≡ b → IsWithin bytes
-      by_limit false none = none_excessive most (skipped kinds in_body bytes) none
+      by_limit false none = none_excessive_by kinds most (skipped kinds in_body bytes) none
       by_limit true limited =
-          ap (is_excessive most) all
-          ∙ head_within most 1 (length section) bytes more (section ++ behind) (lit< tt) small (e ∙ append_assoc (head_encoding 1 (length section)) section behind) (le-ltb most (length section) (taken limited))
+          ap (is_excessive_by kinds most) all
+          ∙ head_within kinds most 1 (length section) bytes more (section ++ behind) (lit< tt) small (e ∙ append_assoc (head_encoding 1 (length section)) section behind) (le-ltb most (length section) (taken limited))
 
   body_within : (body behind bytes more : List ℕ) → 0 < length body → length body < 2 ^ 62 → bytes ++ more ≡ frame_encoding 0 body ++ behind → IsWithin bytes
   body_within body behind bytes more some small e =
-      ap (is_excessive most) all ∙ head_within most 0 (length body) bytes more (body ++ behind) (lit< tt) small parts refl
+      ap (is_excessive_by kinds most) all ∙ head_within kinds most 0 (length body) bytes more (body ++ behind) (lit< tt) small parts (ap (λ b. b && nat_lt most (length body)) (no_update kinds 0 refl))
     where
       parts : bytes ++ more ≡ head_encoding 0 (length body) ++ (body ++ behind)
       parts = e ∙ append_assoc (head_encoding 0 (length body)) body behind
@@ -120,7 +125,7 @@ module _ (kinds : FrameKinds) (most : ℕ) (in_body : Bool) where
       ]
 
   nothing_within : (bytes more : List ℕ) → bytes ++ more ≡ [] → IsWithin bytes
-  nothing_within [] more e = ap (is_excessive most) (skipped_none kinds in_body) ∙ and_right (is_limit most) (says_too_much most (varint_at [])) (ap (says_too_much most) none_at_end)
+  nothing_within [] more e = ap (is_excessive_by kinds most) (skipped_none kinds in_body) ∙ none_told kinds most [] none_at_end
   nothing_within (byte ∷ bytes) more e = absurd (cc)
 
   front_within : (parts : List Part) (bytes more : List ℕ) → PartsTaken most parts → AllByRecursion IsFramed parts → bytes ++ more ≡ flat_map part_bytes parts → IsWithin bytes

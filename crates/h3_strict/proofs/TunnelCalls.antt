@@ -1,5 +1,5 @@
 -- Heads that a strict end sends, and what it sends behind them, leave that tunnels stand.
-use Rattle.std.proofs.Common.{◌≡◌, ◌⊎◌, inl, inr, ℕ, ◌+◌, Bool, true, false, List, [], ◌∷◌, ◌++◌, length, refl, sym, ap, ◌∙◌, subst, Option, Some, None, if◌then◌else◌}
+use Rattle.std.proofs.Common.{◌≡◌, ◌⊎◌, inl, inr, ℕ, ◌+◌, Bool, true, false, List, [], ◌∷◌, ◌++◌, length, take, refl, sym, ap, ◌∙◌, subst, Option, Some, None, if◌then◌else◌}
 use Rattle.std.specs.Prelude.{◌==◌, ◌&&◌, ◌||◌, codes, flat_map, option_map, slice_index, unwrap_or}
 use Rattle.std.specs.List.{AllByRecursion, list_any}
 use Rattle.h3_field.specs.Field.{Field}
@@ -36,24 +36,24 @@ use Rattle.h3_world.specs.Setup.{announced_at}
 use Rattle.h3_world.specs.Streams.{flow, is_open}
 use Rattle.h3_world.specs.World.{World, party}
 use Rattle.h3_world.specs.declared.setup.Setup.{Setup}
-use Rattle.h3_headline.specs.ComingLaws.{incoming_there, sound_flow}
+use Rattle.h3_headline.specs.ComingLaws.{sound_flow}
 use Rattle.h3_headline.specs.FlowLaws.{open_there}
 use Rattle.h3_headline.specs.Messages.{is_on}
-use Rattle.h3_headline.specs.Standing.{IsReadable, ReceivesFlow, Stands}
+use Rattle.h3_headline.specs.Standing.{IsReadable, place_after}
 use Rattle.h3_headline.specs.StatusLaws.{interim_by_last}
 use Rattle.h3_headline.specs.Steps.{IsThere}
 use Rattle.h3_world.specs.Setup.{takes_any}
 use Rattle.h3_strict.proofs.KeepsCounts.{SameCounts, head_keeps, in_set, out_set, same_counts, sends_same}
 use Rattle.h3_strict.proofs.OneStatus.{one_status}
-use Rattle.h3_strict.proofs.PlainStreams.{at_each, in_at}
 use Rattle.h3_strict.proofs.SendEvents.{flows_with_party, sends_part}
 use Rattle.h3_strict.proofs.SentLaws.{TakesHead, asked_first, head_is_open, unsent_no_head}
-use Rattle.h3_strict.proofs.SentTallies.{after_head, client_incoming, head_out, known_is, knows_peer, parts_are, said_head, server_in, side_of, stands_at}
-use Rattle.h3_strict.proofs.TunnelParts.{AsksOther, AwaitsTunnel, NoTrailer, TunnelAt, any_more, asks_tunnel, is_tunnel, marked, opens_tunnel, response_keeps, server_keeps, trails, tunnel_grows, tunnel_same, tunnels, unsent_opens}
-use Rattle.h3_strict.proofs.TunnelSends.{SendsFine, TunnelsStand, by_id, itself, sends_tunnels}
-use Rattle.h3_strict.specs.PlainEnds.{plain_ends, plain_setup}
-use Rattle.h3_strict.specs.Plainly.{plain_incoming, plainly}
+use Rattle.h3_strict.proofs.SentTallies.{after_head, client_incoming, head_out, known_is, said_head, server_in}
+use Rattle.h3_strict.proofs.TunnelParts.{any_more, response_keeps, server_keeps, tunnel_grows, tunnel_same, unsent_opens}
+use Rattle.h3_strict.proofs.TunnelSees.{Sees}
+use Rattle.h3_strict.proofs.TunnelSends.{SendsFine, by_id, itself, sends_tunnels}
+use Rattle.h3_strict.specs.PlainEnds.{plain_setup}
 use Rattle.h3_strict.specs.Tallies.{asked_in, has_head}
+use Rattle.h3_strict.specs.Tunnels.{AsksOther, AwaitsTunnel, NoTrailer, TunnelAt, TunnelsStand, asks_tunnel, is_tunnel, marked, opens_tunnel, trails, tunnels}
 
 pub tunnel_is : (content : Content) → is_tunnel content ≡ true → content ≡ Tunnel
 tunnel_is Tunnel h = refl
@@ -103,13 +103,13 @@ last_is p parts part none h = first_off (list_any p parts) (p part) (sym (any_mo
 pub none_more : (p : Part → Bool) (parts : List Part) (part : Part) → list_any p parts ≡ false → p part ≡ false → list_any p (parts ++ part ∷ []) ≡ false
 none_more p parts part none off = any_more p parts part ∙ ap (λ b. b || p part) none ∙ off
 
-module _ (setup : Setup) (w : World) (ends : Ends) (i : ℕ) (head : Head) (fields : List Field) (h : Stands (plain_setup setup) w (plain_ends ends)) (t : TunnelsStand setup w ends)
+module _ (setup : Setup) (w : World) (ends : Ends) (i : ℕ) (head : Head) (fields : List Field) (sees : Sees setup w ends) (t : TunnelsStand setup w ends)
     (strict : (side : Side) → (announced_at setup side).choices.strict_messages ≡ true) where
   pub strict_end : (s : Side) → (end_at ends s).announced.choices.strict_messages ≡ true
   strict_end s = ap (λ (a : Announced). a.choices.strict_messages) (t.announced s) ∙ strict s
 
   unsent_at : (s : Side) → is_open w s i ≡ true → TakesHead (end_at ends s) i head fields → is_unsent (flat_map own_part (flow w s i).sent) ≡ true
-  unsent_at s opened takes = ap is_unsent (sym (parts_are setup w ends s i h opened)) ∙ (head_is_open (outgoing_at (end_at ends s) i) takes.takes).1
+  unsent_at s opened takes = ap is_unsent (sym (sees.parts s i opened)) ∙ (head_is_open (outgoing_at (end_at ends s) i) takes.takes).1
 
   -- what the end is, with the kind of the head
   server_sends : (kind : Part) → is_open w Server i ≡ true → TakesHead ends.server i head fields → SendsFine Server w i kind (said_head ends.server i head fields (strict_end Server)) → (v : World)
@@ -120,8 +120,8 @@ module _ (setup : Setup) (w : World) (ends : Ends) (i : ℕ) (head : Head) (fiel
       let s = strict_end Server in
       let there = open_there w Server i opened in
       sends_tunnels setup w v ends (with_end ends Server (after_head e i head fields s)) Server i kind (said_head e i head fields s)
-      (sends_part w v ends Server i kind (said_head e i head fields s) (after_head e i head fields s) flows (head_out e i head fields s) (server_in e i head fields s (side_of setup w ends Server h)) refl)
-      (sound_flow (plain_setup setup) w Server i h.sound there).out fine t
+      (sends_part w v ends Server i kind (said_head e i head fields s) (after_head e i head fields s) flows (head_out e i head fields s) (server_in e i head fields s (sees.side_is Server)) refl)
+      (sound_flow (plain_setup setup) w Server i sees.sound there).out fine t
 
   -- An interim head.
   pub interim_tunnels : is_open w Server i ≡ true → TakesHead ends.server i head fields → TunnelsStand setup (with_section Interim w Server i fields) (with_end ends Server (after_head ends.server i head fields (strict_end Server)))
@@ -155,8 +155,8 @@ module _ (setup : Setup) (w : World) (ends : Ends) (i : ℕ) (head : Head) (fiel
 
       rule : broken_rule Client (announced_at setup Client) BeforeHead fields ≡ None
       rule =
-          subst (λ d. broken_rule (other d) (announced_at setup Client) BeforeHead fields ≡ None) (side_of setup w ends Server h)
-          (head_taken ends.server.side ends.server.announced (announced_at setup Client) ends.server.peer.settings (known_of (stream_at ends.server.incoming i)) fields (strict_end Server) (knows_peer setup w ends Server h) takes.rule)
+          subst (λ d. broken_rule (other d) (announced_at setup Client) BeforeHead fields ≡ None) (sees.side_is Server)
+          (head_taken ends.server.side ends.server.announced (announced_at setup Client) ends.server.peer.settings (known_of (stream_at ends.server.incoming i)) fields (strict_end Server) (sees.connect Server) takes.rule)
 
       one : last_value (codes ":status") fields ≡ Some (value_of (codes ":status") fields)
       one =
@@ -174,7 +174,7 @@ module _ (setup : Setup) (w : World) (ends : Ends) (i : ℕ) (head : Head) (fiel
       content_is : p.content ≡ content_of_response_to (known_of (stream_at ends.server.incoming i)) fields
       content_is =
           ap (λ b. if b then content_of_own ends.server.side (known_of (stream_at ends.server.incoming i)) fields else (outgoing_at ends.server i).content) (head_is_open (outgoing_at ends.server i) takes.takes).0
-          ∙ ap (λ d. content_of_own d (known_of (stream_at ends.server.incoming i)) fields) (side_of setup w ends Server h)
+          ∙ ap (λ d. content_of_own d (known_of (stream_at ends.server.incoming i)) fields) (sees.side_is Server)
 
       none : list_any trails ((flow w Server i).sent ++ HeadPart (section_sent (party w Server) i fields (flow w Server i)) ∷ []) ≡ false
       none = none_more trails (flow w Server i).sent part unsent.2 refl
@@ -213,15 +213,13 @@ module _ (setup : Setup) (w : World) (ends : Ends) (i : ℕ) (head : Head) (fiel
 
     -- what the client receives
     client_in : (id : ℕ) → incoming_at after id ≡ (if i == id then awaiting (incoming_at ends.client i) asks_for else incoming_at ends.client id)
-    client_in id =
-        let there = incoming_there (plain_setup setup) w Client i (plainly ends.client) (stands_at setup w ends Client h) opened in
-        by_stream (stream_at ends.client.incoming i) refl (sym (at_each plain_incoming ends.client.incoming i) ∙ there.1)
+    client_in id = by_stream (stream_at ends.client.incoming i) refl (sees.there Client i opened).1
       where
-        by_stream : (o : Option Incoming) → stream_at ends.client.incoming i ≡ o → {x : Incoming} → option_map plain_incoming (stream_at ends.client.incoming i) ≡ Some x
+        by_stream : (o : Option Incoming) → stream_at ends.client.incoming i ≡ o → {x : Incoming} → stream_at ends.client.incoming i ≡ Some x
             → incoming_at after id ≡ (if i == id then awaiting (incoming_at ends.client i) asks_for else incoming_at ends.client id)
-        by_stream None is some = absurd (let never : None ≡ _ = sym (ap (option_map plain_incoming) is) ∙ some in cc)
+        by_stream None is some = absurd (let never : None ≡ _ = sym is ∙ some in cc)
         by_stream (Some x) is some =
-            ap (λ (l : Streams Incoming). unwrap_or (stream_at l id) nothing_came) (client_incoming ends.client i head fields (strict_end Client) (side_of setup w ends Client h) ∙ ap (telling_at Client ends.client.incoming i fields) is)
+            ap (λ (l : Streams Incoming). unwrap_or (stream_at l id) nothing_came) (client_incoming ends.client i head fields (strict_end Client) (sees.side_is Client) ∙ ap (telling_at Client ends.client.incoming i fields) is)
             ∙ in_set ends.client.incoming i (awaiting x asks_for) id
             ∙ ap (λ y. if i == id then awaiting y asks_for else incoming_at ends.client id) (sym (ap (λ o. unwrap_or o nothing_came) is))
 
@@ -245,7 +243,7 @@ module _ (setup : Setup) (w : World) (ends : Ends) (i : ℕ) (head : Head) (fiel
         record {
           content = λ ends_now.
               ap (λ b. if b then content_of_own e.side (known_of (stream_at e.incoming i)) fields else (outgoing_at e i).content) (head_is_open (outgoing_at e i) takes.takes).0
-              ∙ ap (λ d. content_of_own d (known_of (stream_at e.incoming i)) fields) (side_of setup w ends Client h) ∙ own_request_tunnel fields connects;
+              ∙ ap (λ d. content_of_own d (known_of (stream_at e.incoming i)) fields) (sees.side_is Client) ∙ own_request_tunnel fields connects;
           none = none_more trails (flow w Client i).sent request_part none.2 refl;
         }
 
@@ -261,19 +259,19 @@ module _ (setup : Setup) (w : World) (ends : Ends) (i : ℕ) (head : Head) (fiel
         first true b e = refl
         first false b e = absurd (cc)
 
-        same : ReceivesFlow (flow w Server i) (plain_incoming (incoming_at ends.client i))
-        same =
-            let there = incoming_there (plain_setup setup) w Client i (plainly ends.client) (stands_at setup w ends Client h) opened in
-            let is : plain_incoming (incoming_at ends.client i) ≡ there.0 = sym (in_at ends.client i) ∙ ap (λ o. unwrap_or o nothing_came) there.1 in
-            subst (ReceivesFlow (flow w Server i)) (sym is) there.2
+        place_is : (incoming_at ends.client i).place ≡ place_after (take (flow w Server i).parts_out (flow w Server i).sent)
+        place_is =
+            let there = sees.there Client i opened in
+            let is : incoming_at ends.client i ≡ there.0 = ap (λ o. unwrap_or o nothing_came) there.1 in
+            let seen = sees.streams Client i there.0 there.1 in
+            ap (λ (x : Incoming). x.place) is ∙ seen.place (sym seen.lost ∙ sym (ap (λ (x : Incoming). x.fault) is) ∙ alive)
 
         by_test : (b : Bool) → awaits_head (incoming_at ends.client i) ≡ b → is_tunnel (if b then asks_for else (incoming_at ends.client i).content) ≡ true → AwaitsTunnel ((flow w Client i).sent ++ request_part ∷ []) (flow w Server i)
         by_test true e m =
-            let reads = same.reads (sym same.fault ∙ alive) in
             record {
               has = asked_now.1;
               asked = asked_now.0 ∙ tunnel_is asks_for m;
-              stands = inl (sym reads.place ∙ front_is (incoming_at ends.client i).place (first (is_before_head (incoming_at ends.client i).place) _ e));
+              stands = inl (sym place_is ∙ front_is (incoming_at ends.client i).place (first (is_before_head (incoming_at ends.client i).place) _ e));
             }
         by_test false e m = absurd (let never : false ≡ true = sym no_request ∙ ((t.tunnels i).client alive m).has in cc)
 
@@ -314,16 +312,16 @@ module _ (setup : Setup) (w : World) (ends : Ends) (i : ℕ) (head : Head) (fiel
             (server_keeps (incoming_at ends.server i) (incoming_at ends.server i) (inl (same_counts (incoming_at ends.server i)))) awaits old)
 
 -- **A part behind the head.**
-pub behind_tunnels : (setup : Setup) (w : World) (ends : Ends) (s : Side) (i : ℕ) (part : Part) (p : Outgoing) (e : EndpointHistory) (v : World) → Stands (plain_setup setup) w (plain_ends ends) → TunnelsStand setup w ends → IsThere w i
+pub behind_tunnels : (setup : Setup) (w : World) (ends : Ends) (s : Side) (i : ℕ) (part : Part) (p : Outgoing) (e : EndpointHistory) (v : World) → Sees setup w ends → TunnelsStand setup w ends → IsThere w i
     → ((writer : Side) (id : ℕ) → flow v writer id ≡ (if is_on writer id s i then appended (flow w s i) part else flow w writer id)) → e.outgoing ≡ set_stream (end_at ends s).outgoing i p → e.incoming ≡ (end_at ends s).incoming
     → e.announced ≡ (end_at ends s).announced → (opens_tunnel part ≡ false) × (asks_tunnel part ≡ false) → (NoTrailer (flow w s i).sent (outgoing_at (end_at ends s) i) → NoTrailer ((flow w s i).sent ++ part ∷ []) p)
     → TunnelsStand setup v (with_end ends s e)
-behind_tunnels setup w ends s i part p e v h t there flows out in_same announced none grow =
+behind_tunnels setup w ends s i part p e v sees t there flows out in_same announced none grow =
     sends_tunnels setup w v ends (with_end ends s e) s i part p
     (sends_part w v ends s i part p e flows (λ id. ap (λ (l : Streams Outgoing). unwrap_or (stream_at l id) nothing_sent) out ∙ out_set (end_at ends s).outgoing i p id)
     (λ id. head_keeps s (incoming_at (end_at ends s) id) (incoming_at e id)
     (subst (λ (l : Streams Incoming). SameCounts (incoming_at (end_at ends s) id) (unwrap_or (stream_at l id) nothing_came)) (sym in_same) (same_counts (incoming_at (end_at ends s) id)))) announced)
-    (sound_flow (plain_setup setup) w s i h.sound there).out (by_side s grow) t
+    (sound_flow (plain_setup setup) w s i sees.sound there).out (by_side s grow) t
   where
     or_off : (a b : Bool) → b ≡ false → (a || b) ≡ true → a ≡ true
     or_off true b off h = refl

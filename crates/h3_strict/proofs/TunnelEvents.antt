@@ -38,15 +38,17 @@ use Rattle.h3_world.specs.declared.event.Answer.{Answer}
 use Rattle.h3_world.specs.declared.event.Answer.TheVariants as answer
 use Rattle.h3_world.specs.declared.setup.Setup.{Setup}
 use Rattle.h3_headline.specs.FlowLaws.{open_there}
-use Rattle.h3_headline.specs.Standing.{IsReadable, Stands}
+use Rattle.h3_headline.specs.Standing.{IsReadable}
 use Rattle.std.specs.List.{AllByRecursion}
 use Rattle.h3_strict.proofs.CallEvents.{call_cases, not_refused}
 use Rattle.h3_strict.proofs.SendEvents.{flows_with, flows_with_party}
 use Rattle.h3_strict.proofs.SentLaws.{TakesBody, TakesHead, TakesTrailer, body_is_behind, body_rules, head_judged, head_rules, trailer_judged, trailer_rules}
-use Rattle.h3_strict.proofs.SentTallies.{after_head, side_of}
+use Rattle.h3_strict.proofs.SentTallies.{after_head}
 use Rattle.h3_strict.proofs.TunnelCalls.{all_last, behind_tunnels, body_trails, end_trails, interim_tunnels, no_trailer_trails, request_tunnels, response_tunnels}
-use Rattle.h3_strict.proofs.TunnelSends.{TunnelsStand, itself}
-use Rattle.h3_strict.specs.PlainEnds.{plain_ends, plain_setup}
+use Rattle.h3_strict.proofs.TunnelSees.{Sees}
+use Rattle.h3_strict.proofs.TunnelSends.{itself}
+use Rattle.h3_strict.specs.PlainEnds.{plain_setup}
+use Rattle.h3_strict.specs.Tunnels.{TunnelsStand}
 
 -- what an endpoint is after a trailer
 abbrev after_trailer : EndpointHistory → ℕ → List Field → EndpointHistory
@@ -69,27 +71,27 @@ only_server Client head fits interim = absurd (by_status head.status fits interi
     by_status (Some n) a b = let k : false ≡ true = second (is_some head.method) false a in absurd (cc)
 
 -- a head that is the last part of a flow can be read
-last_readable : (setup : Setup) (w : World) (i : ℕ) (fields : List Field) → (ends : Ends) → Stands (plain_setup setup) (with_section HeadPart w Server i fields) (plain_ends ends) → is_open w Server i ≡ true
+last_readable : (setup : Setup) (w : World) (i : ℕ) (fields : List Field) → (ends : Ends) → Sees setup (with_section HeadPart w Server i fields) ends → is_open w Server i ≡ true
     → IsReadable (plain_setup setup) Client (HeadPart (section_sent (party w Server) i fields (flow w Server i)))
 last_readable setup w i fields ends g opened =
     let part = HeadPart (section_sent (party w Server) i fields (flow w Server i)) in
     let flows = flows_with_party w Server (having_encoded (party w Server) i fields) i part (open_there w Server i opened) Server i in
     let is : flow (with_section HeadPart w Server i fields) Server i ≡ appended (flow w Server i) part = flows ∙ ap (λ b. if b then appended (flow w Server i) part else flow w Server i) (itself i) in
-    all_last (IsReadable (plain_setup setup) Client) (flow w Server i).sent part (subst (λ (x : Flow). AllByRecursion (IsReadable (plain_setup setup) Client) x.sent) is (g.responses i))
+    all_last (IsReadable (plain_setup setup) Client) (flow w Server i).sent part (subst (λ (x : Flow). AllByRecursion (IsReadable (plain_setup setup) Client) x.sent) is (g.readable Client i))
 
-module _ (setup : Setup) (w : World) (ends : Ends) (h : Stands (plain_setup setup) w (plain_ends ends)) (t : TunnelsStand setup w ends)
+module _ (setup : Setup) (w : World) (ends : Ends) (sees : Sees setup w ends) (t : TunnelsStand setup w ends)
     (strict : (side : Side) → (announced_at setup side).choices.strict_messages ≡ true) where
   strict_at : (s : Side) → (end_at ends s).announced.choices.strict_messages ≡ true
   strict_at s = ap (λ (a : Announced). a.choices.strict_messages) (t.announced s) ∙ strict s
 
   -- where both stand in the world after it
   abbrev StandsAfter : World → Ends → Type 0
-  StandsAfter u n = Stands (plain_setup setup) u (plain_ends n) → TunnelsStand setup u n
+  StandsAfter u n = Sees setup u n → TunnelsStand setup u n
 
   -- **A head, or a list.**
   head_goes : (s : Side) (i : ℕ) (told : Option Malformation) (head : Head) (fields : List Field) (wrule : Option Refusal) (v : World) (a : Answer) (next : Ends)
       → (a, next) ≡ done ends s answer.Done (does (head_judged (end_at ends s) i told head fields) (end_at ends s) (after_head (end_at ends s) i head fields (strict_at s))) → (wrule ≡ None → is_open w s i ≡ true)
-      → Does wrule w answer.Done (with_section (if is_interim head.status then Interim else HeadPart) w s i fields) a v → Stands (plain_setup setup) v (plain_ends next) → TunnelsStand setup v next
+      → Does wrule w answer.Done (with_section (if is_interim head.status then Interim else HeadPart) w s i fields) a v → Sees setup v next → TunnelsStand setup v next
   head_goes s i told head fields wrule v a next is opens step =
       subst (λ (x : Answer × Ends). StandsAfter v x.1) (sym is)
       (call_cases (λ b u n. StandsAfter u n) ends s answer.Done (head_judged (end_at ends s) i told head fields) wrule
@@ -100,18 +102,18 @@ module _ (setup : Setup) (w : World) (ends : Ends) (h : Stands (plain_setup setu
     where
       by_interim : (s : Side) (b : Bool) → is_interim head.status ≡ b → TakesHead (end_at ends s) i head fields → is_open w s i ≡ true
           → StandsAfter (with_section (if b then Interim else HeadPart) w s i fields) (with_end ends s (after_head (end_at ends s) i head fields (strict_at s)))
-      by_interim Server true e takes opened = λ g. interim_tunnels setup w ends i head fields h t strict opened takes
-      by_interim Client true e takes opened = λ g. absurd (let never : Client ≡ Server = only_server Client head (subst (λ d. is_for (other d) head ≡ true) (side_of setup w ends Client h) takes.fits) e in cc)
-      by_interim Server false e takes opened = λ g. response_tunnels setup w ends i head fields h t strict opened takes
+      by_interim Server true e takes opened = λ g. interim_tunnels setup w ends i head fields sees t strict opened takes
+      by_interim Client true e takes opened = λ g. absurd (let never : Client ≡ Server = only_server Client head (subst (λ d. is_for (other d) head ≡ true) (sees.side_is Client) takes.fits) e in cc)
+      by_interim Server false e takes opened = λ g. response_tunnels setup w ends i head fields sees t strict opened takes
           (last_readable setup w i fields (with_end ends Server (after_head ends.server i head fields (strict_at Server))) g opened)
-      by_interim Client false e takes opened = λ g. request_tunnels setup w ends i head fields h t strict opened takes
+      by_interim Client false e takes opened = λ g. request_tunnels setup w ends i head fields sees t strict opened takes
 
       goes : (s : Side) → TakesHead (end_at ends s) i head fields → is_open w s i ≡ true
           → StandsAfter (with_section (if is_interim head.status then Interim else HeadPart) w s i fields) (with_end ends s (after_head (end_at ends s) i head fields (strict_at s)))
       goes s takes opened = by_interim s (is_interim head.status) refl takes opened
 
   pub head_event : (s : Side) (i : ℕ) (head : Head) (v : World) (a : Answer) (next : Ends) → (a, next) ≡ done ends s answer.Done (sender.send_head (end_at ends s) i head)
-      → Does (head_refusal (plain_setup setup) w s i head) w answer.Done (sent_head w s i head) a v → Stands (plain_setup setup) v (plain_ends next) → TunnelsStand setup v next
+      → Does (head_refusal (plain_setup setup) w s i head) w answer.Done (sent_head w s i head) a v → Sees setup v next → TunnelsStand setup v next
   head_event s i head v a next is step =
       head_goes s i (broken_protocol (end_at ends s).announced head) head (head_fields head) (head_refusal (plain_setup setup) w s i head) v a next is
       (not_refused (is_open w s i) (
@@ -121,7 +123,7 @@ module _ (setup : Setup) (w : World) (ends : Ends) (h : Stands (plain_setup setu
       (is_too_large (settings_known (plain_setup setup) w s) (head_fields head), refusal.TooLarge (section_size (head_fields head))) ∷ []))) step
 
   pub fields_event : (s : Side) (i : ℕ) (fields : List Field) (v : World) (a : Answer) (next : Ends) → (a, next) ≡ done ends s answer.Done (send_fields (end_at ends s) i fields)
-      → Does (fields_refusal (plain_setup setup) w s i fields) w answer.Done (sent_fields w s i fields) a v → Stands (plain_setup setup) v (plain_ends next) → TunnelsStand setup v next
+      → Does (fields_refusal (plain_setup setup) w s i fields) w answer.Done (sent_fields w s i fields) a v → Sees setup v next → TunnelsStand setup v next
   fields_event s i fields v a next is step =
       head_goes s i (unreadable (takes_any (end_at ends s).announced) fields) (head_of_fields fields) fields (fields_refusal (plain_setup setup) w s i fields) v a next is
       (not_refused (is_open w s i) (
@@ -159,7 +161,7 @@ module _ (setup : Setup) (w : World) (ends : Ends) (h : Stands (plain_setup setu
           let there = open_there w s i opened in
           let o = outgoing_at e i in
           let end = length (flow_bytes (flow w s i)) + length (frame_encoding 0 (b ∷ bs)) in
-          behind_tunnels setup w ends s i (Body (b ∷ bs) end) (with_body o (b ∷ bs)) (counted (sent_bytes e i (b ∷ bs)) (length (b ∷ bs))) (sent_body w s i (b ∷ bs)) h t there
+          behind_tunnels setup w ends s i (Body (b ∷ bs) end) (with_body o (b ∷ bs)) (counted (sent_bytes e i (b ∷ bs)) (length (b ∷ bs))) (sent_body w s i (b ∷ bs)) sees t there
           (flows_with w s i (Body (b ∷ bs) end) there) refl refl refl (refl, refl) (body_trails (flow w s i).sent o (b ∷ bs) end (body_is_behind o takes.takes))
 
   -- **A trailer.**
@@ -179,7 +181,7 @@ module _ (setup : Setup) (w : World) (ends : Ends) (h : Stands (plain_setup setu
           let o = outgoing_at (end_at ends s) i in
           let q = having_encoded (party w s) i fields in
           let part = Trailer (section_sent (party w s) i fields (flow w s i)) in
-          behind_tunnels setup w ends s i part (record o { parts = o.parts ++ OwnTrailer (written_section (end_at ends s).encoder i fields) ∷ [] }) (after_trailer (end_at ends s) i fields) (with_section Trailer w s i fields) h t there
+          behind_tunnels setup w ends s i part (record o { parts = o.parts ++ OwnTrailer (written_section (end_at ends s).encoder i fields) ∷ [] }) (after_trailer (end_at ends s) i fields) (with_section Trailer w s i fields) sees t there
           (flows_with_party w s q i part there) refl refl refl (refl, refl) (no_trailer_trails (flow w s i).sent o (body_is_behind o takes.takes) takes.early)
 
   pub trailer_event : (s : Side) (i : ℕ) (trailer : Head) (v : World) (a : Answer) (next : Ends) → (a, next) ≡ done ends s answer.Done (sender.send_trailer (end_at ends s) i trailer)
@@ -214,4 +216,4 @@ module _ (setup : Setup) (w : World) (ends : Ends) (h : Stands (plain_setup setu
       goes opened =
           let there = open_there w s i opened in
           let o = outgoing_at (end_at ends s) i in
-          behind_tunnels setup w ends s i End (with_finish o) (with_outgoing (end_at ends s) i (with_finish o)) (finished w s i) h t there (flows_with w s i End there) refl refl refl (refl, refl) (end_trails (flow w s i).sent o)
+          behind_tunnels setup w ends s i End (with_finish o) (with_outgoing (end_at ends s) i (with_finish o)) (finished w s i) sees t there (flows_with w s i End there) refl refl refl (refl, refl) (end_trails (flow w s i).sent o)

@@ -1,5 +1,5 @@
 -- An event finds no fault of the connection at ends of which each pull of a receiver finds none, whatever both limit.
-use Rattle.std.proofs.Common.{◌≡◌, ℕ, Bool, true, false, List, refl, sym, ap, ◌∙◌, Option, Some, None, if◌then◌else◌}
+use Rattle.std.proofs.Common.{◌≡◌, ℕ, Bool, true, false, List, [], refl, sym, ap, ◌∙◌, Option, Some, None, if◌then◌else◌}
 use Rattle.std.specs.Prelude.{nat_lt, ◌||◌, ◌&&◌}
 use Rattle.h3_field.specs.Field.{Field}
 use Rattle.h3_proto.specs.Config.{is_limit}
@@ -35,7 +35,7 @@ use Rattle.h3_world.specs.declared.event.Event.{Event}
 use Rattle.h3_world.specs.declared.event.Event.TheVariants as event
 use Rattle.h3_world.specs.declared.setup.Setup.{Setup}
 use Rattle.h3_headline.specs.Cited.{Laws}
-use Rattle.h3_headline.specs.Standing.{Stands, StandsAt}
+use Rattle.h3_headline.specs.Standing.{Stands}
 use Rattle.h3_strict.proofs.DeliveriesFit.{delivery_fits, end_delivery_fits, reset_delivery_fits}
 use Rattle.h3_strict.proofs.LimitCarries.{strict_carries}
 use Rattle.h3_strict.proofs.PlainLists.{faults_same}
@@ -46,11 +46,12 @@ use Rattle.h3_strict.proofs.PullsAnyhow.{listed_is, pulled_is}
 use Rattle.h3_strict.proofs.SentTallies.{stands_at}
 use Rattle.h3_strict.proofs.StepsAnyhow.{EveryStep}
 use Rattle.h3_strict.proofs.TunnelFaults.{ends_all}
-use Rattle.h3_strict.proofs.TunnelHeads.{is_item}
+use Rattle.h3_strict.proofs.BehindPulls.{is_item}
 use Rattle.h3_strict.proofs.TunnelPull.{pulls_here, pulls_so}
+use Rattle.h3_strict.proofs.TunnelSees.{Sees}
 use Rattle.h3_strict.specs.Limits.{limit_at, unlimited_ends}
 use Rattle.h3_strict.specs.PlainEnds.{Alike, AreBounded, FewWaitAt, Judges, RefusesMalformed, StepsPlainly, asks_strictly, finds_fault, is_malformed_refusal, judges, plain_ends, plain_setup, refused_by, was_too_long}
-use Rattle.h3_strict.specs.Plainly.{exceeds, is_excess, judged_as, judged_open, plainly}
+use Rattle.h3_strict.specs.Plainly.{exceeds, is_excess, judged_as, judged_open}
 
 pub clash : {X : Type 0} → (b : Bool) → b ≡ true → b ≡ false → X
 clash b h k = absurd (let never : true ≡ false = sym h ∙ k in cc)
@@ -100,64 +101,63 @@ items_same o pull.NoMessages = refl
 abbrev pub PullsSafely : Ends → Type 0
 PullsSafely ends = (side : Side) (id : ℕ) (i : Incoming) → stream_at (end_at ends side).incoming id ≡ Some i → ends_all (pull_stream (end_at ends side).side (end_at ends side).announced id (end_at ends side).decoding.decoder i).answer ≡ false
 
+-- What is pulled if the pull judges, and its side keeps nothing.
+module _ (setup : Setup) (w : World) (ends : Ends) (sees : Sees setup w ends) (told_of : (side : Side) → (end_at ends side).announced ≡ announced_at setup side) (safely : PullsSafely ends) (side : Side) (id : ℕ) (kept : (end_at ends side).kept ≡ []) where
+  pub judged_faultless : judges ends (event.Pull side id) ≡ true → finds_fault (asks_strictly ends) (answer.Pulled (pulls (end_at ends side) id).0) ≡ true → is_connection_fault (answer.Pulled (pulls (end_at ends side) id).0) ≡ false
+  judged_faultless judged told = by_kind (kind_of (end_at ends side).side id) refl is_judged
+    where
+      e : EndpointHistory
+      e = end_at ends side
+
+      is_judged : judged_as (unkept (end_at ends side)) id (kind_of (end_at ends side).side id) ≡ true
+      is_judged =
+          ap (λ c. judged_open c (unkept (end_at ends side)) id) (sym (sees.closed side))
+          ∙ ap (λ k. exceeds (end_at ends side) (read_all k (unkept (end_at ends side))).1 || judged_open (end_at ends side).closed (read_all k (unkept (end_at ends side))).0 id) (sym kept) ∙ judged
+
+      by_stream : (o : Option Incoming) → stream_at (end_at ends side).incoming id ≡ o → kind_of (end_at ends side).side id ≡ Request → is_connection_fault (answer.Pulled (pulls (end_at ends side) id).0) ≡ false
+      by_stream None none kind =
+          ap (λ (z : Pull × EndpointHistory). is_connection_fault (answer.Pulled z.0)) (pulls_so setup w ends sees told_of side id kept ∙ ap (pull_at (end_at ends side) id) kind ∙ ap (pull_request (end_at ends side) id) none)
+          ∙ by_side (end_at ends side)
+        where
+          by_side : (x : EndpointHistory) → is_connection_fault (answer.Pulled (pull_request x id None).0) ≡ false
+          by_side x = of x.side
+            where
+              of : (s : Side) → is_connection_fault (answer.Pulled (if is_client s then pull.NoMessages else pull.Pending)) ≡ false
+              of Client = refl
+              of Server = refl
+      by_stream (Some i) here kind = by_many many refl
+        where
+          given : Pulled
+          given = pull_stream (end_at ends side).side (end_at ends side).announced id (end_at ends side).decoding.decoder i
+
+          many : Bool
+          many = nat_lt (end_at ends side).announced.limits.blocked (heads_waiting (end_at ends side).decoding.decoder (set_stream (end_at ends side).incoming id (pull_stream (end_at ends side).side (end_at ends side).announced id (end_at ends side).decoding.decoder i).incoming))
+
+          is_pulled : (b : Bool) → many ≡ b → pulls (end_at ends side) id ≡ pulled (end_at ends side) id (if_too_many b given)
+          is_pulled b k = pulls_here setup w ends sees told_of side id i here kept ∙ ap (λ c. pulled (end_at ends side) id (if_too_many c given)) k
+
+          by_many : (b : Bool) → many ≡ b → is_connection_fault (answer.Pulled (pulls (end_at ends side) id).0) ≡ false
+          by_many true k =
+              clash (finds_fault (asks_strictly ends) (answer.Pulled (pulls (end_at ends side) id).0)) told
+              (ap (λ (z : Pull × EndpointHistory). finds_fault (asks_strictly ends) (answer.Pulled z.0)) (is_pulled true k) ∙ too_many_finds (asks_strictly ends) given (end_at ends side) id)
+          by_many false k =
+              ap (λ (z : Pull × EndpointHistory). is_connection_fault (answer.Pulled z.0)) (is_pulled false k) ∙ ap (λ a. is_connection_fault (answer.Pulled a)) (answer_is given.answer _)
+              ∙ ends_none given.answer (safely side id i here)
+
+      by_kind : (k : Kind) → kind_of (end_at ends side).side id ≡ k → judged_as (unkept (end_at ends side)) id (kind_of (end_at ends side).side id) ≡ true → is_connection_fault (answer.Pulled (pulls (end_at ends side) id).0) ≡ false
+      by_kind Request is j = by_stream (stream_at (end_at ends side).incoming id) refl is
+      by_kind ServerOpened is j = absurd (let never : false ≡ true = ap (judged_as (unkept (end_at ends side)) id) (sym is) ∙ j in cc)
+      by_kind OwnUnidirectional is j = absurd (let never : false ≡ true = ap (judged_as (unkept (end_at ends side)) id) (sym is) ∙ j in cc)
+      by_kind PeerUnidirectional is j = absurd (let never : false ≡ true = ap (judged_as (unkept (end_at ends side)) id) (sym is) ∙ j in cc)
+
 module _ (laws : Laws) (steps : EveryStep) (setup : Setup) (made : IsMadeSetup setup) where
   -- an event that is answered alike
   alike_faultless : (w : World) (ends : Ends) (e : Event) → IsSendable setup e → Stands (plain_setup setup) w (plain_ends ends) → answered (plain_ends ends) e ≡ ((answered ends e).0, plain_ends (answered ends e).1) → is_connection_fault (answered ends e).0 ≡ false
   alike_faultless w ends e sendable h same =
       ap (λ x. is_connection_fault x.0) (sym same) ∙ (steps (plain_setup setup) w (plain_ends ends) e (setup_plainly setup made) (judges_plainly setup) sendable h).happens.no_connection_fault
 
-  -- what is pulled where the pull judges
-  module _ (w : World) (ends : Ends) (h : Stands (plain_setup setup) w (plain_ends ends)) (told_of : (side : Side) → (end_at ends side).announced ≡ announced_at setup side) (safely : PullsSafely ends) (side : Side) (id : ℕ) where
-    judged_faultless : judges ends (event.Pull side id) ≡ true → finds_fault (asks_strictly ends) (answer.Pulled (pulls (end_at ends side) id).0) ≡ true → is_connection_fault (answer.Pulled (pulls (end_at ends side) id).0) ≡ false
-    judged_faultless judged told = by_kind (kind_of (end_at ends side).side id) refl is_judged
-      where
-        e : EndpointHistory
-        e = end_at ends side
-
-        at : StandsAt (plain_setup setup) w side (plainly (end_at ends side))
-        at = stands_at setup w ends side h
-
-        is_judged : judged_as (unkept (end_at ends side)) id (kind_of (end_at ends side).side id) ≡ true
-        is_judged =
-            ap (λ c. judged_open c (unkept (end_at ends side)) id) (sym at.no_fault)
-            ∙ ap (λ k. exceeds (end_at ends side) (read_all k (unkept (end_at ends side))).1 || judged_open (end_at ends side).closed (read_all k (unkept (end_at ends side))).0 id) (sym at.nothing_kept) ∙ judged
-
-        by_stream : (o : Option Incoming) → stream_at (end_at ends side).incoming id ≡ o → kind_of (end_at ends side).side id ≡ Request → is_connection_fault (answer.Pulled (pulls (end_at ends side) id).0) ≡ false
-        by_stream None none kind =
-            ap (λ (z : Pull × EndpointHistory). is_connection_fault (answer.Pulled z.0)) (pulls_so laws setup (setup_plainly setup made) w ends h told_of side id ∙ ap (pull_at (end_at ends side) id) kind ∙ ap (pull_request (end_at ends side) id) none)
-            ∙ by_side (end_at ends side)
-          where
-            by_side : (x : EndpointHistory) → is_connection_fault (answer.Pulled (pull_request x id None).0) ≡ false
-            by_side x = of x.side
-              where
-                of : (s : Side) → is_connection_fault (answer.Pulled (if is_client s then pull.NoMessages else pull.Pending)) ≡ false
-                of Client = refl
-                of Server = refl
-        by_stream (Some i) here kind = by_many many refl
-          where
-            given : Pulled
-            given = pull_stream (end_at ends side).side (end_at ends side).announced id (end_at ends side).decoding.decoder i
-
-            many : Bool
-            many = nat_lt (end_at ends side).announced.limits.blocked (heads_waiting (end_at ends side).decoding.decoder (set_stream (end_at ends side).incoming id (pull_stream (end_at ends side).side (end_at ends side).announced id (end_at ends side).decoding.decoder i).incoming))
-
-            is_pulled : (b : Bool) → many ≡ b → pulls (end_at ends side) id ≡ pulled (end_at ends side) id (if_too_many b given)
-            is_pulled b k = pulls_here laws setup (setup_plainly setup made) w ends h told_of side id i here ∙ ap (λ c. pulled (end_at ends side) id (if_too_many c given)) k
-
-            by_many : (b : Bool) → many ≡ b → is_connection_fault (answer.Pulled (pulls (end_at ends side) id).0) ≡ false
-            by_many true k =
-                clash (finds_fault (asks_strictly ends) (answer.Pulled (pulls (end_at ends side) id).0)) told
-                (ap (λ (z : Pull × EndpointHistory). finds_fault (asks_strictly ends) (answer.Pulled z.0)) (is_pulled true k) ∙ too_many_finds (asks_strictly ends) given (end_at ends side) id)
-            by_many false k =
-                ap (λ (z : Pull × EndpointHistory). is_connection_fault (answer.Pulled z.0)) (is_pulled false k) ∙ ap (λ a. is_connection_fault (answer.Pulled a)) (answer_is given.answer _)
-                ∙ ends_none given.answer (safely side id i here)
-
-        by_kind : (k : Kind) → kind_of (end_at ends side).side id ≡ k → judged_as (unkept (end_at ends side)) id (kind_of (end_at ends side).side id) ≡ true → is_connection_fault (answer.Pulled (pulls (end_at ends side) id).0) ≡ false
-        by_kind Request is j = by_stream (stream_at (end_at ends side).incoming id) refl is
-        by_kind ServerOpened is j = absurd (let never : false ≡ true = ap (judged_as (unkept (end_at ends side)) id) (sym is) ∙ j in cc)
-        by_kind OwnUnidirectional is j = absurd (let never : false ≡ true = ap (judged_as (unkept (end_at ends side)) id) (sym is) ∙ j in cc)
-        by_kind PeerUnidirectional is j = absurd (let never : false ≡ true = ap (judged_as (unkept (end_at ends side)) id) (sym is) ∙ j in cc)
-
+  -- what is pulled
+  module _ (w : World) (ends : Ends) (h : Stands (plain_setup setup) w (plain_ends ends)) (sees : Sees setup w ends) (told_of : (side : Side) → (end_at ends side).announced ≡ announced_at setup side) (safely : PullsSafely ends) (side : Side) (id : ℕ) where
     pull_faultless : FewWaitAt ends → is_connection_fault (answer.Pulled (pulls (end_at ends side) id).0) ≡ false
     pull_faultless few = by_step (every_step ends (event.Pull side id))
       where
@@ -166,7 +166,7 @@ module _ (laws : Laws) (steps : EveryStep) (setup : Setup) (made : IsMadeSetup s
 
         by_step : StepsPlainly ends (event.Pull side id) → is_connection_fault (answer.Pulled (pulls (end_at ends side) id).0) ≡ false
         by_step (RefusesMalformed told same) = absurd (let never : false ≡ true = sym (ap (λ x. is_malformed_refusal x.0) is) ∙ told in cc)
-        by_step (Judges judged told) = judged_faultless judged (sym (ap (λ x. finds_fault (asks_strictly ends) x.0) is) ∙ told few)
+        by_step (Judges judged told) = judged_faultless setup w ends sees told_of safely side id (stands_at setup w ends side h).nothing_kept judged (sym (ap (λ x. finds_fault (asks_strictly ends) x.0) is) ∙ told few)
         by_step (Alike told same) = ap (λ x. is_connection_fault x.0) (sym is) ∙ alike_faultless w ends (event.Pull side id) tt h same
 
     list_faultless : FewWaitAt ends → is_connection_fault (answered ends (event.PullFields side id)).0 ≡ false
@@ -174,7 +174,7 @@ module _ (laws : Laws) (steps : EveryStep) (setup : Setup) (made : IsMadeSetup s
         ap (λ x. is_connection_fault x.0) (listed_is ends side id (pulls (end_at ends side) id)) ∙ faults_same (fields_behind (end_at ends side).kept (end_at ends side) id) (pulls (end_at ends side) id).0 ∙ pull_faultless few
 
   -- what is delivered is never too long
-  module _ (w : World) (ends : Ends) (h : Stands (plain_setup setup) w (plain_ends ends)) (told_of : (side : Side) → (end_at ends side).announced ≡ announced_at setup side) (safely : PullsSafely ends) where
+  module _ (w : World) (ends : Ends) (h : Stands (plain_setup setup) w (plain_ends ends)) (sees : Sees setup w ends) (told_of : (side : Side) → (end_at ends side).announced ≡ announced_at setup side) (safely : PullsSafely ends) where
     kept : (side : Side) → limit_of (end_at ends side) ≡ limit_at setup side
     kept side = ap (λ (a : Announced). a.choices.unfinished_limit) (told_of side)
 
@@ -230,8 +230,8 @@ module _ (laws : Laws) (steps : EveryStep) (setup : Setup) (made : IsMadeSetup s
 
     -- **Any event.**
     pub event_faultless : (e : Event) → IsSendable setup e → FewWaitAt ends → is_connection_fault (answered ends e).0 ≡ false
-    event_faultless (event.Pull side id) sendable few = ap (λ x. is_connection_fault x.0) (pulled_is ends side (pulls (end_at ends side) id)) ∙ pull_faultless w ends h told_of safely side id few
-    event_faultless (event.PullFields side id) sendable few = list_faultless w ends h told_of safely side id few
+    event_faultless (event.Pull side id) sendable few = ap (λ x. is_connection_fault x.0) (pulled_is ends side (pulls (end_at ends side) id)) ∙ pull_faultless w ends h sees told_of safely side id few
+    event_faultless (event.PullFields side id) sendable few = list_faultless w ends h sees told_of safely side id few
     event_faultless (event.Deliver s i count) sendable few = deliver_faultless s i count
     event_faultless (event.DeliverEnd s i) sendable few = end_faultless s i
     event_faultless (event.DeliverReset s i) sendable few = reset_faultless s i

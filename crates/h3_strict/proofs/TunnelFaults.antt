@@ -13,8 +13,8 @@ use Rattle.h3_proto.specs.declared.stream.Side.TheVariants.{Client, Server}
 use Rattle.h3_qpack.specs.DecodedSection.{BadSection, DecodedSection, Fields, Missing, decode_section}
 use Rattle.h3_qpack.specs.DecoderState.{DecoderState}
 use Rattle.h3_qpack.specs.Sizes.{told_size}
-use Rattle.h3_wire.specs.ExcessiveFrames.{begins_section, is_excessive}
-use Rattle.h3_wire.specs.ExcessiveLaws.{none_excessive}
+use Rattle.h3_wire.specs.ExcessiveFrames.{begins_section, is_excessive_by}
+use Rattle.h3_wire.specs.ExcessiveLaws.{none_excessive_by}
 use Rattle.h3_wire.specs.Frames.{Front, Refused, Unfinished, Unknown, Whole, frame_by}
 use Rattle.h3_wire.specs.Pieces.{chunk_of, first_of}
 use Rattle.h3_wire.specs.declared.proto.frame.Frame.{Frame}
@@ -49,8 +49,9 @@ use Rattle.h3_world.specs.declared.event.Answer.TheVariants as answer
 use Rattle.h3_headline.specs.PartLaws.{part_at}
 use Rattle.h3_headline.specs.Pulling.{ComesTo, HandsOut, Pauses}
 use Rattle.h3_headline.specs.Standing.{place_after}
-use Rattle.h3_strict.proofs.TunnelParts.{any_at, trails}
+use Rattle.h3_strict.proofs.TunnelParts.{any_at}
 use Rattle.h3_strict.specs.Plainly.{plain, plain_incoming}
+use Rattle.h3_strict.specs.Tunnels.{trails}
 
 -- it ends the connection
 abbrev pub ends_all : Pull → Bool
@@ -70,7 +71,7 @@ pub data Why (own : Announced) (i : Incoming) (p q : Pulled) : Type 0 where
   SameAnswer : q.answer ≡ p.answer → Why own i p q
   NoFault : ends_all p.answer ≡ false → Why own i p q
   InTunnel : takes_trailer i.content ≡ false → i.place ≡ InBody → may_trail q.answer ≡ true → Why own i p q
-  TooLong : i.fault ≡ None → i.section ≡ None → nat_lt 0 i.body_left ≡ false → is_excessive own.choices.unfinished_limit (skipped (kinds_of own) (is_body i.place) (concat i.unread)) ≡ true → begins_section (skipped (kinds_of own) (is_body i.place) (concat i.unread)) ≡ false → Why own i p q
+  TooLong : i.fault ≡ None → i.section ≡ None → nat_lt 0 i.body_left ≡ false → is_excessive_by (kinds_of own) own.choices.unfinished_limit (skipped (kinds_of own) (is_body i.place) (concat i.unread)) ≡ true → begins_section (skipped (kinds_of own) (is_body i.place) (concat i.unread)) ≡ false → Why own i p q
 
 -- the same answer, or no such fault
 data Plain (p q : Pulled) : Type 0 where
@@ -194,14 +195,14 @@ module _ (side : Side) (own : Announced) (id : ℕ) (r : DecoderState) where
     between_why alive none whole =
         let bytes = skipped (kinds_of own) (is_body first.place) (concat first.unread) in
         let next = next_frame side (plain own) id r (plain_incoming (left_with first bytes)) bytes in
-        subst (λ b. Why own first (between_frames side own id r first) (if b then excess id (plain_incoming first) bytes else next)) (sym (none_excessive (2 ^ 62 - 1) bytes refl)) (by_excess (is_excessive own.choices.unfinished_limit bytes) refl)
+        subst (λ b. Why own first (between_frames side own id r first) (if b then excess id (plain_incoming first) bytes else next)) (sym (none_excessive_by (kinds_of own) (2 ^ 62 - 1) bytes refl)) (by_excess (is_excessive_by (kinds_of own) own.choices.unfinished_limit bytes) refl)
       where
-        by_type : (q : Pulled) (bytes : List ℕ) → bytes ≡ skipped (kinds_of own) (is_body first.place) (concat first.unread) → is_excessive own.choices.unfinished_limit bytes ≡ true → (c : Bool) → begins_section bytes ≡ c
+        by_type : (q : Pulled) (bytes : List ℕ) → bytes ≡ skipped (kinds_of own) (is_body first.place) (concat first.unread) → is_excessive_by (kinds_of own) own.choices.unfinished_limit bytes ≡ true → (c : Bool) → begins_section bytes ≡ c
             → Why own first (if c then malformed id malformation.TooLong first [] else connection_fault excessive_load (record first { unread = [] })) q
         by_type q bytes is long true e = NoFault refl
-        by_type q bytes is long false e = TooLong alive none whole (ap (is_excessive own.choices.unfinished_limit) (sym is) ∙ long) (ap begins_section (sym is) ∙ e)
+        by_type q bytes is long false e = TooLong alive none whole (ap (is_excessive_by (kinds_of own) own.choices.unfinished_limit) (sym is) ∙ long) (ap begins_section (sym is) ∙ e)
 
-        by_excess : (b : Bool) → is_excessive own.choices.unfinished_limit (skipped (kinds_of own) (is_body first.place) (concat first.unread)) ≡ b
+        by_excess : (b : Bool) → is_excessive_by (kinds_of own) own.choices.unfinished_limit (skipped (kinds_of own) (is_body first.place) (concat first.unread)) ≡ b
             → (let bytes = skipped (kinds_of own) (is_body first.place) (concat first.unread) in
             Why own first (if b then excess id first bytes else next_frame side own id r (left_with first bytes) bytes) (next_frame side (plain own) id r (plain_incoming (left_with first bytes)) bytes))
         by_excess true e = by_type _ (skipped (kinds_of own) (is_body first.place) (concat first.unread)) refl e (begins_section (skipped (kinds_of own) (is_body first.place) (concat first.unread))) refl

@@ -6,10 +6,11 @@ use Rattle.std.proofs.lemmas.Bool.{cases_lt, lt-ltb, ne_eqb}
 use Rattle.h3_coding.specs.Encodings.{encoding}
 use Rattle.h3_coding.specs.Varint.{varint_at}
 use Rattle.h3_coding.specs.VarintLaws.{cases_number, none_at_end, reads_more, reads_shortest}
-use Rattle.h3_proto.specs.Config.{is_limit}
 use Rattle.h3_wire.specs.Encoded.{frame_encoding, head_encoding}
 use Rattle.h3_wire.specs.EncodedLaws.{written_headers}
-use Rattle.h3_wire.specs.ExcessiveFrames.{begins_section, is_excessive, is_of_type, says_too_much}
+use Rattle.h3_wire.specs.ExcessiveFrames.{begins_section, is_excessive_by, is_of_type}
+use Rattle.h3_wire.specs.ExcessiveLaws.{none_told}
+use Rattle.h3_wire.specs.FrameLaws.{no_update}
 use Rattle.h3_wire.specs.Frames.{frame_by}
 use Rattle.h3_wire.specs.declared.frame.kinds.FrameKinds.{FrameKinds}
 use Rattle.h3_wire.specs.declared.proto.frame.Frame.TheVariants as frame
@@ -55,26 +56,22 @@ differ : false ≡ true → ⊥
 differ h = cc
 
 -- bytes that begin as a section do say so, if they say anything that is too long
-section_begins : (most : ℕ) (section bytes more behind : List ℕ) → bytes ++ more ≡ frame_encoding 1 section ++ behind → is_excessive most bytes ≡ true → begins_section bytes ≡ true
-section_begins most section bytes more behind e long = elim (cases_number bytes) [
-  | inl none ↦ absurd (by_limit (is_limit most) (ap (λ o. is_limit most && says_too_much most o) (sym none) ∙ long))
+section_begins : (kinds : FrameKinds) (most : ℕ) (section bytes more behind : List ℕ) → bytes ++ more ≡ frame_encoding 1 section ++ behind → is_excessive_by kinds most bytes ≡ true → begins_section bytes ≡ true
+section_begins kinds most section bytes more behind e long = elim (cases_number bytes) [
+  | inl none ↦ absurd (differ (sym (none_told kinds most bytes none) ∙ long))
   | inr (k, mid, at) ↦
       let first = one_read k 1 (mid ++ more) ((encoding (length section) ++ section) ++ behind)
       (sym (reads_more k bytes mid more at) ∙ ap varint_at (e ∙ ap (λ l. l ++ behind) (append_assoc (encoding 1) (encoding (length section)) section) ∙ append_assoc (encoding 1) (encoding (length section) ++ section) behind) ∙ reads_shortest 1 ((encoding (length section) ++ section) ++ behind) (lit< tt)) in
       ap (is_of_type 1) at ∙ ap (λ x. x == 1) first.0
 ]
-  where
-    by_limit : (b : Bool) → (b && false) ≡ true → ⊥
-    by_limit true h = cc
-    by_limit false h = cc
 
 module _ (kinds : FrameKinds) (most : ℕ) (in_body : Bool) where
   -- what stands next and is too long is a section
   abbrev IsSection : List ℕ → Type 0
-  IsSection bytes = is_excessive most (skipped kinds in_body bytes) ≡ true → begins_section (skipped kinds in_body bytes) ≡ true
+  IsSection bytes = is_excessive_by kinds most (skipped kinds in_body bytes) ≡ true → begins_section (skipped kinds in_body bytes) ≡ true
 
-  section_next : (section behind bytes more : List ℕ) → length section < 2 ^ 62 → bytes ++ more ≡ frame_encoding 1 section ++ behind → is_excessive most (skipped kinds in_body bytes) ≡ true → begins_section (skipped kinds in_body bytes) ≡ true
-  section_next section behind bytes more small e long = ap begins_section all ∙ section_begins most section bytes more behind e (ap (is_excessive most) (sym all) ∙ long)
+  section_next : (section behind bytes more : List ℕ) → length section < 2 ^ 62 → bytes ++ more ≡ frame_encoding 1 section ++ behind → is_excessive_by kinds most (skipped kinds in_body bytes) ≡ true → begins_section (skipped kinds in_body bytes) ≡ true
+  section_next section behind bytes more small e long = ap begins_section all ∙ section_begins kinds most section bytes more behind e (ap (is_excessive_by kinds most) (sym all) ∙ long)
     where
       all : skipped kinds in_body bytes ≡ bytes
       all = elim (cases_lt (length bytes) (length (frame_encoding 1 section))) [
@@ -87,9 +84,9 @@ module _ (kinds : FrameKinds) (most : ℕ) (in_body : Bool) where
             skipped_whole kinds in_body bytes (frame.Headers section) rest (ap (frame_by kinds) longer.front_is ∙ written_headers kinds section rest small) refl
       ]
 
-  body_next : (body behind bytes more : List ℕ) → 0 < length body → length body < 2 ^ 62 → bytes ++ more ≡ frame_encoding 0 body ++ behind → is_excessive most (skipped kinds in_body bytes) ≡ true → begins_section (skipped kinds in_body bytes) ≡ true
+  body_next : (body behind bytes more : List ℕ) → 0 < length body → length body < 2 ^ 62 → bytes ++ more ≡ frame_encoding 0 body ++ behind → is_excessive_by kinds most (skipped kinds in_body bytes) ≡ true → begins_section (skipped kinds in_body bytes) ≡ true
   body_next body behind bytes more some small e long =
-      absurd (differ (sym (ap (is_excessive most) all ∙ head_within most 0 (length body) bytes more (body ++ behind) (lit< tt) small parts refl) ∙ long))
+      absurd (differ (sym (ap (is_excessive_by kinds most) all ∙ head_within kinds most 0 (length body) bytes more (body ++ behind) (lit< tt) small parts (ap (λ b. b && nat_lt most (length body)) (no_update kinds 0 refl))) ∙ long))
     where
       parts : bytes ++ more ≡ head_encoding 0 (length body) ++ (body ++ behind)
       parts = e ∙ append_assoc (head_encoding 0 (length body)) body behind
@@ -105,15 +102,11 @@ module _ (kinds : FrameKinds) (most : ℕ) (in_body : Bool) where
             skipped_whole kinds in_body bytes (frame.Data (record { 0 = length body })) rest (ap (frame_by kinds) longer.front_is ∙ data_front kinds (length body) rest small) (ne_eqb (length body) 0 (λ none. omega (arith, none, some)))
       ]
 
-  nothing_next : (bytes more : List ℕ) → bytes ++ more ≡ [] → is_excessive most (skipped kinds in_body bytes) ≡ true → begins_section (skipped kinds in_body bytes) ≡ true
-  nothing_next [] more e long = absurd (by_limit (is_limit most) (ap (λ o. is_limit most && says_too_much most o) (sym none_at_end) ∙ ap (is_excessive most) (sym (skipped_none kinds in_body)) ∙ long))
-    where
-      by_limit : (b : Bool) → (b && false) ≡ true → ⊥
-      by_limit true h = cc
-      by_limit false h = cc
+  nothing_next : (bytes more : List ℕ) → bytes ++ more ≡ [] → is_excessive_by kinds most (skipped kinds in_body bytes) ≡ true → begins_section (skipped kinds in_body bytes) ≡ true
+  nothing_next [] more e long = absurd (differ (sym (none_told kinds most [] none_at_end) ∙ ap (is_excessive_by kinds most) (sym (skipped_none kinds in_body)) ∙ long))
   nothing_next (byte ∷ bytes) more e long = absurd (cc)
 
-  front_next : (parts : List Part) (bytes more : List ℕ) → AllByRecursion IsFramed parts → bytes ++ more ≡ flat_map part_bytes parts → is_excessive most (skipped kinds in_body bytes) ≡ true → begins_section (skipped kinds in_body bytes) ≡ true
+  front_next : (parts : List Part) (bytes more : List ℕ) → AllByRecursion IsFramed parts → bytes ++ more ≡ flat_map part_bytes parts → is_excessive_by kinds most (skipped kinds in_body bytes) ≡ true → begins_section (skipped kinds in_body bytes) ≡ true
   front_next [] bytes more framed e = nothing_next bytes more e
   front_next (Interim s ∷ parts) bytes more framed e = section_next s.encoded (flat_map part_bytes parts) bytes more framed.0 e
   front_next (Head s ∷ parts) bytes more framed e = section_next s.encoded (flat_map part_bytes parts) bytes more framed.0 e
@@ -121,7 +114,7 @@ module _ (kinds : FrameKinds) (most : ℕ) (in_body : Bool) where
   front_next (Body body own ∷ parts) bytes more framed e = body_next body (flat_map part_bytes parts) bytes more framed.0.0 framed.0.1 e
   front_next (End ∷ parts) bytes more framed e = front_next parts bytes more framed.1 e
 
-none_left : (n : ℕ) → nat_lt 0 n ≡ false → n ≡ 0
+pub none_left : (n : ℕ) → nat_lt 0 n ≡ false → n ≡ 0
 none_left n e = elim (cases_lt 0 n) [
   | inl some ↦ absurd (let never : true ≡ false = sym (lt-ltb 0 n some) ∙ e in cc)
   | inr none ↦ omega (arith, none)
@@ -129,7 +122,7 @@ none_left n e = elim (cases_lt 0 n) [
 
 -- **What its receiver finds too long is a section.**
 pub flow_sections : (most : ℕ) (kinds : FrameKinds) (p : Party) (f : Flow) (i : Incoming) → IsSoundFlow p f → ReceivesFlow f i → i.fault ≡ None → i.section ≡ None → nat_lt 0 i.body_left ≡ false
-    → is_excessive most (skipped kinds (is_body i.place) (concat i.unread)) ≡ true → begins_section (skipped kinds (is_body i.place) (concat i.unread)) ≡ true
+    → is_excessive_by kinds most (skipped kinds (is_body i.place) (concat i.unread)) ≡ true → begins_section (skipped kinds (is_body i.place) (concat i.unread)) ≡ true
 flow_sections most kinds p f i sound receives alive none whole =
     let reads = receives.reads (sym receives.fault ∙ alive) in
     let left = drop f.delivered (flow_bytes f) in

@@ -1,83 +1,21 @@
 -- What stands of tunnels (RFC 9110, section 9.3.6; RFC 9114, section 4.4) between two strict ends, whatever the server knows: behind what may begin one
 -- no trailer is sent, and no receiver counts a tunnel where none may have begun.
 use Rattle.std.proofs.Common.{◌≡◌, ◌⊎◌, inl, inr, ℕ, ◌+◌, ◌≤◌, zero, suc, Bool, true, false, List, [], ◌∷◌, ◌++◌, length, take, refl, sym, ap, ◌∙◌, subst, Some, None}
-use Rattle.std.specs.Prelude.{◌||◌, ◌==◌, codes, slice_index, slice_get, unwrap_or, flat_map}
+use Rattle.std.specs.Prelude.{◌||◌, slice_get, unwrap_or, flat_map}
 use Rattle.std.specs.List.{list_any}
-use Rattle.h3_messages.specs.Content.{is_interim_status}
-use Rattle.h3_messages.specs.Messages.{is_connect, value_of}
-use Rattle.h3_messages.specs.declared.content.Content.{Content}
 use Rattle.h3_messages.specs.declared.content.Content.TheVariants.{Tunnel, Unanswered, Unsaid}
-use Rattle.h3_proto.specs.declared.stream.Side.{Side}
 use Rattle.h3_proto.specs.declared.stream.Side.TheVariants.{Client, Server}
-use Rattle.h3_qpack.specs.Sizes.{last_value}
 use Rattle.h3_connection.specs.Incoming.{Incoming}
-use Rattle.h3_connection.specs.Outgoing.{Outgoing, is_unsent, takes_end}
+use Rattle.h3_connection.specs.Outgoing.{Outgoing, is_unsent}
 use Rattle.h3_connection.specs.declared.place.Place.TheVariants.{BeforeHead}
-use Rattle.h3_world.specs.Flow.{Flow, Part, Section, own_part}
+use Rattle.h3_world.specs.Flow.{Flow, Part, own_part}
 use Rattle.h3_world.specs.Flow.Part.{Body, End, Head as HeadPart, Interim, Trailer}
 use Rattle.h3_headline.specs.SentPartLaws.{take_front}
 use Rattle.h3_headline.specs.Standing.{place_after}
 use Rattle.h3_strict.proofs.KeepsCounts.{HasAnswered, KeepsAt, SendsSame}
 use Rattle.h3_strict.proofs.SentLaws.{asked_more}
 use Rattle.h3_strict.specs.Tallies.{asked_in, has_head}
-
--- A response with such a status may begin a tunnel, or is an interim one.
-abbrev pub tunnels : List ℕ → Bool
-tunnels status = is_interim_status status || (slice_index status 0 == 50)
-
-abbrev pub may_begin : Section → Bool
-may_begin s = tunnels (value_of (codes ":status") s.fields) || tunnels (unwrap_or (last_value (codes ":status") s.fields) [])
-
-abbrev pub opens_tunnel : Part → Bool
-opens_tunnel (HeadPart s) = may_begin s
-opens_tunnel _ = false
-
--- a request that asks for one
-abbrev pub asks_tunnel : Part → Bool
-asks_tunnel (HeadPart s) = is_connect s.fields
-asks_tunnel _ = false
-
-abbrev pub trails : Part → Bool
-trails (Trailer s) = true
-trails _ = false
-
-abbrev pub is_tunnel : Content → Bool
-is_tunnel Tunnel = true
-is_tunnel _ = false
-
--- a tunnel, or what becomes one once it is answered
-abbrev pub may_be_tunnel : Content → Bool
-may_be_tunnel Tunnel = true
-may_be_tunnel Unanswered = true
-may_be_tunnel _ = false
-
-abbrev pub marked : Side → Content → Bool
-marked Client content = is_tunnel content
-marked Server content = may_be_tunnel content
-
--- no trailer was sent, and none will be
-pub record NoTrailer (parts : List Part) (o : Outgoing) : Type 0 where
-  pub content : takes_end o ≡ true → o.content ≡ Tunnel
-  pub none : list_any trails parts ≡ false
-
--- the request asks for something else
-pub record AsksOther (request : List Part) : Type 0 where
-  pub has : has_head request ≡ true
-  pub apart : asked_in request ≡ Tunnel → ⊥
-
--- its client awaits a tunnel, which may have begun if its head was read
-pub record AwaitsTunnel (request : List Part) (f : Flow) : Type 0 where
-  pub has : has_head request ≡ true
-  pub asked : asked_in request ≡ Tunnel
-  pub stands : (place_after (take f.parts_out f.sent) ≡ BeforeHead) ⊎ (list_any opens_tunnel f.sent ≡ true)
-
--- One exchange: what was sent of the request, the flow of its response, what both senders count, and both receivers.
-pub record TunnelAt (q : List Part) (f : Flow) (oc os : Outgoing) (is ic : Incoming) : Type 0 where
-  pub request : list_any asks_tunnel q ≡ true → NoTrailer q oc
-  pub response : list_any opens_tunnel f.sent ≡ true → AsksOther q ⊎ NoTrailer f.sent os
-  pub knows : (c : Content) → is.response ≡ Some c → (has_head q ≡ true) × (c ≡ asked_in q)
-  pub server : is.fault ≡ None → marked Server is.content ≡ true → list_any asks_tunnel q ≡ true
-  pub client : ic.fault ≡ None → marked Client ic.content ≡ true → AwaitsTunnel q f
+use Rattle.h3_strict.specs.Tunnels.{AsksOther, AwaitsTunnel, NoTrailer, TunnelAt, asks_tunnel, marked, opens_tunnel, trails}
 
 -- a part more, or none
 abbrev pub Grows : List Part → List Part → Type 0

@@ -1,6 +1,6 @@
 -- A pull at a strict end, in the world of both: it finds no fault of the connection, and leaves that tunnels stand.
 use Rattle.std.proofs.Common.{◌≡◌, ◌⊎◌, inl, inr, ℕ, ◌+◌, ◌<◌, Bool, true, false, [], ◌∷◌, ◌++◌, length, refl, sym, ap, ◌∙◌, subst, Option, Some, None, take, nat_lt, if◌then◌else◌}
-use Rattle.std.specs.Prelude.{MatchOption, is_some, option_map, unwrap_or, ◌==◌}
+use Rattle.std.specs.Prelude.{MatchOption, is_some, unwrap_or, ◌==◌}
 use Rattle.std.specs.List.{AllByRecursion, list_any}
 use Rattle.h3_field.specs.Instruction.DecoderInstruction.{CancelStream}
 use Rattle.h3_messages.specs.Content.{takes_trailer}
@@ -8,7 +8,6 @@ use Rattle.h3_messages.specs.declared.content.Content.{Content}
 use Rattle.h3_proto.specs.StreamIds.{index_of}
 use Rattle.h3_proto.specs.declared.stream.Side.{Side}
 use Rattle.h3_proto.specs.declared.stream.Side.TheVariants.{Client, Server}
-use Rattle.h3_connection.specs.Announcing.{section_of}
 use Rattle.h3_qpack.specs.DecoderState.{DecoderState}
 use Rattle.h3_connection.specs.Delivering.{incoming_at, with_incoming}
 use Rattle.h3_connection.specs.Endpoint.{EndpointHistory, Kind, heads_waiting, kind_of, replied}
@@ -42,44 +41,37 @@ use Rattle.h3_world.specs.Order.{is_over, next_part}
 use Rattle.h3_world.specs.Pauses.{paused}
 use Rattle.h3_world.specs.Pulling.{Pulls, PullsNext, settled}
 use Rattle.h3_world.specs.Sending.{given_up}
-use Rattle.h3_world.specs.Setup.{IsMadeSetup, announced_at, takes_any}
+use Rattle.h3_world.specs.Setup.{announced_at, takes_any}
 use Rattle.h3_world.specs.Sound.{IsSoundFlow}
 use Rattle.h3_world.specs.Streams.{flow, is_open}
 use Rattle.h3_world.specs.World.{Party, World, party, with_party}
 use Rattle.h3_world.specs.declared.event.Answer.TheVariants as answer
 use Rattle.h3_world.specs.declared.setup.Setup.{Setup}
-use Rattle.h3_headline.specs.Cited.{Laws, ListsAreTheirValue}
-use Rattle.h3_headline.specs.ComingLaws.{incoming_none, incoming_there, kind_is, sound_flow}
+use Rattle.h3_headline.specs.ComingLaws.{kind_is, sound_flow}
 use Rattle.h3_headline.specs.Contents.{KeepsParts}
-use Rattle.h3_headline.specs.DecodesLaws.{next_readable}
 use Rattle.h3_headline.specs.FlowLaws.{flow-with_party, open_there, there-with_party}
 use Rattle.h3_headline.specs.KeepsPartsLaws.{flow_at, keeps_same}
 use Rattle.h3_headline.specs.Messages.{is_on}
 use Rattle.h3_headline.specs.PullLaws.{item_leaves, none_settled}
-use Rattle.h3_headline.specs.PulledStreamLaws.{stream_comes}
-use Rattle.h3_headline.specs.Pulling.{ComesTo, DecodesNext}
-use Rattle.h3_headline.specs.SendingLaws.{both_of, flow_count}
-use Rattle.h3_headline.specs.SessionDecoderLaws.{endpoint_decodes, insertions_read}
+use Rattle.h3_headline.specs.SendingLaws.{flow_count}
 use Rattle.h3_headline.specs.SettledLaws.{settled_alive, settled_none}
-use Rattle.h3_headline.specs.Standing.{IsReadableBy, ReceivesFlow, Stands, StandsAt, place_after}
+use Rattle.h3_headline.specs.Standing.{IsReadableBy, place_after}
 use Rattle.h3_headline.specs.Steps.{IsThere}
 use Rattle.h3_headline.specs.WritingLaws.{party_count}
 use Rattle.h3_strict.proofs.KeepsCounts.{KeepsBut, SameCounts, no_stream, not_itself, same_counts, same_streams, streams_keep}
-use Rattle.h3_strict.proofs.PlainSetups.{judges_plainly, same_protocols}
-use Rattle.h3_strict.proofs.PlainStreams.{at_each}
 use Rattle.h3_strict.proofs.PullEvents.{given_up_again, over_again}
 use Rattle.h3_strict.proofs.PulledTallies.{answer_is, answer_streams, pulled_in, pulled_keeps, pulled_out}
 use Rattle.h3_strict.proofs.TunnelQuiet.{keeps_one, only_at}
-use Rattle.h3_strict.proofs.SentTallies.{side_of, stands_at}
 use Rattle.h3_strict.proofs.TunnelFaults.{ends_all}
-use Rattle.h3_strict.proofs.TunnelHeads.{is_item}
-use Rattle.h3_strict.proofs.TunnelParts.{AsksOther, AwaitsTunnel, NoTrailer, TunnelAt, asks_tunnel, marked, opens_tunnel, trails, tunnel_same}
-use Rattle.h3_strict.proofs.TunnelSends.{Tunnels, TunnelsStand, by_id, itself, quiet_tunnels}
-use Rattle.h3_strict.proofs.TunnelStreams.{Moved, clash, client_left, in_front, no_fault, no_trailer_marked, server_left}
+use Rattle.h3_strict.proofs.BehindPulls.{is_item}
+use Rattle.h3_strict.proofs.TunnelParts.{tunnel_same}
+use Rattle.h3_strict.proofs.TunnelSends.{by_id, itself, quiet_tunnels}
+use Rattle.h3_strict.proofs.TunnelSees.{SeenStream, Sees}
+use Rattle.h3_strict.proofs.TunnelStreams.{Along, Moved, clash, client_left, in_front, no_fault, no_trailer_marked, server_left}
 use Rattle.h3_strict.specs.GivesUp.{AtOnce, BehindPart, GivesMessageUp, GivesUp}
-use Rattle.h3_strict.specs.PlainEnds.{plain_ends, plain_setup}
+use Rattle.h3_strict.specs.PlainEnds.{plain_setup}
 use Rattle.h3_strict.specs.Tallies.{asked_in, has_head}
-use Rattle.h3_strict.specs.Plainly.{plain, plain_incoming, plainly}
+use Rattle.h3_strict.specs.Tunnels.{AsksOther, AwaitsTunnel, NoTrailer, TunnelAt, Tunnels, TunnelsStand, asks_tunnel, marked, opens_tunnel, trails}
 
 -- What a pull leaves of the flows: the one that is pulled moves, and the others are the same.
 pub record PullMoves (w v : World) (side : Side) (id : ℕ) (a : Pull) : Type 0 where
@@ -168,10 +160,6 @@ next_moves setup w v side id a there step = by_answer a step
     by_answer (pull.Fault x) step = absurd step
     by_answer pull.NoMessages step = absurd step
 
-plain_at : (setup : Setup) (side : Side) → announced_at (plain_setup setup) side ≡ plain (announced_at setup side)
-plain_at setup Client = refl
-plain_at setup Server = refl
-
 end_set : (ends : Ends) (side : Side) (e : EndpointHistory) → end_at (with_end ends side e) side ≡ e
 end_set ends Client e = refl
 end_set ends Server e = refl
@@ -257,123 +245,65 @@ none_of : (o : Option StreamFault) → is_some o ≡ false → o ≡ None
 none_of None h = refl
 none_of (Some why) h = absurd (cc)
 
--- what an end receives, as it stands in the world
-receives_at : (setup : Setup) (w : World) (ends : Ends) → Stands (plain_setup setup) w (plain_ends ends) → (side : Side) (id : ℕ) (i : Incoming) → stream_at (end_at ends side).incoming id ≡ Some i
-    → (is_open w side id ≡ true) × ReceivesFlow (flow w (other side) id) (plain_incoming i)
-receives_at setup w ends h side id i here = by_open (is_open w side id) refl
-  where
-    at : StandsAt (plain_setup setup) w side (plainly (end_at ends side))
-    at = stands_at setup w ends side h
-
-    plain_is : stream_at (plainly (end_at ends side)).incoming id ≡ Some (plain_incoming i)
-    plain_is = at_each plain_incoming (end_at ends side).incoming id ∙ ap (option_map plain_incoming) here
-
-    by_open : (b : Bool) → is_open w side id ≡ b → (is_open w side id ≡ true) × ReceivesFlow (flow w (other side) id) (plain_incoming i)
-    by_open false k = absurd (let never : None ≡ Some (plain_incoming i) = sym (incoming_none (plain_setup setup) w side id (plainly (end_at ends side)) at k) ∙ plain_is in cc)
-    by_open true k =
-        let there = incoming_there (plain_setup setup) w side id (plainly (end_at ends side)) at k in
-        (k, subst (ReceivesFlow (flow w (other side) id)) (ap (λ o. unwrap_or o nothing_came) (sym there.1 ∙ plain_is)) there.2)
-
--- the stream of an open one
-stream_there : (setup : Setup) (w : World) (ends : Ends) → Stands (plain_setup setup) w (plain_ends ends) → (side : Side) (id : ℕ) → is_open w side id ≡ true → (i : Incoming) × (stream_at (end_at ends side).incoming id ≡ Some i)
-stream_there setup w ends h side id opened = by_stream (stream_at (end_at ends side).incoming id) refl
-  where
-    by_stream : (o : Option Incoming) → stream_at (end_at ends side).incoming id ≡ o → (i : Incoming) × (stream_at (end_at ends side).incoming id ≡ Some i)
-    by_stream (Some i) is = (i, is)
-    by_stream None is =
-        let there = incoming_there (plain_setup setup) w side id (plainly (end_at ends side)) (stands_at setup w ends side h) opened in
-        absurd (let never : None ≡ Some there.0 = sym (at_each plain_incoming (end_at ends side).incoming id ∙ ap (option_map plain_incoming) is) ∙ there.1 in cc)
-
 -- What is left of the receiver of the side.
-abbrev LeftAt : Side → World → World → ℕ → Incoming → Type 0
+abbrev pub LeftAt : Side → World → World → ℕ → Incoming → Type 0
 LeftAt Client w v id j = j.fault ≡ None → marked Client j.content ≡ true → AwaitsTunnel (flow w Client id).sent (flow v Server id)
 LeftAt Server w v id j =
     (j.fault ≡ None → marked Server j.content ≡ true → list_any asks_tunnel (flow w Client id).sent ≡ true) × ((c : Content) → j.response ≡ Some c → (has_head (flow w Client id).sent ≡ true) × (c ≡ asked_in (flow w Client id).sent))
 
-changes_at : (side : Side) (w v : World) (ends : Ends) (x : EndpointHistory) (id : ℕ) (j : Incoming) → Changes (end_at ends side) x id j → ((writer : Side) (k : ℕ) → is_on writer k (other side) id ≡ false → flow v writer k ≡ flow w writer k)
+pub changes_at : (side : Side) (w v : World) (ends : Ends) (x : EndpointHistory) (id : ℕ) (j : Incoming) → Changes (end_at ends side) x id j → ((writer : Side) (k : ℕ) → is_on writer k (other side) id ≡ false → flow v writer k ≡ flow w writer k)
     → (flow v (other side) id).sent ≡ (flow w (other side) id).sent → LeftAt side w v id j → Tunnels w ends → Tunnels v (with_end ends side x)
 changes_at Client w v ends x id j c others sent left t = client_changes w v ends x id j c others sent left t
 changes_at Server w v ends x id j c others sent left t = server_changes w v ends x id j c others sent left.0 left.1 t
 
-left_by : (lists : ListsAreTheirValue) (w v : World) (ends : Ends) (side : Side) (own : Announced) (id : ℕ) (r : DecoderState) → own.choices.strict_messages ≡ true → (came : ℕ) (p : Party) (i : Incoming) → IsSoundFlow p (flow w (other side) id)
-    → ReceivesFlow (flow w (other side) id) (plain_incoming i) → (flow w (other side) id).fault ≡ None → is_over (flow w (other side) id) ≡ false → DecodesNext lists side own id r came (next_part (flow w (other side) id))
-    → AllByRecursion (IsReadableBy (takes_any own) side) (flow w (other side) id).sent → Tunnels w ends → incoming_at (end_at ends side) id ≡ i
+left_by : (w v : World) (ends : Ends) (side : Side) (own : Announced) (id : ℕ) (r : DecoderState) → own.choices.strict_messages ≡ true → (came : ℕ) (p : Party) (i : Incoming) → IsSoundFlow p (flow w (other side) id)
+    → Along side own id r came (flow w (other side) id) i → AllByRecursion (IsReadableBy (takes_any own) side) (flow w (other side) id).sent → Tunnels w ends → incoming_at (end_at ends side) id ≡ i
     → PullWorld w v side id (pull_stream side own id r i).answer (pull_stream side own id r i).incoming.fault → LeftAt side w v id (pull_stream side own id r i).incoming
-left_by lists w v ends Client own id r strict came p i sound same alive more decodes readable t here (GoesNext m) =
-    client_left lists own id r strict came p (flow w Server id) i sound same alive more (flow w Client id).sent (flow v Server id) decodes readable
+left_by w v ends Client own id r strict came p i sound along readable t here (GoesNext m) =
+    client_left own id r strict came p (flow w Server id) i sound (flow w Client id).sent (flow v Server id) along
     (λ lives mark. (t id).client (ap (λ (x : Incoming). x.fault) here ∙ lives) (ap (λ (x : Incoming). marked Client x.content) here ∙ mark)) m.moved
-left_by lists w v ends Client own id r strict came p i sound same alive more decodes readable t here (IsGone lost others sent) = λ lives. absurd (lost lives)
-left_by lists w v ends Server own id r strict came p i sound same alive more decodes readable t here world =
-    server_left lists own id r strict came p (flow w Client id) i sound same alive more decodes readable
+left_by w v ends Client own id r strict came p i sound along readable t here (IsGone lost others sent) = λ lives. absurd (lost lives)
+left_by w v ends Server own id r strict came p i sound along readable t here world =
+    server_left own id r strict came p (flow w Client id) i sound along readable
     (λ lives mark. (t id).server (ap (λ (x : Incoming). x.fault) here ∙ lives) (ap (λ (x : Incoming). marked Server x.content) here ∙ mark)) (λ c is. (t id).knows c (ap (λ (x : Incoming). x.response) here ∙ is))
 
-module _ (laws : Laws) (setup : Setup) (made : IsMadeSetup (plain_setup setup)) (w : World) (ends : Ends) (h : Stands (plain_setup setup) w (plain_ends ends)) (told : (side : Side) → (end_at ends side).announced ≡ announced_at setup side)
-    (side : Side) (id : ℕ) where
-  abbrev ps : Setup
-  ps = plain_setup setup
-
+module _ (setup : Setup) (w : World) (ends : Ends) (sees : Sees setup w ends) (told : (side : Side) → (end_at ends side).announced ≡ announced_at setup side) (side : Side) (id : ℕ) where
   abbrev e : EndpointHistory
   e = end_at ends side
 
-  abbrev f : Flow
-  f = flow w (other side) id
-
-  at : StandsAt (plain_setup setup) w side (plainly (end_at ends side))
-  at = stands_at setup w ends side h
-
-  pub pulls_so : pulls (end_at ends side) id ≡ pull_at (end_at ends side) id (kind_of (end_at ends side).side id)
-  pulls_so = ap (λ k. pulls_behind k (end_at ends side) id) at.nothing_kept ∙ ap (λ c. pull_unless c (end_at ends side) (pull_at (end_at ends side) id (kind_of (end_at ends side).side id))) at.no_fault
+  pub pulls_so : (end_at ends side).kept ≡ [] → pulls (end_at ends side) id ≡ pull_at (end_at ends side) id (kind_of (end_at ends side).side id)
+  pulls_so nothing_kept =
+      ap (λ k. pulls_behind k (end_at ends side) id) nothing_kept ∙ ap (λ c. pull_unless c (end_at ends side) (pull_at (end_at ends side) id (kind_of (end_at ends side).side id))) (sees.closed side)
 
   -- the stream that is pulled
   module _ (i : Incoming) (here : stream_at (end_at ends side).incoming id ≡ Some i) where
     abbrev p : Pulled
     p = pull_stream (end_at ends side).side (end_at ends side).announced id (end_at ends side).decoding.decoder i
 
-    in_here : incoming_at (end_at ends side) id ≡ i
-    in_here = ap (λ o. unwrap_or o nothing_came) here
+    seen : SeenStream setup w side id (end_at ends side).decoding.decoder i
+    seen = sees.streams side id i here
 
-    receives : (is_open w side id ≡ true) × ReceivesFlow (flow w (other side) id) (plain_incoming i)
-    receives = receives_at setup w ends h side id i here
-
-    pub pulls_here : pulls (end_at ends side) id ≡ pulled (end_at ends side) id (if_too_many (nat_lt e.announced.limits.blocked (heads_waiting e.decoding.decoder (set_stream e.incoming id p.incoming))) p)
-    pulls_here = pulls_so ∙ ap (pull_at (end_at ends side) id) (kind_is (end_at ends side).side id (open_there w side id receives.0).request) ∙ ap (pull_request (end_at ends side) id) here
+    pub pulls_here : (end_at ends side).kept ≡ [] → pulls (end_at ends side) id ≡ pulled (end_at ends side) id (if_too_many (nat_lt e.announced.limits.blocked (heads_waiting e.decoding.decoder (set_stream e.incoming id p.incoming))) p)
+    pulls_here nothing_kept = pulls_so nothing_kept ∙ ap (pull_at (end_at ends side) id) (kind_is (end_at ends side).side id (open_there w side id seen.opened).request) ∙ ap (pull_request (end_at ends side) id) here
 
     -- as it reads by what its side announced
     p_is : p ≡ pull_stream side (announced_at setup side) id (end_at ends side).decoding.decoder i
-    p_is = ap (λ s. pull_stream s (end_at ends side).announced id (end_at ends side).decoding.decoder i) (side_of setup w ends side h) ∙ ap (λ a. pull_stream side a id (end_at ends side).decoding.decoder i) (told side)
+    p_is = ap (λ s. pull_stream s (end_at ends side).announced id (end_at ends side).decoding.decoder i) (sees.side_is side) ∙ ap (λ a. pull_stream side a id (end_at ends side).decoding.decoder i) (told side)
 
     -- **It finds no fault of the connection.**
     fault_of : (i.fault ≡ None → takes_trailer i.content ≡ false → place_after (take (flow w (other side) id).parts_out (flow w (other side) id).sent) ≡ InBody → list_any trails (flow w (other side) id).sent ≡ true → ⊥)
         → (o : Option StreamFault) → (flow w (other side) id).fault ≡ o → (b : Bool) → is_over (flow w (other side) id) ≡ b → ends_all p.answer ≡ false
-    fault_of free (Some why) gone b over = ap (λ (x : Pulled). ends_all x.answer) (given_up_again (end_at ends side).side (end_at ends side).announced id (end_at ends side) i why (receives.1.fault ∙ gone))
-    fault_of free None alive true over = ap (λ (x : Pulled). ends_all x.answer) (over_again (end_at ends side).side (end_at ends side).announced id (end_at ends side) i (receives.1.fault ∙ alive) (receives.1.is_over ∙ over))
+    fault_of free (Some why) gone b over = ap (λ (x : Pulled). ends_all x.answer) (given_up_again (end_at ends side).side (end_at ends side).announced id (end_at ends side) i why (seen.lost ∙ gone))
+    fault_of free None alive true over = ap (λ (x : Pulled). ends_all x.answer) (over_again (end_at ends side).side (end_at ends side).announced id (end_at ends side) i (seen.lost ∙ alive) (seen.over ∙ over))
     fault_of free None alive false over =
         ap (λ (x : Pulled). ends_all x.answer) p_is
-        ∙ no_fault laws.lists side (announced_at setup side) id (end_at ends side).decoding.decoder (insertions_came (party w (other side))) (party w (other side)) (flow w (other side) id) i
-        sound receives.1 alive over (section_of (announced_at (plain_setup setup) side)) comes (free (receives.1.fault ∙ alive))
-      where
-        sound : IsSoundFlow (party w (other side)) (flow w (other side) id)
-        sound = sound_flow (plain_setup setup) w (other side) id h.sound (open_there w side id receives.0)
-
-        comes : ComesTo (section_of (announced_at (plain_setup setup) side)) id (flow w (other side) id) (insertions_came (party w (other side))) (next_part (flow w (other side) id))
-            (pull_stream side (plain (announced_at setup side)) id (end_at ends side).decoding.decoder (plain_incoming i))
-        comes =
-            let b = both_of (plain_setup setup) w side (plain_ends ends) h in
-            subst (λ a. ComesTo (section_of (announced_at (plain_setup setup) side)) id (flow w (other side) id) (insertions_came (party w (other side))) (next_part (flow w (other side) id)) (pull_stream side a id (end_at ends side).decoding.decoder (plain_incoming i)))
-            (plain_at setup side)
-            (stream_comes laws.lists side (announced_at (plain_setup setup) side) id (end_at ends side).decoding.decoder (insertions_came (party w (other side))) (judges_plainly setup side) (party w (other side)) (flow w (other side) id) (plain_incoming i)
-            sound receives.1 alive over (insertions_read (plain_setup setup) w side (plainly (end_at ends side)) at)
-            (endpoint_decodes laws.streams laws.lists (plain_setup setup) w side id (plainly (end_at ends side)) made at h.sound receives.0 alive)
-            (next_readable laws.lists side (announced_at (plain_setup setup) side) id (insertions_came (party w (other side))) (end_at ends side).decoding.decoder (flow w (other side) id) (b.sends_there id)))
+        ∙ no_fault side (announced_at setup side) id (end_at ends side).decoding.decoder (insertions_came (party w (other side))) (party w (other side)) (flow w (other side) id) i
+        (sound_flow (plain_setup setup) w (other side) id sees.sound (open_there w side id seen.opened)) (seen.along alive over) (free (seen.lost ∙ alive))
 
     pub safe_where : (i.fault ≡ None → takes_trailer i.content ≡ false → place_after (take (flow w (other side) id).parts_out (flow w (other side) id).sent) ≡ InBody → list_any trails (flow w (other side) id).sent ≡ true → ⊥) → ends_all p.answer ≡ false
     safe_where free = fault_of free (flow w (other side) id).fault refl (is_over (flow w (other side) id)) refl
 
-module _ (laws : Laws) (setup : Setup) (made : IsMadeSetup (plain_setup setup)) (strict : (side : Side) → (announced_at setup side).choices.strict_messages ≡ true) (w : World) (ends : Ends) (h : Stands (plain_setup setup) w (plain_ends ends))
-    (t : TunnelsStand setup w ends) (side : Side) (id : ℕ) where
-  at_end : StandsAt (plain_setup setup) w side (plainly (end_at ends side))
-  at_end = stands_at setup w ends side h
-
+module _ (setup : Setup) (strict : (side : Side) → (announced_at setup side).choices.strict_messages ≡ true) (w : World) (ends : Ends) (sees : Sees setup w ends) (t : TunnelsStand setup w ends) (side : Side) (id : ℕ) where
   abbrev end_here : EndpointHistory
   end_here = end_at ends side
 
@@ -382,14 +312,14 @@ module _ (laws : Laws) (setup : Setup) (made : IsMadeSetup (plain_setup setup)) 
     abbrev x : Pulled
     x = pull_stream (end_at ends side).side (end_at ends side).announced id (end_at ends side).decoding.decoder i
 
-    there : (is_open w side id ≡ true) × ReceivesFlow (flow w (other side) id) (plain_incoming i)
-    there = receives_at setup w ends h side id i here
+    there : SeenStream setup w side id (end_at ends side).decoding.decoder i
+    there = sees.streams side id i here
 
     x_is : x ≡ pull_stream side (announced_at setup side) id (end_at ends side).decoding.decoder i
-    x_is = p_is laws setup made w ends h t.announced side id i here
+    x_is = p_is setup w ends sees t.announced side id i here
 
     pub safe : ends_all x.answer ≡ false
-    safe = safe_where laws setup made w ends h t.announced side id i here (tunnel_free w ends side id i (t.tunnels id) (ap (λ o. unwrap_or o nothing_came) here))
+    safe = safe_where setup w ends sees t.announced side id i here (tunnel_free w ends side id i (t.tunnels id) (ap (λ o. unwrap_or o nothing_came) here))
 
     changes : Changes (end_at ends side) (pulled (end_at ends side) id x).1 id x.incoming
     changes = record {
@@ -403,10 +333,8 @@ module _ (laws : Laws) (setup : Setup) (made : IsMadeSetup (plain_setup setup)) 
     stands_behind alive more v world = record {
       tunnels = changes_at side w v ends (pulled (end_at ends side) id x).1 id x.incoming changes (others_of world) (sent_of world)
           (subst (λ (y : Pulled). LeftAt side w v id y.incoming) (sym x_is)
-          (left_by laws.lists w v ends side (announced_at setup side) id (end_at ends side).decoding.decoder (strict side) (insertions_came (party w (other side))) (party w (other side)) i
-          (sound_flow (plain_setup setup) w (other side) id h.sound (open_there w side id there.0)) there.1 alive more
-          (endpoint_decodes laws.streams laws.lists (plain_setup setup) w side id (plainly (end_at ends side)) made at_end h.sound there.0 alive)
-          (subst (λ any. AllByRecursion (IsReadableBy any side) (flow w (other side) id).sent) (same_protocols setup side) ((both_of (plain_setup setup) w side (plain_ends ends) h).sends_there id)) t.tunnels (ap (λ o. unwrap_or o nothing_came) here)
+          (left_by w v ends side (announced_at setup side) id (end_at ends side).decoding.decoder (strict side) (insertions_came (party w (other side))) (party w (other side)) i
+          (sound_flow (plain_setup setup) w (other side) id sees.sound (open_there w side id there.opened)) (there.along alive more) (sees.readable side id) t.tunnels (ap (λ o. unwrap_or o nothing_came) here)
           (subst (λ (y : Pulled). PullWorld w v side id y.answer y.incoming.fault) x_is world))) t.tunnels;
       announced = announced side refl;
     }
@@ -450,15 +378,15 @@ module _ (laws : Laws) (setup : Setup) (made : IsMadeSetup (plain_setup setup)) 
   many_keeps true i p is = subst (λ j. SameCounts j (record p.incoming { waits_for = 0 })) is (record { fault = refl; content = refl; left = refl; response = refl })
   many_keeps false i p is = subst (SameCounts i) (sym is) (same_counts i)
 
-  settled_keeps : (x : Pull) → settled w side id ≡ Some x → KeepsBut no_stream (end_at ends side) (pulls (end_at ends side) id).1
-  settled_keeps x is = by_stream (stream_at (end_at ends side).incoming id) refl
+  settled_keeps : (end_at ends side).kept ≡ [] → (x : Pull) → settled w side id ≡ Some x → KeepsBut no_stream (end_at ends side) (pulls (end_at ends side) id).1
+  settled_keeps nothing_kept x is = by_stream (stream_at (end_at ends side).incoming id) refl
     where
       by_stream : (o : Option Incoming) → stream_at (end_at ends side).incoming id ≡ o → KeepsBut no_stream (end_at ends side) (pulls (end_at ends side) id).1
       by_stream None none =
-          subst (λ (z : Pull × EndpointHistory). KeepsBut no_stream (end_at ends side) z.1) (sym (pulls_so laws setup made w ends h t.announced side id))
+          subst (λ (z : Pull × EndpointHistory). KeepsBut no_stream (end_at ends side) z.1) (sym (pulls_so setup w ends sees t.announced side id nothing_kept))
           (other_streams (kind_of (end_at ends side).side id) (λ i request here. absurd (let never : None ≡ Some i = sym none ∙ here in cc)))
       by_stream (Some i) here =
-          subst (λ (z : Pull × EndpointHistory). KeepsBut no_stream (end_at ends side) z.1) (sym (pulls_here laws setup made w ends h t.announced side id i here))
+          subst (λ (z : Pull × EndpointHistory). KeepsBut no_stream (end_at ends side) z.1) (sym (pulls_here setup w ends sees t.announced side id i here nothing_kept))
           (pulled_keeps (end_at ends side) id (if_too_many many given) (subst (λ j. SameCounts j (if_too_many many given).incoming) (sym (ap (λ o. unwrap_or o nothing_came) here)) (many_keeps many i given (left (flow w (other side) id).fault refl (is_over (flow w (other side) id)) refl))))
         where
           given : Pulled
@@ -468,21 +396,21 @@ module _ (laws : Laws) (setup : Setup) (made : IsMadeSetup (plain_setup setup)) 
           many = nat_lt end_here.announced.limits.blocked (heads_waiting end_here.decoding.decoder (set_stream end_here.incoming id (pull_stream (end_at ends side).side (end_at ends side).announced id (end_at ends side).decoding.decoder i).incoming))
 
           left : (o : Option StreamFault) → (flow w (other side) id).fault ≡ o → (b : Bool) → is_over (flow w (other side) id) ≡ b → given.incoming ≡ i
-          left (Some why) gone b over = ap (λ (y : Pulled). y.incoming) (given_up_again (end_at ends side).side (end_at ends side).announced id (end_at ends side) i why ((receives_at setup w ends h side id i here).1.fault ∙ gone))
-          left None alive true over = ap (λ (y : Pulled). y.incoming) (over_again (end_at ends side).side (end_at ends side).announced id (end_at ends side) i ((receives_at setup w ends h side id i here).1.fault ∙ alive) ((receives_at setup w ends h side id i here).1.is_over ∙ over))
-          left None alive false over = absurd (let never : None ≡ Some x = sym (none_settled w side id (receives_at setup w ends h side id i here).0 alive over) ∙ is in cc)
+          left (Some why) gone b over = ap (λ (y : Pulled). y.incoming) (given_up_again (end_at ends side).side (end_at ends side).announced id (end_at ends side) i why ((sees.streams side id i here).lost ∙ gone))
+          left None alive true over = ap (λ (y : Pulled). y.incoming) (over_again (end_at ends side).side (end_at ends side).announced id (end_at ends side) i ((sees.streams side id i here).lost ∙ alive) ((sees.streams side id i here).over ∙ over))
+          left None alive false over = absurd (let never : None ≡ Some x = sym (none_settled w side id (sees.streams side id i here).opened alive over) ∙ is in cc)
 
-  settled_stands : (v : World) (x : Pull) → settled w side id ≡ Some x → v ≡ w → TunnelsStand setup v (with_end ends side (pulls (end_at ends side) id).1)
-  settled_stands v x is same =
-      quiet_tunnels setup w v ends (with_end ends side (pulls (end_at ends side) id).1) (only_at side no_stream) (subst (KeepsParts w) (sym same) (keeps_same w)) (keeps_one side no_stream ends (pulls (end_at ends side) id).1 (settled_keeps x is)) t
+  settled_stands : (end_at ends side).kept ≡ [] → (v : World) (x : Pull) → settled w side id ≡ Some x → v ≡ w → TunnelsStand setup v (with_end ends side (pulls (end_at ends side) id).1)
+  settled_stands nothing_kept v x is same =
+      quiet_tunnels setup w v ends (with_end ends side (pulls (end_at ends side) id).1) (only_at side no_stream) (subst (KeepsParts w) (sym same) (keeps_same w)) (keeps_one side no_stream ends (pulls (end_at ends side) id).1 (settled_keeps nothing_kept x is)) t
 
   -- **A pull.**
-  pub pull_tunnels : (v : World) (a : Pull) → is_item a ≡ is_item (pulls (end_at ends side) id).0 → Pulls (plain_setup setup) w side id a v ⊎ GivesMessageUp setup w side id a v → is_connection_fault (answer.Pulled (pulls (end_at ends side) id).0) ≡ false
-      → Stands (plain_setup setup) v (plain_ends (with_end ends side (pulls (end_at ends side) id).1)) → TunnelsStand setup v (with_end ends side (pulls (end_at ends side) id).1)
-  pull_tunnels v a same_item world faultless g = by_settled (settled w side id) refl world
+  pub pull_tunnels : (end_at ends side).kept ≡ [] → (v : World) (a : Pull) → is_item a ≡ is_item (pulls (end_at ends side) id).0 → Pulls (plain_setup setup) w side id a v ⊎ GivesMessageUp setup w side id a v → is_connection_fault (answer.Pulled (pulls (end_at ends side) id).0) ≡ false
+      → Sees setup v (with_end ends side (pulls (end_at ends side) id).1) → TunnelsStand setup v (with_end ends side (pulls (end_at ends side) id).1)
+  pull_tunnels nothing_kept v a same_item world faultless g = by_settled (settled w side id) refl world
     where
       by_settled : (o : Option Pull) → settled w side id ≡ o → Pulls (plain_setup setup) w side id a v ⊎ GivesMessageUp setup w side id a v → TunnelsStand setup v (with_end ends side (pulls (end_at ends side) id).1)
-      by_settled (Some x) is (inl step) = settled_stands v x is (subst (λ o. MatchOption o (PullsNext (plain_setup setup) w side id a v) (λ y. (a ≡ y) × (v ≡ w))) is step).1
+      by_settled (Some x) is (inl step) = settled_stands nothing_kept v x is (subst (λ o. MatchOption o (PullsNext (plain_setup setup) w side id a v) (λ y. (a ≡ y) × (v ≡ w))) is step).1
       by_settled (Some x) is (inr m) = absurd (let never : None ≡ Some x = sym m.unsettled ∙ is in cc)
       by_settled None is step = goes (settled_none w side id is).is_there (none_of (flow w (other side) id).fault (settled_alive w side id is)) (settled_none w side id is).not_over step
         where
@@ -491,7 +419,7 @@ module _ (laws : Laws) (setup : Setup) (made : IsMadeSetup (plain_setup setup)) 
           goes opened alive more step = by_many many refl
             where
               stream : (i : Incoming) × (stream_at (end_at ends side).incoming id ≡ Some i)
-              stream = stream_there setup w ends h side id opened
+              stream = sees.there side id opened
 
               given : Pulled
               given = pull_stream (end_at ends side).side (end_at ends side).announced id (end_at ends side).decoding.decoder stream.0
@@ -501,11 +429,11 @@ module _ (laws : Laws) (setup : Setup) (made : IsMadeSetup (plain_setup setup)) 
 
               by_many : (b : Bool) → many ≡ b → TunnelsStand setup v (with_end ends side (pulls (end_at ends side) id).1)
               by_many true k =
-                  absurd (let never : true ≡ false = sym (ap (λ (z : Pull × EndpointHistory). is_connection_fault (answer.Pulled z.0)) (pulls_here laws setup made w ends h t.announced side id stream.0 stream.1 ∙ ap (λ b. pulled (end_at ends side) id (if_too_many b given)) k)) ∙ faultless in cc)
+                  absurd (let never : true ≡ false = sym (ap (λ (z : Pull × EndpointHistory). is_connection_fault (answer.Pulled z.0)) (pulls_here setup w ends sees t.announced side id stream.0 stream.1 nothing_kept ∙ ap (λ b. pulled (end_at ends side) id (if_too_many b given)) k)) ∙ faultless in cc)
               by_many false k = subst (λ (z : Pull × EndpointHistory). TunnelsStand setup v (with_end ends side z.1)) (sym is_pulled) (stands_behind stream.0 stream.1 alive more v (by_world step))
                 where
                   is_pulled : pulls (end_at ends side) id ≡ pulled (end_at ends side) id given
-                  is_pulled = pulls_here laws setup made w ends h t.announced side id stream.0 stream.1 ∙ ap (λ b. pulled (end_at ends side) id (if_too_many b given)) k
+                  is_pulled = pulls_here setup w ends sees t.announced side id stream.0 stream.1 nothing_kept ∙ ap (λ b. pulled (end_at ends side) id (if_too_many b given)) k
 
                   told : is_item a ≡ is_item given.answer
                   told = same_item ∙ ap (λ (z : Pull × EndpointHistory). is_item z.0) is_pulled ∙ ap is_item (answer_is given.answer _)
@@ -517,8 +445,8 @@ module _ (laws : Laws) (setup : Setup) (made : IsMadeSetup (plain_setup setup)) 
                   by_world (inr up) =
                       let m = gives_moves (plain_setup setup) w v side id up.why (open_there w side id opened) up.gives in
                       let now = (pulled (end_at ends side) id given).1 in
-                      let g_at = subst (λ (z : Pull × EndpointHistory). Stands (plain_setup setup) v (plain_ends (with_end ends side z.1))) is_pulled g in
+                      let g_at = subst (λ (z : Pull × EndpointHistory). Sees setup v (with_end ends side z.1)) is_pulled g in
                       let there : stream_at (end_at (with_end ends side now) side).incoming id ≡ Some given.incoming =
                       ap (λ (z : EndpointHistory). stream_at z.incoming id) (end_set ends side now) ∙ ap (λ l. stream_at l id) (answer_streams given.answer (replied (with_incoming (end_at ends side) id given.incoming) given.replies)).0 ∙ set-here (end_at ends side).incoming id given.incoming in
-                      let r = receives_at setup v (with_end ends side now) g_at side id given.incoming there in
-                      IsGone (λ none. let never : Some (Malformed up.why) ≡ None = sym m.2 ∙ sym r.1.fault ∙ none in cc) m.0 m.1
+                      let r = g_at.streams side id given.incoming there in
+                      IsGone (λ none. let never : Some (Malformed up.why) ≡ None = sym m.2 ∙ sym r.lost ∙ none in cc) m.0 m.1

@@ -15,7 +15,7 @@ use Rattle.h3_proto.specs.declared.stream.Side.TheVariants.{Client, Server}
 use Rattle.h3_qpack.specs.DecodedSection.{BadSection, DecodedSection, Fields, Missing, decode_section}
 use Rattle.h3_qpack.specs.DecoderState.{DecoderState}
 use Rattle.h3_qpack.specs.Sizes.{last_value, told_size}
-use Rattle.h3_wire.specs.ExcessiveFrames.{begins_section, is_excessive}
+use Rattle.h3_wire.specs.ExcessiveFrames.{begins_section, is_excessive_by}
 use Rattle.h3_wire.specs.Frames.{Front, Refused, Unfinished, Unknown, Whole, frame_by}
 use Rattle.h3_wire.specs.Pieces.{chunk_of, first_of}
 use Rattle.h3_wire.specs.declared.proto.frame.Frame.{Frame}
@@ -36,7 +36,7 @@ use Rattle.h3_connection.specs.declared.event.StreamFault.{StreamFault}
 use Rattle.h3_connection.specs.declared.place.Place.{Place}
 use Rattle.h3_connection.specs.declared.place.Place.TheVariants.{AfterTrailer, BeforeHead, InBody, InSession}
 use Rattle.h3_connection.specs.declared.setup.Announced.{Announced}
-use Rattle.h3_strict.proofs.TunnelParts.{is_tunnel, marked, may_be_tunnel, tunnels}
+use Rattle.h3_strict.specs.Tunnels.{is_tunnel, marked, may_be_tunnel, tunnels}
 
 -- The receiver is marked only if the content was, and knows as much of a response.
 pub record Stays (side : Side) (before : Content) (known : Option Content) (p : Pulled) : Type 0 where
@@ -123,7 +123,7 @@ module _ (side : Side) (before : Content) (known : Option Content) where
     body_stays i (None, pieces) h k = stays _ h k
     body_stays i (Some bytes, pieces) h k = stays _ h k
 
-    payload_stays : (i : Incoming) → (marked side i.content ≡ true → marked side before ≡ true) → i.response ≡ known → Stay (at_payload id i)
+    pub payload_stays : (i : Incoming) → (marked side i.content ≡ true → marked side before ≡ true) → i.response ≡ known → Stay (at_payload id i)
     payload_stays i h k =
         either Stay (is_exceeded i.content) (malformed id malformation.ContentLength i []) (in_payload i) (gone id malformation.ContentLength i [] k)
         (either Stay (i.ended && nat_lt (length (concat i.unread)) i.body_left) _ _ (stays _ h k) (body_stays i (chunk_of i.body_left i.unread) h k))
@@ -213,7 +213,7 @@ module _ (side : Side) (before : Content) (known : Option Content) where
     between_stays : (i : Incoming) → Same i → Stay (between_frames side own id r i)
     between_stays i h =
         let bytes = skipped (kinds_of own) (is_body i.place) (concat i.unread) in
-        either Stay (is_excessive own.choices.unfinished_limit bytes) _ _ (either Stay (begins_section bytes) _ _ (gone id malformation.TooLong i [] h.1) (stays _ h.0 h.1)) (next_stays (left_with i bytes) bytes h)
+        either Stay (is_excessive_by (kinds_of own) own.choices.unfinished_limit bytes) _ _ (either Stay (begins_section bytes) _ _ (gone id malformation.TooLong i [] h.1) (stays _ h.0 h.1)) (next_stays (left_with i bytes) bytes h)
 
     message_stays : (i : Incoming) (section : Option (List ℕ)) → Same i → Stay (in_message side own id r i section)
     message_stays i (Some bytes) h = tried_stays i bytes h

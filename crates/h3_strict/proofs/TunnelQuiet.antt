@@ -1,9 +1,6 @@
 -- Events by which no part is sent or handed out leave what stays where streams count the same.
-use Rattle.std.proofs.Common.{◌≡◌, inl, inr, ℕ, ◌+◌, ◌*◌, Bool, true, false, List, [], ◌∷◌, length, take, refl, sym, ap, ◌∙◌, subst, Option, Some, None, arith, nat_lt, if◌then◌else◌}
-use Rattle.std.specs.Prelude.{◌==◌, ◌&&◌, ◌||◌, ◌/◌, not, unwrap_or, is_some, option_map}
-use Rattle.std.proofs.Math.Nat.{div-add-mod}
-use Rattle.std.proofs.lemmas.Bool.{le-ltb}
-use Rattle.h3_proto.specs.StreamIds.{is_request_stream}
+use Rattle.std.proofs.Common.{◌≡◌, inl, inr, ℕ, ◌+◌, Bool, true, false, List, [], ◌∷◌, take, refl, sym, ap, subst, ◌∙◌, Option, Some, None, nat_lt, if◌then◌else◌}
+use Rattle.std.specs.Prelude.{◌==◌, ◌&&◌, ◌||◌, not, unwrap_or, is_some}
 use Rattle.h3_proto.specs.declared.stream.Side.{Side}
 use Rattle.h3_proto.specs.declared.stream.Side.TheVariants.{Client, Server}
 use Rattle.h3_connection.specs.Delivering.{give_up, given_up_once, incoming_at, opened_at}
@@ -24,7 +21,6 @@ use Rattle.h3_connection.specs.declared.event.Refusal.{Refusal}
 use Rattle.h3_connection.specs.declared.event.Refusal.TheVariants as refusal
 use Rattle.h3_connection.specs.declared.event.StreamFault.TheVariants.{Canceled}
 use Rattle.h3_world.specs.Delivering.{reset_code}
-use Rattle.h3_world.specs.Delivering as deliveries
 use Rattle.h3_world.specs.Ends.{Ends, delivery, done, end_at, end_delivery, reset_delivery, was_offered, with_end}
 use Rattle.h3_world.specs.Order.{is_over, is_sent_off}
 use Rattle.h3_world.specs.Refusals.{cancel_refusal, goaway_refusal, is_critical, open_refusal, reset_refusal}
@@ -35,17 +31,13 @@ use Rattle.h3_world.specs.World.{World}
 use Rattle.h3_world.specs.declared.event.Answer.{Answer}
 use Rattle.h3_world.specs.declared.event.Answer.TheVariants as answer
 use Rattle.h3_world.specs.declared.setup.Setup.{Setup}
-use Rattle.h3_headline.specs.ComingLaws.{incoming_none}
 use Rattle.h3_headline.specs.Contents.{KeepsParts}
 use Rattle.h3_headline.specs.FlowLaws.{open_there}
-use Rattle.h3_headline.specs.KeepsPartsLaws.{keeps_delivery, keeps_end, keeps_flows, keeps_given_up, keeps_reset, keeps_same, keeps_with_flow, keeps_with_party}
+use Rattle.h3_headline.specs.KeepsPartsLaws.{keeps_flows, keeps_given_up, keeps_same, keeps_with_flow, keeps_with_party}
 use Rattle.h3_headline.specs.OpeningLaws.{flow_opened}
-use Rattle.h3_headline.specs.Standing.{Stands}
-use Rattle.h3_strict.proofs.KeepsCounts.{KeepsAt, KeepsBut, SameCounts, SendsSame, advance_keeps, arrives_keep, no_stream, not_itself, nothing_taken, once_lost, same_counts, same_streams, sends_same, set_in, set_out, streams_keep, that}
-use Rattle.h3_strict.proofs.PlainStreams.{at_each}
-use Rattle.h3_strict.proofs.SentTallies.{side_of, stands_at}
-use Rattle.h3_strict.specs.PlainEnds.{plain_ends, plain_setup}
-use Rattle.h3_strict.specs.Plainly.{plain_incoming, plainly}
+use Rattle.h3_strict.proofs.KeepsAny.{any_stream, arrives_any}
+use Rattle.h3_strict.proofs.KeepsCounts.{KeepsAt, KeepsBut, SameCounts, SendsSame, advance_keeps, no_stream, not_itself, nothing_taken, once_lost, same_counts, same_streams, sends_same, set_in, set_out, streams_keep, that}
+use Rattle.h3_strict.proofs.TunnelSees.{Sees}
 
 -- what an event leaves of both ends, where only some streams of one of them may be given up
 abbrev pub only_at : Side → (ℕ → Bool) → Side → ℕ → Bool
@@ -69,11 +61,11 @@ keeps_one Client f ends e h Server = keeps_self ends.server no_stream
 keeps_one Server f ends e h Client = keeps_self ends.client no_stream
 keeps_one Server f ends e h Server = h
 
-keeps_two : (s : Side) (ends : Ends) (e f : EndpointHistory) → KeepsBut no_stream (end_at ends s) e → KeepsBut no_stream (end_at ends (other s)) f → KeepsEnds (other s) no_stream ends (with_end (with_end ends s e) (other s) f)
-keeps_two Client ends e f h k Client = h
-keeps_two Client ends e f h k Server = k
-keeps_two Server ends e f h k Client = k
-keeps_two Server ends e f h k Server = h
+keeps_two : (s : Side) (only : ℕ → Bool) (ends : Ends) (e f : EndpointHistory) → KeepsBut no_stream (end_at ends s) e → KeepsBut only (end_at ends (other s)) f → KeepsEnds (other s) only ends (with_end (with_end ends s e) (other s) f)
+keeps_two Client only ends e f h k Client = h
+keeps_two Client only ends e f h k Server = k
+keeps_two Server only ends e f h k Client = k
+keeps_two Server only ends e f h k Server = h
 
 done_keeps : (s : Side) (f : ℕ → Bool) (ends : Ends) (success : Answer) (x : Option Refusal × EndpointHistory) → KeepsBut f (end_at ends s) x.1 → KeepsEnds s f ends (done ends s success x).1
 done_keeps s f ends success (None, e) h = keeps_one s f ends e h
@@ -93,12 +85,26 @@ not_refused true there rules e = absurd (cc)
 not_refused false true rules e = refl
 not_refused false false rules e = absurd (cc)
 
--- of what holds of the ends and their world, and stays so
-module _ (setup : Setup) (w : World) (ends : Ends) (h : Stands (plain_setup setup) w (plain_ends ends)) (P : World → Ends → Type 0)
-    (keeps_so : (v : World) (next : Ends) (only : Side → ℕ → Bool) → KeepsParts w v → ((side : Side) → KeepsBut (only side) (end_at ends side) (end_at next side)) → P v next) where
-  nothing_kept : (s : Side) → (end_at ends s).kept ≡ []
-  nothing_kept s = (stands_at setup w ends s h).nothing_kept
+-- **What an event that sends and hands out nothing leaves of the parts**, where nothing is kept.
+pub open_parts : (setup : Setup) (w v : World) (s : Side) (success a : Answer) → Does (open_refusal setup w s) w success (opened w) a v → KeepsParts w v
+open_parts setup w v s success a step = world_keeps (open_refusal setup w s) w (opened w) v success a (λ e. keeps_flows w (opened w) (flow_opened w)) step
 
+pub reset_parts : (w v : World) (s : Side) (i : ℕ) (a : Answer) → Does (reset_refusal w s i) w answer.Done (cut_off w s i) a v → KeepsParts w v
+reset_parts w v s i a step =
+    world_keeps (reset_refusal w s i) w (cut_off w s i) v answer.Done a
+    (λ none. keeps_with_flow w s i (record (flow w s i) { is_reset = true }) (open_there w s i (not_refused (is_critical i) (is_open w s i) ((is_sent_off (flow w s i), refusal.Ended) ∷ []) none)) (record { sent = refl; parts_out = refl; body_out = refl })) step
+
+pub goaway_parts : (w v : World) (s : Side) (i : ℕ) (a : Answer) → Does (goaway_refusal w s i) w answer.Done (with_goaway w s i) a v → KeepsParts w v
+goaway_parts w v s i a step = world_keeps (goaway_refusal w s i) w (with_goaway w s i) v answer.Done a (λ none. keeps_with_party w s _) step
+
+pub cancel_parts : (w v : World) (s : Side) (i : ℕ) (a : Answer) → Does (cancel_refusal w s i) w answer.Done (given_up w s i Canceled) a v → KeepsParts w v
+cancel_parts w v s i a step =
+    world_keeps (cancel_refusal w s i) w (given_up w s i Canceled) v answer.Done a
+    (λ none. keeps_given_up w s i Canceled (open_there w s i (not_refused (is_critical i) (is_open w s i) ((is_over (flow w (other s) i) || is_some (flow w (other s) i).fault, refusal.Ended) ∷ []) none))) step
+
+-- of what holds of the ends and their world, and stays so
+module _ (setup : Setup) (w : World) (ends : Ends) (P : World → Ends → Type 0)
+    (keeps_so : (v : World) (next : Ends) (only : Side → ℕ → Bool) → KeepsParts w v → ((side : Side) → KeepsBut (only side) (end_at ends side) (end_at next side)) → P v next) where
   -- some streams of one end may be given up
   losing : (v : World) (next : Ends) (s : Side) (only : ℕ → Bool) → KeepsParts w v → KeepsEnds s only ends next → P v next
   losing v next s only parts keeps = keeps_so v next (only_at s only) parts keeps
@@ -107,27 +113,13 @@ module _ (setup : Setup) (w : World) (ends : Ends) (h : Stands (plain_setup setu
   quiet v next s parts keeps = losing v next s no_stream parts keeps
 
   -- **A request is opened.**
-  fresh : (e : EndpointHistory) (id : ℕ) → stream_at (plainly e).incoming id ≡ None → incoming_at e id ≡ nothing_came
-  fresh e id none = ap (λ o. unwrap_or o nothing_came) (by_stream (stream_at e.incoming id) (sym (at_each plain_incoming e.incoming id) ∙ none))
-    where
-      by_stream : (o : Option Incoming) → option_map plain_incoming o ≡ None → o ≡ None
-      by_stream None is = refl
-      by_stream (Some i) is = absurd (cc)
+  fresh : Sees setup w ends → (o : Option Incoming) → stream_at ends.client.incoming ends.client.next_id ≡ o → incoming_at ends.client ends.client.next_id ≡ nothing_came
+  fresh sees None none = ap (λ o. unwrap_or o nothing_came) none
+  fresh sees (Some i) here = absurd (let never : true ≡ false = sym (sees.streams Client ends.client.next_id i here).opened ∙ sees.unopened in cc)
 
-  not_open_yet : is_open w Client ends.client.next_id ≡ false
-  not_open_yet =
-      let n = length w.exchanges in
-      let place : (4 * n) / 4 ≡ n = omega (arith, div-add-mod (4 * n) 4) in
-      ap (is_open w Client) h.next_id ∙ ap (λ m. is_request_stream (4 * n) && nat_lt m n) place ∙ ap (λ b. is_request_stream (4 * n) && b) (le-ltb n n (omega arith)) ∙ second (is_request_stream (4 * n))
-    where
-      second : (b : Bool) → (b && false) ≡ false
-      second true = refl
-      second false = refl
-
-  pub open_event : (s : Side) (v : World) (a : Answer) (next : Ends) → (a, next) ≡ done ends s (answer.Opened (end_at ends s).next_id) (sender.open_request (end_at ends s))
-      → (success : Answer) → Does (open_refusal (plain_setup setup) w s) w success (opened w) a v → P v next
-  open_event s v a next is success step =
-      quiet v next s (world_keeps (open_refusal (plain_setup setup) w s) w (opened w) v success a (λ e. keeps_flows w (opened w) (flow_opened w)) step)
+  pub open_event : Sees setup w ends → (s : Side) (v : World) (a : Answer) (next : Ends) → (a, next) ≡ done ends s (answer.Opened (end_at ends s).next_id) (sender.open_request (end_at ends s)) → KeepsParts w v → P v next
+  open_event sees s v a next is parts =
+      quiet v next s parts
       (subst (λ (x : Answer × Ends). KeepsEnds s no_stream ends x.1) (sym is)
       (done_keeps s no_stream ends (answer.Opened (end_at ends s).next_id) (sender.open_request (end_at ends s)) (does_keeps no_stream (sender.open_refusal (end_at ends s)) (end_at ends s) (opens (end_at ends s)) (opens_keep s))))
     where
@@ -139,11 +131,11 @@ module _ (setup : Setup) (w : World) (ends : Ends) (h : Stands (plain_setup setu
       refused_at Client later e none = absurd (cc)
 
       opens_keep : (s : Side) → sender.open_refusal (end_at ends s) ≡ None → KeepsBut no_stream (end_at ends s) (opens (end_at ends s))
-      opens_keep Server none = absurd (refused_at ends.server.side _ (side_of setup w ends Server h) (not_closed ends.server.closed _ none))
+      opens_keep Server none = absurd (refused_at ends.server.side _ (sees.side_is Server) (not_closed ends.server.closed _ none))
       opens_keep Client none =
           let e = ends.client in
           let id = e.next_id in
-          let new = fresh e id (incoming_none (plain_setup setup) w Client id (plainly e) (stands_at setup w ends Client h) not_open_yet) in
+          let new = fresh sees (stream_at ends.client.incoming ends.client.next_id) refl in
           record {
             out = λ j. set_out e (opens e) id nothing_sent refl j (λ n p. SendsSame (outgoing_at e n) p) (nothing_taken (outgoing_at e id)) (λ off. sends_same (outgoing_at e j));
             same = λ j off. set_in e (opens e) id nothing_came refl j (λ n k. SameCounts (incoming_at e n) k) (subst (λ i. SameCounts i nothing_came) (sym new) (same_counts nothing_came)) (λ off. same_counts (incoming_at e j));
@@ -152,10 +144,9 @@ module _ (setup : Setup) (w : World) (ends : Ends) (h : Stands (plain_setup setu
           }
 
   -- **What a side sends is cut off.**
-  pub reset_event : (s : Side) (i : ℕ) (v : World) (a : Answer) (next : Ends) → (a, next) ≡ done ends s answer.Done (sender.reset (end_at ends s) i) → Does (reset_refusal w s i) w answer.Done (cut_off w s i) a v → P v next
-  reset_event s i v a next is step =
-      quiet v next s (world_keeps (reset_refusal w s i) w (cut_off w s i) v answer.Done a
-      (λ none. keeps_with_flow w s i (record (flow w s i) { is_reset = true }) (open_there w s i (not_refused (is_critical i) (is_open w s i) ((is_sent_off (flow w s i), refusal.Ended) ∷ []) none)) (record { sent = refl; parts_out = refl; body_out = refl })) step)
+  pub reset_event : (s : Side) (i : ℕ) (v : World) (a : Answer) (next : Ends) → (a, next) ≡ done ends s answer.Done (sender.reset (end_at ends s) i) → KeepsParts w v → P v next
+  reset_event s i v a next is parts =
+      quiet v next s parts
       (subst (λ (x : Answer × Ends). KeepsEnds s no_stream ends x.1) (sym is) (done_keeps s no_stream ends answer.Done (sender.reset (end_at ends s) i)
       (does_keeps no_stream (sender.reset_refusal (end_at ends s) i) (end_at ends s) (with_outgoing (end_at ends s) i (with_reset (outgoing_at (end_at ends s) i))) (λ none. cuts (end_at ends s)))))
     where
@@ -168,18 +159,16 @@ module _ (setup : Setup) (w : World) (ends : Ends) (h : Stands (plain_setup setu
       }
 
   -- **A GOAWAY frame.**
-  pub goaway_event : (s : Side) (i : ℕ) (v : World) (a : Answer) (next : Ends) → (a, next) ≡ done ends s answer.Done (sender.goaway (end_at ends s) i) → Does (goaway_refusal w s i) w answer.Done (with_goaway w s i) a v → P v next
-  goaway_event s i v a next is step =
-      quiet v next s (world_keeps (goaway_refusal w s i) w (with_goaway w s i) v answer.Done a (λ none. keeps_with_party w s _) step)
+  pub goaway_event : (s : Side) (i : ℕ) (v : World) (a : Answer) (next : Ends) → (a, next) ≡ done ends s answer.Done (sender.goaway (end_at ends s) i) → KeepsParts w v → P v next
+  goaway_event s i v a next is parts =
+      quiet v next s parts
       (subst (λ (x : Answer × Ends). KeepsEnds s no_stream ends x.1) (sym is) (done_keeps s no_stream ends answer.Done (sender.goaway (end_at ends s) i)
       (does_keeps no_stream (sender.goaway_refusal (end_at ends s) i) (end_at ends s) _ (λ none. streams_keep no_stream (end_at ends s) _ (record { incoming = refl; outgoing = refl; announced = refl })))))
 
   -- **What is received is given up.**
-  pub cancel_event : (s : Side) (i : ℕ) (v : World) (a : Answer) (next : Ends) → (a, next) ≡ done ends s answer.Done (sender.cancel (end_at ends s) i) → Does (cancel_refusal w s i) w answer.Done (given_up w s i Canceled) a v
-      → P v next
-  cancel_event s i v a next is step =
-      losing v next s (that i) (world_keeps (cancel_refusal w s i) w (given_up w s i Canceled) v answer.Done a
-      (λ none. keeps_given_up w s i Canceled (open_there w s i (not_refused (is_critical i) (is_open w s i) ((is_over (flow w (other s) i) || is_some (flow w (other s) i).fault, refusal.Ended) ∷ []) none))) step)
+  pub cancel_event : (s : Side) (i : ℕ) (v : World) (a : Answer) (next : Ends) → (a, next) ≡ done ends s answer.Done (sender.cancel (end_at ends s) i) → KeepsParts w v → P v next
+  cancel_event s i v a next is parts =
+      losing v next s (that i) parts
       (subst (λ (x : Answer × Ends). KeepsEnds s (that i) ends x.1) (sym is)
       (done_keeps s (that i) ends answer.Done (sender.cancel (end_at ends s) i)
       (does_keeps (that i) (sender.cancel_refusal (end_at ends s) i) (end_at ends s) (give_up (end_at ends s) i (incoming_at (end_at ends s) i) Canceled) (λ none. gives_up (end_at ends s)))))
@@ -198,34 +187,34 @@ module _ (setup : Setup) (w : World) (ends : Ends) (h : Stands (plain_setup setu
   if_keeps s f true x y p q = p
   if_keeps s f false x y p q = q
 
-  pub deliver_event : (s : Side) (i count : ℕ) (v : World) (a : Answer) (next : Ends) → (a, next) ≡ delivery ends s i count → (a, v) ≡ deliveries.delivery (plain_setup setup) w s i count → P v next
-  deliver_event s i count v a next is step =
-      quiet v next (other s) (subst (λ (x : Answer × World). KeepsParts w x.1) (sym step) (keeps_delivery (plain_setup setup) w s i count))
-      (subst (λ (x : Answer × Ends). KeepsEnds (other s) no_stream ends x.1) (sym is)
+  pub deliver_event : (s : Side) (i count : ℕ) (v : World) (a : Answer) (next : Ends) → (a, next) ≡ delivery ends s i count → KeepsParts w v → P v next
+  deliver_event s i count v a next is parts =
+      losing v next (other s) any_stream parts
+      (subst (λ (x : Answer × Ends). KeepsEnds (other s) any_stream ends x.1) (sym is)
       (let e = end_at ends s in
-      if_keeps (other s) no_stream (not (has_outgoing e i)) (answer.NoStream, ends) _ (ends_same (other s) no_stream ends)
-      (if_keeps (other s) no_stream (nat_lt (waiting e i) count) (answer.Short (waiting e i), ends) _ (ends_same (other s) no_stream ends)
-      (offered (arrives (end_at ends (other s)) (BytesCame i (take count (bytes_waiting e i)))) (arrives_keep (end_at ends (other s)) (BytesCame i (take count (bytes_waiting e i))) (nothing_kept (other s)))))))
+      if_keeps (other s) any_stream (not (has_outgoing e i)) (answer.NoStream, ends) _ (ends_same (other s) any_stream ends)
+      (if_keeps (other s) any_stream (nat_lt (waiting e i) count) (answer.Short (waiting e i), ends) _ (ends_same (other s) any_stream ends)
+      (offered (arrives (end_at ends (other s)) (BytesCame i (take count (bytes_waiting e i)))) (arrives_any (end_at ends (other s)) (BytesCame i (take count (bytes_waiting e i))))))))
     where
-      offered : (x : Option Refusal × EndpointHistory) → KeepsBut no_stream (end_at ends (other s)) x.1 → KeepsEnds (other s) no_stream ends (was_offered ends s i count x).1
-      offered (None, e) k = keeps_two s ends (sender.advance (end_at ends s) i count) e (advance_keeps (end_at ends s) i count) k
-      offered (Some r, e) k = keeps_one (other s) no_stream ends e k
+      offered : (x : Option Refusal × EndpointHistory) → KeepsBut any_stream (end_at ends (other s)) x.1 → KeepsEnds (other s) any_stream ends (was_offered ends s i count x).1
+      offered (None, e) k = keeps_two s any_stream ends (sender.advance (end_at ends s) i count) e (advance_keeps (end_at ends s) i count) k
+      offered (Some r, e) k = keeps_one (other s) any_stream ends e k
 
-  pub end_event : (s : Side) (i : ℕ) (v : World) (a : Answer) (next : Ends) → (a, next) ≡ end_delivery ends s i → (a, v) ≡ deliveries.end_delivery (plain_setup setup) w s i → P v next
-  end_event s i v a next is step =
-      quiet v next (other s) (subst (λ (x : Answer × World). KeepsParts w x.1) (sym step) (keeps_end (plain_setup setup) w s i))
-      (subst (λ (x : Answer × Ends). KeepsEnds (other s) no_stream ends x.1) (sym is)
+  pub end_event : (s : Side) (i : ℕ) (v : World) (a : Answer) (next : Ends) → (a, next) ≡ end_delivery ends s i → KeepsParts w v → P v next
+  end_event s i v a next is parts =
+      losing v next (other s) any_stream parts
+      (subst (λ (x : Answer × Ends). KeepsEnds (other s) any_stream ends x.1) (sym is)
       (let e = end_at ends s in
-      if_keeps (other s) no_stream (not (has_outgoing e i)) (answer.NoStream, ends) _ (ends_same (other s) no_stream ends)
-      (if_keeps (other s) no_stream (not (is_finished e i && (waiting e i == 0))) (answer.Early, ends) _ (ends_same (other s) no_stream ends)
-      (done_keeps (other s) no_stream ends answer.Done (arrives (end_at ends (other s)) (EndCame i)) (arrives_keep (end_at ends (other s)) (EndCame i) (nothing_kept (other s)))))))
+      if_keeps (other s) any_stream (not (has_outgoing e i)) (answer.NoStream, ends) _ (ends_same (other s) any_stream ends)
+      (if_keeps (other s) any_stream (not (is_finished e i && (waiting e i == 0))) (answer.Early, ends) _ (ends_same (other s) any_stream ends)
+      (done_keeps (other s) any_stream ends answer.Done (arrives (end_at ends (other s)) (EndCame i)) (arrives_any (end_at ends (other s)) (EndCame i))))))
 
   -- a reset that came
-  pub lost_event : (s : Side) (i : ℕ) (v : World) (a : Answer) (next : Ends) → (a, next) ≡ reset_delivery ends s i → (a, v) ≡ deliveries.reset_delivery w s i → P v next
-  lost_event s i v a next is step =
-      losing v next (other s) (that i) (subst (λ (x : Answer × World). KeepsParts w x.1) (sym step) (keeps_reset w s i))
-      (subst (λ (x : Answer × Ends). KeepsEnds (other s) (that i) ends x.1) (sym is)
+  pub lost_event : (s : Side) (i : ℕ) (v : World) (a : Answer) (next : Ends) → (a, next) ≡ reset_delivery ends s i → KeepsParts w v → P v next
+  lost_event s i v a next is parts =
+      losing v next (other s) any_stream parts
+      (subst (λ (x : Answer × Ends). KeepsEnds (other s) any_stream ends x.1) (sym is)
       (let e = end_at ends s in
-      if_keeps (other s) (that i) (not (has_outgoing e i)) (answer.NoStream, ends) _ (ends_same (other s) (that i) ends)
-      (if_keeps (other s) (that i) (not (is_reset e i)) (answer.Early, ends) _ (ends_same (other s) (that i) ends)
-      (done_keeps (other s) (that i) ends answer.Done (arrives (end_at ends (other s)) (ResetCame i reset_code)) (arrives_keep (end_at ends (other s)) (ResetCame i reset_code) (nothing_kept (other s)))))))
+      if_keeps (other s) any_stream (not (has_outgoing e i)) (answer.NoStream, ends) _ (ends_same (other s) any_stream ends)
+      (if_keeps (other s) any_stream (not (is_reset e i)) (answer.Early, ends) _ (ends_same (other s) any_stream ends)
+      (done_keeps (other s) any_stream ends answer.Done (arrives (end_at ends (other s)) (ResetCame i reset_code)) (arrives_any (end_at ends (other s)) (ResetCame i reset_code))))))

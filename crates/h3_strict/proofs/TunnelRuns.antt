@@ -8,25 +8,15 @@ use Rattle.h3_connection.specs.Coming.{fields_behind}
 use Rattle.h3_connection.specs.Incoming.{nothing_came}
 use Rattle.h3_connection.specs.Keeping.{pulls}
 use Rattle.h3_connection.specs.Outgoing.{nothing_sent}
-use Rattle.h3_connection.specs.declared.event.Fault.{Fault}
-use Rattle.h3_connection.specs.declared.event.Fault.TheVariants as fault
-use Rattle.h3_connection.specs.declared.event.Item.TheVariants as item
-use Rattle.h3_connection.specs.declared.event.Pull.{Pull}
-use Rattle.h3_connection.specs.declared.event.Pull.TheVariants as pull
-use Rattle.h3_connection.specs.declared.event.Refusal.TheVariants as refusal
-use Rattle.h3_connection.specs.declared.event.StreamFault.TheVariants as stream_fault
 use Rattle.h3_world.specs.Ends.{Ends, answered, end_at, new_ends}
 use Rattle.h3_world.specs.Flow.{Flow, unused}
 use Rattle.h3_world.specs.Headline.{is_connection_fault}
 use Rattle.h3_world.specs.Lists.{listed_pull, pull_of}
 use Rattle.h3_world.specs.Pulling.{Pulls}
-use Rattle.h3_world.specs.Refusals.{next_id}
 use Rattle.h3_world.specs.Setup.{IsMadeSetup, announced_at}
 use Rattle.h3_world.specs.Step.{Step}
 use Rattle.h3_world.specs.Streams.{flow}
 use Rattle.h3_world.specs.World.{World, empty_world, no_exchange}
-use Rattle.h3_world.specs.declared.event.Answer.{Answer}
-use Rattle.h3_world.specs.declared.event.Answer.TheVariants as answer
 use Rattle.h3_world.specs.declared.event.Event.{Event}
 use Rattle.h3_world.specs.declared.event.Event.TheVariants as event
 use Rattle.h3_world.specs.declared.setup.Setup.{Setup}
@@ -35,75 +25,75 @@ use Rattle.h3_headline.specs.Contents.{KeepsParts}
 use Rattle.h3_headline.specs.FlowLaws.{same_both}
 use Rattle.h3_connection.specs.Sections as section
 use Rattle.h3_headline.specs.KeepsPartsLaws.{keeps_with_party}
-use Rattle.h3_strict.proofs.KeepsCounts.{KeepsBut, no_stream, streams_keep}
+use Rattle.h3_strict.proofs.KeepsCounts.{KeepsBut, no_stream, same_streams, streams_keep}
 use Rattle.h3_strict.proofs.UnkeptRuns.{Holds}
 use Rattle.h3_strict.specs.StepsUnkept.{having_cut_off}
 use Rattle.h3_world.specs.Refused.{with_insertions}
-use Rattle.h3_headline.specs.Standing.{Stands}
 use Rattle.h3_strict.proofs.PlainLists.{faults_same}
 use Rattle.h3_strict.proofs.PlainSetups.{setup_plainly}
 use Rattle.h3_strict.proofs.PullsAnyhow.{listed_is, pulled_is}
 use Rattle.h3_strict.proofs.StepsAnyhow.{EveryStep}
 use Rattle.h3_strict.proofs.TunnelEvents.{body_event, fields_event, finish_event, head_event, trailer_event, trailer_fields_event}
 use Rattle.h3_strict.proofs.TunnelFaultless.{PullsSafely, event_faultless, items_same, malformed_stays}
-use Rattle.h3_strict.proofs.TunnelParts.{TunnelAt, tunnel_same}
+use Rattle.h3_strict.proofs.TunnelParts.{tunnel_same}
 use Rattle.h3_strict.proofs.TunnelPull.{pull_tunnels, safe}
 use Rattle.h3_strict.proofs.TunnelQuiet.{cancel_event, deliver_event, end_event, goaway_event, keeps_one, lost_event, only_at, open_event, reset_event}
-use Rattle.h3_strict.proofs.TunnelSends.{TunnelsStand, quiet_tunnels}
-use Rattle.h3_strict.specs.GivesUp.{AsPlainly, GivesMessageUp, GivesUpBy, GivesUpSo, HappensAnyhow, RefusesSo}
-use Rattle.h3_strict.specs.PlainEnds.{is_malformed_refusal, plain_ends, plain_setup}
+use Rattle.h3_strict.proofs.TunnelBeside.{anyhow_stands, none_kept, stands_itself}
+use Rattle.h3_strict.proofs.TunnelSees.{Sees, sees_behind}
+use Rattle.h3_strict.proofs.TunnelSends.{quiet_tunnels}
+use Rattle.h3_strict.specs.GivesUp.{GivesMessageUp, GivesUpBy}
+use Rattle.h3_strict.specs.PlainEnds.{plain_setup}
+use Rattle.h3_strict.specs.WorldSteps.{KeepsNone, WorldStep}
+use Rattle.h3_strict.specs.Tunnels.{TunnelAt, TunnelsStand}
 
-module _ (laws : Laws) (setup : Setup) (made : IsMadeSetup setup) (strict : (side : Side) → (announced_at setup side).choices.strict_messages ≡ true) (w : World) (ends : Ends) (h : Stands (plain_setup setup) w (plain_ends ends)) (t : TunnelsStand setup w ends) where
+-- Of what holds if both ends are seen in their world.
+module _ (setup : Setup) (strict : (side : Side) → (announced_at setup side).choices.strict_messages ≡ true) (w : World) (ends : Ends) (sees : Sees setup w ends) (t : TunnelsStand setup w ends) where
   quiet : (v : World) (next : Ends) (only : Side → ℕ → Bool) → KeepsParts w v → ((side : Side) → KeepsBut (only side) (end_at ends side) (end_at next side)) → TunnelsStand setup v next
   quiet v next only parts keeps = quiet_tunnels setup w v ends next only parts keeps t
 
-  safely : PullsSafely ends
-  safely side id i here = safe laws setup (setup_plainly setup made) strict w ends h t side id i here
+  pub safely : PullsSafely ends
+  safely side id i here = safe setup strict w ends sees t side id i here
 
   -- what a pull leaves, with lists or without
-  pulled_so : (side : Side) (id : ℕ) (v : World) → Pulls (plain_setup setup) w side id (pulls (end_at ends side) id).0 v ⊎ GivesMessageUp setup w side id (pulls (end_at ends side) id).0 v → Stands (plain_setup setup) v (plain_ends (answered ends (event.Pull side id)).1)
+  pulled_so : (side : Side) (id : ℕ) (v : World) → Pulls (plain_setup setup) w side id (pulls (end_at ends side) id).0 v ⊎ GivesMessageUp setup w side id (pulls (end_at ends side) id).0 v → Sees setup v (answered ends (event.Pull side id)).1 → (end_at ends side).kept ≡ []
       → is_connection_fault (answered ends (event.Pull side id)).0 ≡ false → TunnelsStand setup v (answered ends (event.Pull side id)).1
-  pulled_so side id v world g faultless =
+  pulled_so side id v world g kept faultless =
       let is = pulled_is ends side (pulls (end_at ends side) id) in
       subst (λ x. TunnelsStand setup v x.1) (sym is)
-      (pull_tunnels laws setup (setup_plainly setup made) strict w ends h t side id v (pulls (end_at ends side) id).0 refl world (ap (λ x. is_connection_fault x.0) (sym is) ∙ faultless) (subst (λ x. Stands (plain_setup setup) v (plain_ends x.1)) is g))
+      (pull_tunnels setup strict w ends sees t side id kept v (pulls (end_at ends side) id).0 refl world (ap (λ x. is_connection_fault x.0) (sym is) ∙ faultless) (subst (λ x. Sees setup v x.1) is g))
 
   listed_so : (side : Side) (id : ℕ) (v : World)
       → (let l = listed_pull (fields_behind (end_at ends side).kept (end_at ends side) id) (pulls (end_at ends side) id).0 in Pulls (plain_setup setup) w side id (pull_of l) v ⊎ GivesMessageUp setup w side id (pull_of l) v)
-      → Stands (plain_setup setup) v (plain_ends (answered ends (event.PullFields side id)).1) → is_connection_fault (answered ends (event.PullFields side id)).0 ≡ false → TunnelsStand setup v (answered ends (event.PullFields side id)).1
-  listed_so side id v world g faultless =
+      → Sees setup v (answered ends (event.PullFields side id)).1 → (end_at ends side).kept ≡ [] → is_connection_fault (answered ends (event.PullFields side id)).0 ≡ false → TunnelsStand setup v (answered ends (event.PullFields side id)).1
+  listed_so side id v world g kept faultless =
       let is = listed_is ends side id (pulls (end_at ends side) id) in
       let o = fields_behind (end_at ends side).kept (end_at ends side) id in
       subst (λ x. TunnelsStand setup v x.1) (sym is)
-      (pull_tunnels laws setup (setup_plainly setup made) strict w ends h t side id v (pull_of (listed_pull o (pulls (end_at ends side) id).0)) (items_same o (pulls (end_at ends side) id).0) world
-      (sym (faults_same o (pulls (end_at ends side) id).0) ∙ ap (λ x. is_connection_fault x.0) (sym is) ∙ faultless) (subst (λ x. Stands (plain_setup setup) v (plain_ends x.1)) is g))
+      (pull_tunnels setup strict w ends sees t side id kept v (pull_of (listed_pull o (pulls (end_at ends side) id).0)) (items_same o (pulls (end_at ends side) id).0) world
+      (sym (faults_same o (pulls (end_at ends side) id).0) ∙ ap (λ x. is_connection_fault x.0) (sym is) ∙ faultless) (subst (λ x. Sees setup v x.1) is g))
 
-  -- What it leaves.
-  event_tunnels : (e : Event) (v : World) → HappensAnyhow setup w e (answered ends e).0 v → is_connection_fault (answered ends e).0 ≡ false → Stands (plain_setup setup) v (plain_ends (answered ends e).1)
-      → (is_malformed_refusal (answered ends e).0 ≡ true → (answered ends e).1 ≡ ends) → TunnelsStand setup v (answered ends e).1
-  event_tunnels e v (RefusesSo malformed same) faultless g stays = subst (λ u. TunnelsStand setup u (answered ends e).1) (sym same) (subst (TunnelsStand setup w) (sym (stays malformed)) t)
-  event_tunnels (event.Pull side id) v (GivesUpSo gives) faultless g stays = pulled_so side id v (inr (subst (λ x. GivesUpBy setup w (event.Pull side id) x.0 v) (pulled_is ends side (pulls (end_at ends side) id)) gives)) g faultless
-  event_tunnels (event.PullFields side id) v (GivesUpSo gives) faultless g stays = listed_so side id v (inr (subst (λ x. GivesUpBy setup w (event.PullFields side id) x.0 v) (listed_is ends side id (pulls (end_at ends side) id)) gives)) g faultless
-  event_tunnels e v (GivesUpSo gives) faultless g stays = absurd gives
-  event_tunnels (event.OpenRequest s) v (AsPlainly step) faultless g stays = open_event setup w ends h (TunnelsStand setup) quiet s v (answered ends (event.OpenRequest s)).0 (answered ends (event.OpenRequest s)).1 refl (answer.Opened (next_id w)) step.step
-  event_tunnels (event.Head s i head) v (AsPlainly step) faultless g stays = head_event setup w ends h t strict s i head v (answered ends (event.Head s i head)).0 (answered ends (event.Head s i head)).1 refl step.step g
-  event_tunnels (event.Fields s i fields) v (AsPlainly step) faultless g stays = fields_event setup w ends h t strict s i fields v (answered ends (event.Fields s i fields)).0 (answered ends (event.Fields s i fields)).1 refl step.step g
-  event_tunnels (event.Body s i bytes) v (AsPlainly step) faultless g stays = body_event setup w ends h t strict s i bytes v (answered ends (event.Body s i bytes)).0 (answered ends (event.Body s i bytes)).1 refl step.step
-  event_tunnels (event.Trailer s i trailer) v (AsPlainly step) faultless g stays = trailer_event setup w ends h t strict s i trailer v (answered ends (event.Trailer s i trailer)).0 (answered ends (event.Trailer s i trailer)).1 refl step.step
-  event_tunnels (event.TrailerFields s i fields) v (AsPlainly step) faultless g stays =
-      trailer_fields_event setup w ends h t strict s i fields v (answered ends (event.TrailerFields s i fields)).0 (answered ends (event.TrailerFields s i fields)).1 refl step.step
-  event_tunnels (event.Finish s i) v (AsPlainly step) faultless g stays = finish_event setup w ends h t strict s i v (answered ends (event.Finish s i)).0 (answered ends (event.Finish s i)).1 refl step.step
-  event_tunnels (event.Reset s i) v (AsPlainly step) faultless g stays = reset_event setup w ends h (TunnelsStand setup) quiet s i v (answered ends (event.Reset s i)).0 (answered ends (event.Reset s i)).1 refl step.step
-  event_tunnels (event.Cancel s i) v (AsPlainly step) faultless g stays = cancel_event setup w ends h (TunnelsStand setup) quiet s i v (answered ends (event.Cancel s i)).0 (answered ends (event.Cancel s i)).1 refl step.step
-  event_tunnels (event.Goaway s i) v (AsPlainly step) faultless g stays = goaway_event setup w ends h (TunnelsStand setup) quiet s i v (answered ends (event.Goaway s i)).0 (answered ends (event.Goaway s i)).1 refl step.step
-  event_tunnels (event.Deliver s i count) v (AsPlainly step) faultless g stays = deliver_event setup w ends h (TunnelsStand setup) quiet s i count v (answered ends (event.Deliver s i count)).0 (answered ends (event.Deliver s i count)).1 refl step.step
-  event_tunnels (event.DeliverEnd s i) v (AsPlainly step) faultless g stays = end_event setup w ends h (TunnelsStand setup) quiet s i v (answered ends (event.DeliverEnd s i)).0 (answered ends (event.DeliverEnd s i)).1 refl step.step
-  event_tunnels (event.DeliverReset s i) v (AsPlainly step) faultless g stays = lost_event setup w ends h (TunnelsStand setup) quiet s i v (answered ends (event.DeliverReset s i)).0 (answered ends (event.DeliverReset s i)).1 refl step.step
-  event_tunnels (event.Pull side id) v (AsPlainly step) faultless g stays =
-      pulled_so side id v (inl (subst (λ x. Step (plain_setup setup) w (event.Pull side id) x.0 v) (pulled_is ends side (pulls (end_at ends side) id)) step.step)) g faultless
-  event_tunnels (event.PullFields side id) v (AsPlainly step) faultless g stays =
-      listed_so side id v (inl (subst (λ x. Step (plain_setup setup) w (event.PullFields side id) x.0 v) (listed_is ends side id (pulls (end_at ends side) id)) step.step).0) g faultless
-  event_tunnels (event.Show s) v (AsPlainly step) faultless g stays = subst (λ u. TunnelsStand setup u ends) (sym step.step.1) t
+  -- **What it leaves.**
+  pub event_tunnels : (e : Event) (v : World) → WorldStep setup w e (answered ends e).0 v → KeepsNone ends e → is_connection_fault (answered ends e).0 ≡ false → Sees setup v (answered ends e).1 → TunnelsStand setup v (answered ends e).1
+  event_tunnels (event.OpenRequest s) v step kept faultless g = open_event setup w ends (TunnelsStand setup) quiet sees s v (answered ends (event.OpenRequest s)).0 (answered ends (event.OpenRequest s)).1 refl step
+  event_tunnels (event.Head s i head) v step kept faultless g = head_event setup w ends sees t strict s i head v (answered ends (event.Head s i head)).0 (answered ends (event.Head s i head)).1 refl step g
+  event_tunnels (event.Fields s i fields) v step kept faultless g = fields_event setup w ends sees t strict s i fields v (answered ends (event.Fields s i fields)).0 (answered ends (event.Fields s i fields)).1 refl step g
+  event_tunnels (event.Body s i bytes) v step kept faultless g = body_event setup w ends sees t strict s i bytes v (answered ends (event.Body s i bytes)).0 (answered ends (event.Body s i bytes)).1 refl step
+  event_tunnels (event.Trailer s i trailer) v step kept faultless g = trailer_event setup w ends sees t strict s i trailer v (answered ends (event.Trailer s i trailer)).0 (answered ends (event.Trailer s i trailer)).1 refl step
+  event_tunnels (event.TrailerFields s i fields) v step kept faultless g = trailer_fields_event setup w ends sees t strict s i fields v (answered ends (event.TrailerFields s i fields)).0 (answered ends (event.TrailerFields s i fields)).1 refl step
+  event_tunnels (event.Finish s i) v step kept faultless g = finish_event setup w ends sees t strict s i v (answered ends (event.Finish s i)).0 (answered ends (event.Finish s i)).1 refl step
+  event_tunnels (event.Reset s i) v step kept faultless g = reset_event setup w ends (TunnelsStand setup) quiet s i v (answered ends (event.Reset s i)).0 (answered ends (event.Reset s i)).1 refl step
+  event_tunnels (event.Cancel s i) v step kept faultless g = cancel_event setup w ends (TunnelsStand setup) quiet s i v (answered ends (event.Cancel s i)).0 (answered ends (event.Cancel s i)).1 refl step
+  event_tunnels (event.Goaway s i) v step kept faultless g = goaway_event setup w ends (TunnelsStand setup) quiet s i v (answered ends (event.Goaway s i)).0 (answered ends (event.Goaway s i)).1 refl step
+  event_tunnels (event.Deliver s i count) v step kept faultless g = deliver_event setup w ends (TunnelsStand setup) quiet s i count v (answered ends (event.Deliver s i count)).0 (answered ends (event.Deliver s i count)).1 refl step
+  event_tunnels (event.DeliverEnd s i) v step kept faultless g = end_event setup w ends (TunnelsStand setup) quiet s i v (answered ends (event.DeliverEnd s i)).0 (answered ends (event.DeliverEnd s i)).1 refl step
+  event_tunnels (event.DeliverReset s i) v step kept faultless g = lost_event setup w ends (TunnelsStand setup) quiet s i v (answered ends (event.DeliverReset s i)).0 (answered ends (event.DeliverReset s i)).1 refl step
+  event_tunnels (event.Pull side id) v (inl step) kept faultless g = pulled_so side id v (inl (subst (λ x. Step (plain_setup setup) w (event.Pull side id) x.0 v) (pulled_is ends side (pulls (end_at ends side) id)) step)) g kept faultless
+  event_tunnels (event.Pull side id) v (inr gives) kept faultless g = pulled_so side id v (inr (subst (λ x. GivesUpBy setup w (event.Pull side id) x.0 v) (pulled_is ends side (pulls (end_at ends side) id)) gives)) g kept faultless
+  event_tunnels (event.PullFields side id) v (inl step) kept faultless g =
+      listed_so side id v (inl (subst (λ x. Step (plain_setup setup) w (event.PullFields side id) x.0 v) (listed_is ends side id (pulls (end_at ends side) id)) step).0) g kept faultless
+  event_tunnels (event.PullFields side id) v (inr gives) kept faultless g =
+      listed_so side id v (inr (subst (λ x. GivesUpBy setup w (event.PullFields side id) x.0 v) (listed_is ends side id (pulls (end_at ends side) id)) gives)) g kept faultless
+  event_tunnels (event.Show s) v step kept faultless g = quiet v ends (λ side. no_stream) step (λ side. streams_keep no_stream (end_at ends side) (end_at ends side) (same_streams (end_at ends side)))
 
 -- Before anything.
 nothing_yet : (setup : Setup) (writer : Side) (id : ℕ) → flow (empty_world setup) writer id ≡ unused
@@ -140,7 +130,12 @@ inserts_stand setup w ends side id fields t =
 -- **Two strict ends.**
 pub strict_holds : (laws : Laws) (steps : EveryStep) (setup : Setup) → IsMadeSetup setup → ((side : Side) → (announced_at setup side).choices.strict_messages ≡ true) → Holds setup (TunnelsStand setup)
 strict_holds laws steps setup made strict = record {
-  faultless = λ w ends h t e sendable few. event_faultless laws steps setup made w ends h t.announced (safely laws setup made strict w ends h t) e sendable few;
-  leaves = λ w v ends h t e happens faultless g. event_tunnels laws setup made strict w ends h t e v happens faultless g (malformed_stays ends e);
+  faultless = λ w ends h t e sendable few.
+      let sees = sees_behind laws setup (setup_plainly setup made) w ends (stands_itself setup w ends h) in
+      event_faultless laws steps setup made w ends h sees t.announced (λ side. safely setup strict w ends sees t side) e sendable few;
+  leaves = λ w v ends h t e happens faultless g.
+      anyhow_stands setup (TunnelsStand setup) w v ends e happens (malformed_stays ends e) t
+      (λ step. event_tunnels setup strict w ends (sees_behind laws setup (setup_plainly setup made) w ends (stands_itself setup w ends h)) t e v step (none_kept setup w ends h e) faultless
+      (sees_behind laws setup (setup_plainly setup made) v (answered ends e).1 (stands_itself setup v (answered ends e).1 g)));
   inserts = λ w ends side id fields t. inserts_stand setup w ends side id fields t;
 }

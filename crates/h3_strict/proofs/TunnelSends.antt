@@ -14,7 +14,6 @@ use Rattle.h3_connection.specs.Sending.{outgoing_at}
 use Rattle.h3_world.specs.Ends.{Ends, end_at}
 use Rattle.h3_world.specs.Flow.{Flow, Part}
 use Rattle.h3_world.specs.Sending.{appended}
-use Rattle.h3_world.specs.Setup.{announced_at}
 use Rattle.h3_world.specs.Streams.{flow}
 use Rattle.h3_world.specs.World.{World}
 use Rattle.h3_world.specs.declared.setup.Setup.{Setup}
@@ -22,15 +21,8 @@ use Rattle.h3_headline.specs.Contents.{KeepsParts}
 use Rattle.h3_headline.specs.FlowLaws.{same_number}
 use Rattle.h3_strict.proofs.KeepsCounts.{KeepsAt, KeepsBut, SameCounts, SendsSame, same_counts, sends_same}
 use Rattle.h3_strict.proofs.TallySteps.{SendsPart, same_announced}
-use Rattle.h3_strict.proofs.TunnelParts.{AsksOther, ClientKeeps, NoTrailer, ServerKeeps, TunnelAt, asks_tunnel, awaits_keeps, client_keeps, front_grows, opens_tunnel, response_keeps, server_answers, server_keeps, tunnel_grows, tunnel_keeps, tunnel_same, tunnels}
-
--- All exchanges of both ends.
-abbrev pub Tunnels : World → Ends → Type 0
-Tunnels w ends = (id : ℕ) → TunnelAt (flow w Client id).sent (flow w Server id) (outgoing_at ends.client id) (outgoing_at ends.server id) (incoming_at ends.server id) (incoming_at ends.client id)
-
-pub record TunnelsStand (setup : Setup) (w : World) (ends : Ends) : Type 0 where
-  pub tunnels : Tunnels w ends
-  pub announced : (side : Side) → (end_at ends side).announced ≡ announced_at setup side
+use Rattle.h3_strict.proofs.TunnelParts.{ClientKeeps, ServerKeeps, awaits_keeps, client_keeps, front_grows, response_keeps, server_answers, server_keeps, tunnel_grows, tunnel_keeps, tunnel_same}
+use Rattle.h3_strict.specs.Tunnels.{AsksOther, NoTrailer, TunnelAt, TunnelsStand, asks_tunnel, opens_tunnel, tunnels}
 
 pub kept_at : (only : ℕ → Bool) (e f : EndpointHistory) (id : ℕ) → KeepsBut only e f → KeepsAt (incoming_at e id) (incoming_at f id)
 kept_at only e f id h = by_test (only id) refl

@@ -11,8 +11,8 @@ use Rattle.h3_header.specs.HeadRead.{HeadRead, IsHead, IsNone, head_by}
 use Rattle.h3_messages.specs.Content.{is_exceeded, may_end, takes_trailer}
 use Rattle.h3_proto.specs.declared.stream.Side.{Side}
 use Rattle.h3_proto.specs.declared.stream.Side.TheVariants.{Client, Server}
-use Rattle.h3_wire.specs.ExcessiveFrames.{begins_section, is_excessive}
-use Rattle.h3_wire.specs.ExcessiveLaws.{none_excessive}
+use Rattle.h3_wire.specs.ExcessiveFrames.{begins_section, is_excessive_by}
+use Rattle.h3_wire.specs.ExcessiveLaws.{none_excessive_by}
 use Rattle.h3_wire.specs.Frames.{Front, Whole, Unknown, Refused, Unfinished, frame_by}
 use Rattle.h3_wire.specs.Pieces.{chunk_of, first_of}
 use Rattle.h3_wire.specs.declared.proto.frame.PayloadLen.{PayloadLen}
@@ -183,8 +183,8 @@ module _ (side : Side) (own : Announced) (id : ℕ) (r : DecoderState) where
       let bytes = skipped (kinds_of own) (is_body i.place) (concat i.unread) in
       let next = next_frame side (plain own) id r (plain_incoming (left_with i bytes)) bytes in
       either id (marks_of i) (nat_lt 0 i.body_left) _ _ _ _ (payload_told id i)
-      (subst (λ b. Verdict id (marks_of i) (between_frames side own id r i) (if b then excess id (plain_incoming i) bytes else next)) (sym (none_excessive (2 ^ 62 - 1) bytes refl))
-      (unless id (marks_of i) (is_excessive own.choices.unfinished_limit bytes) (excess id i bytes) (next_frame side own id r (left_with i bytes) bytes) next (excess_told i bytes next) (next_told (left_with i bytes) bytes)))
+      (subst (λ b. Verdict id (marks_of i) (between_frames side own id r i) (if b then excess id (plain_incoming i) bytes else next)) (sym (none_excessive_by (kinds_of own) (2 ^ 62 - 1) bytes refl))
+      (unless id (marks_of i) (is_excessive_by (kinds_of own) own.choices.unfinished_limit bytes) (excess id i bytes) (next_frame side own id r (left_with i bytes) bytes) next (excess_told i bytes next) (next_told (left_with i bytes) bytes)))
 
   item_told : (i : Incoming) (place : Place) → Verdict id (marks_of i) (next_item side own id r i place) (next_item side (plain own) id r (plain_incoming i) place)
   item_told i BeforeHead = message_told i i.section

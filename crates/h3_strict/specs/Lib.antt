@@ -16,3 +16,8 @@ pub mod Accounts
 pub mod AdvanceLaws
 pub mod GivingUpLaws
 pub mod MalformedLaws
+pub mod Tunnels
+pub mod StandsBehind
+pub mod WorldSteps
+pub mod ReadsBehind
+pub mod HoldsBehind

@@ -12,11 +12,12 @@ use Rattle.h3_connection.specs.KeptGoaways.{keeps_last, kept_peer, kept_found}
 use Rattle.h3_connection.specs.PeerReading.{Peer, PeerFound, with_unread, read_frame, read_peer}
 use Rattle.h3_connection.specs.PeerReadingLaws.{nothing_read_on, settings_stay}
 use Rattle.h3_connection.specs.StrictConnection.{settings_refused}
+use Rattle.h3_connection.specs.Updates.{Updates}
 use Rattle.h3_connection.specs.declared.setup.Announced.{Announced}
 use Rattle.h3_unidirectional.specs.Fronts.{KeepsFront, KeepsOn, KeepsPart, ReadsFront, StopsReading, found_first}
 use Rattle.h3_unidirectional.proofs.KeptFronts.{kept_behind, none_kept, stops_kept, then_kept}
 
--- Of a first frame no GOAWAY and no limit on pushes is taken.
+-- Of a first frame no GOAWAY, no limit on pushes and no update is taken.
 none_differs : {A : Type 0} (o : Option A) (x : A) → o ≡ None → Some x ≡ o → ⊥
 none_differs None x none some = cc
 none_differs (Some y) x none some = cc
@@ -32,6 +33,7 @@ no_goaway_first side p None (frame.Data len) id none is = let wrong = ap (λ (x 
 no_goaway_first side p None (frame.Headers section) id none is = let wrong = ap (λ (x : PeerFound). x.1) is in absurd (cc)
 no_goaway_first side p None (frame.CancelPush push) id none is = let wrong = ap (λ (x : PeerFound). x.1) is in absurd (cc)
 no_goaway_first side p None (frame.PushPromise promise) id none is = let wrong = ap (λ (x : PeerFound). x.1) is in absurd (cc)
+no_goaway_first side p None (frame.PriorityUpdate u) id none is = let wrong = ap (λ (x : PeerFound). x.1) is in absurd (cc)
 no_goaway_first side p None (frame.Goaway last) id none is = let wrong = ap (λ (x : PeerFound). x.1) is in absurd (cc)
 no_goaway_first side p None (frame.MaxPushId push) id none is = let wrong = ap (λ (x : PeerFound). x.1) is in absurd (cc)
 no_goaway_first side p None (frame.WebTransportStream session) id none is = let wrong = ap (λ (x : PeerFound). x.1) is in absurd (cc)
@@ -44,10 +46,24 @@ no_push_first side p None (frame.Data len) id unknown none is = let wrong = ap (
 no_push_first side p None (frame.Headers section) id unknown none is = let wrong = ap (λ (x : PeerFound). x.1) is in absurd (cc)
 no_push_first side p None (frame.CancelPush push) id unknown none is = let wrong = ap (λ (x : PeerFound). x.1) is in absurd (cc)
 no_push_first side p None (frame.PushPromise promise) id unknown none is = let wrong = ap (λ (x : PeerFound). x.1) is in absurd (cc)
+no_push_first side p None (frame.PriorityUpdate u) id unknown none is = let wrong = ap (λ (x : PeerFound). x.1) is in absurd (cc)
 no_push_first side p None (frame.Goaway last) id unknown none is = let wrong = ap (λ (x : PeerFound). x.1) is in absurd (cc)
 no_push_first side p None (frame.MaxPushId push) id unknown none is = let wrong = ap (λ (x : PeerFound). x.1) is in absurd (cc)
 no_push_first side p None (frame.WebTransportStream session) id unknown none is = let wrong = ap (λ (x : PeerFound). x.1) is in absurd (cc)
 no_push_first side p None (frame.Grease kind) id unknown none is = let wrong = ap (λ (x : PeerFound). x.1) is in absurd (cc)
+
+pub no_update_first : (side : Side) (p : Peer) (o : Option (List (ℕ × ℕ))) (f : Frame PayloadLen) (updates : Updates) → p.settings ≡ None → o ≡ None → read_frame side p o f ≡ (record p { updates = updates }, None) → ⊥
+no_update_first side p (Some pairs) f updates unknown none is = absurd (cc)
+no_update_first side p None (frame.Settings pairs) updates unknown none is = none_differs p.settings pairs unknown (ap (λ (x : PeerFound). x.0.settings) is)
+no_update_first side p None (frame.Data len) updates unknown none is = let wrong = ap (λ (x : PeerFound). x.1) is in absurd (cc)
+no_update_first side p None (frame.Headers section) updates unknown none is = let wrong = ap (λ (x : PeerFound). x.1) is in absurd (cc)
+no_update_first side p None (frame.CancelPush push) updates unknown none is = let wrong = ap (λ (x : PeerFound). x.1) is in absurd (cc)
+no_update_first side p None (frame.PushPromise promise) updates unknown none is = let wrong = ap (λ (x : PeerFound). x.1) is in absurd (cc)
+no_update_first side p None (frame.PriorityUpdate u) updates unknown none is = let wrong = ap (λ (x : PeerFound). x.1) is in absurd (cc)
+no_update_first side p None (frame.Goaway last) updates unknown none is = let wrong = ap (λ (x : PeerFound). x.1) is in absurd (cc)
+no_update_first side p None (frame.MaxPushId push) updates unknown none is = let wrong = ap (λ (x : PeerFound). x.1) is in absurd (cc)
+no_update_first side p None (frame.WebTransportStream session) updates unknown none is = let wrong = ap (λ (x : PeerFound). x.1) is in absurd (cc)
+no_update_first side p None (frame.Grease kind) updates unknown none is = let wrong = ap (λ (x : PeerFound). x.1) is in absurd (cc)
 
 module _ (kinds : FrameKinds) (side : Side) (own : Announced) (old : Peer) where
   abbrev last : Bool

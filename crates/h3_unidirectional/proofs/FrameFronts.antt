@@ -1,13 +1,12 @@
 -- What is read of a frame rests on its own bytes alone, whatever follows.
-use Rattle.std.proofs.Common.{◌≡◌, ℕ, zero, suc, ◌+◌, ◌-◌, ◌≤◌, ◌==◌, Bool, true, false, List, [], ◌∷◌, ◌++◌, length, take, drop, nat_lt, arith, sym, ◌∙◌, ap, ap₂, subst, refl, inl, inr, ◌⊎◌, append_assoc, length-append, length-take-le, Some, if◌then◌else◌}
+use Rattle.std.proofs.Common.{◌≡◌, ℕ, zero, suc, ◌+◌, ◌-◌, ◌≤◌, ◌==◌, Bool, true, false, List, [], ◌∷◌, ◌++◌, length, take, drop, nat_lt, arith, sym, ◌∙◌, ap, ap₂, subst, refl, inl, inr, ◌⊎◌, append_assoc, length-append, length-take-le, Some}
 use Rattle.std.proofs.lemmas.List.{take_at, drop_at, take-append-drop, nil_from_length}
 use Rattle.std.proofs.lemmas.Bool.{cases_lt, lt-ltb, le-ltb}
 use Rattle.h3_coding.specs.Varint.{varint_at}
 use Rattle.h3_coding.specs.VarintLaws.{cases_number, begins, of_front}
-use Rattle.h3_wire.specs.declared.proto.frame.Frame.TheVariants as frame
-use Rattle.h3_wire.specs.Frames.{Front, Whole, Unknown, Refused, Unfinished, frame_of, with_head, frame_by, is_session}
-use Rattle.h3_wire.specs.FrameLaws.{at_no_kind, at_no_number, at_head, frame_of-finished, frame_of-more, frame_by-nil}
-use Rattle.h3_wire.specs.Fronts.{IsFinished, IsBefore, with_more, IsKnown}
+use Rattle.h3_wire.specs.Frames.{Front, Whole, Unknown, Refused, Unfinished, frame_known, with_head, frame_by, is_session}
+use Rattle.h3_wire.specs.FrameLaws.{at_no_kind, at_no_number, at_head, frame_known-finished, frame_known-more, frame_by-nil}
+use Rattle.h3_wire.specs.Fronts.{IsFinished, IsBefore, with_more, IsKnown, tested}
 use Rattle.h3_wire.specs.Known.{known_by}
 use Rattle.h3_wire.specs.KnownLaws.{cases_front, known-unknown, known-other, unknown_shorter}
 use Rattle.h3_wire.specs.declared.frame.kinds.FrameKinds.{FrameKinds}
@@ -48,24 +47,16 @@ again (Refused e) r more before h = refl
 again (Unfinished least) r more before h = absurd h
 
 -- what a payload is does not rest on what follows
-payload_alike : (kind : ℕ) (payload r more : List ℕ) → frame_of kind payload more ≡ followed_by (frame_of kind payload r) more
-payload_alike kind payload r more =
-    let done = frame_of-finished kind payload [] in
-    frame_of-more kind payload [] more ∙ again (frame_of kind payload []) r more done.1 done.0 ∙ ap (λ x. followed_by x more) (sym (frame_of-more kind payload [] r))
-
--- `with_head`, where its two tests have values
-abbrev tested : Bool → Bool → ℕ → ℕ → ℕ → List ℕ → Front
-tested a b size kind number behind =
-    if a then Whole (frame.WebTransportStream number) behind
-    else (if b then Whole (frame.Data (record { 0 = number })) behind
-    else (if nat_lt (length behind) number then Unfinished (size - length behind + number)
-    else frame_of kind (take number behind) (drop number behind)))
+payload_alike : (kinds : FrameKinds) (kind : ℕ) (payload r more : List ℕ) → frame_known kinds kind payload more ≡ followed_by (frame_known kinds kind payload r) more
+payload_alike kinds kind payload r more =
+    let done = frame_known-finished kinds kind payload [] in
+    frame_known-more kinds kind payload [] more ∙ again (frame_known kinds kind payload []) r more done.1 done.0 ∙ ap (λ x. followed_by x more) (sym (frame_known-more kinds kind payload [] r))
 
 -- what stands behind a head: the rest of the frame, and the bytes that follow it
-record IsTail (a b : Bool) (size kind number : ℕ) (behind rest : List ℕ) : Type 0 where
+record IsTail (kinds : FrameKinds) (a b : Bool) (size kind number : ℕ) (behind rest : List ℕ) : Type 0 where
   tail : List ℕ
   split : behind ≡ tail ++ rest
-  alike : (other : ℕ) (more : List ℕ) → tested a b other kind number (tail ++ more) ≡ followed_by (tested a b size kind number behind) more
+  alike : (other : ℕ) (more : List ℕ) → tested kinds a b other kind number (tail ++ more) ≡ followed_by (tested kinds a b size kind number behind) more
 
 preceding : (x : Front) (r s : List ℕ) → Precedes x r → IsBefore s x → s ≡ r
 preceding (Whole f rest) r s h k = sym k ∙ h
@@ -79,30 +70,30 @@ short_or_whole number behind = elim (cases_lt (length behind) number) [
   | inr h ↦ inr (le-ltb (length behind) number h, h)
 ]
 
-payload_tail : (size kind number : ℕ) (behind rest : List ℕ) → (nat_lt (length behind) number ≡ true) ⊎ (nat_lt (length behind) number ≡ false) × (number ≤ length behind)
-    → Precedes (tested false false size kind number behind) rest → IsTail false false size kind number behind rest
-payload_tail size kind number behind rest (inl t) h = absurd (rw t at h)
-payload_tail size kind number behind rest (inr t) h =
+payload_tail : (kinds : FrameKinds) (size kind number : ℕ) (behind rest : List ℕ) → (nat_lt (length behind) number ≡ true) ⊎ (nat_lt (length behind) number ≡ false) × (number ≤ length behind)
+    → Precedes (tested kinds false false size kind number behind) rest → IsTail kinds false false size kind number behind rest
+payload_tail kinds size kind number behind rest (inl t) h = absurd (rw t at h)
+payload_tail kinds size kind number behind rest (inr t) h =
     let payload = take number behind in
     let count : length payload ≡ number = length-take-le number behind t.1 in
-    let here : tested false false size kind number behind ≡ frame_of kind payload (drop number behind) = rw t.0 refl in
-    let follows : drop number behind ≡ rest = preceding (frame_of kind payload (drop number behind)) rest (drop number behind) (subst (λ x. Precedes x rest) here h) (frame_of-finished kind payload (drop number behind)).1 in
+    let here : tested kinds false false size kind number behind ≡ frame_known kinds kind payload (drop number behind) = rw t.0 refl in
+    let follows : drop number behind ≡ rest = preceding (frame_known kinds kind payload (drop number behind)) rest (drop number behind) (subst (λ x. Precedes x rest) here h) (frame_known-finished kinds kind payload (drop number behind)).1 in
     record {
       tail = payload;
       split = sym (take-append-drop number behind) ∙ ap (λ l. payload ++ l) follows;
       alike = λ other more.
           let enough : nat_lt (length (payload ++ more)) number ≡ false = le-ltb (length (payload ++ more)) number (omega (arith, count, length-append payload more)) in
-          let whole : tested false false other kind number (payload ++ more) ≡ frame_of kind (take number (payload ++ more)) (drop number (payload ++ more)) = rw enough refl in
-          whole ∙ ap₂ (λ p r. frame_of kind p r) (take_at payload more number count) (drop_at payload more number count)
-          ∙ payload_alike kind payload (drop number behind) more ∙ ap (λ x. followed_by x more) (sym here);
+          let whole : tested kinds false false other kind number (payload ++ more) ≡ frame_known kinds kind (take number (payload ++ more)) (drop number (payload ++ more)) = rw enough refl in
+          whole ∙ ap₂ (λ p r. frame_known kinds kind p r) (take_at payload more number count) (drop_at payload more number count)
+          ∙ payload_alike kinds kind payload (drop number behind) more ∙ ap (λ x. followed_by x more) (sym here);
     }
 
-head_tail : (a b : Bool) (size kind number : ℕ) (behind rest : List ℕ) → Precedes (tested a b size kind number behind) rest → IsTail a b size kind number behind rest
-head_tail true b size kind number behind rest h = record { tail = []; split = h; alike = λ other more. refl }
-head_tail false true size kind number behind rest h = record { tail = []; split = h; alike = λ other more. refl }
-head_tail false false size kind number behind rest h = payload_tail size kind number behind rest (short_or_whole number behind) h
+head_tail : (kinds : FrameKinds) (a b : Bool) (size kind number : ℕ) (behind rest : List ℕ) → Precedes (tested kinds a b size kind number behind) rest → IsTail kinds a b size kind number behind rest
+head_tail kinds true b size kind number behind rest h = record { tail = []; split = h; alike = λ other more. refl }
+head_tail kinds false true size kind number behind rest h = record { tail = []; split = h; alike = λ other more. refl }
+head_tail kinds false false size kind number behind rest h = payload_tail kinds size kind number behind rest (short_or_whole number behind) h
 
-whole_front : (kinds : FrameKinds) (kind number : ℕ) (bytes mid behind rest : List ℕ) → IsNumber kind bytes mid → IsNumber number mid behind → IsTail (is_session kinds kind) (kind == 0) (length bytes) kind number behind rest
+whole_front : (kinds : FrameKinds) (kind number : ℕ) (bytes mid behind rest : List ℕ) → IsNumber kind bytes mid → IsNumber number mid behind → IsTail kinds (is_session kinds kind) (kind == 0) (length bytes) kind number behind rest
     → IsFrontOf kinds bytes rest (with_head kinds (length bytes) kind number behind)
 whole_front kinds kind number bytes mid behind rest k n t =
     let all : (more : List ℕ) → (k.front ++ (n.front ++ t.tail)) ++ more ≡ k.front ++ (n.front ++ (t.tail ++ more)) =
@@ -123,7 +114,7 @@ frame_front kinds bytes rest h = elim (cases_number bytes) [
     | inl none ↦ absurd (subst (λ x. Precedes x rest) (at_no_number kinds k.0 bytes k.1 k.2 none) h)
     | inr n ↦
         let here : frame_by kinds bytes ≡ with_head kinds (length bytes) k.0 n.0 n.1 = at_head kinds k.0 n.0 bytes k.1 n.1 k.2 n.2 in
-        let tail = head_tail (is_session kinds k.0) (k.0 == 0) (length bytes) k.0 n.0 n.1 rest (subst (λ x. Precedes x rest) here h) in
+        let tail = head_tail kinds (is_session kinds k.0) (k.0 == 0) (length bytes) k.0 n.0 n.1 rest (subst (λ x. Precedes x rest) here h) in
         subst (IsFrontOf kinds bytes rest) (sym here) (whole_front kinds k.0 n.0 bytes k.1 n.1 rest (number_front k.0 bytes k.1 k.2) (number_front n.0 k.1 n.1 n.2) tail)
   ]
 ]

@@ -13,3 +13,5 @@ mod Heads
 mod Behind
 mod OwnLaws
 mod PeerLaws
+mod UpdatePlaces
+mod UpdateTexts

@@ -1,7 +1,7 @@
 -- The reading of a control stream, step by step.
 use Rattle.std.proofs.Common.{◌≡◌, ℕ, List, Some, ap, sym, ◌∙◌, ◌<◌, length, Option, arith, true, None, false}
 use Rattle.h3_proto.specs.declared.stream.Side.{Side}
-use Rattle.h3_wire.specs.ExcessiveFrames.{is_excessive}
+use Rattle.h3_wire.specs.ExcessiveFrames.{is_excessive_by}
 use Rattle.h3_wire.specs.Frames.{Refused, frame_by, Whole}
 use Rattle.h3_wire.specs.Known.{known_by}
 use Rattle.h3_wire.specs.declared.proto.frame.FrameError.{FrameError}
@@ -14,18 +14,18 @@ use Rattle.std.specs.Option.{is_some}
 use Rattle.h3_wire.specs.declared.frame.kinds.FrameKinds.{FrameKinds}
 
 -- a frame is refused
-pub peer_refused : (kinds : FrameKinds) (limit : ℕ) (side : Side) (p : Peer) (left : List ℕ) (e : FrameError) → is_excessive limit (known_by kinds p.unread) ≡ false → left ≡ known_by kinds p.unread → frame_by kinds left ≡ Refused e
+pub peer_refused : (kinds : FrameKinds) (limit : ℕ) (side : Side) (p : Peer) (left : List ℕ) (e : FrameError) → is_excessive_by kinds limit (known_by kinds p.unread) ≡ false → left ≡ known_by kinds p.unread → frame_by kinds left ≡ Refused e
     → read_peer kinds limit side p ≡ (with_unread p left, Some (refused_code p.settings e))
 peer_refused kinds limit side p left e small is h =
     step_within kinds limit side p small ∙ ap (λ l. at_front (read_peer kinds limit side) side p l (frame_by kinds l)) (sym is) ∙ ap (λ x. at_front (read_peer kinds limit side) side p left x) h
 
-pub peer_frame : (kinds : FrameKinds) (limit : ℕ) (side : Side) (p : Peer) (f : Frame PayloadLen) (rest : List ℕ) (x : PeerFound) → is_excessive limit (known_by kinds p.unread) ≡ false → frame_by kinds (known_by kinds p.unread) ≡ Whole f rest
+pub peer_frame : (kinds : FrameKinds) (limit : ℕ) (side : Side) (p : Peer) (f : Frame PayloadLen) (rest : List ℕ) (x : PeerFound) → is_excessive_by kinds limit (known_by kinds p.unread) ≡ false → frame_by kinds (known_by kinds p.unread) ≡ Whole f rest
     → read_frame side (with_unread p rest) p.settings f ≡ x → read_peer kinds limit side p ≡ unless_fault x (read_peer kinds limit side)
 peer_frame kinds limit side p f rest x small h e =
     step_within kinds limit side p small ∙ ap (λ y. at_front (read_peer kinds limit side) side p (known_by kinds p.unread) y) h ∙ ap (λ y. unless_fault y (read_peer kinds limit side)) e
 
 -- a frame is a fault
-pub peer_fault : (kinds : FrameKinds) (limit : ℕ) (side : Side) (p new : Peer) (f : Frame PayloadLen) (rest : List ℕ) (code : ℕ) → is_excessive limit (known_by kinds p.unread) ≡ false → frame_by kinds (known_by kinds p.unread) ≡ Whole f rest
+pub peer_fault : (kinds : FrameKinds) (limit : ℕ) (side : Side) (p new : Peer) (f : Frame PayloadLen) (rest : List ℕ) (code : ℕ) → is_excessive_by kinds limit (known_by kinds p.unread) ≡ false → frame_by kinds (known_by kinds p.unread) ≡ Whole f rest
     → read_frame side (with_unread p rest) p.settings f ≡ (new, Some code) → read_peer kinds limit side p ≡ (new, Some code)
 peer_fault kinds limit side p new f rest code small h e = peer_frame kinds limit side p f rest (new, Some code) small h e
 

@@ -3,9 +3,10 @@ use Rattle.std.specs.Prelude.{◌≡◌, ℕ, ◌<◌, true, [], ◌∷◌, ◌+
 use Rattle.h3_proto.specs.declared.stream.Side.{Side}
 use Rattle.h3_wire.specs.declared.frame.kinds.FrameKinds.{FrameKinds}
 use Rattle.h3_connection.specs.PeerReading.{Peer, PeerFound, read_peer}
+use Rattle.h3_connection.specs.Updates.{with_update}
 use Rattle.h3_unidirectional.specs.Fronts.{ReadsFront}
 use Rattle.h3_unidirectional.specs.declared.control.Judged.{Judged}
-use Rattle.h3_unidirectional.specs.declared.control.Judged.TheVariants.{Settings, Goaway, MaxPushId, Fault}
+use Rattle.h3_unidirectional.specs.declared.control.Judged.TheVariants.{Settings, Goaway, MaxPushId, Update, Fault}
 use Rattle.h3_unidirectional.specs.declared.control.Progress.{Progress}
 use Rattle.h3_unidirectional.specs.declared.control.Progress.TheVariants.{GoesOn, Ends}
 
@@ -18,6 +19,7 @@ abbrev pub done : Peer → Judged → PeerFound
 done p (Settings pairs) = (record p { settings = Some pairs }, None)
 done p (Goaway id) = (record p { goaways = p.goaways ++ id ∷ [] }, None)
 done p (MaxPushId id) = (record p { most_pushes = Some id }, None)
+done p (Update id priority) = (record p { updates = with_update p.updates id priority }, None)
 done p (Fault code) = (p, Some code)
 
 -- a frame was read, and fewer bytes are left; or all was read

@@ -2,6 +2,7 @@ pub mod Owned
 pub mod Fronts
 pub mod Windows
 pub mod Judged
+pub mod Waits
 pub mod Faults
 pub mod Kinds
 pub mod Rows

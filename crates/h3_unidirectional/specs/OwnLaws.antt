@@ -1,10 +1,13 @@
 -- What waits on the own streams stands for what a history wrote and did not hand over.
-use Rattle.std.proofs.Common.{◌≡◌, ℕ, ◌==◌, if◌then◌else◌, List, [], refl, drop, ◌∙◌, sym, Bool, true, false, Some, None, zero, suc, ◌+◌, ◌≤◌, ◌∷◌, ◌++◌, length, arith, flat_map, append_assoc, ap, length-append, append-nil, subst}
+use Rattle.std.proofs.Common.{◌≡◌, ℕ, ◌==◌, if◌then◌else◌, List, [], refl, drop, ◌∙◌, sym, Bool, true, false, Some, None, zero, suc, ◌+◌, ◌≤◌, ◌∷◌, ◌++◌, length, arith, flat_map, append_assoc, ap, length-append, subst}
+use Rattle.std.specs.Prelude.{All}
 use Rattle.h3_proto.specs.declared.stream.Side.{Side}
 use Rattle.h3_proto.specs.declared.stream.Side.TheVariants.{Client, Server}
 use Rattle.h3_connection.specs.OwnIds.{control_id, encoder_id, decoder_id}
-use Rattle.h3_connection.specs.Endpoint.{EndpointHistory, own_waiting, goaway_encoding, replied}
-use Rattle.h3_connection.specs.State.{OwnState, OwnStands, TakesWhatIsThere}
+use Rattle.h3_connection.specs.Endpoint.{EndpointHistory, own_waiting, replied}
+use Rattle.h3_connection.specs.OwnUpdates.{OwnUpdate, control_frames, goaway_encoding, update_encoding}
+use Rattle.h3_connection.specs.OwnUpdatesLaws.{goaway_last, update_last}
+use Rattle.h3_connection.specs.State.{OwnState, OwnStands, IsBehind, TakesWhatIsThere}
 use Rattle.h3_unidirectional.specs.declared.own.OwnStream.TheVariants.{Control, Encoder, Decoder}
 use Rattle.h3_wire.specs.StreamHeaders.{control_encoding}
 use Rattle.h3_coding.specs.Encodings.{encoding}
@@ -72,20 +75,37 @@ written taken start f xs ys h = ap (λ l. drop taken l) (text_behind start f xs 
 longer : {X : Type 0} (taken : ℕ) (start : List ℕ) (f : X → List ℕ) (xs ys : List X) → taken ≤ length (start ++ flat_map f xs) → taken ≤ length (start ++ flat_map f (xs ++ ys))
 longer taken start f xs ys h = omega (arith, h, ap length (text_behind start f xs ys), length-append (start ++ flat_map f xs) (flat_map f ys))
 
--- a GOAWAY frame was written
-pub goaway_stands : (own : OwnState) (e : EndpointHistory) (id : ℕ) → OwnStands own e
-    → OwnStands (record own { control = own.control ++ goaway_encoding id }) (record e { own = record e.own { goaways = e.own.goaways ++ id ∷ [] } })
-goaway_stands own e id h =
+-- a text that is the one before with more at its end
+more_written : (taken : ℕ) (start before after more : List ℕ) → after ≡ before ++ more → taken ≤ length (start ++ before)
+    → (drop taken (start ++ after) ≡ drop taken (start ++ before) ++ more) × (taken ≤ length (start ++ after))
+more_written taken start before after more is h =
+    let same : start ++ after ≡ (start ++ before) ++ more = ap (λ l. start ++ l) is ∙ sym (append_assoc start before more) in
+    (ap (λ l. drop taken l) same ∙ drop_behind taken (start ++ before) more h, omega (arith, h, ap length same, length-append (start ++ before) more))
+
+-- a frame was written on the control stream
+frame_stands : (own : OwnState) (e : EndpointHistory) (goaways : List ℕ) (updates : List OwnUpdate) (frame : List ℕ)
+    → control_frames 0 goaways updates ≡ control_frames 0 e.own.goaways e.own.updates ++ frame → OwnStands own e
+    → OwnStands (record own { control = own.control ++ frame }) (record e { own = record e.own { goaways = goaways; updates = updates } })
+frame_stands own e goaways updates frame is h =
     let s = stands own e h in
-    let start = control_encoding e.announced.settings in
-    own_stands (record own { control = own.control ++ goaway_encoding id }) (record e { own = record e.own { goaways = e.own.goaways ++ id ∷ [] } })
-    (record {
-      control = ap (λ l. l ++ goaway_encoding id) s.control ∙ ap (λ l. drop e.own.control_taken (control_text e) ++ l) (sym (append-nil (goaway_encoding id)))
-          ∙ sym (written e.own.control_taken start goaway_encoding e.own.goaways (id ∷ []) h.taken.control);
-      encoder = s.encoder;
-      decoder = s.decoder;
-    })
-    (record { control = longer e.own.control_taken start goaway_encoding e.own.goaways (id ∷ []) h.taken.control; encoder = h.taken.encoder; decoder = h.taken.decoder })
+    let more = more_written e.own.control_taken (control_encoding e.announced.settings) (control_frames 0 e.own.goaways e.own.updates) (control_frames 0 goaways updates) frame is h.taken.control in
+    own_stands (record own { control = own.control ++ frame }) (record e { own = record e.own { goaways = goaways; updates = updates } })
+    (record { control = ap (λ l. l ++ frame) s.control ∙ sym more.0; encoder = s.encoder; decoder = s.decoder })
+    (record { control = more.1; encoder = h.taken.encoder; decoder = h.taken.decoder })
+
+-- a GOAWAY frame was written
+pub goaway_stands : (own : OwnState) (e : EndpointHistory) (id : ℕ) → All (IsBehind (length e.own.goaways)) e.own.updates → OwnStands own e
+    → OwnStands (record own { control = own.control ++ goaway_encoding id }) (record e { own = record e.own { goaways = e.own.goaways ++ id ∷ [] } })
+goaway_stands own e id behind h =
+    frame_stands own e (e.own.goaways ++ id ∷ []) e.own.updates (goaway_encoding id)
+    (goaway_last 0 e.own.goaways id (length e.own.goaways) e.own.updates (omega arith) behind) h
+
+-- a PRIORITY_UPDATE frame was written
+pub update_stands : (own : OwnState) (e : EndpointHistory) (u : OwnUpdate) → u.behind ≡ length e.own.goaways → All (IsBehind (length e.own.goaways)) e.own.updates → OwnStands own e
+    → OwnStands (record own { control = own.control ++ update_encoding u }) (record e { own = record e.own { updates = e.own.updates ++ u ∷ [] } })
+update_stands own e u now behind h =
+    frame_stands own e e.own.goaways (e.own.updates ++ u ∷ []) (update_encoding u)
+    (update_last 0 e.own.goaways (length e.own.goaways) e.own.updates u (omega arith) behind now) h
 
 -- encoder instructions were written
 pub instructions_stand : (own : OwnState) (e : EndpointHistory) (is : List EncoderInstruction) → OwnStands own e

@@ -1,14 +1,15 @@
 -- What waits on the own streams, as texts of a history.
 use Rattle.std.proofs.Common.{ℕ, ◌+◌, List, ◌++◌, flat_map, ◌≡◌, drop}
 use Rattle.h3_wire.specs.StreamHeaders.{control_encoding}
-use Rattle.h3_connection.specs.Endpoint.{EndpointHistory, goaway_encoding}
+use Rattle.h3_connection.specs.Endpoint.{EndpointHistory}
+use Rattle.h3_connection.specs.OwnUpdates.{control_frames}
 use Rattle.h3_coding.specs.Encodings.{encoding}
 use Rattle.h3_field.specs.Instruction.{encoder_bytes, decoder_bytes}
 use Rattle.h3_connection.specs.State.{OwnState}
 
 -- the texts of the own streams
 abbrev pub control_text : EndpointHistory → List ℕ
-control_text e = control_encoding e.announced.settings ++ flat_map goaway_encoding e.own.goaways
+control_text e = control_encoding e.announced.settings ++ control_frames 0 e.own.goaways e.own.updates
 
 abbrev pub encoder_text : EndpointHistory → List ℕ
 encoder_text e = encoding 2 ++ flat_map encoder_bytes e.own.instructions

@@ -1,5 +1,5 @@
 //! The peer's control stream (RFC 9114, section 6.2.1).
-ghost use Rattle.std.specs.Prelude.{◌≡◌, ◌+◌, ◌^◌, ◌<◌, ◌≤◌, ◌++◌, ℕ, List, [], length, false, Some, None, is_some, IfOk, IfErr, OnOk, OnErr, option_copied};
+ghost use Rattle.std.specs.Prelude.{◌≡◌, ◌+◌, ◌^◌, ◌<◌, ◌++◌, ℕ, List, length, false, remove, slice_get, Some, None, is_some, IfOk, IfErr, OnOk, OnErr, option_copied};
 ghost use Rattle.std.specs.List.{concat};
 ghost use Rattle.h3_proto.specs.declared.stream.Side.{Side};
 ghost use Rattle.h3_wire.specs.FirstFrames.{begins_other};
@@ -8,22 +8,25 @@ ghost use Rattle.h3_wire.specs.UnknownSize.{held_length};
 ghost use Rattle.h3_connection.specs.Codes.{settings_code, refusal_code};
 ghost use Rattle.h3_connection.specs.KeptGoaways.{keeps_last, kept_found, kept_peer};
 ghost use Rattle.h3_connection.specs.Lasts.{last_id};
-ghost use Rattle.h3_connection.specs.PeerReading.{Peer, nothing_read, with_unread, is_no_goaway, read_goaway, read_max_push, read_frame, refused_code, read_peer};
+ghost use Rattle.h3_connection.specs.PeerReading.{Peer, none_read, with_unread, is_no_goaway, read_goaway, read_max_push, read_update, read_frame, refused_code, read_peer};
+ghost use Rattle.h3_connection.specs.StreamSets.{stream_at};
 ghost use Rattle.h3_connection.specs.StrictConnection.{settings_refused};
 ghost use Rattle.h3_unidirectional.specs.Fronts.{KeepsOn, KeepsPart, ReadsFront, StopsReading, found_first};
 ghost use Rattle.h3_unidirectional.specs.Judged.{KeepsEarlier, done, ReadsOne};
 
 use crate::limits::keeps_last;
+use crate::updates::WaitingUpdates;
 use bytes::Bytes;
 use h3_coding::varint::VarInt;
 use h3_connection::setup::Announced;
+use h3_priority::priority::Priority;
 use h3_proto::config::Choices;
 use h3_proto::error::Code;
 use h3_proto::frame::{Settings, SettingsError};
 use h3_proto::push::PushId;
-use h3_proto::stream::Side;
+use h3_proto::stream::{Side, StreamId};
 use h3_wire::frame::{FrameBuffer, FrameKinds, FrameProtocolError, FrameStreamError};
-use h3_wire::proto::frame::{Frame, PayloadLen};
+use h3_wire::proto::frame::{Frame, PayloadLen, PriorityUpdate};
 use std::alloc::{AllocError, Global};
 use std::marker::Model;
 
@@ -34,15 +37,17 @@ pub struct PeerControl {
     settings: Option<Settings>,
     goaways: Vec<VarInt>,
     most_pushes: Option<PushId>,
+    updates: WaitingUpdates,
 }
 
 impl Model for PeerControl {
     ghost use Rattle.std.specs.List.{concat};
     ghost use Rattle.h3_connection.specs.PeerReading.{Peer};
+    ghost use Rattle.h3_unidirectional.specs.Waits.{updates_in};
 
     ghost Value = { Peer };
 
-    ghost view = { λ p. record { unread = concat p.unread.pieces; settings = p.settings; goaways = p.goaways.items; most_pushes = p.most_pushes } };
+    ghost view = { λ p. record { unread = concat p.unread.pieces; settings = p.settings; goaways = p.goaways.items; most_pushes = p.most_pushes; updates = updates_in p.updates } };
 }
 
 /// What a frame does.
@@ -51,6 +56,7 @@ enum Judged {
     Settings(Settings),
     Goaway(VarInt),
     MaxPushId(PushId),
+    Update(StreamId, Priority),
     Fault(Code),
 }
 
@@ -105,16 +111,36 @@ fn judge_first(frame: Frame<PayloadLen>) -> Judged
     Judged::Fault(Code::H3_MISSING_SETTINGS)
 }
 
+// RFC 9218 7.2: PRIORITY_UPDATE, received
+/// An update of a priority: for the request stream of a client alone, as no push was promised.
+fn judge_update(side: Side, update: &PriorityUpdate) -> Judged
+    ensures { (p : Peer) → read_update side p update.now ≡ done p result }
+{
+    match side {
+        Side::Client => return Judged::Fault(Code::H3_FRAME_UNEXPECTED),
+        Side::Server => {}
+    }
+    let id = update.id();
+    if update.is_push() || id.into_inner() % 4 != 0 {
+        return Judged::Fault(Code::H3_ID_ERROR);
+    }
+    match Priority::read(update.value()) {
+        Some(priority) => Judged::Update(StreamId::from(id), priority),
+        None => Judged::Fault(Code::H3_GENERAL_PROTOCOL_ERROR),
+    }
+}
+
 impl PeerControl {
-    /// A stream of which nothing came.
-    pub fn new(alloc: Global) -> PeerControl
-        ensures { result ≡ nothing_read }
+    /// A stream of which nothing came. What updates of priorities say is kept of so many streams.
+    pub fn new(alloc: Global, most_updates: usize) -> PeerControl
+        ensures { result ≡ none_read most_updates }
     {
         PeerControl {
             unread: FrameBuffer::new(alloc),
             settings: None,
             goaways: Vec::new(alloc),
             most_pushes: None,
+            updates: WaitingUpdates::new(alloc, most_updates),
         }
     }
 
@@ -144,6 +170,35 @@ impl PeerControl {
         ensures { result ≡ last_id self.now.goaways }
     {
         self.goaways.last().copied()
+    }
+
+    /// How many updates of priorities wait to be used.
+    pub fn updates_waiting(&self) -> usize
+        ensures { result ≡ length self.now.updates.waiting }
+    {
+        self.updates.len()
+    }
+
+    /// The update at a place, with the id of its stream.
+    pub fn update_at(&self, place: usize) -> Option<(StreamId, Priority)>
+        ensures { result ≡ slice_get self.now.updates.waiting place }
+    {
+        self.updates.at(place)
+    }
+
+    /// The update of a stream.
+    pub fn update_of(&self, id: StreamId) -> Option<Priority>
+        ensures { result ≡ stream_at self.now.updates.waiting id }
+    {
+        self.updates.get(id)
+    }
+
+    /// The update at this place waits no longer.
+    pub fn remove_update(&mut self, place: usize)
+        requires { place < length self.old.updates.waiting }
+        ensures { self.new ≡ record self.old { updates = record self.old.updates { waiting = remove self.old.updates.waiting place } } }
+    {
+        self.updates.remove(place);
     }
 
     /// How many bytes are not read.
@@ -227,6 +282,7 @@ impl PeerControl {
             Frame::Goaway(id) => self.judge_goaway(side, id),
             Frame::CancelPush(_) => Judged::Fault(Code::H3_ID_ERROR),
             Frame::MaxPushId(id) => self.judge_max_push(side, id),
+            Frame::PriorityUpdate(update) => judge_update(side, &update),
             _ => Judged::Fault(Code::H3_FRAME_UNEXPECTED),
         }
     }
@@ -255,7 +311,7 @@ impl PeerControl {
 
     /// Reads the next frame, unless it says a length above `most`: then it frees what came. If an allocation fails, it skips only unknown
     /// frames.
-    #[tactic(auto, using(crate::specs::PeerLaws::peer_waits, crate::proofs::ControlFronts::no_front, crate::proofs::ControlFronts::unknown_passed))]
+    #[tactic(auto, using(crate::specs::PeerLaws::peer_waits, crate::proofs::ControlFronts::no_front, crate::proofs::ControlFronts::no_room, crate::proofs::ControlFronts::unknown_passed))]
     fn read_one(
         &mut self,
         alloc: Global,
@@ -277,6 +333,7 @@ impl PeerControl {
             return Ok(Progress::Ends(Some(Code::H3_EXCESSIVE_LOAD)));
         }
         self.goaways.reserve(1)?;
+        self.updates.reserve()?;
         match self.unread.next_frame(alloc, kinds) {
             Ok(None) => Ok(Progress::Ends(None)),
             Ok(Some(frame)) => match self.judge(side, frame) {
@@ -290,6 +347,10 @@ impl PeerControl {
                 }
                 Judged::MaxPushId(id) => {
                     self.most_pushes = Some(id);
+                    Ok(Progress::GoesOn)
+                }
+                Judged::Update(id, priority) => {
+                    self.updates.put(id, priority);
                     Ok(Progress::GoesOn)
                 }
                 Judged::Fault(code) => Ok(Progress::Ends(Some(code))),

@@ -9,4 +9,5 @@ mod limits;
 pub mod own;
 pub mod plain;
 pub mod stream;
+mod updates;
 pub mod waiting;

@@ -1,13 +1,14 @@
 //! The local control, encoder and decoder streams (RFC 9114, section 6.2.1; RFC 9204, section 4.2): what waits on each.
-ghost use Rattle.std.specs.Prelude.{◌≡◌, ◌≤◌, ◌++◌, length, IfOk, OnOk, OnErr};
+ghost use Rattle.std.specs.Prelude.{◌≡◌, ◌≤◌, ◌++◌, ℕ, length, IfOk, OnOk, OnErr};
 ghost use Rattle.h3_coding.specs.Encodings.{encoding};
-ghost use Rattle.h3_connection.specs.Endpoint.{goaway_encoding};
+ghost use Rattle.h3_connection.specs.OwnUpdates.{goaway_encoding, update_encoding};
 ghost use Rattle.h3_unidirectional.specs.Owned.{first_own, own_stream_of, waiting_on, having_taken};
 ghost use Rattle.h3_wire.specs.StreamHeaders.{control_encoding};
 
 use crate::waiting::WaitingBytes;
 use h3_coding::coding::BufMutExt;
 use h3_coding::varint::VarInt;
+use h3_priority::priority::Priority;
 use h3_proto::frame::Settings;
 use h3_proto::stream::{Side, StreamId, StreamType};
 use h3_wire::proto::frame::FrameType;
@@ -82,6 +83,26 @@ fn goaway_frame(alloc: Global, id: VarInt) -> Result<Vec<u8>, AllocError>
     Ok(bytes)
 }
 
+/// A PRIORITY_UPDATE frame (RFC 9218, section 7.2).
+fn update_frame(alloc: Global, id: StreamId, priority: Priority) -> Result<Vec<u8>, AllocError>
+    ensures { IfOk result (λ bytes. (behind : ℕ) → bytes.items ≡ update_encoding (record { behind = behind; id = id; priority = priority })) }
+{
+    let mut bytes = Vec::new(alloc);
+    let number = VarInt::from(id);
+    let value = priority.field_value();
+    let Ok(()) = bytes.write(FrameType::PRIORITY_UPDATE) else {
+        return Err(AllocError);
+    };
+    let Ok(()) = bytes.write_var((number.size() + value.len()) as u64) else {
+        return Err(AllocError);
+    };
+    let Ok(()) = bytes.write_var(number.into_inner()) else {
+        return Err(AllocError);
+    };
+    bytes.extend_from_slice(value)?;
+    Ok(bytes)
+}
+
 /// One of the three local streams.
 #[derive(Clone, Copy)]
 enum OwnStream {
@@ -132,6 +153,20 @@ impl OwnStreams {
         ensures err { OnErr result (self.new ≡ self.old) }
     {
         let frame = goaway_frame(alloc, id)?;
+        self.control.append(frame.as_slice())
+    }
+
+    /// Writes a PRIORITY_UPDATE frame on the control stream. A refusal changes nothing.
+    pub fn update(
+        &mut self,
+        alloc: Global,
+        id: StreamId,
+        priority: Priority,
+    ) -> Result<(), AllocError>
+        ensures ok { OnOk result ((behind : ℕ) → self.new ≡ record self.old { control = self.old.control ++ update_encoding (record { behind = behind; id = id; priority = priority }) }) }
+        ensures err { OnErr result (self.new ≡ self.old) }
+    {
+        let frame = update_frame(alloc, id, priority)?;
         self.control.append(frame.as_slice())
     }
 

@@ -5,7 +5,7 @@ use Rattle.std.proofs.Math.Seq.{drop-append-add}
 use Rattle.h3_coding.specs.Varint.{varint_at}
 use Rattle.h3_coding.specs.VarintLaws.{cases_number, reads_more, shorter, begins, used}
 use Rattle.h3_wire.specs.FrameLaws.{at_head}
-use Rattle.h3_wire.specs.Frames.{Unknown, Unfinished, frame_by, frame_of, has_head, is_http2, is_session}
+use Rattle.h3_wire.specs.Frames.{Unknown, Unfinished, frame_by, frame_of, has_head, is_http2, is_session, is_update}
 use Rattle.h3_wire.proofs.Tries.{head_is_whole}
 use Rattle.h3_wire.specs.UnknownSize.{is_known_type, size_by, size_with, unknown_size}
 use Rattle.h3_wire.specs.declared.frame.kinds.FrameKinds.{FrameKinds}
@@ -87,6 +87,7 @@ unknown_more kinds bytes more size is =
 -- the tests that say so, one by one
 pub record AreNone (kinds : FrameKinds) (kind : ℕ) : Type 0 where
   pub session : is_session kinds kind ≡ false
+  pub update : is_update kinds kind ≡ false
   pub plain : (kind == 0) ≡ false
   pub headers : (kind == 1) ≡ false
   pub cancel : (kind == 3) ≡ false
@@ -99,14 +100,15 @@ pub record AreNone (kinds : FrameKinds) (kind : ℕ) : Type 0 where
 pub tests : (kinds : FrameKinds) (kind : ℕ) → is_known_type kinds kind ≡ false → AreNone kinds kind
 tests kinds kind e =
     let a = or_parts (is_session kinds kind) _ e in
-    let b = or_parts (kind == 0) _ a.1 in
+    let u = or_parts (is_update kinds kind) _ a.1 in
+    let b = or_parts (kind == 0) _ u.1 in
     let c = or_parts (kind == 1) _ b.1 in
     let d = or_parts (kind == 3) _ c.1 in
     let f = or_parts (kind == 4) _ d.1 in
     let g = or_parts (kind == 5) _ f.1 in
     let h = or_parts (kind == 7) _ g.1 in
     let i = or_parts (kind == 13) _ h.1 in
-    record { session = a.0; plain = b.0; headers = c.0; cancel = d.0; settings = f.0; promise = g.0; goaway = h.0; most = i.0; http2 = i.1 }
+    record { session = a.0; update = u.0; plain = b.0; headers = c.0; cancel = d.0; settings = f.0; promise = g.0; goaway = h.0; most = i.0; http2 = i.1 }
 
 -- **While it is under way it is less than a frame, and asks for all of itself.**
 pub unknown_waits : (kinds : FrameKinds) (bytes : List ℕ) (size : ℕ) → unknown_size kinds bytes ≡ Some size → length bytes < size → frame_by kinds bytes ≡ Unfinished size
@@ -140,7 +142,7 @@ unknown_whole kinds bytes size is all =
     ap (λ m. drop m bytes) sum ∙ behind_number h.kind (length h.mid - length h.behind + h.number) bytes h.mid h.kind_at ∙ behind_number h.number h.number h.mid h.behind h.number_at in (
       h.kind,
       at_head kinds h.kind h.number bytes h.mid h.behind h.kind_at h.number_at
-          ∙ rw (t.session, t.plain, le-ltb (length h.behind) h.number there) (frame_of_unknown kinds h.kind (take h.number h.behind) (drop h.number h.behind) t)
+          ∙ rw (t.session, t.plain, le-ltb (length h.behind) h.number there, t.update) (frame_of_unknown kinds h.kind (take h.number h.behind) (drop h.number h.behind) t)
           ∙ ap (Unknown h.kind) (sym rest),
     )
 

@@ -34,8 +34,8 @@ unknown_begins kinds bytes size is =
     sym (ap not t.settings) ∙ head_begins h.kind h.number bytes h.mid h.behind h.kind_at h.number_at
 
 -- so where some of one were let go
-pub spared_begins : (session : Bool) (front kept : List (List ℕ)) (size gone : ℕ) → AreLetGo session size gone front → 0 < size → true ≡ begins_other (concat (front ++ kept))
-spared_begins session front kept size gone h some = unknown_begins _ (concat (front ++ kept)) size (size_with_more _ front kept size (h.unknown some))
+pub spared_begins : (known_to : FrameKinds) (front kept : List (List ℕ)) (size gone : ℕ) → AreLetGo known_to size gone front → 0 < size → true ≡ begins_other (concat (front ++ kept))
+spared_begins known_to front kept size gone h some = unknown_begins _ (concat (front ++ kept)) size (size_with_more _ front kept size (h.unknown some))
 
-pub kept_begins : (session : Bool) (front kept : List (List ℕ)) (size gone : ℕ) → AreLetGo session size gone front → size ≡ 0 → begins_other (concat kept) ≡ begins_other (concat (front ++ kept))
-kept_begins session front kept size gone h none = ap begins_other (none_in_front session size gone front kept h none)
+pub kept_begins : (known_to : FrameKinds) (front kept : List (List ℕ)) (size gone : ℕ) → AreLetGo known_to size gone front → size ≡ 0 → begins_other (concat kept) ≡ begins_other (concat (front ++ kept))
+kept_begins known_to front kept size gone h none = ap begins_other (none_in_front known_to size gone front kept h none)

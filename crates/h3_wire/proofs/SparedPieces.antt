@@ -1,11 +1,12 @@
 -- Pieces in front of a buffer that were let go.
 use Rattle.std.proofs.Common.{◌≡◌, true, false, ℕ, zero, suc, ◌+◌, ◌-◌, ◌<◌, ◌≤◌, List, [], ◌∷◌, ◌++◌, length, drop, arith, refl, sym, subst, ◌∙◌, ap, length-append, append_assoc, append-nil, if◌then◌else◌, OnOk, OnErr, Option, Some, None, Result, Ok, Err}
 use Rattle.std.specs.List.{concat}
-use Rattle.std.specs.Prelude.{Bool, is_none}
+use Rattle.std.specs.Prelude.{MatchOption}
 use Rattle.std.proofs.lemmas.Bool.{le-ltb}
 use Rattle.std.proofs.lemmas.List.{length-drop}
 use Rattle.std.proofs.lemmas.List.Folds.{concat-append}
-use Rattle.h3_coding.specs.VarintLaws.{none_at_end}
+use Rattle.h3_coding.specs.VarintLaws.{none_at_end, reads_more}
+use Rattle.h3_coding.specs.Varint.{varint_at}
 use Rattle.h3_wire.specs.declared.proto.frame.PayloadLen.{PayloadLen}
 use Rattle.h3_wire.specs.declared.proto.frame.Frame.{Frame}
 use Rattle.h3_wire.specs.declared.frame.errors.FrameStreamError.{FrameStreamError}
@@ -20,10 +21,11 @@ use Rattle.h3_wire.specs.PieceLaws.{concat-without, rest_is, rest_same, rest_the
 use Rattle.h3_wire.specs.Pieces.{without, with_piece, first_of, IsRest, ending}
 use Rattle.h3_wire.specs.Tries.{Decoding, Counts, Expects, no_try, finds_less, passes, needed, counted}
 use Rattle.h3_wire.proofs.Tries.{too_few, expects_next}
-use Rattle.h3_wire.specs.UnknownSize.{unknown_size, size_by, Sparing, AreLetGo, IsPassing, IsSpared, is_longer, is_under_way, let_go_by, suits}
+use Rattle.h3_wire.specs.UnknownSize.{unknown_size, size_by, Sparing, AreLetGo, IsKnownTo, IsPassing, IsSpared, choices_for, is_longer, is_under_way, let_go_by, no_kinds, suits}
+use Rattle.h3_wire.specs.ExcessiveFrames.{SaysLength, head_said, length_said, number_said}
 use Rattle.h3_wire.specs.UnreadFrames.{UnreadFrames, IsStillUnderWay, IsPassed}
-use Rattle.h3_wire.proofs.LettingGo.{unknown_more, unknown_waits, unknown_whole, unknown_has_head}
-use Rattle.h3_wire.proofs.SuitingKinds.{known_more, let_go, none_is, unknown_suits}
+use Rattle.h3_wire.proofs.LettingGo.{unknown_head, unknown_more, unknown_waits, unknown_whole, unknown_has_head}
+use Rattle.h3_wire.proofs.SuitingKinds.{expects_within, known_more, let_go, unknown_suits}
 use Rattle.h3_wire.specs.declared.frame.kinds.FrameKinds.{FrameKinds}
 
 abbrev first_in : Option (List ℕ) × List (List ℕ) → Option (List ℕ)
@@ -71,49 +73,70 @@ passed_bytes front pieces new size gone is less all e =
 pub size_with_more : (kinds : FrameKinds) (front pieces : List (List ℕ)) (size : ℕ) → unknown_size kinds (concat front) ≡ Some size → unknown_size kinds (concat (front ++ pieces)) ≡ Some size
 size_with_more kinds front pieces size is = ap (unknown_size kinds) (concat-append front pieces) ∙ unknown_more kinds (concat front) (concat pieces) size is
 
--- and one that is known stays known
-known_with_more : (front pieces : List (List ℕ)) (size : ℕ) (session : Bool) → unknown_size (let_go_by session) (concat front) ≡ Some size → unknown_size plain_frames (concat front) ≡ None → unknown_size plain_frames (concat (front ++ pieces)) ≡ None
-known_with_more front pieces size session is none = ap (unknown_size plain_frames) (concat-append front pieces) ∙ known_more (let_go_by session) (concat front) (concat pieces) size is none
+-- and its head says the same
+pub says_with_more : (kinds : FrameKinds) (front pieces : List (List ℕ)) (passing number : ℕ) → (0 < passing → unknown_size kinds (concat front) ≡ Some passing) → SaysLength passing number (concat front) → SaysLength passing number (concat (front ++ pieces))
+says_with_more kinds front pieces passing number is says some =
+    let h = unknown_head kinds (concat front) passing (is some) in
+    let here : head_said (varint_at (concat front)) ≡ Some (h.kind, h.number) = said_there h.kind h.number (concat front) h.mid h.behind h.kind_at h.number_at in
+    let there : head_said (varint_at (concat front ++ concat pieces)) ≡ Some (h.kind, h.number) =
+    said_there h.kind h.number (concat front ++ concat pieces) (h.mid ++ concat pieces) (h.behind ++ concat pieces) (reads_more h.kind (concat front) h.mid (concat pieces) h.kind_at) (reads_more h.number h.mid h.behind (concat pieces) h.number_at) in
+    ap (λ l. number_said (head_said (varint_at l))) (concat-append front pieces) ∙ ap number_said (there ∙ sym here) ∙ says some
+  where
+    said_there : (kind number : ℕ) (bytes mid behind : List ℕ) → varint_at bytes ≡ Some (kind, mid) → varint_at mid ≡ Some (number, behind) → head_said (varint_at bytes) ≡ Some (kind, number)
+    said_there kind number bytes mid behind e k = ap head_said e ∙ ap (λ o. Some (kind, length_said o)) k
+
+known_with_more : (known_to : FrameKinds) (front pieces : List (List ℕ)) → IsKnownTo known_to (varint_at (concat front)) → IsKnownTo known_to (varint_at (concat (front ++ pieces)))
+known_with_more known_to front pieces known =
+    subst (λ l. IsKnownTo known_to (varint_at l)) (sym (concat-append front pieces)) (known_more known_to (concat front) (concat pieces) known)
 
 -- What the frame under way says of all pieces.
-pub is_passing : (session : Bool) (passing gone : ℕ) (front pieces : List (List ℕ)) → AreLetGo session passing gone front → IsPassing (record { pieces = front ++ pieces; passing = passing; session = session })
-is_passing session passing gone front pieces h = record {
+pub is_passing : (known_to : FrameKinds) (passing gone : ℕ) (front pieces : List (List ℕ)) → AreLetGo known_to passing gone front → IsPassing (record { pieces = front ++ pieces; passing = passing; known_to = known_to })
+is_passing known_to passing gone front pieces h = record {
   plain = h.plain;
   unknown = λ some. size_with_more _ front pieces passing (h.unknown some);
-  known = λ some is. known_with_more front pieces passing session (h.unknown some) (h.known some is);
+  known = λ some. known_with_more known_to front pieces (h.known some);
 }
 
-pub passing_by : (kinds : FrameKinds) (s : Sparing) (size : ℕ) → IsPassing s → 0 < size → size ≡ s.passing → suits s.session kinds ≡ true → unknown_size kinds (concat s.pieces) ≡ Some size
-passing_by kinds s size is some e fits = unknown_suits s.session kinds (concat s.pieces) size fits (is.unknown (omega (arith, some, e)) ∙ ap Some (sym e))
+pub passing_by : (kinds : FrameKinds) (s : Sparing) (size : ℕ) → IsPassing s → 0 < size → size ≡ s.passing → suits s.known_to kinds ≡ true → unknown_size kinds (concat s.pieces) ≡ Some size
+passing_by kinds s size is some e fits = unknown_suits s.known_to kinds (concat s.pieces) size fits (is.unknown (omega (arith, some, e)) ∙ ap Some (sym e))
 
 -- more of the frame is let go
-pub more_let_go : (session : Bool) (passing gone : ℕ) (front pieces : List (List ℕ)) → AreLetGo session passing gone front → gone + length (concat pieces) < passing → AreLetGo session passing (gone + length (concat pieces)) (front ++ pieces)
-more_let_go session passing gone front pieces h few = record {
+pub more_let_go : (known_to : FrameKinds) (passing gone : ℕ) (front pieces : List (List ℕ)) → AreLetGo known_to passing gone front → gone + length (concat pieces) < passing → AreLetGo known_to passing (gone + length (concat pieces)) (front ++ pieces)
+more_let_go known_to passing gone front pieces h few = record {
   gone_is = omega (arith, h.gone_is, size_of_both front pieces);
   none = λ e. absurd (omega (arith, e, few));
   plain = h.plain;
   unknown = λ some. size_with_more _ front pieces passing (h.unknown some);
-  known = λ some is. known_with_more front pieces passing session (h.unknown some) (h.known some is);
+  known = λ some. known_with_more known_to front pieces (h.known some);
   under_way = λ some. few;
 }
 
 -- and the first of it
-pub first_let_go : (kinds : FrameKinds) (size : ℕ) (session : Bool) (pieces : List (List ℕ)) → unknown_size kinds (concat pieces) ≡ Some size → session ≡ is_none (unknown_size plain_frames (concat pieces)) → length (concat pieces) < size → AreLetGo session size (length (concat pieces)) pieces
-first_let_go kinds size session pieces is told few = record {
+pub known_first : (kinds known_to : FrameKinds) (bytes : List ℕ) (size : ℕ) → unknown_size kinds bytes ≡ Some size → MatchOption (varint_at bytes) (known_to ≡ no_kinds) (λ p. known_to ≡ choices_for p.0) → IsKnownTo known_to (varint_at bytes)
+known_first kinds known_to bytes size is told =
+    let h = unknown_head kinds bytes size is in
+    let here : known_to ≡ choices_for h.kind = subst (λ o. MatchOption o (known_to ≡ no_kinds) (λ p. known_to ≡ choices_for p.0)) h.kind_at told in
+    subst (IsKnownTo known_to) (sym h.kind_at) here
+
+pub first_let_go : (kinds known_to : FrameKinds) (size : ℕ) (pieces : List (List ℕ)) → unknown_size kinds (concat pieces) ≡ Some size → IsKnownTo known_to (varint_at (concat pieces)) → length (concat pieces) < size → AreLetGo known_to size (length (concat pieces)) pieces
+first_let_go kinds known_to size pieces is known few = record {
   gone_is = refl;
   none = λ e. absurd (omega (arith, e, few));
   plain = λ e. absurd (omega (arith, e, few));
-  unknown = λ some. subst (λ b. unknown_size (let_go_by b) (concat pieces) ≡ Some size) (sym told) (let_go kinds (concat pieces) size (unknown_size plain_frames (concat pieces)) is refl);
-  known = λ some true_is. none_is (unknown_size plain_frames (concat pieces)) (sym told ∙ true_is);
+  unknown = λ some. let_go kinds known_to (concat pieces) size is known;
+  known = λ some. known;
   under_way = λ some. few;
 }
 
 -- nothing
-pub none_let_go : AreLetGo false 0 0 []
-none_let_go = record { gone_is = refl; none = λ e. refl; plain = λ e. refl; unknown = λ some. absurd (omega (arith, some)); known = λ some is. absurd (omega (arith, some)); under_way = λ some. absurd (omega (arith, some)) }
+pub none_let_go : AreLetGo no_kinds 0 0 []
+none_let_go = record { gone_is = refl; none = λ e. refl; plain = λ e. refl; unknown = λ some. absurd (omega (arith, some)); known = λ some. absurd (omega (arith, some)); under_way = λ some. absurd (omega (arith, some)) }
 
-pub gone_and_kept : (session : Bool) (passing gone kept : ℕ) (front pieces : List (List ℕ)) → AreLetGo session passing gone front → kept ≡ length (concat pieces) → gone + kept ≡ length (concat (front ++ pieces))
-gone_and_kept session passing gone kept front pieces h is = omega (arith, h.gone_is, is, size_of_both front pieces)
+pub none_says : (number : ℕ) (bytes : List ℕ) → SaysLength 0 number bytes
+none_says number bytes some = absurd (omega (arith, some))
+
+pub gone_and_kept : (known_to : FrameKinds) (passing gone kept : ℕ) (front pieces : List (List ℕ)) → AreLetGo known_to passing gone front → kept ≡ length (concat pieces) → gone + kept ≡ length (concat (front ++ pieces))
+gone_and_kept known_to passing gone kept front pieces h is = omega (arith, h.gone_is, is, size_of_both front pieces)
 
 -- whether it goes on behind what came
 pub longer_of : (kinds : FrameKinds) (bytes : List ℕ) (len : ℕ) (size : Option ℕ) → len ≡ length bytes → unknown_size kinds bytes ≡ size → is_longer len size ≡ is_under_way kinds bytes
@@ -143,7 +166,7 @@ still_expects kinds old new size bytes h enough is few decoder =
 
 -- The frame is whole.
 pub is_passed : (kinds : FrameKinds) (old new : UnreadFrames) (size : ℕ) → needed old.decoder ≤ length (concat old.pieces) → unknown_size kinds (concat old.pieces) ≡ Some size → size ≤ length (concat old.pieces)
-    → concat new.pieces ≡ drop size (concat old.pieces) → IsRest old.pieces new.pieces → new.passing ≡ 0 → new.session ≡ false → new.decoder ≡ counted old.decoder None → IsPassed kinds old new
+    → concat new.pieces ≡ drop size (concat old.pieces) → IsRest old.pieces new.pieces → new.passing ≡ 0 → new.known_to ≡ no_kinds → new.decoder ≡ counted old.decoder None → IsPassed kinds old new
 is_passed kinds old new size enough is all left rest none plain decoder =
     let whole = unknown_whole kinds (concat old.pieces) size is all in
     record { kind = whole.0; enough = enough; unknown = whole.1 ∙ ap (Unknown whole.0) (sym left); rest = rest; none = none; plain = plain; decoder = decoder }
@@ -197,11 +220,11 @@ unfolding unknown_size
 not_empty kinds [] e h = let wrong : false ≡ true = sym (ap (λ o. is_longer 0 (size_by kinds 0 o)) none_at_end) ∙ h in cc
 not_empty kinds (b ∷ bytes) e h = omega (arith, e)
 
-pub none_gone : (session : Bool) (passing gone : ℕ) (front : List (List ℕ)) → AreLetGo session passing gone front → passing ≡ 0 → gone ≡ 0
-none_gone session passing gone front h e = h.gone_is ∙ ap (λ f. length (concat f)) (h.none e)
+pub none_gone : (known_to : FrameKinds) (passing gone : ℕ) (front : List (List ℕ)) → AreLetGo known_to passing gone front → passing ≡ 0 → gone ≡ 0
+none_gone known_to passing gone front h e = h.gone_is ∙ ap (λ f. length (concat f)) (h.none e)
 
-pub none_in_front : (session : Bool) (passing gone : ℕ) (front pieces : List (List ℕ)) → AreLetGo session passing gone front → passing ≡ 0 → concat pieces ≡ concat (front ++ pieces)
-none_in_front session passing gone front pieces h e = ap (λ f. concat (f ++ pieces)) (sym (h.none e))
+pub none_in_front : (known_to : FrameKinds) (passing gone : ℕ) (front pieces : List (List ℕ)) → AreLetGo known_to passing gone front → passing ≡ 0 → concat pieces ≡ concat (front ++ pieces)
+none_in_front known_to passing gone front pieces h e = ap (λ f. concat (f ++ pieces)) (sym (h.none e))
 
 concat_with_piece : (pieces : List (List ℕ)) (bytes : List ℕ) → concat (with_piece pieces bytes) ≡ concat pieces ++ bytes
 concat_with_piece pieces [] = sym (append-nil (concat pieces))
@@ -216,9 +239,9 @@ pub pushed_same : {A E : Type 0} (r : Result A E) (old new : Sparing) → OnErr 
 pushed_same (Ok value) old new e = tt
 pushed_same (Err why) old new e = ap (λ (s : Sparing). s.pieces) e
 
-pub pushed_session : {A E : Type 0} (r : Result A E) (old new : Sparing) (bytes : List ℕ) → OnOk r (new ≡ record old { pieces = with_piece old.pieces bytes }) → OnErr r (new ≡ old) → new.session ≡ old.session
-pushed_session (Ok value) old new bytes e same = ap (λ (s : Sparing). s.session) e
-pushed_session (Err why) old new bytes e same = ap (λ (s : Sparing). s.session) same
+pub pushed_known : {A E : Type 0} (r : Result A E) (old new : Sparing) (bytes : List ℕ) → OnOk r (new ≡ record old { pieces = with_piece old.pieces bytes }) → OnErr r (new ≡ old) → new.known_to ≡ old.known_to
+pushed_known (Ok value) old new bytes e same = ap (λ (s : Sparing). s.known_to) e
+pushed_known (Err why) old new bytes e same = ap (λ (s : Sparing). s.known_to) same
 
 -- all that is kept was let go
 pub all_let_go : (front pieces gone kept : List (List ℕ)) → gone ≡ front ++ pieces → kept ≡ [] → gone ++ kept ≡ front ++ pieces
@@ -227,3 +250,17 @@ all_let_go front pieces gone kept is none = ap (λ k. gone ++ k) none ∙ append
 -- nothing is taken
 pub pieces_stay : (old new : List (List ℕ)) → new ≡ old → new ≡ ending (length (concat new)) old
 pieces_stay old new e = rest_is (length (concat new)) old new refl (rest_same old new e)
+
+-- With none under way what is expected is expected of what is kept, and the other way round.
+pub plain_expects : (known_to : FrameKinds) (passing gone : ℕ) (front kept : List (List ℕ)) (s : Sparing) (d : Decoding) → AreLetGo known_to passing gone front → record { pieces = front ++ kept; passing = passing; known_to = known_to } ≡ s → s.passing ≡ 0
+    → Expects (let_go_by s.known_to) d (concat s.pieces) → Expects plain_frames d (concat kept)
+plain_expects known_to passing gone front kept s d h is none expects =
+    let zero : passing ≡ 0 = ap (λ (x : Sparing). x.passing) is ∙ none in
+    let plain : s.known_to ≡ no_kinds = sym (ap (λ (x : Sparing). x.known_to) is) ∙ h.plain zero in
+    let all : concat kept ≡ concat s.pieces = none_in_front known_to passing gone front kept h zero ∙ ap (λ (x : Sparing). concat x.pieces) is in
+    subst (λ l. Expects plain_frames d l) (sym all)
+    (expects_within (let_go_by no_kinds) plain_frames d (concat s.pieces) (λ e. refl) (subst (λ (k : FrameKinds). Expects (let_go_by k) d (concat s.pieces)) plain expects))
+
+pub expects_plain : (known_to : FrameKinds) (passing gone : ℕ) (front kept : List (List ℕ)) (d : Decoding) → AreLetGo known_to passing gone front → passing ≡ 0 → Expects plain_frames d (concat kept) → Expects (let_go_by known_to) d (concat (front ++ kept))
+expects_plain known_to passing gone front kept d h none expects =
+    subst (λ l. Expects (let_go_by known_to) d l) (none_in_front known_to passing gone front kept h none) (expects_within plain_frames (let_go_by known_to) d (concat kept) (λ e. refl) expects)

@@ -1,25 +1,23 @@
 -- What is known of bytes by one choice of kinds, and by another.
-use Rattle.std.proofs.Common.{◌≡◌, ℕ, ◌+◌, ◌-◌, ◌<◌, Bool, true, false, not, ◌&&◌, ◌||◌, ◌==◌, List, ◌++◌, length, refl, sym, subst, ◌∙◌, ap, inl, inr, Option, Some, None, Result, Ok, Err}
-use Rattle.std.specs.Prelude.{is_none, IsNone}
+use Rattle.std.proofs.Common.{◌≡◌, ℕ, ◌+◌, ◌-◌, ◌<◌, Bool, true, false, not, ◌&&◌, ◌==◌, List, ◌++◌, length, take, drop, refl, sym, subst, ◌∙◌, ap, inl, inr, ◌⊎◌, Option, Some, None, Result, Ok, Err}
+use Rattle.std.specs.Prelude.{IfOk, IfSome, IsNone, OnErr}
 use Rattle.std.specs.List.{concat}
-use Rattle.std.proofs.lemmas.Bool.{cases_lt, eqb-true, lt-ltb, or_parts}
+use Rattle.std.proofs.lemmas.Bool.{and_parts, cases_lt, eqb-true, lt-ltb}
 use Rattle.h3_coding.specs.Varint.{varint_at}
 use Rattle.h3_coding.specs.VarintLaws.{cases_number, reads_more}
 use Rattle.h3_wire.specs.declared.frame.kinds.FrameKinds.{FrameKinds}
-use Rattle.h3_wire.specs.FrameLaws.{at_no_kind, at_no_number, at_head}
-use Rattle.h3_wire.specs.Frames.{Front, Whole, Unfinished, frame_by, is_session, plain_frames, with_head}
+use Rattle.h3_wire.specs.FrameLaws.{at_no_kind, at_no_number, at_head, frame_known-finished, no_update, short_or_whole}
+use Rattle.h3_wire.specs.Frames.{Unfinished, frame_by, is_session, is_update, plain_frames}
+use Rattle.h3_wire.specs.Fronts.{IsFinished, tested}
+use Rattle.h3_wire.specs.Update.{is_update_type}
 use Rattle.h3_wire.specs.Known.{Gives, IsWaiting}
 use Rattle.h3_wire.specs.UnreadFrames.{gives_none}
 use Rattle.h3_wire.specs.declared.frame.errors.FrameStreamError.{FrameStreamError}
 use Rattle.h3_wire.specs.Tries.{Awaits, Decoding, Expects}
-use Rattle.h3_wire.specs.UnknownSize.{IsPassing, Sparing, is_known_type, is_longer, is_under_way, let_go_by, suits, unknown_size}
+use Rattle.h3_wire.specs.UnknownSize.{IsKnownTo, IsPassing, Sparing, choices_for, is_known_type, is_longer, is_under_way, let_go_by, suits, unknown_size}
 use Rattle.h3_wire.specs.declared.proto.frame.PayloadLen.{PayloadLen}
 use Rattle.h3_wire.specs.declared.proto.frame.Frame.{Frame}
-use Rattle.h3_wire.specs.declared.proto.frame.Frame.TheVariants as frame
-use Rattle.h3_wire.proofs.LettingGo.{IsUnknownHead, known_kind, size_of_head, unknown_head, unknown_whole}
-
-abbrev by : Bool → FrameKinds
-by sessions = record { sessions = sessions }
+use Rattle.h3_wire.proofs.LettingGo.{known_kind, size_of_head, tests, unknown_head, unknown_whole}
 
 abbrev holds : Bool → Type 0
 holds true = Unit {0}
@@ -28,41 +26,41 @@ holds false = ⊥
 pub apart : true ≡ false → ⊥
 apart e = subst holds e tt
 
--- there are two choices
-pub kinds_are : (kinds : FrameKinds) (b : Bool) → kinds.sessions ≡ b → kinds ≡ by b
-kinds_are kinds b e = ap (λ b. by b) e
+-- Whoever knows these kinds knows those.
+pub record Within (kinds most : FrameKinds) : Type 0 where
+  pub sessions : kinds.sessions ≡ true → most.sessions ≡ true
+  pub updates : kinds.updates ≡ true → most.updates ≡ true
 
--- What is no session where those are known is none anywhere.
-no_session : (kinds : FrameKinds) (kind : ℕ) → is_session plain_frames kind ≡ false → is_session kinds kind ≡ false
-no_session kinds kind none = by_test (kind == 0x41) none
+-- What suits is within the most kinds by which that frame is unknown.
+pub suits_within : (known_to kinds : FrameKinds) → suits known_to kinds ≡ true → Within kinds (let_go_by known_to)
+suits_within known_to kinds fits =
+    let parts = and_parts (not (known_to.sessions && kinds.sessions)) (not (known_to.updates && kinds.updates)) fits in
+    record { sessions = by_test known_to.sessions kinds.sessions parts.0; updates = by_test known_to.updates kinds.updates parts.1 }
   where
-    by_test : (b : Bool) → (b && true) ≡ false → (b && kinds.sessions) ≡ false
-    by_test false e = refl
-    by_test true e = absurd (apart e)
+    by_test : (a b : Bool) → not (a && b) ≡ true → b ≡ true → not a ≡ true
+    by_test false b e h = refl
+    by_test true b e h = absurd (apart (sym e ∙ ap not h))
 
--- So a type without a meaning there has none anywhere.
-no_meaning : (kinds : FrameKinds) (kind : ℕ) → is_known_type plain_frames kind ≡ false → is_known_type kinds kind ≡ false
-no_meaning kinds kind none =
-    let parts = or_parts (is_session plain_frames kind) _ none in
-    rw (no_session kinds kind parts.0, parts.1) refl
+-- So a type without a meaning by those has none by these.
+less_known : (a b c : Bool) → (b ≡ true → c ≡ true) → (a && c) ≡ false → (a && b) ≡ false
+less_known false b c h e = refl
+less_known true false c h e = refl
+less_known true true c h e = absurd (apart (sym (h refl) ∙ e))
 
--- Type 0x41 has a meaning where sessions are known, and else none.
-session_known : (kind : ℕ) → is_session plain_frames kind ≡ true → is_known_type plain_frames kind ≡ true
-session_known kind e = rw e refl
+fewer_updates : (a b c : Bool) → (b ≡ true → c ≡ true) → (c && a) ≡ false → (b && a) ≡ false
+fewer_updates a false c h e = refl
+fewer_updates a true c h e = ap (λ x. x && a) (sym (h refl)) ∙ e
 
-pub is_0x41 : (kind : ℕ) → is_session plain_frames kind ≡ true → kind ≡ 0x41
-is_0x41 kind e = eqb-true kind 0x41 (by_test (kind == 0x41) e)
-  where
-    by_test : (b : Bool) → (b && true) ≡ true → b ≡ true
-    by_test true e = refl
-    by_test false e = e
+no_meaning : (kinds most : FrameKinds) (kind : ℕ) → Within kinds most → is_known_type most kind ≡ false → is_known_type kinds kind ≡ false
+no_meaning kinds most kind within none =
+    let t = tests most kind none in
+    let session : is_session kinds kind ≡ false = less_known (kind == 0x41) kinds.sessions most.sessions within.sessions t.session in
+    let update : is_update kinds kind ≡ false = fewer_updates (is_update_type kind) kinds.updates most.updates within.updates t.update in
+    rw (session, update, t.plain, t.headers, t.cancel, t.settings, t.promise, t.goaway, t.most) t.http2
 
-unknown_session : (kinds : FrameKinds) (kind : ℕ) → is_session plain_frames kind ≡ true → is_session kinds kind ≡ false → is_known_type kinds kind ≡ false
-unknown_session kinds kind is none = subst (λ n. is_session kinds n ≡ false → is_known_type kinds n ≡ false) (sym (is_0x41 kind is)) (λ e. ap (λ b. b || false) e) none
-
-pub unknown_as : (kinds : FrameKinds) (bytes : List ℕ) (size : ℕ) → unknown_size plain_frames bytes ≡ Some size → unknown_size kinds bytes ≡ Some size
-unknown_as kinds bytes size is =
-    let h = unknown_head plain_frames bytes size is in
+pub unknown_within : (kinds most : FrameKinds) (bytes : List ℕ) (size : ℕ) → Within kinds most → unknown_size most bytes ≡ Some size → unknown_size kinds bytes ≡ Some size
+unknown_within kinds most bytes size within is =
+    let h = unknown_head most bytes size is in
     size_of_head kinds bytes size (record {
       kind = h.kind;
       number = h.number;
@@ -70,136 +68,147 @@ unknown_as kinds bytes size is =
       behind = h.behind;
       kind_at = h.kind_at;
       number_at = h.number_at;
-      unknown = no_meaning kinds h.kind h.unknown;
+      unknown = no_meaning kinds most h.kind within h.unknown;
       size_is = h.size_is;
     })
 
-none_known : (b : Bool) → not b ≡ true → b ≡ false
-none_known false e = refl
-none_known true e = absurd (apart (sym e))
-
-pub unknown_suits : (session : Bool) (kinds : FrameKinds) (bytes : List ℕ) (size : ℕ) → suits session kinds ≡ true → unknown_size (let_go_by session) bytes ≡ Some size → unknown_size kinds bytes ≡ Some size
-unknown_suits false kinds bytes size fits is = unknown_as kinds bytes size is
-unknown_suits true kinds bytes size fits is = subst (λ k. unknown_size k bytes ≡ Some size) (sym (kinds_are kinds false (none_known kinds.sessions fits))) is
-
-pub none_is : {X : Type 0} (o : Option X) → is_none o ≡ true → o ≡ None
-none_is None e = refl
-none_is (Some x) e = absurd (apart (sym e))
+pub unknown_suits : (known_to kinds : FrameKinds) (bytes : List ℕ) (size : ℕ) → suits known_to kinds ≡ true → unknown_size (let_go_by known_to) bytes ≡ Some size → unknown_size kinds bytes ≡ Some size
+unknown_suits known_to kinds bytes size fits is = unknown_within kinds (let_go_by known_to) bytes size (suits_within known_to kinds fits) is
 
 pub is_nothing : {X : Type 0} (o : Option X) → IsNone o → o ≡ None
 is_nothing None e = refl
 is_nothing (Some x) e = absurd (apart e)
 
--- An unknown frame is one of type 0x41 if it is known where sessions are.
-pub let_go : (kinds : FrameKinds) (bytes : List ℕ) (size : ℕ) (o : Option ℕ) → unknown_size kinds bytes ≡ Some size → unknown_size plain_frames bytes ≡ o → unknown_size (let_go_by (is_none o)) bytes ≡ Some size
-let_go kinds bytes size (Some other) is plain = plain ∙ sym (unknown_as kinds bytes other plain) ∙ is
-let_go kinds bytes size None is plain = by_test kinds.sessions refl
-  where
-    by_test : (b : Bool) → kinds.sessions ≡ b → unknown_size (by false) bytes ≡ Some size
-    by_test false e = subst (λ k. unknown_size k bytes ≡ Some size) (kinds_are kinds false e) is
-    by_test true e =
-        let wrong : None ≡ Some size = sym plain ∙ subst (λ k. unknown_size k bytes ≡ Some size) (kinds_are kinds true e) is in
-        absurd (cc)
+-- A type is unknown to all but the choices for it, if it is to any.
+no_choice : (a : Bool) → (a && not a) ≡ false
+no_choice true = refl
+no_choice false = refl
 
--- More bytes leave it so.
-pub known_more : (kinds : FrameKinds) (bytes more : List ℕ) (size : ℕ) → unknown_size kinds bytes ≡ Some size → unknown_size plain_frames bytes ≡ None → unknown_size plain_frames (bytes ++ more) ≡ None
-known_more kinds bytes more size is none =
+no_choice_first : (a : Bool) → (not a && a) ≡ false
+no_choice_first true = refl
+no_choice_first false = refl
+
+chosen_unknown : (kinds : FrameKinds) (kind : ℕ) → is_known_type kinds kind ≡ false → is_known_type (let_go_by (choices_for kind)) kind ≡ false
+chosen_unknown kinds kind none =
+    let t = tests kinds kind none in
+    let session : is_session (let_go_by (choices_for kind)) kind ≡ false = no_choice (kind == 0x41) in
+    let update : is_update (let_go_by (choices_for kind)) kind ≡ false = no_choice_first (is_update_type kind) in
+    rw (session, update, t.plain, t.headers, t.cancel, t.settings, t.promise, t.goaway, t.most) t.http2
+
+pub let_go : (kinds known_to : FrameKinds) (bytes : List ℕ) (size : ℕ) → unknown_size kinds bytes ≡ Some size → IsKnownTo known_to (varint_at bytes) → unknown_size (let_go_by known_to) bytes ≡ Some size
+let_go kinds known_to bytes size is known =
     let h = unknown_head kinds bytes size is in
-    by_test h (is_known_type plain_frames h.kind) refl
-  where
-    by_test : (h : IsUnknownHead kinds bytes size) (b : Bool) → is_known_type plain_frames h.kind ≡ b → unknown_size plain_frames (bytes ++ more) ≡ None
-    by_test h true e = known_kind plain_frames h.kind (bytes ++ more) (h.mid ++ more) (reads_more h.kind bytes h.mid more h.kind_at) e
-    by_test h false e =
-        let there : unknown_size plain_frames bytes ≡ Some size = size_of_head plain_frames bytes size (record {
-          kind = h.kind;
-          number = h.number;
-          mid = h.mid;
-          behind = h.behind;
-          kind_at = h.kind_at;
-          number_at = h.number_at;
-          unknown = e;
-          size_is = h.size_is;
-        }) in
-        let wrong : None ≡ Some size = sym none ∙ there in
-        absurd (cc)
+    let choices : known_to ≡ choices_for h.kind = subst (IsKnownTo known_to) h.kind_at known in
+    subst (λ (k : FrameKinds). unknown_size (let_go_by k) bytes ≡ Some size) (sym choices) (size_of_head (let_go_by (choices_for h.kind)) bytes size (record {
+      kind = h.kind;
+      number = h.number;
+      mid = h.mid;
+      behind = h.behind;
+      kind_at = h.kind_at;
+      number_at = h.number_at;
+      unknown = chosen_unknown kinds h.kind h.unknown;
+      size_is = h.size_is;
+    }))
 
--- no session begins there
-abbrev pub IsNoSession : Front → Type 0
-IsNoSession (Whole (frame.WebTransportStream session) rest) = ⊥
-IsNoSession _ = Unit {0}
+-- More bytes leave its type as it is.
+pub known_more : (known_to : FrameKinds) (bytes more : List ℕ) → IsKnownTo known_to (varint_at bytes) → IsKnownTo known_to (varint_at (bytes ++ more))
+known_more known_to bytes more known = elim (cases_number bytes) [
+  | inl none ↦ absurd (subst (IsKnownTo known_to) none known)
+  | inr (kind, mid, e) ↦
+      let here : known_to ≡ choices_for kind = subst (IsKnownTo known_to) e known in
+      subst (IsKnownTo known_to) (sym (reads_more kind bytes mid more e)) here
+]
 
-head_as : (kinds : FrameKinds) (size kind number : ℕ) (behind : List ℕ) (b : Bool) → is_session plain_frames kind ≡ b → IsNoSession (with_head plain_frames size kind number behind) → with_head kinds size kind number behind ≡ with_head plain_frames size kind number behind
-head_as kinds size kind number behind true e h = absurd (rw e at h)
-head_as kinds size kind number behind false e h = rw (e, no_session kinds kind e) refl
+-- **Less than a frame is less than one by all who know no more sessions**, since a frame of any other type is waited for by all.
+waits_by : (most kinds : FrameKinds) (a b : Bool) (size kind number least : ℕ) (behind : List ℕ) (c : Bool) → (c ≡ true → a ≡ true) → tested most a b size kind number behind ≡ Unfinished least → tested kinds c b size kind number behind ≡ Unfinished least
+waits_by most kinds true b size kind number least behind c fewer e = absurd (cc)
+waits_by most kinds false true size kind number least behind c fewer e = absurd (cc)
+waits_by most kinds false false size kind number least behind true fewer e = absurd (apart (sym (fewer refl)))
+waits_by most kinds false false size kind number least behind false fewer e = elim (short_or_whole number behind) [
+  | inl t ↦ rw t.0 (rw t.0 at e)
+  | inr t ↦ absurd (subst IsFinished (rw t.0 at e) (frame_known-finished most kind (take number behind) (drop number behind)).0)
+]
 
--- **A front that begins no session is read alike by all.**
-pub front_as : (kinds : FrameKinds) (bytes : List ℕ) → IsNoSession (frame_by plain_frames bytes) → frame_by kinds bytes ≡ frame_by plain_frames bytes
-front_as kinds bytes h = elim (cases_number bytes) [
-  | inl none ↦ at_no_kind kinds bytes none ∙ sym (at_no_kind plain_frames bytes none)
+front_if : (most kinds : FrameKinds) (bytes : List ℕ) (least : ℕ) → ((kind : ℕ) (mid : List ℕ) (number : ℕ) (behind : List ℕ) → varint_at bytes ≡ Some (kind, mid) → varint_at mid ≡ Some (number, behind) → is_session kinds kind ≡ true → is_session most kind ≡ true)
+    → frame_by most bytes ≡ Unfinished least → frame_by kinds bytes ≡ Unfinished least
+front_if most kinds bytes least fewer e = elim (cases_number bytes) [
+  | inl none ↦ at_no_kind kinds bytes none ∙ sym (at_no_kind most bytes none) ∙ e
   | inr k ↦ elim (cases_number k.1) [
-    | inl none ↦ at_no_number kinds k.0 bytes k.1 k.2 none ∙ sym (at_no_number plain_frames k.0 bytes k.1 k.2 none)
+    | inl none ↦ at_no_number kinds k.0 bytes k.1 k.2 none ∙ sym (at_no_number most k.0 bytes k.1 k.2 none) ∙ e
     | inr n ↦
-        let here = at_head plain_frames k.0 n.0 bytes k.1 n.1 k.2 n.2 in
+        let here = sym (at_head most k.0 n.0 bytes k.1 n.1 k.2 n.2) ∙ e in
         at_head kinds k.0 n.0 bytes k.1 n.1 k.2 n.2
-        ∙ head_as kinds (length bytes) k.0 n.0 n.1 (is_session plain_frames k.0) refl (subst IsNoSession here h) ∙ sym here
+        ∙ waits_by most kinds (is_session most k.0) (k.0 == 0) (length bytes) k.0 n.0 least n.1 (is_session kinds k.0) (fewer k.0 k.1 n.0 n.1 k.2 n.2) here
   ]
 ]
 
-awaits_as : (kinds : FrameKinds) (expected : Option ℕ) (tries : ℕ) (bytes : List ℕ) → Awaits plain_frames expected tries bytes → Awaits kinds expected tries bytes
-awaits_as kinds None tries bytes h = tt
-awaits_as kinds (Some least) tries bytes h = (h.0, h.1, h.2, front_as kinds h.0 (subst IsNoSession (sym h.3) tt) ∙ h.3, h.4)
+session_of : (a b c : Bool) → (b ≡ true → c ≡ true) → (a && b) ≡ true → (a && c) ≡ true
+session_of true b c h e = h e
+session_of false b c h e = e
 
--- So what is expected where sessions are known is expected by all.
+front_within : (most kinds : FrameKinds) (bytes : List ℕ) (least : ℕ) → (kinds.sessions ≡ true → most.sessions ≡ true) → frame_by most bytes ≡ Unfinished least → frame_by kinds bytes ≡ Unfinished least
+front_within most kinds bytes least fewer e =
+    front_if most kinds bytes least (λ kind mid number behind at next is. session_of (kind == 0x41) kinds.sessions most.sessions fewer is) e
+
+awaits_within : (most kinds : FrameKinds) (expected : Option ℕ) (tries : ℕ) (bytes : List ℕ) → (kinds.sessions ≡ true → most.sessions ≡ true) → Awaits most expected tries bytes → Awaits kinds expected tries bytes
+awaits_within most kinds None tries bytes fewer h = tt
+awaits_within most kinds (Some least) tries bytes fewer h = (h.0, h.1, h.2, front_within most kinds h.0 least fewer h.3, h.4)
+
+-- So what is expected if sessions are known is expected whichever kinds are.
+pub expects_within : (most kinds : FrameKinds) (d : Decoding) (bytes : List ℕ) → (kinds.sessions ≡ true → most.sessions ≡ true) → Expects most d bytes → Expects kinds d bytes
+expects_within most kinds d bytes fewer h = awaits_within most kinds d.expected d.tries bytes fewer h
+
 pub expects_as : (kinds : FrameKinds) (d : Decoding) (bytes : List ℕ) → Expects plain_frames d bytes → Expects kinds d bytes
-expects_as kinds d bytes h = awaits_as kinds d.expected d.tries bytes h
+expects_as kinds d bytes h = expects_within plain_frames kinds d bytes (λ e. refl) h
 
-pub expects_suits : (session : Bool) (kinds : FrameKinds) (d : Decoding) (bytes : List ℕ) → suits session kinds ≡ true → Expects (let_go_by session) d bytes → Expects kinds d bytes
-expects_suits false kinds d bytes fits h = expects_as kinds d bytes h
-expects_suits true kinds d bytes fits h = subst (λ k. Expects k d bytes) (sym (kinds_are kinds false (none_known kinds.sessions fits))) h
+pub expects_suits : (known_to kinds : FrameKinds) (d : Decoding) (bytes : List ℕ) → suits known_to kinds ≡ true → Expects (let_go_by known_to) d bytes → Expects kinds d bytes
+expects_suits known_to kinds d bytes fits h = expects_within (let_go_by known_to) kinds d bytes (suits_within known_to kinds fits).sessions h
 
--- And the other way round, if the bytes begin with an unknown frame by both or by none.
-plain_front : (kinds : FrameKinds) (front more : List ℕ) (least : ℕ) → frame_by kinds front ≡ Unfinished least → unknown_size kinds (front ++ more) ≡ unknown_size plain_frames (front ++ more) → frame_by plain_frames front ≡ Unfinished least
-plain_front kinds front more least e same = elim (cases_number front) [
-  | inl none ↦ at_no_kind plain_frames front none ∙ sym (at_no_kind kinds front none) ∙ e
-  | inr k ↦ elim (cases_number k.1) [
-    | inl none ↦ at_no_number plain_frames k.0 front k.1 k.2 none ∙ sym (at_no_number kinds k.0 front k.1 k.2 none) ∙ e
-    | inr n ↦ at_head plain_frames k.0 n.0 front k.1 n.1 k.2 n.2 ∙ sym (by_kind k.0 k.1 n.0 n.1 k.2 n.2) ∙ sym (at_head kinds k.0 n.0 front k.1 n.1 k.2 n.2) ∙ e
-  ]
-]
+-- And the other way round, if the bytes begin with no unknown frame by these, or with one by all.
+more_front : (kinds most : FrameKinds) (front more : List ℕ) (least : ℕ) → (unknown_size kinds (front ++ more) ≡ None) ⊎ ((size : ℕ) × (unknown_size most (front ++ more) ≡ Some size)) → frame_by kinds front ≡ Unfinished least → frame_by most front ≡ Unfinished least
+more_front kinds most front more least whole e = front_if kinds most front least session e
   where
-    sized : (kind : ℕ) (mid : List ℕ) (number : ℕ) (behind : List ℕ) → varint_at front ≡ Some (kind, mid) → varint_at mid ≡ Some (number, behind) → is_known_type kinds kind ≡ false
-        → unknown_size kinds (front ++ more) ≡ Some (length (front ++ more) - length (behind ++ more) + number)
-    sized kind mid number behind at next unknown = size_of_head kinds (front ++ more) (length (front ++ more) - length (behind ++ more) + number) (record {
-      kind = kind;
-      number = number;
-      mid = mid ++ more;
-      behind = behind ++ more;
-      kind_at = reads_more kind front mid more at;
-      number_at = reads_more number mid behind more next;
-      unknown = unknown;
-      size_is = refl;
-    })
-
-    by_kind : (kind : ℕ) (mid : List ℕ) (number : ℕ) (behind : List ℕ) → varint_at front ≡ Some (kind, mid) → varint_at mid ≡ Some (number, behind) → with_head kinds (length front) kind number behind ≡ with_head plain_frames (length front) kind number behind
-    by_kind kind mid number behind at next = by_test (is_session plain_frames kind) refl (is_session kinds kind) refl
+    session : (kind : ℕ) (mid : List ℕ) (number : ℕ) (behind : List ℕ) → varint_at front ≡ Some (kind, mid) → varint_at mid ≡ Some (number, behind) → is_session most kind ≡ true → is_session kinds kind ≡ true
+    session kind mid number behind at next is = by_test (is_session kinds kind) refl
       where
-        by_test : (a : Bool) → is_session plain_frames kind ≡ a → (b : Bool) → is_session kinds kind ≡ b → with_head kinds (length front) kind number behind ≡ with_head plain_frames (length front) kind number behind
-        by_test true p true q = rw (p, q) refl
-        by_test false p b q = rw (p, no_session kinds kind p) refl
-        by_test true p false q =
-            let none : unknown_size plain_frames (front ++ more) ≡ None = known_kind plain_frames kind (front ++ more) (mid ++ more) (reads_more kind front mid more at) (session_known kind p) in
-            let some = sized kind mid number behind at next (unknown_session kinds kind p q) in
-            let wrong : None ≡ Some (length (front ++ more) - length (behind ++ more) + number) = sym none ∙ sym same ∙ some in
+        there : is_session kinds kind ≡ false → unknown_size kinds (front ++ more) ≡ Some (length (front ++ more) - length (behind ++ more) + number)
+        there none =
+            let kind_is : kind ≡ 0x41 = eqb-true kind 0x41 (and_parts (kind == 0x41) most.sessions is).0 in
+            let unknown : is_known_type kinds kind ≡ false = subst (λ n. is_session kinds n ≡ false → is_known_type kinds n ≡ false) (sym kind_is) (λ e. rw (e, no_update kinds 0x41 refl) refl) none in
+            size_of_head kinds (front ++ more) (length (front ++ more) - length (behind ++ more) + number) (record {
+              kind = kind;
+              number = number;
+              mid = mid ++ more;
+              behind = behind ++ more;
+              kind_at = reads_more kind front mid more at;
+              number_at = reads_more number mid behind more next;
+              unknown = unknown;
+              size_is = refl;
+            })
+
+        by_whole : is_session kinds kind ≡ false → (unknown_size kinds (front ++ more) ≡ None) ⊎ ((size : ℕ) × (unknown_size most (front ++ more) ≡ Some size)) → false ≡ true
+        by_whole none (inl nothing) =
+            let wrong : None ≡ Some (length (front ++ more) - length (behind ++ more) + number) = sym nothing ∙ there none in
+            absurd (cc)
+        by_whole none (inr (size, some)) =
+            let known : is_known_type most kind ≡ true = rw is refl in
+            let wrong : None ≡ Some size = sym (known_kind most kind (front ++ more) (mid ++ more) (reads_more kind front mid more at) known) ∙ some in
             absurd (cc)
 
-pub plain_as : (kinds : FrameKinds) (d : Decoding) (bytes : List ℕ) → Expects kinds d bytes → unknown_size kinds bytes ≡ unknown_size plain_frames bytes → Expects plain_frames d bytes
-plain_as kinds d bytes h same = by_expected d.expected h
-  where
-    by_expected : (expected : Option ℕ) → Awaits kinds expected d.tries bytes → Awaits plain_frames expected d.tries bytes
-    by_expected None a = tt
-    by_expected (Some least) a = (a.0, a.1, a.2, plain_front kinds a.0 a.1 least a.3 (subst (λ l. unknown_size kinds l ≡ unknown_size plain_frames l) a.2 same), a.4)
+        by_test : (b : Bool) → is_session kinds kind ≡ b → b ≡ true
+        by_test true e = refl
+        by_test false e = by_whole e whole
 
--- Less than a frame, and no unknown frame under way, is no unknown frame by either.
+expects_more : (kinds most : FrameKinds) (d : Decoding) (bytes : List ℕ) → (unknown_size kinds bytes ≡ None) ⊎ ((size : ℕ) × (unknown_size most bytes ≡ Some size)) → Expects kinds d bytes → Expects most d bytes
+expects_more kinds most d bytes whole h = by_expected d.expected h
+  where
+    by_expected : (expected : Option ℕ) → Awaits kinds expected d.tries bytes → Awaits most expected d.tries bytes
+    by_expected None a = tt
+    by_expected (Some least) a =
+        let here = subst (λ l. (unknown_size kinds l ≡ None) ⊎ ((size : ℕ) × (unknown_size most l ≡ Some size))) a.2 whole in
+        (a.0, a.1, a.2, more_front kinds most a.0 a.1 least here a.3, a.4)
+
+-- Less than a frame, and no unknown frame under way, is no unknown frame.
 no_size : (kinds : FrameKinds) (bytes : List ℕ) → IsWaiting (frame_by kinds bytes) → is_under_way kinds bytes ≡ false → unknown_size kinds bytes ≡ None
 no_size kinds bytes waits none = by_size (unknown_size kinds bytes) refl
   where
@@ -212,30 +221,23 @@ no_size kinds bytes waits none = by_size (unknown_size kinds bytes) refl
       | inr all ↦ let w = unknown_whole kinds bytes size e all in absurd (subst IsWaiting w.1 waits)
     ]
 
-both_none : (kinds : FrameKinds) (bytes : List ℕ) → unknown_size kinds bytes ≡ None → unknown_size kinds bytes ≡ unknown_size plain_frames bytes
-both_none kinds bytes none = by_size (unknown_size plain_frames bytes) refl
-  where
-    by_size : (o : Option ℕ) → unknown_size plain_frames bytes ≡ o → unknown_size kinds bytes ≡ o
-    by_size None e = none
-    by_size (Some size) e = unknown_as kinds bytes size e
-
 -- **What a decoder expects once the unknown frame under way was let go, it expects by the kinds by which that was.**
-pub spared_expects : (kinds : FrameKinds) (u : Sparing) (d : Decoding) → IsPassing u → (u.session ≡ true → kinds.sessions ≡ false) → Expects kinds d (concat u.pieces) → IsWaiting (frame_by kinds (concat u.pieces))
-    → (is_under_way kinds (concat u.pieces) ≡ true → 0 < u.passing) → Expects (let_go_by u.session) d (concat u.pieces)
-spared_expects kinds u d is by_them h waits spared = by_session u.session refl
+pub spared_expects : (kinds : FrameKinds) (u : Sparing) (d : Decoding) → IsPassing u → Expects kinds d (concat u.pieces) → IsWaiting (frame_by kinds (concat u.pieces))
+    → (is_under_way kinds (concat u.pieces) ≡ true → 0 < u.passing) → Expects (let_go_by u.known_to) d (concat u.pieces)
+spared_expects kinds u d is h waits spared = expects_more kinds (let_go_by u.known_to) d (concat u.pieces) (by_way (is_under_way kinds (concat u.pieces)) refl) h
   where
-    by_way : (b : Bool) → is_under_way kinds (concat u.pieces) ≡ b → u.session ≡ false → unknown_size kinds (concat u.pieces) ≡ unknown_size plain_frames (concat u.pieces)
-    by_way false e plain = both_none kinds (concat u.pieces) (no_size kinds (concat u.pieces) waits e)
-    by_way true e plain =
-        let there : unknown_size plain_frames (concat u.pieces) ≡ Some u.passing = subst (λ b. unknown_size (let_go_by b) (concat u.pieces) ≡ Some u.passing) plain (is.unknown (spared e)) in
-        unknown_as kinds (concat u.pieces) u.passing there ∙ sym there
-
-    by_session : (b : Bool) → u.session ≡ b → Expects (let_go_by b) d (concat u.pieces)
-    by_session false e = plain_as kinds d (concat u.pieces) h (by_way (is_under_way kinds (concat u.pieces)) refl e)
-    by_session true e = subst (λ k. Expects k d (concat u.pieces)) (kinds_are kinds false (by_them e)) h
+    by_way : (b : Bool) → is_under_way kinds (concat u.pieces) ≡ b → (unknown_size kinds (concat u.pieces) ≡ None) ⊎ ((size : ℕ) × (unknown_size (let_go_by u.known_to) (concat u.pieces) ≡ Some size))
+    by_way false e = inl (no_size kinds (concat u.pieces) waits e)
+    by_way true e = inr (u.passing, is.unknown (spared e))
 
 -- An answer without a frame leaves less than one.
 pub waits_if : (kinds : FrameKinds) (r : Result (Option (Frame PayloadLen)) FrameStreamError) (old new : List ℕ) → gives_none r ≡ true → Gives kinds r old new → IsWaiting (frame_by kinds new)
 waits_if kinds (Ok None) old new is g = g.1
 waits_if kinds (Ok (Some f)) old new is g = absurd (apart (sym is))
 waits_if kinds (Err e) old new is g = absurd (apart (sym is))
+
+-- A frame leaves nothing expected, and an error what was expected whichever kinds are known.
+pub given_expects : (known_to : FrameKinds) (r : Result (Option (Frame PayloadLen)) FrameStreamError) (d : Decoding) (bytes : List ℕ) → gives_none r ≡ false → IfOk r (λ o. IfSome o (λ f. d.expected ≡ None)) → OnErr r (Expects plain_frames d bytes) → Expects (let_go_by known_to) d bytes
+given_expects known_to (Ok None) d bytes is fresh plain = absurd (apart is)
+given_expects known_to (Ok (Some f)) d bytes is fresh plain = subst (λ o. Awaits (let_go_by known_to) o d.tries bytes) (sym fresh) tt
+given_expects known_to (Err e) d bytes is fresh plain = expects_within plain_frames (let_go_by known_to) d bytes (λ h. refl) plain

@@ -1,6 +1,6 @@
 -- Each frame that was written is read as it was.
-use Rattle.std.proofs.Common.{◌≡◌, ◌≢◌, ◌&&◌, false, ℕ, ◌<◌, ◌≤◌, ◌^◌, List, ◌++◌, length, codes, arith, lit<, sym, subst, ◌∙◌, ap, refl, zero, suc, append_assoc, length-append}
-use Rattle.std.proofs.lemmas.Bool.{ne_eqb}
+use Rattle.std.proofs.Common.{◌≡◌, ◌≢◌, ◌==◌, ◌&&◌, false, ℕ, ◌<◌, ◌≤◌, ◌^◌, List, ◌++◌, length, codes, arith, lit<, sym, subst, ◌∙◌, ap, refl, zero, suc, inl, inr, append_assoc, length-append}
+use Rattle.std.proofs.lemmas.Bool.{cases_lt, ne_eqb, or_from}
 use Rattle.h3_coding.specs.Encodings.{encoding}
 use Rattle.h3_coding.specs.VarintLaws.{reads_shortest}
 use Rattle.h3_proto.specs.Ids.{reserved}
@@ -10,7 +10,9 @@ use Rattle.h3_wire.specs.Frames.{Whole, Unknown, one_number, promise_frame, fram
 use Rattle.h3_wire.specs.declared.proto.frame.Frame.{Frame}
 use Rattle.h3_wire.specs.declared.proto.frame.Frame.TheVariants as frame
 use Rattle.h3_wire.specs.ReadBack.{read_back}
-use Rattle.h3_wire.specs.EncodedLaws.{length-encoding, written_head, written_frame, written_headers, alone_number, written_number, written_goaway, written_settings}
+use Rattle.h3_wire.specs.EncodedLaws.{length-encoding, written_head, written_frame, written_headers, alone_number, written_number, written_goaway, written_settings, passed_update}
+use Rattle.h3_wire.specs.FrameLaws.{no_update}
+use Rattle.h3_wire.specs.Update.{is_update_type}
 use Rattle.h3_wire.specs.declared.frame.kinds.FrameKinds.{FrameKinds}
 
 -- a type and a number
@@ -26,15 +28,15 @@ written_data kinds bytes rest h = ap (frame_by kinds) (append_assoc (head_encodi
 
 pub written_cancel_push : (kinds : FrameKinds) (id : ℕ) (rest : List ℕ) → id < 2 ^ 62 → frame_by kinds (frame_encoding 3 (encoding id) ++ rest) ≡ Whole (frame.CancelPush id) rest
 unfolding frame_of
-written_cancel_push kinds id rest h = written_number kinds 3 id rest (lit< tt) h refl refl ∙ ap (λ o. one_number o (λ n. frame.CancelPush n) rest) (alone_number id h)
+written_cancel_push kinds id rest h = written_number kinds 3 id rest (lit< tt) h refl refl (no_update kinds 3 refl) ∙ ap (λ o. one_number o (λ n. frame.CancelPush n) rest) (alone_number id h)
 
 pub written_max_push_id : (kinds : FrameKinds) (id : ℕ) (rest : List ℕ) → id < 2 ^ 62 → frame_by kinds (frame_encoding 13 (encoding id) ++ rest) ≡ Whole (frame.MaxPushId id) rest
 unfolding frame_of
-written_max_push_id kinds id rest h = written_number kinds 13 id rest (lit< tt) h refl refl ∙ ap (λ o. one_number o (λ n. frame.MaxPushId n) rest) (alone_number id h)
+written_max_push_id kinds id rest h = written_number kinds 13 id rest (lit< tt) h refl refl (no_update kinds 13 refl) ∙ ap (λ o. one_number o (λ n. frame.MaxPushId n) rest) (alone_number id h)
 
 pub written_promise : (kinds : FrameKinds) (p : Promise) (rest : List ℕ) → p.id < 2 ^ 62 → length (promise_payload p) < 2 ^ 62 → frame_by kinds (frame_encoding 5 (promise_payload p) ++ rest) ≡ Whole (frame.PushPromise p) rest
 unfolding frame_of
-written_promise kinds p rest h k = written_frame kinds 5 (promise_payload p) rest (lit< tt) k refl refl ∙ ap (λ o. promise_frame o rest) (reads_shortest p.id p.section h)
+written_promise kinds p rest h k = written_frame kinds 5 (promise_payload p) rest (lit< tt) k refl refl (no_update kinds 5 refl) ∙ ap (λ o. promise_frame o rest) (reads_shortest p.id p.section h)
 
 -- a reserved type is none that is known
 pub not_session : (n : ℕ) → reserved n ≢ 0x41
@@ -44,6 +46,16 @@ not_session (suc (suc n)) e = omega arith
 
 pub none_reserved : (kinds : FrameKinds) (n : ℕ) → is_session kinds (reserved n) ≡ false
 none_reserved kinds n = ap (λ b. b && kinds.sessions) (ne_eqb (reserved n) 0x41 (not_session n))
+
+-- 0xf0700 and 0xf0701 lie between two reserved types
+no_request : (n : ℕ) → reserved n ≢ 0xf0700
+no_request n e = elim (cases_lt n 31768) [ inl few ↦ omega (arith, few, e) | inr many ↦ omega (arith, many, e) ]
+
+no_push : (n : ℕ) → reserved n ≢ 0xf0701
+no_push n e = elim (cases_lt n 31768) [ inl few ↦ omega (arith, few, e) | inr many ↦ omega (arith, many, e) ]
+
+not_update : (n : ℕ) → is_update_type (reserved n) ≡ false
+not_update n = or_from (reserved n == 0xf0700) (reserved n == 0xf0701) (ne_eqb (reserved n) 0xf0700 (no_request n)) (ne_eqb (reserved n) 0xf0701 (no_push n))
 
 reserved_of : (n : ℕ) (payload rest : List ℕ) → frame_of (reserved n) payload rest ≡ Unknown (reserved n) rest
 unfolding frame_of
@@ -64,7 +76,7 @@ reserved_of n payload rest =
 
 pub written_reserved : (kinds : FrameKinds) (n : ℕ) (payload rest : List ℕ) → reserved n < 2 ^ 62 → length payload < 2 ^ 62 → frame_by kinds (frame_encoding (reserved n) payload ++ rest) ≡ Unknown (reserved n) rest
 written_reserved kinds n payload rest h k =
-    written_frame kinds (reserved n) payload rest h k (none_reserved kinds n) (ne_eqb (reserved n) 0 (omega arith)) ∙ reserved_of n payload rest
+    written_frame kinds (reserved n) payload rest h k (none_reserved kinds n) (ne_eqb (reserved n) 0 (omega arith)) (no_update kinds (reserved n) (not_update n)) ∙ reserved_of n payload rest
 
 -- **A frame that was written is read as it was, whatever follows it.**
 pub written_is_read : {B : Type 0} (unread : B → List ℕ) (f : Frame B) (rest : List ℕ) → HasLength unread f → HasNumbers f → IsReserved f → frame_at (encoding_of unread f ++ rest) ≡ read_back unread f rest
@@ -73,6 +85,7 @@ written_is_read unread (frame.Headers section) rest h n r = written_headers plai
 written_is_read unread (frame.CancelPush id) rest h n r = written_cancel_push plain_frames id rest n
 written_is_read unread (frame.Settings pairs) rest h n r = written_settings plain_frames pairs rest n
 written_is_read unread (frame.PushPromise p) rest h n r = written_promise plain_frames p rest n h
+written_is_read unread (frame.PriorityUpdate u) rest h n r = passed_update plain_frames u rest refl h
 written_is_read unread (frame.Goaway id) rest h n r = written_goaway plain_frames id rest n
 written_is_read unread (frame.MaxPushId id) rest h n r = written_max_push_id plain_frames id rest n
 written_is_read unread (frame.WebTransportStream id) rest h n r = written_session id rest n

@@ -4,6 +4,7 @@ use Rattle.h3_coding.specs.Encodings.{encoding}
 use Rattle.h3_proto.specs.Ids.{reserved}
 use Rattle.h3_proto.specs.Pairs.{payload_of}
 use Rattle.h3_wire.specs.Promise.{Promise}
+use Rattle.h3_wire.specs.Update.{Update, type_of_update}
 use Rattle.h3_wire.specs.declared.proto.frame.Frame.{Frame}
 use Rattle.h3_wire.specs.declared.proto.frame.Frame.TheVariants as frame
 
@@ -23,6 +24,14 @@ promise_payload p = encoding p.id ++ p.section
 abbrev pub promise_front : Promise → List ℕ
 promise_front p = head_encoding 5 (length (promise_payload p)) ++ encoding p.id
 
+-- the payload of PRIORITY_UPDATE: the id, then the text of the priority (RFC 9218, section 7.2)
+abbrev pub update_payload : Update → List ℕ
+update_payload u = encoding u.id ++ u.value
+
+-- what comes before the text
+abbrev pub update_front : Update → List ℕ
+update_front u = head_encoding (type_of_update u.is_push) (length (update_payload u)) ++ encoding u.id
+
 module _ {B : Type 0} (unread : B → List ℕ) where
   -- The encoding of a frame, where `unread` gives the payload of DATA. A WebTransport stream has no length.
   abbrev pub encoding_of : Frame B → List ℕ
@@ -31,16 +40,18 @@ module _ {B : Type 0} (unread : B → List ℕ) where
   encoding_of (frame.CancelPush id) = frame_encoding 3 (encoding id)
   encoding_of (frame.Settings pairs) = frame_encoding 4 (payload_of pairs)
   encoding_of (frame.PushPromise p) = frame_encoding 5 (promise_payload p)
+  encoding_of (frame.PriorityUpdate u) = frame_encoding (type_of_update u.is_push) (update_payload u)
   encoding_of (frame.Goaway id) = frame_encoding 7 (encoding id)
   encoding_of (frame.MaxPushId id) = frame_encoding 13 (encoding id)
   encoding_of (frame.WebTransportStream id) = head_encoding 0x41 id
   encoding_of (frame.Grease kind) = frame_encoding kind (codes "grease")
 
-  -- the bytes at its end that the frame lends: the payload of DATA and HEADERS, and the field section of a promise
+  -- the bytes at its end that the frame lends: the payload of DATA and HEADERS, the field section of a promise, the text of an update
   abbrev pub lent_of : Frame B → List ℕ
   lent_of (frame.Data b) = unread b
   lent_of (frame.Headers section) = section
   lent_of (frame.PushPromise p) = p.section
+  lent_of (frame.PriorityUpdate u) = u.value
   lent_of _ = []
 
   -- the bytes before those
@@ -48,6 +59,7 @@ module _ {B : Type 0} (unread : B → List ℕ) where
   front_of (frame.Data b) = head_encoding 0 (length (unread b))
   front_of (frame.Headers section) = head_encoding 1 (length section)
   front_of (frame.PushPromise p) = promise_front p
+  front_of (frame.PriorityUpdate u) = update_front u
   front_of f = encoding_of f
 
   -- what `encode` writes: of DATA and HEADERS the head alone
@@ -66,6 +78,7 @@ module _ {B : Type 0} (unread : B → List ℕ) where
   HasLength (frame.Data b) = length (unread b) < 2 ^ 62
   HasLength (frame.Headers section) = length section < 2 ^ 62
   HasLength (frame.PushPromise p) = length (promise_payload p) < 2 ^ 62
+  HasLength (frame.PriorityUpdate u) = length (update_payload u) < 2 ^ 62
   HasLength _ = Unit {0}
 
 -- each number of a frame has an encoding
@@ -73,6 +86,7 @@ abbrev pub HasNumbers : {B : Type 0} → Frame B → Type 0
 HasNumbers (frame.CancelPush id) = id < 2 ^ 62
 HasNumbers (frame.Settings pairs) = length (payload_of pairs) < 2 ^ 62
 HasNumbers (frame.PushPromise p) = p.id < 2 ^ 62
+HasNumbers (frame.PriorityUpdate u) = u.id < 2 ^ 62
 HasNumbers (frame.Goaway id) = id < 2 ^ 62
 HasNumbers (frame.MaxPushId id) = id < 2 ^ 62
 HasNumbers (frame.WebTransportStream id) = id < 2 ^ 62

@@ -1,7 +1,7 @@
 -- What holds of the frame that bytes begin with, whatever follows them.
 use Rattle.std.proofs.Common.{◌≡◌, ℕ, ◌+◌, ◌<◌, ◌≤◌, ◌==◌, Bool, true, false, List, [], ◌∷◌, ◌++◌, length, take, drop, nat_lt, arith, sym, ◌∙◌, ap, subst, refl, inl, inr, ◌⊎◌, length-append, Option, Some, None, Result, Ok, Err, if◌then◌else◌}
 use Rattle.std.proofs.lemmas.List.{take-append-le, drop-append-le, length-drop}
-use Rattle.std.proofs.lemmas.Bool.{cases_lt, lt-ltb, le-ltb}
+use Rattle.std.proofs.lemmas.Bool.{and_right, cases_lt, lt-ltb, le-ltb}
 use Rattle.h3_coding.specs.Varint.{varint_at}
 use Rattle.h3_coding.specs.VarintLaws.{cases_number, reads_more, shorter, none_at_end}
 use Rattle.h3_proto.specs.Settings.{settings_of}
@@ -9,8 +9,9 @@ use Rattle.h3_proto.specs.declared.frame.SettingsError.{SettingsError}
 use Rattle.h3_wire.specs.declared.proto.frame.PayloadLen.{PayloadLen}
 use Rattle.h3_wire.specs.declared.proto.frame.Frame.{Frame}
 use Rattle.h3_wire.specs.declared.proto.frame.Frame.TheVariants as frame
-use Rattle.h3_wire.specs.Frames.{Front, Whole, Unknown, Refused, Unfinished, alone, one_number, settings_frame, promise_frame, is_http2, frame_of, with_head, with_number, with_kind, frame_by, is_session}
+use Rattle.h3_wire.specs.Frames.{Front, Whole, Unknown, Refused, Unfinished, alone, one_number, settings_frame, promise_frame, is_http2, frame_of, frame_known, update_frame, with_head, with_number, with_kind, frame_by, is_session, is_update}
 use Rattle.h3_wire.specs.Fronts.{IsFinished, with_more, IsBefore, tested, IsShorter}
+use Rattle.h3_wire.specs.Update.{is_update_type}
 use Rattle.h3_wire.specs.declared.frame.kinds.FrameKinds.{FrameKinds}
 
 -- the three ways in which a front is read
@@ -25,6 +26,10 @@ at_no_number kinds kind bytes mid e k = ap (with_kind kinds (length bytes)) e �
 pub at_head : (kinds : FrameKinds) (kind number : ℕ) (bytes mid behind : List ℕ) → varint_at bytes ≡ Some (kind, mid) → varint_at mid ≡ Some (number, behind) → frame_by kinds bytes ≡ with_head kinds (length bytes) kind number behind
 unfolding frame_by
 at_head kinds kind number bytes mid behind e k = ap (with_kind kinds (length bytes)) e ∙ ap (with_number kinds (length bytes) kind) k
+
+-- a type that is none of PRIORITY_UPDATE
+pub no_update : (kinds : FrameKinds) (kind : ℕ) → is_update_type kind ≡ false → is_update kinds kind ≡ false
+no_update kinds kind e = and_right kinds.updates (is_update_type kind) e
 
 -- a fact that holds in both branches
 either : (P : Front → Type 0) (b : Bool) (x y : Front) → P x → P y → P (if b then x else y)
@@ -91,28 +96,44 @@ frame_of-more kind payload r more =
     (both R (kind == 13) _ _ _ _ (one_number-more (varint_at payload) (λ id. frame.MaxPushId id) r more)
     (both R (is_http2 kind) _ _ _ _ refl refl))))))
 
+update-finished : (kind : ℕ) (o : Option (ℕ × List ℕ)) (r : List ℕ) → IsFinished (update_frame kind o r) × IsBefore r (update_frame kind o r)
+update-finished kind None r = (tt, tt)
+update-finished kind (Some p) r = (tt, refl)
+
+pub frame_known-finished : (kinds : FrameKinds) (kind : ℕ) (payload r : List ℕ) → IsFinished (frame_known kinds kind payload r) × IsBefore r (frame_known kinds kind payload r)
+frame_known-finished kinds kind payload r =
+    either (λ (x : Front). IsFinished x × IsBefore r x) (is_update kinds kind) _ _ (update-finished kind (varint_at payload) r) (frame_of-finished kind payload r)
+
+update-more : (kind : ℕ) (o : Option (ℕ × List ℕ)) (r more : List ℕ) → update_frame kind o (r ++ more) ≡ with_more (update_frame kind o r) more
+update-more kind None r more = refl
+update-more kind (Some p) r more = refl
+
+pub frame_known-more : (kinds : FrameKinds) (kind : ℕ) (payload r more : List ℕ) → frame_known kinds kind payload (r ++ more) ≡ with_more (frame_known kinds kind payload r) more
+frame_known-more kinds kind payload r more =
+    both (λ (x y : Front). x ≡ with_more y more) (is_update kinds kind) _ _ _ _ (update-more kind (varint_at payload) r more) (frame_of-more kind payload r more)
+
 pub short_or_whole : (number : ℕ) (behind : List ℕ) → (nat_lt (length behind) number ≡ true) × (length behind < number) ⊎ (nat_lt (length behind) number ≡ false) × (number ≤ length behind)
 short_or_whole number behind = elim (cases_lt (length behind) number) [
   | inl h ↦ inl (lt-ltb (length behind) number h, h)
   | inr h ↦ inr (le-ltb (length behind) number h, h)
 ]
 
-past_payload : (size size' kind number : ℕ) (behind more : List ℕ) → (nat_lt (length behind) number ≡ true) × (length behind < number) ⊎ (nat_lt (length behind) number ≡ false) × (number ≤ length behind)
-    → IsFinished (tested false false size kind number behind) → tested false false size' kind number (behind ++ more) ≡ with_more (tested false false size kind number behind) more
-past_payload size size' kind number behind more (inl t) h = absurd (rw t.0 at h)
-past_payload size size' kind number behind more (inr t) h =
+past_payload : (kinds : FrameKinds) (size size' kind number : ℕ) (behind more : List ℕ) → (nat_lt (length behind) number ≡ true) × (length behind < number) ⊎ (nat_lt (length behind) number ≡ false) × (number ≤ length behind)
+    → IsFinished (tested kinds false false size kind number behind) → tested kinds false false size' kind number (behind ++ more) ≡ with_more (tested kinds false false size kind number behind) more
+past_payload kinds size size' kind number behind more (inl t) h = absurd (rw t.0 at h)
+past_payload kinds size size' kind number behind more (inr t) h =
     let longer : number ≤ length (behind ++ more) = omega (arith, length-append behind more) in
     rw (t.0, le-ltb (length (behind ++ more)) number longer, take-append-le number behind more t.1, drop-append-le number behind more t.1)
-    (frame_of-more kind (take number behind) (drop number behind) more)
+    (frame_known-more kinds kind (take number behind) (drop number behind) more)
 
-past_session : (a b : Bool) (size size' kind number : ℕ) (behind more : List ℕ) → IsFinished (tested a b size kind number behind) → tested a b size' kind number (behind ++ more) ≡ with_more (tested a b size kind number behind) more
-past_session true b size size' kind number behind more h = refl
-past_session false true size size' kind number behind more h = refl
-past_session false false size size' kind number behind more h = past_payload size size' kind number behind more (short_or_whole number behind) h
+past_session : (kinds : FrameKinds) (a b : Bool) (size size' kind number : ℕ) (behind more : List ℕ) → IsFinished (tested kinds a b size kind number behind) → tested kinds a b size' kind number (behind ++ more) ≡ with_more (tested kinds a b size kind number behind) more
+past_session kinds true b size size' kind number behind more h = refl
+past_session kinds false true size size' kind number behind more h = refl
+past_session kinds false false size size' kind number behind more h = past_payload kinds size size' kind number behind more (short_or_whole number behind) h
 
 -- a head is read alike, whatever follows
 past_head : (kinds : FrameKinds) (size size' kind number : ℕ) (behind more : List ℕ) → IsFinished (with_head kinds size kind number behind) → with_head kinds size' kind number (behind ++ more) ≡ with_more (with_head kinds size kind number behind) more
-past_head kinds size size' kind number behind more = past_session (is_session kinds kind) (kind == 0) size size' kind number behind more
+past_head kinds size size' kind number behind more = past_session kinds (is_session kinds kind) (kind == 0) size size' kind number behind more
 
 -- what is read at the front is read there, whatever follows
 pub frame_by-more : (kinds : FrameKinds) (bytes more : List ℕ) → IsFinished (frame_by kinds bytes) → frame_by kinds (bytes ++ more) ≡ with_more (frame_by kinds bytes) more
@@ -137,7 +158,7 @@ head_shorter : (kinds : FrameKinds) (n size kind number : ℕ) (behind : List �
 head_shorter kinds n size kind number behind h =
     let P = IsShorter n in
     either P (is_session kinds kind) _ _ h (either P (kind == 0) _ _ h (either P (nat_lt (length behind) number) _ _ tt
-    (before_shorter n (drop number behind) _ (frame_of-finished kind (take number behind) (drop number behind)).1 (omega (arith, length-drop number behind, h)))))
+    (before_shorter n (drop number behind) _ (frame_known-finished kinds kind (take number behind) (drop number behind)).1 (omega (arith, length-drop number behind, h)))))
 
 pub frame_by-shorter : (kinds : FrameKinds) (bytes : List ℕ) → IsShorter (length bytes) (frame_by kinds bytes)
 frame_by-shorter kinds bytes = elim (cases_number bytes) [

@@ -5,6 +5,7 @@ use Rattle.std.specs.Option.{is_some}
 use Rattle.h3_coding.specs.Varint.{varint_at}
 use Rattle.h3_proto.specs.Settings.{settings_of}
 use Rattle.h3_proto.specs.declared.frame.SettingsError.{SettingsError}
+use Rattle.h3_wire.specs.Update.{is_update_type}
 use Rattle.h3_wire.specs.declared.frame.kinds.FrameKinds.{FrameKinds}
 use Rattle.h3_wire.specs.declared.proto.frame.PayloadLen.{PayloadLen}
 use Rattle.h3_wire.specs.declared.proto.frame.Frame.{Frame}
@@ -50,11 +51,21 @@ is_http2 kind = list_any (λ k. k == kind) (2 ∷ 6 ∷ 8 ∷ 9 ∷ [])
 
 -- all types that are read here have a meaning
 abbrev pub plain_frames : FrameKinds
-plain_frames = record { sessions = true }
+plain_frames = record { sessions = true; updates = false }
 
 -- 0x41 begins a session of WebTransport where those are known. Else it is the type of an unknown frame
 abbrev pub is_session : FrameKinds → ℕ → Bool
 is_session kinds kind = (kind == 0x41) && kinds.sessions
+
+-- PRIORITY_UPDATE is known if that is chosen. Else its types are those of unknown frames
+abbrev pub is_update : FrameKinds → ℕ → Bool
+is_update kinds kind = kinds.updates && is_update_type kind
+
+-- RFC 9218 7.2: PRIORITY_UPDATE, read whole
+-- the id of what it is for, then the text of its priority
+abbrev pub update_frame : ℕ → Option (ℕ × List ℕ) → List ℕ → Front
+update_frame kind None rest = Refused error.Malformed
+update_frame kind (Some p) rest = Whole (frame.PriorityUpdate (record { is_push = kind == 0xf0701; id = p.0; value = p.1 })) rest
 
 -- the frame of a type and a whole payload (RFC 9114, section 7.2): | type (i) | length (i) | payload |, with the types HEADERS 1,
 -- CANCEL_PUSH 3, SETTINGS 4, PUSH_PROMISE 5, GOAWAY 7 and MAX_PUSH_ID 13; DATA, 0, is in `with_head`, as its payload is not waited for
@@ -69,13 +80,17 @@ frame_of kind payload rest =
     else (if is_http2 kind then Refused (error.UnsupportedFrame kind)
     else Unknown kind rest))))))
 
+-- the frame of a type and a whole payload, if frames of these kinds are known
+abbrev pub frame_known : FrameKinds → ℕ → List ℕ → List ℕ → Front
+frame_known kinds kind payload rest = if is_update kinds kind then update_frame kind (varint_at payload) rest else frame_of kind payload rest
+
 -- a frame whose head is whole; size is the count of all bytes, the head's among them
 abbrev pub with_head : FrameKinds → ℕ → ℕ → ℕ → List ℕ → Front
 with_head kinds size kind number behind =
     if is_session kinds kind then Whole (frame.WebTransportStream number) behind
     else (if kind == 0 then Whole (frame.Data (record { 0 = number })) behind
     else (if nat_lt (length behind) number then Unfinished (size - length behind + number)
-    else frame_of kind (take number behind) (drop number behind)))
+    else frame_known kinds kind (take number behind) (drop number behind)))
 
 abbrev pub with_number : FrameKinds → ℕ → ℕ → Option (ℕ × List ℕ) → Front
 with_number kinds size kind None = Unfinished (size + 1)
@@ -115,6 +130,7 @@ pub record IsHeadersFrame (bytes : List ℕ) (head size : ℕ) : Type 0 where
 abbrev pub TakesMemory : Front → Type 0
 TakesMemory (Whole (frame.Headers section) rest) = Unit {0}
 TakesMemory (Whole (frame.PushPromise p) rest) = Unit {0}
+TakesMemory (Whole (frame.PriorityUpdate u) rest) = Unit {0}
 TakesMemory _ = ⊥
 
 -- some bytes at the front are taken

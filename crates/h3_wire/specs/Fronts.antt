@@ -2,7 +2,7 @@
 use Rattle.std.specs.Prelude.{◌≡◌, ℕ, ◌+◌, ◌-◌, ◌<◌, Bool, List, ◌++◌, length, take, drop, nat_lt, if◌then◌else◌, [], Option, Some, None}
 use Rattle.h3_wire.specs.declared.proto.frame.Frame.TheVariants as frame
 use Rattle.h3_wire.specs.declared.frame.kinds.FrameKinds.{FrameKinds}
-use Rattle.h3_wire.specs.Frames.{Front, Whole, Unknown, Refused, Unfinished, frame_of, frame_by}
+use Rattle.h3_wire.specs.Frames.{Front, Whole, Unknown, Refused, Unfinished, frame_known, frame_by}
 
 -- a front that is no longer waiting
 abbrev pub IsFinished : Front → Type 0
@@ -23,12 +23,12 @@ IsBefore r (Unknown kind rest) = rest ≡ r
 IsBefore r _ = Unit {0}
 
 -- `with_head`, where its two tests have values
-abbrev pub tested : Bool → Bool → ℕ → ℕ → ℕ → List ℕ → Front
-tested a b size kind number behind =
+abbrev pub tested : FrameKinds → Bool → Bool → ℕ → ℕ → ℕ → List ℕ → Front
+tested kinds a b size kind number behind =
     if a then Whole (frame.WebTransportStream number) behind
     else (if b then Whole (frame.Data (record { 0 = number })) behind
     else (if nat_lt (length behind) number then Unfinished (size - length behind + number)
-    else frame_of kind (take number behind) (drop number behind)))
+    else frame_known kinds kind (take number behind) (drop number behind)))
 
 -- what follows a front is shorter
 abbrev pub IsShorter : ℕ → Front → Type 0

@@ -14,6 +14,7 @@ abbrev pub lends : {B : Type 0} → Frame B → Type 0
 lends (frame.Data b) = Unit {0}
 lends (frame.Headers section) = Unit {0}
 lends (frame.PushPromise p) = Unit {0}
+lends (frame.PriorityUpdate u) = Unit {0}
 lends _ = ⊥
 
 -- the bytes that are left of it

@@ -25,6 +25,7 @@ pub mod Buffering
 pub mod Tries
 pub mod UnknownSize
 pub mod UnreadFrames
+pub mod Update
 pub mod TryLaws
 pub mod PieceLaws
 pub mod Given

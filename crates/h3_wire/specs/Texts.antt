@@ -26,6 +26,7 @@ other_text (frame.Headers section) = codes "Headers(" ++ (decimal (length sectio
 other_text (frame.CancelPush id) = codes "CancelPush(push " ++ (decimal id ++ codes ")")
 other_text (frame.Settings pairs) = codes "Settings"
 other_text (frame.PushPromise p) = codes "PushPromise(" ++ (decimal p.id ++ codes ")")
+other_text (frame.PriorityUpdate u) = codes "PriorityUpdate(" ++ (decimal u.id ++ codes ")")
 other_text (frame.Goaway id) = codes "GoAway(" ++ (decimal id ++ codes ")")
 other_text (frame.MaxPushId id) = codes "MaxPushId(push " ++ (decimal id ++ codes ")")
 other_text (frame.WebTransportStream id) = codes "WebTransportStream()"
@@ -35,6 +36,7 @@ other_text (frame.Grease kind) = codes "Grease()"
 abbrev pub HasNoNumber : {B : Type 0} → Frame B → Type 0
 HasNoNumber (frame.CancelPush id) = ⊥
 HasNoNumber (frame.PushPromise p) = ⊥
+HasNoNumber (frame.PriorityUpdate u) = ⊥
 HasNoNumber (frame.Goaway id) = ⊥
 HasNoNumber (frame.MaxPushId id) = ⊥
 HasNoNumber _ = Unit {0}

@@ -1,14 +1,16 @@
 -- Frames of unknown types at the front of bytes (RFC 9114, section 9), told by their heads alone: how long they are, also while they are under way.
-use Rattle.std.specs.Prelude.{◌≡◌, ℕ, ◌+◌, ◌-◌, ◌<◌, Bool, true, false, not, ◌&&◌, ◌||◌, ◌==◌, List, [], length, nat_lt, if◌then◌else◌, Option, Some, None}
+use Rattle.std.specs.Prelude.{◌≡◌, ℕ, ◌+◌, ◌-◌, ◌<◌, Bool, false, not, ◌&&◌, ◌||◌, ◌==◌, List, [], length, nat_lt, if◌then◌else◌, Option, Some, None}
 use Rattle.std.specs.List.{concat}
 use Rattle.h3_coding.specs.Varint.{varint_at}
-use Rattle.h3_wire.specs.Frames.{is_http2, is_session, plain_frames}
+use Rattle.h3_wire.specs.Frames.{is_http2, is_session, is_update}
+use Rattle.h3_wire.specs.Update.{is_update_type}
 use Rattle.h3_wire.specs.declared.frame.kinds.FrameKinds.{FrameKinds}
 
--- the types that have a meaning (RFC 9114, section 7.2; 0x41 where sessions of WebTransport are known), and those of HTTP/2, which are refused
+-- the types that have a meaning (RFC 9114, section 7.2; 0x41 if sessions of WebTransport are known, those of PRIORITY_UPDATE if it is), and
+-- those of HTTP/2, which are refused
 abbrev pub is_known_type : FrameKinds → ℕ → Bool
 is_known_type kinds kind =
-    is_session kinds kind || ((kind == 0) || ((kind == 1) || ((kind == 3) || ((kind == 4) || ((kind == 5) || ((kind == 7) || ((kind == 13) || is_http2 kind)))))))
+    is_session kinds kind || (is_update kinds kind || ((kind == 0) || ((kind == 1) || ((kind == 3) || ((kind == 4) || ((kind == 5) || ((kind == 7) || ((kind == 13) || is_http2 kind))))))))
 
 abbrev pub size_with : ℕ → Option (ℕ × List ℕ) → Option ℕ
 size_with all None = None
@@ -35,35 +37,48 @@ abbrev pub held_length : FrameKinds → List ℕ → ℕ
 held_length kinds bytes = if is_under_way kinds bytes then 0 else length bytes
 
 -- The bytes of a stream of frames: their pieces, and how many bytes the unknown frame at the front has, where some of it were let go; else 0.
--- Then whether that is one of type 0x41, which is unknown to those alone who know no sessions.
+-- Then by which choices its type would be known: it is 0x41, or one of PRIORITY_UPDATE.
 pub record Sparing : Type 0 where
   pub pieces : List (List ℕ)
   pub passing : ℕ
-  pub session : Bool
+  pub known_to : FrameKinds
+
+-- by none
+abbrev pub no_kinds : FrameKinds
+no_kinds = record { sessions = false; updates = false }
 
 -- the most kinds by which that frame is unknown
-abbrev pub let_go_by : Bool → FrameKinds
-let_go_by session = record { sessions = not session }
+abbrev pub let_go_by : FrameKinds → FrameKinds
+let_go_by known_to = record { sessions = not known_to.sessions; updates = not known_to.updates }
 
 -- by these it is, too
-abbrev pub suits : Bool → FrameKinds → Bool
-suits session kinds = not (session && kinds.sessions)
+abbrev pub suits : FrameKinds → FrameKinds → Bool
+suits known_to kinds = not (known_to.sessions && kinds.sessions) && not (known_to.updates && kinds.updates)
 
--- These pieces were let go: none; or such that an unknown frame of so many bytes begins with them, and is longer. One of type 0x41 is known where
--- sessions are.
-pub record AreLetGo (session : Bool) (passing gone : ℕ) (front : List (List ℕ)) : Type 0 where
+-- the choices by which a type is known that is unknown to all others
+abbrev pub choices_for : ℕ → FrameKinds
+choices_for kind = record { sessions = kind == 0x41; updates = is_update_type kind }
+
+-- the bytes begin with a frame of such a type
+abbrev pub IsKnownTo : FrameKinds → Option (ℕ × List ℕ) → Type 0
+IsKnownTo known_to None = ⊥
+IsKnownTo known_to (Some p) = known_to ≡ choices_for p.0
+
+-- These pieces were let go: none; or such that an unknown frame of so many bytes begins with them, and is longer. It is known to the choices for its
+-- type alone.
+pub record AreLetGo (known_to : FrameKinds) (passing gone : ℕ) (front : List (List ℕ)) : Type 0 where
   pub gone_is : gone ≡ length (concat front)
   pub none : passing ≡ 0 → front ≡ []
-  pub plain : passing ≡ 0 → session ≡ false
-  pub unknown : 0 < passing → unknown_size (let_go_by session) (concat front) ≡ Some passing
-  pub known : 0 < passing → session ≡ true → unknown_size plain_frames (concat front) ≡ None
+  pub plain : passing ≡ 0 → known_to ≡ no_kinds
+  pub unknown : 0 < passing → unknown_size (let_go_by known_to) (concat front) ≡ Some passing
+  pub known : 0 < passing → IsKnownTo known_to (varint_at (concat front))
   pub under_way : 0 < passing → gone < passing
 
 -- What that says of all pieces.
 pub record IsPassing (s : Sparing) : Type 0 where
-  pub plain : s.passing ≡ 0 → s.session ≡ false
-  pub unknown : 0 < s.passing → unknown_size (let_go_by s.session) (concat s.pieces) ≡ Some s.passing
-  pub known : 0 < s.passing → s.session ≡ true → unknown_size plain_frames (concat s.pieces) ≡ None
+  pub plain : s.passing ≡ 0 → s.known_to ≡ no_kinds
+  pub unknown : 0 < s.passing → unknown_size (let_go_by s.known_to) (concat s.pieces) ≡ Some s.passing
+  pub known : 0 < s.passing → IsKnownTo s.known_to (varint_at (concat s.pieces))
 
 -- While it is under way none of its bytes are kept.
 abbrev pub IsSpared : ℕ → ℕ → List (List ℕ) → Type 0

@@ -6,19 +6,19 @@ use Rattle.h3_wire.specs.declared.frame.kinds.FrameKinds.{FrameKinds}
 use Rattle.h3_wire.specs.Known.{Gives}
 use Rattle.h3_wire.specs.Pieces.{IsRest}
 use Rattle.h3_wire.specs.Tries.{Decoding, Counts, needed, counted}
-use Rattle.h3_wire.specs.UnknownSize.{is_under_way}
+use Rattle.h3_wire.specs.UnknownSize.{is_under_way, no_kinds}
 
--- What is seen of them: their pieces, how many bytes the unknown frame at their front has, where some of it were let go, else 0, whether that
--- is one of type 0x41, and how far the frame at their front was read. Where some of it were let go, and it is under way, none of it are in memory.
+-- What is seen of them: their pieces, how many bytes the unknown frame at their front has, where some of it were let go, else 0, by which choices
+-- its type would be known, and how far the frame at their front was read. Where some of it were let go, and it is under way, none of it are in memory.
 pub record UnreadFrames : Type 0 where
   pub pieces : List (List ℕ)
   pub passing : ℕ
-  pub session : Bool
+  pub known_to : FrameKinds
   pub decoder : Decoding
 
 -- nothing came
 abbrev pub none_unread : UnreadFrames
-none_unread = record { pieces = []; passing = 0; session = false; decoder = record { expected = None; tries = 0 } }
+none_unread = record { pieces = []; passing = 0; known_to = no_kinds; decoder = record { expected = None; tries = 0 } }
 
 -- no frame is under way
 abbrev pub AreBetween : UnreadFrames → Type 0
@@ -47,5 +47,5 @@ pub record IsPassed (kinds : FrameKinds) (old new : UnreadFrames) : Type 0 where
   pub unknown : frame_by kinds (concat old.pieces) ≡ Unknown kind (concat new.pieces)
   pub rest : IsRest old.pieces new.pieces
   pub none : new.passing ≡ 0
-  pub plain : new.session ≡ false
+  pub plain : new.known_to ≡ no_kinds
   pub decoder : new.decoder ≡ counted old.decoder None

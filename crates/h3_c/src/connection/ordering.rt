@@ -1,9 +1,11 @@
 //! Which stream sends next, by priority.
 ghost use Rattle.std.specs.Prelude.{◌≡◌};
-ghost use Rattle.h3_c.specs.Ordering.{HoldsOn, SendsByPriority, SetsPriorityOn, flag_given, priority_given};
+ghost use Rattle.h3_c.specs.Numbers.{number};
+ghost use Rattle.h3_c.specs.Ordering.{HoldsOn, SendsByPriority, SendsPriorityOn, SetsInitialPriorityOn, SetsPriorityOn, ShowsPriorityOf, flag_given, priority_given};
 
 use super::Connection;
-use crate::numbers::{ARGUMENT, NONE, OK, Told, called};
+use crate::numbers::{ARGUMENT, NONE, OK, Told, called, refused};
+use h3_connection::event::Refusal;
 use h3_priority::priority::Priority;
 use h3_proto::stream::StreamId;
 
@@ -21,6 +23,47 @@ impl Connection {
         called(self.endpoint.set_priority(stream, priority))
     }
 
+    /// The request of a stream asks for this priority by its `priority` field.
+    pub(crate) fn set_initial_priority(&mut self, id: u64, urgency: u32, incremental: u32) -> Told
+        ensures { SetsInitialPriorityOn self.old self.new id urgency incremental result }
+    {
+        let Ok(stream) = StreamId::try_from(id) else {
+            return ARGUMENT;
+        };
+        let Some(priority) = priority_given(urgency, incremental) else {
+            return ARGUMENT;
+        };
+        called(self.endpoint.set_initial_priority(stream, priority))
+    }
+
+    /// Tells the server the priority of a response.
+    pub(crate) fn send_priority(&mut self, id: u64, urgency: u32, incremental: u32) -> Told
+        ensures { SendsPriorityOn self.old self.new id urgency incremental result }
+    {
+        let Ok(stream) = StreamId::try_from(id) else {
+            return ARGUMENT;
+        };
+        let Some(priority) = priority_given(urgency, incremental) else {
+            return ARGUMENT;
+        };
+        called(self.endpoint.send_priority(stream, priority))
+    }
+
+    /// The priority that counts of a request stream. What it tells has no detail.
+    pub(crate) fn priority(&self, id: u64, urgency: &mut u32, incremental: &mut u32) -> Told
+        ensures { ShowsPriorityOf self.now id (number result.number 0) urgency.old urgency.new incremental.old incremental.new }
+    {
+        let Ok(stream) = StreamId::try_from(id) else {
+            return ARGUMENT;
+        };
+        let Some(priority) = self.endpoint.priority(stream) else {
+            return refused(Refusal::NotOpen);
+        };
+        *urgency = priority.urgency() as u32;
+        *incremental = priority.is_incremental() as u32;
+        OK
+    }
+
     /// QUIC has no credit for a stream, or has it again.
     pub(crate) fn hold(&mut self, id: u64, held: u32) -> Told
         ensures { HoldsOn self.old self.new id held result }
@@ -35,8 +78,8 @@ impl Connection {
     }
 
     /// The stream that sends next.
-    pub(crate) fn next_by_priority(&self, id: &mut u64) -> Told
-        ensures { SendsByPriority self.now result id.old id.new }
+    pub(crate) fn next_by_priority(&mut self, id: &mut u64) -> Told
+        ensures { SendsByPriority self.old self.new result id.old id.new }
     {
         let Some(next) = self.endpoint.next_by_priority() else {
             return NONE;

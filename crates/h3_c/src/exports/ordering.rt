@@ -1,7 +1,7 @@
 //! What C calls: which stream sends next, by priority.
 ghost use Rattle.std.specs.Prelude.{IsSome};
 ghost use Rattle.h3_c.specs.Does.{Does};
-ghost use Rattle.h3_c.specs.Does.CallOfC.{Hold, NextByPriority, SetPriority};
+ghost use Rattle.h3_c.specs.Does.CallOfC.{Hold, NextByPriority, PriorityOf, SendPriority, SetInitialPriority, SetPriority};
 ghost use Rattle.h3_c.specs.Exported.{Steps};
 ghost use Rattle.h3_c.specs.Numbers.{number};
 
@@ -20,7 +20,7 @@ pub extern "C" fn h3_raw_next_by_priority(
     ensures there { IsSome out.new.value }
     ensures goes { Steps handle.value out.new.value (Does (NextByPriority id.old id.new (number result 0))) }
 {
-    let connection = opened(alloc, handle);
+    let mut connection = opened(alloc, handle);
     let told = connection.next_by_priority(id);
     *out = kept(connection);
     told.number
@@ -45,6 +45,70 @@ pub extern "C" fn h3_raw_set_priority(
     let told = connection.set_priority(id, urgency, incremental);
     *out = kept(connection);
     *detail = told.detail;
+    told.number
+}
+
+/// The request of a stream asks for this priority by its `priority` field.
+#[unsafe(no_mangle)]
+pub extern "C" fn h3_raw_set_initial_priority(
+    alloc: Global,
+    handle: Handle,
+    id: u64,
+    urgency: u32,
+    incremental: u32,
+    detail: &mut u64,
+    out: &mut Handle,
+) -> u32
+    requires { IsSome handle.value }
+    ensures there { IsSome out.new.value }
+    ensures goes { Steps handle.value out.new.value (Does (SetInitialPriority id urgency incremental (number result detail.new))) }
+{
+    let mut connection = opened(alloc, handle);
+    let told = connection.set_initial_priority(id, urgency, incremental);
+    *out = kept(connection);
+    *detail = told.detail;
+    told.number
+}
+
+/// Tells the server the priority of a response (RFC 9218, section 7.2).
+#[unsafe(no_mangle)]
+pub extern "C" fn h3_raw_send_priority(
+    alloc: Global,
+    handle: Handle,
+    id: u64,
+    urgency: u32,
+    incremental: u32,
+    detail: &mut u64,
+    out: &mut Handle,
+) -> u32
+    requires { IsSome handle.value }
+    ensures there { IsSome out.new.value }
+    ensures goes { Steps handle.value out.new.value (Does (SendPriority id urgency incremental (number result detail.new))) }
+{
+    let mut connection = opened(alloc, handle);
+    let told = connection.send_priority(id, urgency, incremental);
+    *out = kept(connection);
+    *detail = told.detail;
+    told.number
+}
+
+/// The priority that counts of a request stream.
+#[unsafe(no_mangle)]
+pub extern "C" fn h3_raw_priority(
+    alloc: Global,
+    handle: Handle,
+    id: u64,
+    urgency: &mut u32,
+    incremental: &mut u32,
+    out: &mut Handle,
+) -> u32
+    requires { IsSome handle.value }
+    ensures there { IsSome out.new.value }
+    ensures goes { Steps handle.value out.new.value (Does (PriorityOf id urgency.old urgency.new incremental.old incremental.new (number result 0))) }
+{
+    let connection = opened(alloc, handle);
+    let told = connection.priority(id, urgency, incremental);
+    *out = kept(connection);
     told.number
 }
 

@@ -171,6 +171,7 @@ impl StaticTable {
     }
 
     /// The same for a field that lies elsewhere.
+    #[inline(always)]
     #[tactic(auto, using(crate::proofs::StaticEntries::field_flagged, crate::proofs::StaticEntries::field_plain))]
     pub fn find_lent(field: &FieldRef<'_>) -> Option<usize>
         ensures entry { result ≡ static_field field.now }
@@ -205,6 +206,7 @@ impl StaticTable {
     }
 
     /// The least index of an entry with that name.
+    #[inline(always)]
     pub fn find_name(name: &[u8]) -> Option<usize>
         ensures entry { result ≡ static_name name.now }
         ensures below { IfSome result (λ index. index < 99) }

@@ -83,6 +83,7 @@ fn is_name_at(kind: FieldKind, name: &[u8]) -> bool
 
 // RFC 9114 10.3: malformed values of fields
 // Whether a value may stand there.
+#[inline(always)]
 fn is_value_at(kind: FieldKind, value: &[u8], any_protocol: bool) -> bool
     ensures { result ≡ is_value_at any_protocol kind value.now }
 {

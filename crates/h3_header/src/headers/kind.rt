@@ -37,6 +37,7 @@ impl FieldKind {
 }
 
 // The kind of a name with a colon ahead. A name of another length is ruled out by its length alone.
+#[inline(always)]
 fn of_colon(name: &[u8]) -> FieldKind
     ensures { result ≡ kind_of name.now }
 {

@@ -52,6 +52,7 @@ pub(super) fn begun_by(
         Frame::PushPromise(_) => Begun::Fault(promise_code(side)),
         Frame::CancelPush(_)
         | Frame::Settings(_)
+        | Frame::PriorityUpdate(_)
         | Frame::Goaway(_)
         | Frame::MaxPushId(_)
         | Frame::Grease(_) => Begun::Fault(Code::H3_FRAME_UNEXPECTED),

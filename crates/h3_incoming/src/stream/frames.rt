@@ -73,6 +73,10 @@ impl IncomingStream {
         ensures memory { is_memory (O.told out.new) ≡ true → Resumes announced.now self.old self.new × (replies.new.items ≡ replies.old.items) }
         ensures list { Lists (O.listed out.new) (fields_next announced.now decoder.now self.old) }
     {
+        // nothing is there of a frame: so ends most of what is pulled
+        if self.unread.len() == 0 {
+            return self.pull_end(alloc, id, replies, out);
+        }
         match front(
             &mut self.unread,
             alloc,

@@ -4,7 +4,7 @@ ghost use Rattle.std.specs.List.{concat};
 ghost use Rattle.h3_wire.specs.Pieces.{IsRest, ending};
 ghost use Rattle.h3_wire.specs.UnreadFrames.{AreBetween};
 ghost use Rattle.h3_wire.specs.declared.frame.kinds.FrameKinds.{FrameKinds};
-ghost use Rattle.h3_wire.specs.ExcessiveFrames.{is_excessive};
+ghost use Rattle.h3_wire.specs.ExcessiveFrames.{is_excessive_by};
 ghost use Rattle.h3_wire.specs.Known.{known_by};
 ghost use Rattle.h3_connection.specs.Incoming.{is_body};
 ghost use Rattle.h3_connection.specs.StrictConnection.{kinds_of};
@@ -102,7 +102,7 @@ fn front_one(
 // and length in the first piece do not tell it.
 #[inline(always)]
 fn is_excessive(unread: &FrameBuffer, announced: &Announced) -> bool
-    ensures { result ≡ is_excessive announced.now.choices.unfinished_limit (known_by (kinds_of announced.now) (concat unread.now.pieces)) }
+    ensures { result ≡ is_excessive_by (kinds_of announced.now) announced.now.choices.unfinished_limit (known_by (kinds_of announced.now) (concat unread.now.pieces)) }
 {
     let most = announced.choices.unfinished_limit;
     match unread.is_first_excessive(most) {

@@ -129,6 +129,26 @@ impl Marks {
         }
     }
 
+    /// The same, with one test if no stream has a mark.
+    #[inline(always)]
+    pub(crate) fn get_if_any(&self, id: u64) -> u8
+        requires { AreBelow self.now }
+        ensures { result ≡ mark_at self.now id }
+    {
+        if id > self.top {
+            return 0;
+        }
+        self.get_with_call(id)
+    }
+
+    // The mark of a stream, or 0: a call of its own.
+    #[inline(never)]
+    fn get_with_call(&self, id: u64) -> u8
+        ensures { result ≡ mark_at self.now id }
+    {
+        self.get(id)
+    }
+
     /// Takes memory for the mark of a stream, so that setting it takes none.
     pub(crate) fn reserve(&mut self, alloc: Global, id: u64) -> Result<(), AllocError>
         ensures same { HaveSameMarks (mark_at self.old) (mark_at self.new) }

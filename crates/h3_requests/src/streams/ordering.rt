@@ -6,13 +6,14 @@ ghost use Rattle.h3_connection.specs.declared.event.Refusal.TheVariants.{NotOpen
 ghost use Rattle.h3_outgoing.specs.Sent.{preceding};
 ghost use Rattle.h3_scheduler.specs.Places.{IsNext};
 ghost use Rattle.h3_requests.specs.Classes.{class_at};
-ghost use Rattle.h3_requests.specs.Ordered.{places_in, precedence_at, refused_unless};
+ghost use Rattle.h3_requests.specs.Ordered.{is_sent, places_in, precedence_at, refused_unless, saying};
 
 use super::RequestStreams;
 use crate::class::{PLAIN, class_of};
 use crate::ready::Waits;
 use h3_connection::event::Refusal;
-use h3_connection::order::Precedence;
+use h3_connection::order::{Precedence, PrioritySource};
+use h3_outgoing::OutgoingStream;
 use h3_priority::priority::Priority;
 use h3_proto::stream::StreamId;
 use h3_scheduler::round::Rounds;
@@ -25,6 +26,16 @@ impl RequestStreams {
     {
         match self.streams.get_alike(id) {
             Some(stream) => Some(stream.outgoing.precedence()),
+            None => None,
+        }
+    }
+
+    /// Whether sending on a stream has ended, and its end was taken; `None` if it is not there.
+    pub fn is_sent(&self, id: StreamId) -> Option<bool>
+        ensures { result ≡ option_map (λ r. is_sent r.outgoing) (kept_at self.now id) }
+    {
+        match self.streams.get_alike(id) {
+            Some(stream) => Some(is_sent(stream.outgoing())),
             None => None,
         }
     }
@@ -43,16 +54,17 @@ impl RequestStreams {
         }
     }
 
-    /// A stream has this priority from now on. Refused are, in this order, a stream that is not there, and a failed allocation. An `Err`
-    /// changes nothing.
-    pub fn set_priority(
+    /// Somebody says the priority of a stream: it counts from now on unless something was said that counts before it. Refused are, in this
+    /// order, a stream that is not there, and a failed allocation. An `Err` changes nothing.
+    pub fn say_priority(
         &mut self,
         alloc: Global,
         id: StreamId,
+        source: PrioritySource,
         priority: Priority,
     ) -> Result<(), Refusal>
         ensures ok { OnOk result (IfSome (kept_at self.old id) (λ r.
-            Sets self.old self.new id (record r { outgoing = preceding (record r.outgoing.precedence { priority = priority }) r.outgoing }))) }
+            Sets self.old self.new id (record r { outgoing = preceding (saying r.outgoing.precedence source priority) r.outgoing }))) }
         ensures taken { OnOk result (IsSome (kept_at self.old id)) }
         ensures why { IfErr result (λ r. r ≡ refused_unless (is_some (kept_at self.old id))) }
         ensures err { OnErr result (AllSame self.old self.new) }
@@ -60,7 +72,15 @@ impl RequestStreams {
         let Some(there) = self.precedence(id) else {
             return Err(Refusal::NotOpen);
         };
-        self.change_precedence(alloc, id, &Precedence { priority, ..there })
+        if !there.source.gives_way(source) {
+            return Ok(());
+        }
+        let said = Precedence {
+            priority,
+            source,
+            ..there
+        };
+        self.change_precedence(alloc, id, &said)
     }
 
     /// A stream is skipped from now on, or not any longer. Refused are, in this order, a stream that is not there, and a failed allocation.
@@ -125,4 +145,11 @@ impl RequestStreams {
         };
         Some(id)
     }
+}
+
+// Whether sending has ended, and its end was taken.
+fn is_sent(stream: &OutgoingStream) -> bool
+    ensures { result ≡ is_sent stream.now }
+{
+    stream.is_reset() || stream.end_taken()
 }

@@ -1,6 +1,7 @@
 //! What stands of a request stream, by its id.
-ghost use Rattle.std.specs.Prelude.{◌≡◌, ◌≤◌, Some, is_some, option_copied, option_map, unwrap_or};
+ghost use Rattle.std.specs.Prelude.{◌≡◌, ◌≤◌, Some, false, is_some, option_copied, option_map, unwrap_or};
 ghost use Rattle.h3_connection.specs.Keeping.{is_settled_request};
+ghost use Rattle.h3_connection.specs.Prioritizing.{takes_no_response};
 ghost use Rattle.h3_connection.specs.State.{kept_at};
 ghost use Rattle.h3_messages.specs.OwnMessages.{awaits_tunnel};
 ghost use Rattle.h3_requests.specs.Changing.{receiver_refusal};
@@ -63,6 +64,16 @@ impl RequestStreams {
         }
     }
 
+    /// Whether no response comes any more on a stream: its end or its reset came, or it was given up.
+    pub fn takes_no_response(&self, id: StreamId) -> bool
+        ensures { result ≡ unwrap_or (option_map (λ r. takes_no_response r.incoming) (kept_at self.now id)) false }
+    {
+        match self.streams.get_alike(id) {
+            Some(stream) => takes_no_response(stream.incoming()),
+            None => false,
+        }
+    }
+
     /// Whether a tunnel is awaited after the response on a stream: the header section of a CONNECT request was read there, and the endpoint
     /// asks for strict messages.
     pub fn awaits_tunnel(&self, id: StreamId) -> bool
@@ -98,6 +109,13 @@ fn is_settled(stream: &IncomingStream) -> bool
     ensures { result ≡ is_settled_request (Some stream.now) }
 {
     stream.fault().is_some() || stream.is_over()
+}
+
+// Whether its end or its reset came, or it was given up.
+fn takes_no_response(stream: &IncomingStream) -> bool
+    ensures { result ≡ takes_no_response stream.now }
+{
+    stream.ended() || stream.was_reset() || stream.fault().is_some()
 }
 
 // Whether this is known, and is a tunnel.

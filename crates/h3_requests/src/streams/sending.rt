@@ -44,6 +44,7 @@ impl RequestStreams {
     }
 
     /// Takes the first bytes of what waits, at most all, and returns whether the stream is there. Nothing happens if it is not.
+    #[inline(always)]
     pub fn advance(&mut self, id: StreamId, count: usize) -> bool
         ensures found { result ≡ is_some (kept_at self.old id) }
         ensures there { IfSome (kept_at self.old id) (λ r.
@@ -53,12 +54,12 @@ impl RequestStreams {
         let Some(stream) = self.streams.get_mut(id) else {
             return self.streams.is_over(id);
         };
-        let class = stream.class();
+        let precedence = stream.outgoing.precedence();
         let waiting = stream.outgoing.waiting();
         stream.outgoing.advance(count.min(waiting));
         let left = stream.outgoing.waiting();
         let is_over = stream.is_over();
-        self.ready.settle_rest(class, id, left > 0);
+        self.ready.settle_rest(&precedence, id, left > 0);
         self.streams.retire_if(id, is_over);
         true
     }

@@ -99,6 +99,7 @@ impl BoundedWords {
     }
 
     /// The first word from this number on that has a stream on which something waits.
+    #[inline(always)]
     pub(crate) fn next(&self, from: u64) -> Option<(u64, u64)>
         ensures { IsFirstWord (λ q. (word_at self.now q).waiting) from result }
     {
@@ -106,6 +107,14 @@ impl BoundedWords {
         if first > self.bounds.highest {
             return None;
         }
+        self.next_within(first)
+    }
+
+    // The same, with no look at the bounds. (A call of its own: most searches end at the bounds.)
+    #[inline(never)]
+    fn next_within(&self, first: u64) -> Option<(u64, u64)>
+        ensures { IsFirstWord (λ q. (word_at self.now q).waiting) first result }
+    {
         let waiting = self.words.get(first).waiting;
         if waiting != 0 {
             return Some((first, waiting));

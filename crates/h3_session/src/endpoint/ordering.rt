@@ -2,17 +2,18 @@
 ghost use Rattle.std.specs.Prelude.{◌≡◌, ◌<◌, ◌^◌, is_some, IfErr, IfSome, IsSome, OnErr, OnOk};
 ghost use Rattle.h3_connection.specs.ByPriority.{Holds, SetsPriority, ShowsNextByPriority};
 ghost use Rattle.h3_connection.specs.Calls.{AllSame, Sets};
+ghost use Rattle.h3_connection.specs.Prioritizing.{SendsNext, UsesUpdates};
 ghost use Rattle.h3_connection.specs.Order.{own_held, rounds_begun, turn_over};
 ghost use Rattle.h3_connection.specs.OwnIds.{is_own};
 ghost use Rattle.h3_connection.specs.State.{kept_at};
 ghost use Rattle.h3_outgoing.specs.Sent.{preceding};
-ghost use Rattle.h3_requests.specs.Ordered.{refused_unless};
-ghost use Rattle.h3_session.specs.Turns.{own_sends_in, first_own_in, turn_in, EndsTurn};
+ghost use Rattle.h3_requests.specs.Ordered.{refused_unless, saying};
+ghost use Rattle.h3_session.specs.Turns.{own_sends_in, first_own_in, has_turn_in, turn_in, BoundsTurn, EndsTurn};
 
 use super::Endpoint;
 use super::next::control_id;
 use h3_connection::event::Refusal;
-use h3_connection::order::SendOrder;
+use h3_connection::order::{PrioritySource, SendOrder};
 use h3_priority::priority::Priority;
 use h3_proto::stream::{Side, StreamId};
 use h3_scheduler::round::Rounds;
@@ -21,9 +22,18 @@ impl Endpoint {
     /// The stream that sends next (RFC 9218, section 10). The local control, encoder and decoder stream come first, in this order. Then
     /// comes a request stream, of those on which bytes or an end wait: one of the least urgency. Within an urgency the incremental streams
     /// and the first of the others take turns. A turn is over once `advance` takes bytes. A stream that is held (`hold`) is skipped.
-    /// `None` if none sends. If no priority was set these are the streams of `next_to_send`, by their ids. It takes no memory, and looks at
-    /// no stream that does not send.
-    pub fn next_by_priority(&self) -> Option<StreamId>
+    /// `None` if none sends. If no priority was set these are the streams of `next_to_send`, by their ids. It looks at no stream that does
+    /// not send. What PRIORITY_UPDATE frames said since the last call (`Config::with_priority_updates`) counts. If an
+    /// allocation fails for that, the next call tries once more; nothing else takes memory.
+    pub fn next_by_priority(&mut self) -> Option<StreamId>
+        ensures { SendsNext self.old self.new result }
+    {
+        self.use_any_updates();
+        self.first_by_priority()
+    }
+
+    // The same, by what counts already.
+    fn first_by_priority(&self) -> Option<StreamId>
         ensures { ShowsNextByPriority self.now result }
     {
         if let Some(own) = self.first_own() {
@@ -32,6 +42,17 @@ impl Endpoint {
         match &self.order.rounds {
             Some(rounds) => self.requests.next_by_priority(rounds),
             None => self.requests.next_by_priority(&Rounds::new()),
+        }
+    }
+
+    // What PRIORITY_UPDATE frames said since the last call is used. (a function of its own: no call follows once its branches join)
+    #[inline(always)]
+    #[tactic(auto, using(crate::proofs::LookingAtUpdates::none_waits))]
+    fn use_any_updates(&mut self)
+        ensures { UsesUpdates self.old self.new }
+    {
+        if self.updates_waiting() > 0 {
+            self.use_updates();
         }
     }
 
@@ -67,47 +88,43 @@ impl Endpoint {
         }
     }
 
-    /// A request stream has this priority at its sender from now on. A server takes that of the request, or what it knows better (RFC 9218,
-    /// section 8). Refused are, in this order, a connection with a fault, a stream that is no request stream, one that is not open, and
+    /// A request stream has this priority at its sender from now on, whatever its client says: what a server knows better (RFC 9218, section
+    /// 8). Refused are, in this order, a connection with a fault, a stream that is no request stream, one that is not open, and
     /// last a failed allocation. An `Err` changes nothing.
     pub fn set_priority(&mut self, id: StreamId, priority: Priority) -> Result<(), Refusal>
         ensures { SetsPriority self.old self.new id priority result }
     {
-        if let Some(code) = self.closed {
-            return Err(Refusal::Closed(code));
-        }
-        if !id.is_request() {
-            return Err(Refusal::NotRequestId);
-        }
-        match self.prioritize(id, priority) {
-            Ok(()) => {
-                self.begin_rounds();
-                Ok(())
-            }
+        match self.judge_priority(id) {
+            Ok(()) => self.say_priority(id, PrioritySource::Own, priority),
             Err(refusal) => Err(refusal),
         }
     }
 
-    // A request stream has this priority, if it is there.
-    fn prioritize(&mut self, id: StreamId, priority: Priority) -> Result<(), Refusal>
+    // Somebody says the priority of a request stream, if it is there.
+    pub(super) fn prioritize(
+        &mut self,
+        id: StreamId,
+        source: PrioritySource,
+        priority: Priority,
+    ) -> Result<(), Refusal>
         ensures rest { self.new ≡ record self.old { requests = self.new.requests } }
         ensures ok { OnOk result (IfSome (kept_at self.old.requests id) (λ r.
-            Sets self.old.requests self.new.requests id (record r { outgoing = preceding (record r.outgoing.precedence { priority = priority }) r.outgoing }))) }
+            Sets self.old.requests self.new.requests id (record r { outgoing = preceding (saying r.outgoing.precedence source priority) r.outgoing }))) }
         ensures taken { OnOk result (IsSome (kept_at self.old.requests id)) }
         ensures why { IfErr result (λ r. r ≡ refused_unless (is_some (kept_at self.old.requests id))) }
         ensures err { OnErr result (AllSame self.old.requests self.new.requests) }
     {
-        self.requests.set_priority(self.alloc, id, priority)
+        self.requests.say_priority(self.alloc, id, source, priority)
     }
 
     // Turns count from now on.
-    fn begin_rounds(&mut self)
+    pub(super) fn begin_rounds(&mut self)
         ensures { self.new ≡ record self.old { order = record self.old.order { rounds = rounds_begun self.old.order.rounds } } }
     {
         begin_rounds(&mut self.order);
     }
 
-    /// QUIC has no credit for a stream, so `next_by_priority` passes it over, or has it again. It may be a request stream that is open or a
+    /// QUIC has no credit for a stream, so `next_by_priority` skips it, or has it again. It may be a request stream that is open or a
     /// local unidirectional one. Refused are, in this order, a connection with a fault, any other stream, and last a failed allocation. An
     /// `Err` changes nothing.
     pub fn hold(&mut self, id: StreamId, is_held: bool) -> Result<(), Refusal>
@@ -145,19 +162,8 @@ impl Endpoint {
         hold_own(&mut self.order, self.side, id, is_held)
     }
 
-    // The turn of a request stream is over, if bytes of it are taken, and turns count.
-    #[inline(always)]
+    // The turn of a request stream is over, if bytes of it are taken.
     pub(super) fn end_turn(&mut self, id: StreamId, count: usize)
-        ensures { EndsTurn self.old self.new id count }
-    {
-        if self.order.rounds.is_some() {
-            self.end_turn_of(id, count);
-        }
-    }
-
-    // The same.
-    #[inline(never)]
-    fn end_turn_of(&mut self, id: StreamId, count: usize)
         ensures { EndsTurn self.old self.new id count }
     {
         let Some(turn) = self.turn_of(id) else {
@@ -166,8 +172,19 @@ impl Endpoint {
         if count.min(turn.1) == 0 {
             return;
         }
-        let until = self.first_unseen();
+        let until = self.turn_bound(turn.0, id);
         end_turn(&mut self.order, turn.0, id, until);
+    }
+
+    // Of which ids a round is that begins with this turn. If the stream has a turn in the round that is under way none begins, and any
+    // number serves: so the streams are looked at once a round, and not at each turn.
+    fn turn_bound(&self, priority: Priority, id: StreamId) -> u64
+        ensures { BoundsTurn self.now priority id result }
+    {
+        if has_turn(&self.order, priority, id) {
+            return 0;
+        }
+        self.first_unseen()
     }
 
     // The priority of a request stream, and how many bytes wait on it.
@@ -179,6 +196,17 @@ impl Endpoint {
             None => None,
         }
     }
+}
+
+// Whether a stream has a turn in the round of its urgency that is under way.
+fn has_turn(order: &SendOrder, priority: Priority, id: StreamId) -> bool
+    ensures { result ≡ has_turn_in order.now.rounds priority id }
+{
+    let Some(rounds) = &order.rounds else {
+        return false;
+    };
+    let round = rounds.of(priority.urgency() as u64);
+    round.within(Some(id.into_inner())).is_some()
 }
 
 // A turn is over.

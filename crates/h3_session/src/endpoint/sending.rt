@@ -269,11 +269,24 @@ impl Endpoint {
     pub fn advance(&mut self, id: StreamId, count: usize)
         ensures { Advances self.old self.new id count }
     {
+        if self.order.rounds.is_some() {
+            self.advance_in_turn(id, count);
+            return;
+        }
+        self.take_bytes(id, count);
+    }
+
+    // The same if turns count. (a function of its own: while no priority was set nothing is spent on turns)
+    #[inline(never)]
+    fn advance_in_turn(&mut self, id: StreamId, count: usize)
+        ensures { Advances self.old self.new id count }
+    {
         self.end_turn(id, count);
         self.take_bytes(id, count);
     }
 
     // Takes these bytes, and ends no turn.
+    #[inline(always)]
     fn take_bytes(&mut self, id: StreamId, count: usize)
         ensures { TakesBytes self.old self.new id count }
     {
@@ -284,6 +297,7 @@ impl Endpoint {
     }
 
     // Takes the first bytes that wait on a request stream, and answers whether that is there, with one look-up.
+    #[inline(always)]
     fn advance_request(&mut self, id: StreamId, count: usize) -> bool
         ensures there { result ≡ true → TakesBytes self.old self.new id count }
         ensures absent { result ≡ false → sender_in self.old id ≡ None }

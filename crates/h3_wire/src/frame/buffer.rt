@@ -2,7 +2,7 @@
 ghost use Rattle.std.specs.Prelude.{◌≡◌, ◌+◌, ◌^◌, ◌<◌, ◌≤◌, ◌++◌, [], None, Ok, false, true, length, IfOk, IfErr, IfSome, IfNone, IsNone, OnOk, OnErr};
 ghost use Rattle.std.specs.List.{concat};
 ghost use Rattle.h3_wire.specs.declared.frame.kinds.FrameKinds.{FrameKinds};
-ghost use Rattle.h3_wire.specs.ExcessiveFrames.{begins_section, is_excessive};
+ghost use Rattle.h3_wire.specs.ExcessiveFrames.{begins_section, is_excessive_by};
 ghost use Rattle.h3_wire.specs.FirstFrames.{begins_other};
 ghost use Rattle.h3_wire.specs.Known.{Gives, known_by};
 ghost use Rattle.h3_wire.specs.MessageFrames.{any_frame};
@@ -37,9 +37,9 @@ impl Model for FrameBuffer {
 
     ghost Value = { UnreadFrames };
 
-    ghost view = { λ b. record { pieces = b.unread.pieces; passing = b.unread.passing; session = b.unread.session; decoder = b.decoder } };
+    ghost view = { λ b. record { pieces = b.unread.pieces; passing = b.unread.passing; known_to = b.unread.known_to; decoder = b.decoder } };
 
-    ghost invariant = { λ b. Expects (let_go_by b.unread.session) b.decoder (concat b.unread.pieces) };
+    ghost invariant = { λ b. Expects (let_go_by b.unread.known_to) b.decoder (concat b.unread.pieces) };
 }
 
 impl FrameBuffer {
@@ -75,7 +75,7 @@ impl FrameBuffer {
         alloc: Global,
         kinds: FrameKinds,
     ) -> Result<Option<Frame<PayloadLen>>, FrameStreamError>
-        requires suits { suits self.old.session kinds ≡ true }
+        requires suits { suits self.old.known_to kinds ≡ true }
         ensures gives { Gives kinds result (concat self.old.pieces) (concat self.new.pieces) }
         ensures between { IfOk result (λ o. IfSome o (λ f. AreBetween self.new)) }
         ensures spared { IfOk result (λ o. IfNone o (AreSpared kinds self.new)) }
@@ -107,8 +107,8 @@ impl FrameBuffer {
     // Whether a frame begins at the front: none is under way there, or the unknown one that was is whole, and is passed.
     fn is_at_frame(&mut self) -> bool
         ensures same { self.old.passing ≡ 0 → (result ≡ true) × (self.new ≡ self.old) }
-        ensures waits { (kinds : FrameKinds) → suits self.old.session kinds ≡ true → result ≡ false → IsStillUnderWay kinds self.old self.new }
-        ensures passed { (kinds : FrameKinds) → suits self.old.session kinds ≡ true → 0 < self.old.passing → result ≡ true → IsPassed kinds self.old self.new }
+        ensures waits { (kinds : FrameKinds) → suits self.old.known_to kinds ≡ true → result ≡ false → IsStillUnderWay kinds self.old self.new }
+        ensures passed { (kinds : FrameKinds) → suits self.old.known_to kinds ≡ true → 0 < self.old.passing → result ≡ true → IsPassed kinds self.old self.new }
     {
         if self.unread.passing() == 0 {
             return true;
@@ -119,8 +119,8 @@ impl FrameBuffer {
     // An unknown frame is under way, of which some bytes were freed. If it is whole it is passed.
     fn pass_unknown(&mut self) -> bool
         requires under_way { 0 < self.old.passing }
-        ensures waits { (kinds : FrameKinds) → suits self.old.session kinds ≡ true → result ≡ false → IsStillUnderWay kinds self.old self.new }
-        ensures passed { (kinds : FrameKinds) → suits self.old.session kinds ≡ true → result ≡ true → IsPassed kinds self.old self.new }
+        ensures waits { (kinds : FrameKinds) → suits self.old.known_to kinds ≡ true → result ≡ false → IsStillUnderWay kinds self.old self.new }
+        ensures passed { (kinds : FrameKinds) → suits self.old.known_to kinds ≡ true → result ≡ true → IsPassed kinds self.old self.new }
     {
         let len = self.unread.len();
         if len < self.decoder.needed() {
@@ -168,7 +168,7 @@ impl FrameBuffer {
 
     /// Whether these kinds are as at the call that freed bytes of the unknown frame under way, as far as that matters.
     pub fn suits(&self, kinds: FrameKinds) -> bool
-        ensures { result ≡ suits self.now.session kinds }
+        ensures { result ≡ suits self.now.known_to kinds }
     {
         self.unread.suits(kinds)
     }
@@ -182,14 +182,14 @@ impl FrameBuffer {
     /// Whether there is a limit, and the first frame that is no whole unknown one says a length above it (RFC 9114, section 10.5). It has
     /// to be one whose payload is kept until it is whole. The payload need not be there. Nothing is taken. 2^62 - 1 or more: no limit.
     pub fn is_excessive(&self, most: u64, kinds: FrameKinds) -> bool
-        ensures { result ≡ is_excessive most (known_by kinds (concat self.now.pieces)) }
+        ensures { result ≡ is_excessive_by kinds most (known_by kinds (concat self.now.pieces)) }
     {
         most < VarInt::MAX.into_inner() && self.unread.is_excessive(most, kinds)
     }
 
     /// The same, if the type and length in the first piece tell it, whichever kinds are known.
     pub fn is_first_excessive(&self, most: u64) -> Option<bool>
-        ensures { (kinds : FrameKinds) → IfSome result (λ is. is ≡ is_excessive most (known_by kinds (concat self.now.pieces))) }
+        ensures { (kinds : FrameKinds) → IfSome result (λ is. is ≡ is_excessive_by kinds most (known_by kinds (concat self.now.pieces))) }
     {
         if most < VarInt::MAX.into_inner() {
             return self.unread.is_first_excessive(most);

@@ -14,8 +14,9 @@ use super::errors::{FrameProtocolError, FrameStreamError};
 use super::kinds::FrameKinds;
 use super::sparing::unknown_size;
 use crate::buf::BufList;
-use crate::proto::frame::{Frame, FrameError, FrameHead, PayloadLen};
+use crate::proto::frame::{Frame, FrameError, FrameHead, PayloadLen, is_update_type, read_update};
 use bytes::{Buf, Bytes};
+use h3_coding::coding::BufExt;
 use std::alloc::Global;
 use std::marker::Model;
 
@@ -217,6 +218,7 @@ fn take_first(src: &mut BufList<Bytes>) -> Option<MessageFrame>
 
 // Cuts the field section of a HEADERS frame from the first piece, in which it lies. `None` takes
 // nothing: an allocation failed.
+#[inline(always)]
 fn cut_section(src: &mut BufList<Bytes>, head: usize, size: usize) -> Option<Bytes>
     requires is { IsHeadersFrame (concat src.old.pieces) head size }
     requires inside { head + size ≤ first_size src.old.pieces }
@@ -241,16 +243,69 @@ fn decode_frame(alloc: Global, kinds: FrameKinds, src: &mut BufList<Bytes>) -> T
     ensures few { has_head (concat src.old.pieces) ≡ false → length (concat src.old.pieces) < 16 }
     ensures rest { IsRest src.old.pieces src.new.pieces }
 {
+    match decode_update(alloc, kinds, src) {
+        Some(tried) => tried,
+        None => decode_known(alloc, kinds, src),
+    }
+}
+
+// The same if it is no update.
+fn decode_known(alloc: Global, kinds: FrameKinds, src: &mut BufList<Bytes>) -> Tried
+    requires { frame_by kinds (concat src.old.pieces) ≡ frame_by (record kinds { updates = false }) (concat src.old.pieces) }
+    ensures tries { Tries result (frame_by kinds (concat src.old.pieces)) (concat src.old.pieces) (concat src.new.pieces) }
+    ensures few { has_head (concat src.old.pieces) ≡ false → length (concat src.old.pieces) < 16 }
+    ensures rest { IsRest src.old.pieces src.new.pieces }
+{
     match passed_size(src, kinds) {
         Some(size) => pass_unknown(src, size),
         None => decode_plain(alloc, src),
     }
 }
 
+// RFC 9218 7.2: PRIORITY_UPDATE, read whole
+// If PRIORITY_UPDATE is known: takes such a frame at the front. One that is not whole is not taken. None, if it is no such frame, changes nothing.
+#[tactic(auto, using(crate::specs::PieceLaws::rest_same, crate::proofs::Updates::without_updates, crate::proofs::Updates::without_kind, crate::proofs::Updates::without_number, crate::proofs::Updates::other_type))]
+fn decode_update(alloc: Global, kinds: FrameKinds, src: &mut BufList<Bytes>) -> Option<Tried>
+    ensures tries { IfSome result (λ tried. Tries tried (frame_by kinds (concat src.old.pieces)) (concat src.old.pieces) (concat src.new.pieces)) }
+    ensures whole { IfSome result (λ tried. has_head (concat src.old.pieces) ≡ true) }
+    ensures none { IsNone result → frame_by kinds (concat src.old.pieces) ≡ frame_by (record kinds { updates = false }) (concat src.old.pieces) }
+    ensures same { IsNone result → src.new.pieces ≡ src.old.pieces }
+    ensures rest { IsRest src.old.pieces src.new.pieces }
+{
+    if !kinds.updates {
+        return None;
+    }
+    let mut cursor = src.cursor();
+    let all = cursor.remaining();
+    let Ok(kind) = cursor.get_var() else {
+        return None;
+    };
+    if !is_update_type(kind) {
+        return None;
+    }
+    let Ok(number) = cursor.get_var() else {
+        return None;
+    };
+    let len = number as usize;
+    let behind = cursor.remaining();
+    if behind < len {
+        return Some(Tried::Waits(all - behind + len));
+    }
+    match read_update(alloc, &mut cursor, kind, len) {
+        Some(Ok(update)) => {
+            let position = cursor.position();
+            src.advance(position);
+            Some(Tried::Frame(Frame::PriorityUpdate(update)))
+        }
+        Some(Err(_)) => Some(Tried::OutOfMemory),
+        None => Some(Tried::Refused(FrameProtocolError::Malformed)),
+    }
+}
+
 // If sessions are not known: how many bytes the unknown frame at the front has, one of type 0x41 among them, if its type and length came.
 fn passed_size(src: &BufList<Bytes>, kinds: FrameKinds) -> Option<usize>
     ensures some { IfSome result (λ size. unknown_size kinds (concat src.now.pieces) ≡ Some size) }
-    ensures none { IsNone result → frame_by kinds (concat src.now.pieces) ≡ frame_by plain_frames (concat src.now.pieces) }
+    ensures none { IsNone result → frame_by (record kinds { updates = false }) (concat src.now.pieces) ≡ frame_by plain_frames (concat src.now.pieces) }
 {
     if kinds.sessions {
         return None;

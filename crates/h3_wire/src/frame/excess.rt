@@ -1,17 +1,17 @@
 //! Frames that are longer than their reader takes (RFC 9114, section 10.5).
 ghost use Rattle.std.specs.Prelude.{◌≡◌, ◌<◌, ◌≤◌, ◌||◌, ◌==◌, true, drop, length, IfSome, IsNone, nat_lt};
 ghost use Rattle.h3_wire.specs.declared.frame.kinds.FrameKinds.{FrameKinds};
-ghost use Rattle.h3_wire.specs.Frames.{is_session};
+ghost use Rattle.h3_wire.specs.Frames.{is_session, is_update};
 ghost use Rattle.std.specs.List.{concat};
 ghost use Rattle.h3_proto.specs.Config.{is_limit};
 ghost use Rattle.h3_coding.specs.Varint.{varint_at};
-ghost use Rattle.h3_wire.specs.ExcessiveFrames.{begins_section, head_said, is_excessive, is_kept_whole};
+ghost use Rattle.h3_wire.specs.ExcessiveFrames.{begins_section, head_said, is_excessive_by, is_kept_whole};
 ghost use Rattle.h3_wire.specs.Known.{known_by};
 ghost use Rattle.h3_wire.specs.Place.{left_at};
 
 use super::kinds::FrameKinds;
 use crate::buf::{BufList, Cursor};
-use crate::proto::frame::FrameHead;
+use crate::proto::frame::{FrameHead, is_update_type};
 use bytes::{Buf, Bytes};
 use h3_coding::coding::BufExt;
 
@@ -23,7 +23,7 @@ use h3_coding::coding::BufExt;
 #[inline(never)]
 pub(super) fn is_first_excessive(src: &BufList<Bytes>, most: u64) -> Option<bool>
     requires { is_limit most ≡ true }
-    ensures { (kinds : FrameKinds) → IfSome result (λ is. is ≡ is_excessive most (known_by kinds (concat src.now.pieces))) }
+    ensures { (kinds : FrameKinds) → IfSome result (λ is. is ≡ is_excessive_by kinds most (known_by kinds (concat src.now.pieces))) }
 {
     if src.remaining() == 0 {
         return Some(false);
@@ -49,10 +49,10 @@ pub(super) fn is_excessive_behind(
 ) -> bool
     requires limit { is_limit most ≡ true }
     requires there { passed ≤ length (concat src.now.pieces) }
-    ensures { result ≡ is_excessive most (known_by kinds (drop passed (concat src.now.pieces))) }
+    ensures { result ≡ is_excessive_by kinds most (known_by kinds (drop passed (concat src.now.pieces))) }
 {
     match first_head(src, passed, kinds) {
-        Some((kind, number)) => is_kept_whole(kind) && number > most,
+        Some((kind, number)) => (is_kept_whole(kind) || is_update(kind, kinds)) && number > most,
         None => false,
     }
 }
@@ -94,7 +94,7 @@ fn look(cursor: &mut Cursor<'_, Bytes>, kinds: FrameKinds) -> Option<Option<(u64
     let Ok(number) = cursor.get_var() else {
         return Some(Some((kind, 0)));
     };
-    if is_kept_whole(kind) || is_handed_out(kind, kinds) {
+    if is_kept_whole(kind) || is_handed_out(kind, kinds) || is_update(kind, kinds) {
         return Some(Some((kind, number)));
     }
     let size = number as usize;
@@ -117,4 +117,11 @@ fn is_handed_out(kind: u64, kinds: FrameKinds) -> bool
     ensures { result ≡ ((kind == 0) || is_session kinds kind) }
 {
     kind == 0 || (kind == 0x41 && kinds.sessions)
+}
+
+// The types of PRIORITY_UPDATE, if it is known: its payload is kept until it is whole, too.
+fn is_update(kind: u64, kinds: FrameKinds) -> bool
+    ensures { result ≡ is_update kinds kind }
+{
+    kinds.updates && is_update_type(kind)
 }

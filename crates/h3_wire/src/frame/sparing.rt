@@ -1,16 +1,17 @@
 //! The bytes of a stream of frames, of which those of an unknown frame that is under way are not kept.
-ghost use Rattle.std.specs.Prelude.{◌≡◌, ◌+◌, ◌^◌, ◌<◌, ◌≤◌, ◌++◌, Bool, [], None, Ok, true, false, length, drop, is_none, IfOk, IfErr, IfSome, OnOk, OnErr, IsNone};
+ghost use Rattle.std.specs.Prelude.{◌≡◌, ℕ, ◌&&◌, ◌+◌, ◌^◌, ◌<◌, ◌≤◌, ◌++◌, [], None, Ok, true, nat_lt, length, drop, IfOk, IfErr, IfSome, OnOk, OnErr, IsNone, MatchOption};
+ghost use Rattle.h3_coding.specs.Varint.{varint_at};
 ghost use Rattle.std.specs.List.{concat};
 ghost use Rattle.h3_proto.specs.Config.{is_limit};
 ghost use Rattle.h3_wire.specs.declared.frame.kinds.FrameKinds.{FrameKinds};
 ghost use Rattle.h3_wire.specs.Frames.{plain_frames};
-ghost use Rattle.h3_wire.specs.ExcessiveFrames.{begins_section, is_excessive};
+ghost use Rattle.h3_wire.specs.ExcessiveFrames.{SaysLength, begins_section, head_said, is_excessive_by, number_said};
 ghost use Rattle.h3_wire.specs.FirstFrames.{begins_other};
 ghost use Rattle.h3_wire.specs.Known.{Gives, known_by};
 ghost use Rattle.h3_wire.specs.MessageFrames.{any_frame};
 ghost use Rattle.h3_wire.specs.Pieces.{IsRest, chunk_of, ending, first_of, with_piece};
 ghost use Rattle.h3_wire.specs.Tries.{Counts, Expects};
-ghost use Rattle.h3_wire.specs.UnknownSize.{AreLetGo, IsPassing, IsSpared, is_known_type, is_longer, is_under_way, let_go_by, suits, unknown_size};
+ghost use Rattle.h3_wire.specs.UnknownSize.{AreLetGo, IsPassing, IsSpared, choices_for, is_known_type, is_longer, is_under_way, let_go_by, no_kinds, suits, unknown_size};
 
 use super::decoder::{FrameDecoder, MessageFrame};
 use super::errors::FrameStreamError;
@@ -18,7 +19,7 @@ use super::kinds::FrameKinds;
 use super::let_go::LetGo;
 use super::{excess, first};
 use crate::buf::BufList;
-use crate::proto::frame::{Frame, FrameHead, PayloadLen};
+use crate::proto::frame::{Frame, FrameHead, PayloadLen, is_update_type};
 use bytes::{Buf, Bytes};
 use h3_coding::coding::BufExt;
 use std::alloc::{AllocError, Global};
@@ -34,35 +35,40 @@ pub(super) struct FrameBytes {
     gone: usize,
     // how many bytes the unknown frame has of which they are, or 0
     passing: usize,
-    // whether that is one of type 0x41, which is unknown to those alone who know no sessions
-    session: bool,
+    // by which choices its type would be known: it is 0x41, or one of PRIORITY_UPDATE
+    known_to: FrameKinds,
+    // the length after its type
+    number: u64,
 }
 
 impl Model for FrameBytes {
     ghost use Rattle.std.specs.Prelude.{◌++◌, ◌<◌, ◌^◌, length};
     ghost use Rattle.std.specs.List.{concat};
+    ghost use Rattle.h3_wire.specs.ExcessiveFrames.{SaysLength};
     ghost use Rattle.h3_wire.specs.UnknownSize.{Sparing, AreLetGo, IsSpared};
 
     ghost Value = { Sparing };
 
-    ghost view = { λ b. record { pieces = b.let_go.pieces ++ b.kept.pieces; passing = b.passing; session = b.session } };
+    ghost view = { λ b. record { pieces = b.let_go.pieces ++ b.kept.pieces; passing = b.passing; known_to = b.known_to } };
 
-    ghost invariant = { λ b. AreLetGo b.session b.passing b.gone b.let_go.pieces
+    ghost invariant = { λ b. AreLetGo b.known_to b.passing b.gone b.let_go.pieces
         × (length (concat (b.let_go.pieces ++ b.kept.pieces)) < 2 ^ 64)
-        × IsSpared b.passing b.gone b.kept.pieces };
+        × IsSpared b.passing b.gone b.kept.pieces
+        × SaysLength b.passing b.number (concat b.let_go.pieces) };
 }
 
 impl FrameBytes {
     /// Those of a stream of which nothing came.
     pub(super) fn new(alloc: Global) -> FrameBytes
-        ensures { result ≡ record { pieces = []; passing = 0; session = false } }
+        ensures { result ≡ record { pieces = []; passing = 0; known_to = no_kinds } }
     {
         FrameBytes {
             kept: BufList::new(alloc),
             let_go: LetGo::new(),
             gone: 0,
             passing: 0,
-            session: false,
+            known_to: FrameKinds::NONE,
+            number: 0,
         }
     }
 
@@ -91,8 +97,7 @@ impl FrameBytes {
     pub(super) fn spare(&mut self, kinds: FrameKinds)
         ensures pieces { self.new.pieces ≡ self.old.pieces }
         ensures same { 0 < self.old.passing → self.new ≡ self.old }
-        ensures plain { self.old.passing ≡ 0 → self.old.session ≡ false }
-        ensures by { self.old.passing ≡ 0 → self.new.session ≡ true → kinds.sessions ≡ false }
+        ensures plain { self.old.passing ≡ 0 → self.old.known_to ≡ no_kinds }
         ensures is { IsPassing self.new }
         ensures spared { is_under_way kinds (concat self.new.pieces) ≡ true → 0 < self.new.passing }
     {
@@ -102,7 +107,8 @@ impl FrameBytes {
         }
         match unknown_size(&self.kept, kinds) {
             Some(size) if len < size => {
-                self.session = is_session(&self.kept);
+                self.known_to = choices_of(&self.kept);
+                self.number = number_of(&self.kept);
                 let_all_go(&mut self.kept, &mut self.let_go);
                 self.gone = len;
                 self.passing = size;
@@ -113,15 +119,15 @@ impl FrameBytes {
 
     /// Whether the unknown frame of which bytes were freed is unknown by these kinds too.
     pub(super) fn suits(&self, kinds: FrameKinds) -> bool
-        ensures { result ≡ suits self.now.session kinds }
+        ensures { result ≡ suits self.now.known_to kinds }
     {
-        !(self.session && kinds.sessions)
+        !(self.known_to.sessions && kinds.sessions) && !(self.known_to.updates && kinds.updates)
     }
 
     /// Whether the first piece begins with the type and length of a frame whose type has a meaning, whichever kinds are known.
     pub(super) fn begins_known(&self) -> bool {
         match FrameHead::at_front(self.kept.first_bytes()) {
-            Some(head) => is_known_type(head.kind, FrameKinds { sessions: false }),
+            Some(head) => is_known_type(head.kind, FrameKinds::NONE),
             None => false,
         }
     }
@@ -142,13 +148,13 @@ impl FrameBytes {
         ensures bytes { concat self.new.pieces ≡ drop self.old.passing (concat self.old.pieces) }
         ensures rest { IsRest self.old.pieces self.new.pieces }
         ensures none { self.new.passing ≡ 0 }
-        ensures plain { self.new.session ≡ false }
+        ensures plain { self.new.known_to ≡ no_kinds }
     {
         self.kept.advance(self.passing - self.gone);
         self.let_go = LetGo::new();
         self.gone = 0;
         self.passing = 0;
-        self.session = false;
+        self.known_to = FrameKinds::NONE;
     }
 
     /// `FrameDecoder::decode_by`, when no unknown frame is under way.
@@ -159,7 +165,7 @@ impl FrameBytes {
         decoder: &mut FrameDecoder,
     ) -> Result<Option<Frame<PayloadLen>>, FrameStreamError>
         requires none { self.old.passing ≡ 0 }
-        requires expects { Expects (let_go_by self.old.session) decoder.old (concat self.old.pieces) }
+        requires expects { Expects (let_go_by self.old.known_to) decoder.old (concat self.old.pieces) }
         ensures gives { Gives kinds result (concat self.old.pieces) (concat self.new.pieces) }
         ensures expects { Expects kinds decoder.new (concat self.new.pieces) }
         ensures plain { OnErr result (Expects plain_frames decoder.new (concat self.new.pieces)) }
@@ -167,7 +173,7 @@ impl FrameBytes {
         ensures counts { Counts kinds decoder.old (concat self.old.pieces) result decoder.new }
         ensures pieces { self.new.pieces ≡ ending (length (concat self.new.pieces)) self.old.pieces }
         ensures none { self.new.passing ≡ 0 }
-        ensures session { self.new.session ≡ false }
+        ensures known_to { self.new.known_to ≡ no_kinds }
     {
         decoder.decode_by(alloc, kinds, &mut self.kept)
     }
@@ -179,16 +185,16 @@ impl FrameBytes {
         decoder: &mut FrameDecoder,
     ) -> Option<Option<MessageFrame>>
         requires none { self.old.passing ≡ 0 }
-        requires expects { Expects (let_go_by self.old.session) decoder.old (concat self.old.pieces) }
+        requires expects { Expects (let_go_by self.old.known_to) decoder.old (concat self.old.pieces) }
         ensures gives { (kinds : FrameKinds) → IfSome result (λ o. Gives kinds (Ok (any_frame o)) (concat self.old.pieces) (concat self.new.pieces)) }
-        ensures expects { Expects (let_go_by self.new.session) decoder.new (concat self.new.pieces) }
+        ensures expects { Expects (let_go_by self.new.known_to) decoder.new (concat self.new.pieces) }
         ensures fresh { IfSome result (λ o. IfSome o (λ f. decoder.new.expected ≡ None)) }
         ensures counts { (kinds : FrameKinds) → IfSome result (λ o. Counts kinds decoder.old (concat self.old.pieces) (Ok (any_frame o)) decoder.new) }
         ensures decoder { IsNone result → decoder.new ≡ decoder.old }
         ensures same { IsNone result → self.new.pieces ≡ self.old.pieces }
         ensures rest { IsRest self.old.pieces self.new.pieces }
         ensures none { self.new.passing ≡ 0 }
-        ensures session { self.new.session ≡ self.old.session }
+        ensures known_to { self.new.known_to ≡ self.old.known_to }
     {
         decoder.decode_first(&mut self.kept)
     }
@@ -199,7 +205,7 @@ impl FrameBytes {
         ensures ok { IfOk result (λ o. (o, self.new.pieces) ≡ chunk_of max self.old.pieces) }
         ensures err { OnErr result (self.new.pieces ≡ self.old.pieces) }
         ensures none { self.new.passing ≡ 0 }
-        ensures session { self.new.session ≡ self.old.session }
+        ensures known_to { self.new.known_to ≡ self.old.known_to }
     {
         self.kept.take_chunk(max)
     }
@@ -209,7 +215,7 @@ impl FrameBytes {
         requires none { self.old.passing ≡ 0 }
         ensures pieces { (result, self.new.pieces) ≡ first_of self.old.pieces }
         ensures none { self.new.passing ≡ 0 }
-        ensures session { self.new.session ≡ self.old.session }
+        ensures known_to { self.new.known_to ≡ self.old.known_to }
     {
         self.kept.take_first_chunk()
     }
@@ -232,15 +238,16 @@ impl FrameBytes {
     /// whole. Nothing is taken.
     pub(super) fn is_excessive(&self, most: u64, kinds: FrameKinds) -> bool
         requires { is_limit most ≡ true }
-        ensures { result ≡ is_excessive most (known_by kinds (concat self.now.pieces)) }
+        ensures { result ≡ is_excessive_by kinds most (known_by kinds (concat self.now.pieces)) }
     {
         if let Some(is_excessive) = self.is_first_excessive(most) {
             return is_excessive;
         }
-        if self.len() < self.passing {
-            return false;
-        }
+        // an update that was unknown as its bytes were freed
         if !self.suits(kinds) {
+            return is_long_update(self.known_to, kinds, self.number, most);
+        }
+        if self.len() < self.passing {
             return false;
         }
         excess::is_excessive_behind(&self.kept, self.passing - self.gone, most, kinds)
@@ -249,7 +256,7 @@ impl FrameBytes {
     /// The same, if the type and length in the first piece tell it, whichever kinds are known.
     pub(super) fn is_first_excessive(&self, most: u64) -> Option<bool>
         requires { is_limit most ≡ true }
-        ensures { (kinds : FrameKinds) → IfSome result (λ is. is ≡ is_excessive most (known_by kinds (concat self.now.pieces))) }
+        ensures { (kinds : FrameKinds) → IfSome result (λ is. is ≡ is_excessive_by kinds most (known_by kinds (concat self.now.pieces))) }
     {
         if self.passing > 0 {
             return None;
@@ -295,7 +302,8 @@ impl FrameBytes {
 // Frees what is kept, if the unknown frame under way goes on after it.
 fn release(kept: &mut BufList<Bytes>, let_go: &mut LetGo, gone: &mut usize, passing: usize)
     requires fits { gone.old + length (concat kept.old.pieces) < 2 ^ 64 }
-    ensures front { (session : Bool) → AreLetGo session passing gone.old let_go.old.pieces → AreLetGo session passing gone.new let_go.new.pieces }
+    ensures front { (known_to : FrameKinds) → AreLetGo known_to passing gone.old let_go.old.pieces → AreLetGo known_to passing gone.new let_go.new.pieces }
+    ensures says { (known_to : FrameKinds) (number : ℕ) → AreLetGo known_to passing gone.old let_go.old.pieces → SaysLength passing number (concat let_go.old.pieces) → SaysLength passing number (concat let_go.new.pieces) }
     ensures pieces { let_go.new.pieces ++ kept.new.pieces ≡ let_go.old.pieces ++ kept.old.pieces }
     ensures spared { IsSpared passing gone.new kept.new.pieces }
 {
@@ -315,6 +323,13 @@ fn let_all_go(kept: &mut BufList<Bytes>, let_go: &mut LetGo)
     while let Some(piece) = kept.take_first_chunk() {
         *let_go = LetGo::with(let_go, &piece);
     }
+}
+
+// Whether a frame of a type that is known to these choices is an update to those kinds, and longer than this.
+fn is_long_update(known_to: FrameKinds, kinds: FrameKinds, number: u64, most: u64) -> bool
+    ensures { result ≡ ((known_to.updates && kinds.updates) && nat_lt most number) }
+{
+    known_to.updates && kinds.updates && number > most
 }
 
 // Whether a frame of this size has more bytes.
@@ -339,13 +354,6 @@ pub(super) fn unknown_size(pieces: &BufList<Bytes>, kinds: FrameKinds) -> Option
     unknown_size_anywhere(pieces, kinds)
 }
 
-// Whether an unknown frame is one of type 0x41: that has a meaning if sessions are known.
-fn is_session(pieces: &BufList<Bytes>) -> bool
-    ensures { result ≡ is_none (unknown_size plain_frames (concat pieces.now.pieces)) }
-{
-    unknown_size(pieces, FrameKinds::PLAIN).is_none()
-}
-
 // The same, wherever type and length lie. It stays apart, so that a known type is found without a cursor.
 #[tactic(auto, unfolding(crate::specs::UnknownSize::unknown_size))]
 #[inline(never)]
@@ -366,11 +374,40 @@ fn unknown_size_anywhere(pieces: &BufList<Bytes>, kinds: FrameKinds) -> Option<u
     Some(all - cursor.remaining() + number as usize)
 }
 
+// By which choices the type of the frame at the front would be known.
+fn choices_of(pieces: &BufList<Bytes>) -> FrameKinds
+    ensures { MatchOption (varint_at (concat pieces.now.pieces)) (result ≡ no_kinds) (λ p. result ≡ choices_for p.0) }
+{
+    let mut cursor = pieces.cursor();
+    let Ok(kind) = cursor.get_var() else {
+        return FrameKinds::NONE;
+    };
+    FrameKinds {
+        sessions: kind == 0x41,
+        updates: is_update_type(kind),
+    }
+}
+
+// The length of the frame at the front, as it stands after its type, or 0 if it did not come.
+fn number_of(pieces: &BufList<Bytes>) -> u64
+    ensures { result ≡ number_said (head_said (varint_at (concat pieces.now.pieces))) }
+{
+    let mut cursor = pieces.cursor();
+    let Ok(_) = cursor.get_var() else {
+        return 0;
+    };
+    let Ok(number) = cursor.get_var() else {
+        return 0;
+    };
+    number
+}
+
 // Whether a type has a meaning, or is refused.
 fn is_known_type(kind: u64, kinds: FrameKinds) -> bool
     ensures { result ≡ is_known_type kinds kind }
 {
     (kind == 0x41 && kinds.sessions)
+        || (kinds.updates && is_update_type(kind))
         || kind == 0
         || kind == 1
         || kind == 3

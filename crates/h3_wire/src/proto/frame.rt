@@ -16,12 +16,15 @@ mod encode;
 mod head;
 mod payload;
 mod show;
+mod update;
 
 pub(crate) use encode::{write_head, write_numbers, write_settings};
 pub use h3_proto::frame::{SettingId, Settings, SettingsError};
 pub(crate) use head::FrameHead;
 pub(crate) use payload::Lent;
 pub use payload::{Payload, PayloadMut};
+pub use update::PriorityUpdate;
+pub(crate) use update::{is_update_type, read_update};
 
 /// The type of a frame, below 2^62. A contract sees it as its number.
 #[derive(Clone, Copy, PartialEq, Eq, Debug)]
@@ -73,6 +76,12 @@ impl FrameType {
 
     /// The signal value that begins a WebTransport stream in both directions. It has no length.
     pub const WEBTRANSPORT_BI_STREAM: FrameType = FrameType(0x41);
+
+    /// The priority of a response is another one from now on (RFC 9218, section 7.2).
+    pub const PRIORITY_UPDATE: FrameType = FrameType(0xf0700);
+
+    /// The same of a push.
+    pub const PUSH_PRIORITY_UPDATE: FrameType = FrameType(0xf0701);
 
     /// A reserved type, which has no meaning (RFC 9114, section 7.2.8).
     pub fn grease(n: u64) -> Self
@@ -151,6 +160,8 @@ pub enum Frame<B> {
     Settings(Settings),
     /// A push is promised (RFC 9114, section 7.2.5).
     PushPromise(PushPromise),
+    /// The priority of a response or of a push (RFC 9218, section 7.2).
+    PriorityUpdate(PriorityUpdate),
     /// The id of a request or of a push.
     Goaway(VarInt),
     /// The greatest id that a push may have (RFC 9114, section 7.2.7).

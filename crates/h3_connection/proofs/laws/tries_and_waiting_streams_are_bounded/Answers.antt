@@ -1,6 +1,6 @@
 use Rattle.h3_connection.specs.Endpoint.{new_endpoint}
 use Rattle.h3_connection.proofs.Bounded.{calls_on, call_on, arrives_on, pulls_on, new_on, shown_tries}
-use Rattle.h3_connection.proofs.StoppedBounds.{reads_part, kept_bounded, lost_bounded, cut_bounded}
+use Rattle.h3_connection.proofs.StoppedBounds.{asked, reads_part, kept_bounded, lost_bounded, cut_bounded}
 use Rattle.h3_connection.proofs.laws.tries_and_waiting_streams_are_bounded.Goals as goal
 
 pub returns-clause-calls : goal.returns-clause-calls
@@ -23,6 +23,9 @@ returns-clause-waiting c = λ e h. h.waiting
 
 pub returns-clause-part : goal.returns-clause-part
 returns-clause-part c = λ e after arrivals h read. reads_part read h
+
+pub returns-clause-asked : goal.returns-clause-asked
+returns-clause-asked c = asked
 
 pub returns-clause-kept : goal.returns-clause-kept
 returns-clause-kept c = kept_bounded

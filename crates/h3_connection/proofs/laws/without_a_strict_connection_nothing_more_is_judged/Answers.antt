@@ -1,4 +1,4 @@
-use Rattle.h3_connection.specs.StrictConnectionLaws.{announces_any, any_place, any_session, begins_any, checks_none, control_taken, fault_as_found, kinds_off, knows_all, none_refused}
+use Rattle.h3_connection.specs.StrictConnectionLaws.{announces_any, any_place, any_session, begins_any, checks_none, control_taken, fault_as_found, knows_all, none_refused}
 use Rattle.h3_connection.proofs.laws.without_a_strict_connection_nothing_more_is_judged.Goals as goal
 
 pub returns-clause-settings : goal.returns-clause-settings
@@ -26,7 +26,7 @@ pub returns-clause-announces : goal.returns-clause-announces
 returns-clause-announces c = announces_any
 
 pub returns-clause-kinds : goal.returns-clause-kinds
-returns-clause-kinds c = kinds_off
+returns-clause-kinds c = knows_all
 
 pub returns-clause-sessions : goal.returns-clause-sessions
 returns-clause-sessions c = knows_all

@@ -1,11 +1,13 @@
+use Rattle.h3_connection.specs.CallLists.Call.{Advance}
 use Rattle.h3_faithful.proofs.Accounts.{MemoryMoves}
+use Rattle.h3_faithful.proofs.AlikeFaultless.{AlikeLaws}
+use Rattle.h3_faithful.proofs.AlikeRuns.{no_fault_alike}
 use Rattle.h3_faithful.proofs.Joined.{until_fault}
-use Rattle.h3_faithful.proofs.Runs.{RunLaws, fault_free, runs_until_fault}
+use Rattle.h3_faithful.proofs.Runs.{RunLaws, runs_until_fault}
 use Rattle.h3_faithful.proofs.SoundSteps.{SoundLaws}
-use Rattle.h3_faithful.proofs.UntilMemory.{AlikeLaws, no_fault_at_all, no_fault_until_kept}
 use Rattle.h3_faithful.proofs.laws.each_side_gets_what_the_other_sent.Goals as goal
 
-sound_laws : goal.After-ends_stand_where_a_section_was_cut_off → SoundLaws
+sound_laws : goal.After-tunnels_stand_whatever_is_kept → SoundLaws
 sound_laws c =
     record {
       each = c.each_step_keeps_worlds_sound.ensures.sound;
@@ -13,7 +15,7 @@ sound_laws c =
       behind = c.a_side_gives_a_stream_up.ensures.behind;
     }
 
-moves : goal.After-ends_stand_where_a_section_was_cut_off → MemoryMoves
+moves : goal.After-tunnels_stand_whatever_is_kept → MemoryMoves
 moves c =
     record {
       begins = c.each_step_moves_messages.ensures.begins;
@@ -25,7 +27,7 @@ moves c =
       sound = sound_laws c;
     }
 
-laws : goal.After-ends_stand_where_a_section_was_cut_off → RunLaws
+laws : goal.After-tunnels_stand_whatever_is_kept → RunLaws
 laws c =
     record {
       steps = record {
@@ -57,30 +59,32 @@ pub returns-clause-until_fault : goal.returns-clause-until_fault
 returns-clause-until_fault c = λ setup events answers ends made sendable run.
     until_fault (moves c) c.ordered_sends_are_accepted.ensures.step c.with_all_delivered_pauses_are_at_the_end.ensures setup events answers sendable (runs_until_fault (laws c) setup made events answers ends sendable run)
 
-pub returns-clause-plainly : goal.returns-clause-plainly
-returns-clause-plainly c = λ setup events answers ends made plain sendable run.
-    let r = c.two_endpoints_run_with_memory.ensures setup events answers ends made plain sendable run in
+alike_laws : goal.After-tunnels_stand_whatever_is_kept → AlikeLaws
+alike_laws c =
     record {
-      until_fault = until_fault (moves c) c.ordered_sends_are_accepted.ensures.step c.with_all_delivered_pauses_are_at_the_end.ensures setup events answers sendable (runs_until_fault (laws c) setup made events answers ends sendable run);
-      no_connection_fault = λ alike. c.what_is_pulled_with_memory_refused_is_what_was_sent.ensures.fault setup events answers r.world r.run;
+      runs = laws c;
+      kept = record {
+        first = c.what_is_kept_is_read_in_order.ensures.first;
+        none = c.what_is_kept_is_read_in_order.ensures.none;
+        waits = c.what_is_kept_is_read_in_order.ensures.waits;
+        settles = c.what_is_kept_is_read_in_order.ensures.settles;
+        holds = c.tunnels_stand_whatever_is_kept.ensures.holds;
+        reads = c.tunnels_stand_whatever_is_kept.ensures.reads;
+      };
+      bounds = record {
+        made = c.ends_stay_bounded.ensures.made;
+        kept = c.ends_stay_bounded.ensures.kept;
+        few = c.ends_stay_bounded.ensures.few;
+        part = c.tries_and_waiting_streams_are_bounded.ensures.part;
+        advances = λ e id count bounded. c.tries_and_waiting_streams_are_bounded.ensures.call e (Advance id count) bounded;
+        asked = c.tries_and_waiting_streams_are_bounded.ensures.asked;
+      };
+      parts = record { lacks = c.quiet_events_move_no_part.ensures.lacks; quiet = c.quiet_events_move_no_part.ensures.quiet };
     }
 
-pub returns-clause-fault_free : goal.returns-clause-fault_free
-returns-clause-fault_free c = λ setup events answers ends made sendable run free.
+pub returns-clause-faithful : goal.returns-clause-faithful
+returns-clause-faithful c = λ setup events answers ends made sendable run.
     record {
       until_fault = until_fault (moves c) c.ordered_sends_are_accepted.ensures.step c.with_all_delivered_pauses_are_at_the_end.ensures setup events answers sendable (runs_until_fault (laws c) setup made events answers ends sendable run);
-      no_connection_fault = λ alike. fault_free (laws c) setup made events answers ends sendable run free;
-    }
-
-alike_laws : goal.After-ends_stand_where_a_section_was_cut_off → AlikeLaws
-alike_laws c = record { strict = c.endpoints_that_judge_alike_find_no_fault.ensures.strict; loose = c.endpoints_that_judge_alike_find_no_fault.ensures.loose; cuts = c.ends_stand_where_a_section_was_cut_off.ensures }
-
-pub returns-clause-until_kept : goal.returns-clause-until_kept
-returns-clause-until_kept c = λ setup events answers ends made sendable run. no_fault_until_kept (alike_laws c) setup events answers ends made sendable run
-
-pub returns-clause-alike : goal.returns-clause-alike
-returns-clause-alike c = λ setup events answers ends made sendable run none.
-    record {
-      until_fault = until_fault (moves c) c.ordered_sends_are_accepted.ensures.step c.with_all_delivered_pauses_are_at_the_end.ensures setup events answers sendable (runs_until_fault (laws c) setup made events answers ends sendable run);
-      no_connection_fault = no_fault_at_all setup answers (no_fault_until_kept (alike_laws c) setup events answers ends made sendable run) none;
+      no_connection_fault = λ alike. no_fault_alike (alike_laws c) setup events answers ends made sendable run alike;
     }

@@ -67,16 +67,7 @@ returns-clause-faithful c = λ few.
     let setup = c.args.setup in
     let answers = c.in_ok-client-2.answers.items in
     of_runs setup c.args.events.now answers _ _
-    (λ ends sendable run. c.each_side_gets_what_the_other_sent.ensures.until_fault setup c.args.events.now answers ends c.requires sendable run) c.events_are_typed.ensures calls few
-
-pub returns-clause-no_fault : goal.returns-clause-no_fault
-returns-clause-no_fault c = λ few.
-    let calls = ran (λ v. v.items) (new_ends c.args.setup) c.args.events.now c.announcing-client.result c.announcing-server.result c.run_between-answers.result _ _ _ _ _ c.in_ok-client-2.answers
-    c.announcing-client.ensures c.announcing-server.ensures c.in_ok-client.ensures.0 c.in_ok-client.ensures.1 c.run_between-answers.ensures c.in_ok-client-2.ensures.0 c.in_ok-client-2.ensures.1 in
-    let setup = c.args.setup in
-    let answers = c.in_ok-client-2.answers.items in
-    of_runs setup c.args.events.now answers _ _
-    (λ ends sendable run. c.each_side_gets_what_the_other_sent.ensures.until_kept setup c.args.events.now answers ends c.requires sendable run) c.events_are_typed.ensures calls few
+    (λ ends sendable run. c.each_side_gets_what_the_other_sent.ensures.faithful setup c.args.events.now answers ends c.requires sendable run) c.events_are_typed.ensures calls few
 
 pub returns-clause-front : goal.returns-clause-front
 returns-clause-front c = λ few.

@@ -3,14 +3,14 @@ use Rattle.h3_world.specs.Ends.{new_ends}
 use Rattle.h3_world.specs.World.{empty_world}
 use Rattle.h3_headline.specs.Standing.{Stands}
 use Rattle.h3_strict.proofs.PlainSetups.{judges_plainly, setup_plainly}
-use Rattle.h3_strict.proofs.LooseRuns.{AreBare, loose_holds, new_bare}
+use Rattle.h3_strict.proofs.LooseRuns.{loose_holds, new_bare}
 use Rattle.h3_strict.proofs.TunnelFaultless.{BoundLaws}
 use Rattle.h3_strict.proofs.TunnelRuns.{new_tunnels, strict_holds}
-use Rattle.h3_strict.proofs.TunnelSends.{TunnelsStand}
 use Rattle.h3_strict.proofs.UnkeptRuns.{unkept_faultless}
 use Rattle.h3_strict.specs.PlainEnds.{plain_ends, plain_setup}
 use Rattle.h3_world.specs.Setup.{IsMadeSetup}
 use Rattle.h3_world.specs.declared.setup.Setup.{Setup}
+use Rattle.h3_strict.specs.Tunnels.{AreBare, TunnelsStand}
 use Rattle.h3_strict.proofs.alike.endpoints_that_judge_alike_find_no_fault.Goals as goal
 
 at_first : (c : goal.After-ends_stay_bounded) → (setup : Setup) → IsMadeSetup setup → Stands (plain_setup setup) (empty_world (plain_setup setup)) (plain_ends (new_ends setup))

@@ -5,6 +5,7 @@ ghost use Rattle.h3_coding.specs.Writing.{AppendsFront, UsesRoom};
 ghost use Rattle.h3_proto.specs.Pairs.{payload_of};
 ghost use Rattle.h3_wire.specs.Encoded.{head_encoding, frame_encoding, promise_payload, promise_front, front_of, written_of, HasLength, HasNumbers};
 
+use super::update::{write_update, write_update_front};
 use super::{Frame, FrameType, PushPromise, Settings};
 use bytes::{Buf, BufMut};
 use h3_coding::coding::{BufMutExt, Encode, WriteRefused};
@@ -22,6 +23,7 @@ impl<B: Buf> Frame<B> {
     {
         match self {
             Frame::PushPromise(promise) => write_promise(promise, out),
+            Frame::PriorityUpdate(update) => write_update(update, out),
             other => other.encode_front(out),
         }
     }
@@ -39,6 +41,9 @@ impl<B: Buf> Frame<B> {
             }
             Frame::PushPromise(promise) => {
                 let _id = VarInt::from(promise.id);
+            }
+            Frame::PriorityUpdate(update) => {
+                let _id = update.id().into_inner();
             }
             Frame::Goaway(id) => {
                 let _id = id.into_inner();
@@ -66,6 +71,9 @@ impl<B: Buf> Frame<B> {
             Frame::PushPromise(promise) => {
                 promise.encoded.len() <= MAX_LENGTH - VarInt::from(promise.id).size()
             }
+            Frame::PriorityUpdate(update) => {
+                update.value().len() <= MAX_LENGTH - update.id().size()
+            }
             _ => true,
         }
     }
@@ -84,6 +92,7 @@ impl<B: Buf> Frame<B> {
             Frame::CancelPush(id) => write_number(FrameType::CANCEL_PUSH, VarInt::from(*id), out),
             Frame::Settings(settings) => write_settings(settings, settings.payload_len(), out),
             Frame::PushPromise(promise) => write_promise_front(promise, out),
+            Frame::PriorityUpdate(update) => write_update_front(update, out),
             Frame::Goaway(id) => write_number(FrameType::GOAWAY, *id, out),
             Frame::MaxPushId(id) => write_number(FrameType::MAX_PUSH_ID, VarInt::from(*id), out),
             Frame::WebTransportStream(id) => {
@@ -103,8 +112,8 @@ const MAX_LENGTH: usize = (1 << 62) - 1;
 // The payload of a frame that has no meaning.
 const GREASE: &[u8] = b"grease";
 
-// Appends bytes, or none.
-fn write_bytes<W: BufMut>(bytes: &[u8], out: &mut W) -> Result<(), WriteRefused>
+/// Appends bytes, or none.
+pub(super) fn write_bytes<W: BufMut>(bytes: &[u8], out: &mut W) -> Result<(), WriteRefused>
     ensures ok { OnOk result (W.written out.new ≡ W.written out.old ++ bytes.now) }
     ensures err { OnErr result (AppendsFront bytes.now (W.written out.old) (W.written out.new)) }
     ensures room { UsesRoom result (W.spare out.old) (W.spare out.new) (length bytes.now) }

@@ -36,7 +36,7 @@ pub(crate) enum Lent<B> {
 }
 
 impl<B: Buf> Frame<B> {
-    /// The bytes that the frame lends, if it is DATA, HEADERS or PUSH_PROMISE.
+    /// The bytes that the frame lends, if it is DATA, HEADERS, PUSH_PROMISE or PRIORITY_UPDATE.
     pub fn payload(&self) -> Option<Payload<'_, B>>
         ensures value { IfSome result (λ p. payload_left B.unread p ≡ lent_of B.unread self.now) }
         ensures some { IsSome result ↔ lends self.now }
@@ -45,6 +45,7 @@ impl<B: Buf> Frame<B> {
             Frame::Data(payload) => Some(Payload::Data(payload)),
             Frame::Headers(section) => Some(Payload::Bytes(section.as_slice())),
             Frame::PushPromise(promise) => Some(Payload::Bytes(promise.encoded.as_slice())),
+            Frame::PriorityUpdate(update) => Some(Payload::Bytes(update.value())),
             _ => None,
         }
     }
@@ -58,6 +59,7 @@ impl<B: Buf> Frame<B> {
             Frame::Data(payload) => Some(PayloadMut::Data(payload)),
             Frame::Headers(section) => Some(PayloadMut::Bytes(section)),
             Frame::PushPromise(promise) => Some(PayloadMut::Bytes(&mut promise.encoded)),
+            Frame::PriorityUpdate(update) => Some(PayloadMut::Bytes(&mut update.value)),
             _ => None,
         }
     }
@@ -74,6 +76,7 @@ impl<B: Buf> Frame<B> {
             Frame::Data(payload) => Lent::Data(payload),
             Frame::Headers(section) => Lent::Bytes(section),
             Frame::PushPromise(promise) => Lent::Bytes(promise.encoded),
+            Frame::PriorityUpdate(update) => Lent::Bytes(update.value),
             _ => Lent::Nothing,
         }
     }

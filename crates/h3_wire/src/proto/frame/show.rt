@@ -53,6 +53,7 @@ impl<B> Frame<B> {
             Frame::PushPromise(promise) => {
                 Some(("PushPromise(", VarInt::from(promise.id).into_inner()))
             }
+            Frame::PriorityUpdate(update) => { Some(("PriorityUpdate(", update.id().into_inner())) }
             Frame::Goaway(id) => Some(("GoAway(", id.into_inner())),
             _ => None,
         }

@@ -1,13 +1,27 @@
-use Rattle.std.proofs.Common.{ap, refl, sym, subst, ◌∙◌}
+use Rattle.std.proofs.Common.{◌≡◌, length, ap, refl, rules, sym, subst, ◌∙◌}
+use Rattle.std.specs.List.{concat}
 use Rattle.h3_connection.specs.Incoming.{Incoming, is_body}
+use Rattle.h3_connection.specs.StrictConnection.{kinds_of}
 use Rattle.h3_incoming.specs.Beginning.{IsBegun}
 use Rattle.h3_incoming.specs.Resuming.{Resumes}
 use Rattle.h3_incoming.proofs.FrontLaws.{Reads}
 use Rattle.h3_incoming.proofs.ListLaws.{lists_framed}
 use Rattle.h3_incoming.proofs.PullLaws.{gives_as, gives_just}
-use Rattle.h3_incoming.proofs.PulledFrame.{pulled_excess, pulled_section, pulled_unfinished, pulled_refused, pulled_frame, session_told, gives_payload, resumes_before, resumes_behind, resumes_payload}
-use Rattle.h3_incoming.proofs.ResumeLaws.{IsBetween}
+use Rattle.h3_incoming.proofs.PulledFrame.{pulled_excess, pulled_nothing, pulled_section, pulled_unfinished, waits_empty, pulled_refused, pulled_frame, session_told, gives_payload, resumes_before, resumes_behind, resumes_payload}
+use Rattle.h3_incoming.proofs.ResumeLaws.{IsBetween, resumes_same}
 use Rattle.h3_incoming.proofs.stream.IncomingStream.pull_frame.Goals as goal
+
+pub returns-then-len-eq0-clause-answer : goal.returns-then-len-eq0-clause-answer
+returns-then-len-eq0-clause-answer g c = λ h.
+    let none : length (concat c.self.inside.unread.pieces) ≡ 0 = search rules in
+    let here : length (concat c.args.self.now.unread) ≡ 0 = subst (λ (i : Incoming). length (concat i.unread) ≡ 0) c.self.view_is none in
+    gives_as _ _ _ _ _ _ (pulled_nothing c.args.side c.args.announced.now c.args.id c.args.decoder.now c.args.self.now c.args.self.now refl here)
+    (c.pull_end.ensures.answer c.args.side c.args.announced.now c.args.decoder.now (waits_empty (kinds_of c.args.announced.now) _ here) h)
+
+pub returns-then-len-eq0-clause-memory : goal.returns-then-len-eq0-clause-memory
+returns-then-len-eq0-clause-memory g c = λ h.
+    let same = c.pull_end.ensures.memory h in
+    (resumes_same c.args.announced.now _ _ same.0, same.1)
 
 pub returns-in-Err-clause-memory : goal.returns-in-Err-clause-memory
 returns-in-Err-clause-memory g c = λ h.
@@ -20,7 +34,7 @@ returns-in-Ok-Unfinished-clause-answer g c = λ h.
     let reads : Reads c.args.self.now _ _ _ = record { is = c.self.view_is; body = ap {A = Incoming} (λ i. is_body i.place) c.self.view_is; rest = c.front.ensures.rest } in
     let finds = rw c.in-Ok-Unfinished.field-0-is at c.in-Ok-Unfinished.ensures.finds in
     let small = rw c.in-Ok-Unfinished.field-0-is at c.in-Ok-Unfinished.ensures.within in
-    gives_as _ _ _ _ _ _ (pulled_unfinished c.args.side c.args.announced.now c.args.id c.args.decoder.now _ _ _ _ reads finds small) (c.pull_end.ensures.answer c.args.side c.args.announced.now c.args.decoder.now finds.1 h)
+    gives_as _ _ _ _ _ _ (pulled_unfinished c.args.side c.args.announced.now c.args.id c.args.decoder.now _ _ _ _ reads finds small) (c.pull_end-in-Ok-Unfinished.ensures.answer c.args.side c.args.announced.now c.args.decoder.now finds.1 h)
 
 pub returns-in-Ok-Unfinished-clause-memory : goal.returns-in-Ok-Unfinished-clause-memory
 returns-in-Ok-Unfinished-clause-memory g c = λ h.
@@ -28,7 +42,7 @@ returns-in-Ok-Unfinished-clause-memory g c = λ h.
     let reads : Reads c.args.self.now _ _ _ = record { is = c.self.view_is; body = ap {A = Incoming} (λ i. is_body i.place) c.self.view_is; rest = c.front.ensures.rest } in
     let finds = rw c.in-Ok-Unfinished.field-0-is at c.in-Ok-Unfinished.ensures.finds in
     let small = rw c.in-Ok-Unfinished.field-0-is at c.in-Ok-Unfinished.ensures.within in
-    let same = c.pull_end.ensures.memory h in
+    let same = c.pull_end-in-Ok-Unfinished.ensures.memory h in
     (subst (λ x. Resumes c.args.announced.now c.args.self.now x) (sym same.0) (resumes_before c.args.announced.now _ _ _ _ reads between finds.2), same.1)
 
 pub returns-in-Ok-Refused-clause-answer : goal.returns-in-Ok-Refused-clause-answer

@@ -9,8 +9,8 @@ use Rattle.h3_requests.proofs.Ways.{over_advanced}
 use Rattle.h3_requests.proofs.Sendable.{had_place, moved, ready_before, settled}
 use Rattle.h3_requests.proofs.streams.RequestStreams.advance.Goals as goal
 
-pub settle_rest-requires-clause-waits : goal.settle_rest-requires-clause-waits
-settle_rest-requires-clause-waits c = ready_before _ _ _ _ c.args.id c.min.result _ c.in-Some.stream.now c.self.invariant (search rules) (search rules) (search rules)
+pub settle_rest-requires : goal.settle_rest-requires
+settle_rest-requires c = ready_before _ _ _ _ c.args.id c.min.result _ c.in-Some.stream.now c.self.invariant (search rules) (search rules) (search rules)
 
 pub invariant_of-self-2 : goal.invariant_of-self-2
 invariant_of-self-2 c =

@@ -3,7 +3,7 @@ use Rattle.std.specs.List.{concat}
 use Rattle.h3_wire.specs.Frames.{frame_by}
 use Rattle.h3_wire.specs.Known.{IsWaiting}
 use Rattle.h3_wire.specs.Tries.{Expects}
-use Rattle.h3_wire.proofs.SuitingKinds.{spared_expects, waits_if}
+use Rattle.h3_wire.proofs.SuitingKinds.{given_expects, spared_expects, waits_if}
 use Rattle.h3_wire.proofs.frame.buffer.FrameBuffer.decode.Goals as goal
 
 pub invariant_of-self : goal.invariant_of-self
@@ -12,4 +12,9 @@ invariant_of-self c =
     let expects = subst (λ p. Expects c.args.kinds d.new.decoder (concat p)) (sym c.spare.ensures.pieces) d.ensures.expects in
     let there = waits_if c.args.kinds d.result _ (concat d.new.self.pieces) (sym c.is_waiting.ensures ∙ c.if-is_waiting.true) d.ensures.gives in
     let waits = subst (λ p. IsWaiting (frame_by c.args.kinds (concat p))) (sym c.spare.ensures.pieces) there in
-    spared_expects c.args.kinds c.spare.new.self d.new.decoder c.spare.ensures.is (c.spare.ensures.by d.ensures.none) expects waits c.spare.ensures.spared
+    spared_expects c.args.kinds c.spare.new.self d.new.decoder c.spare.ensures.is expects waits c.spare.ensures.spared
+
+pub invariant_of-self-else-is_waiting : goal.invariant_of-self-else-is_waiting
+invariant_of-self-else-is_waiting c =
+    let d = c.decode-decoded in
+    given_expects d.new.self.known_to d.result d.new.decoder (concat d.new.self.pieces) (sym c.is_waiting.ensures ∙ c.if-is_waiting.false) d.ensures.fresh d.ensures.plain

@@ -2,17 +2,18 @@ use Rattle.std.proofs.Common.{◌≡◌, ◌++◌, OnOk, subst, sym}
 use Rattle.std.specs.List.{concat}
 use Rattle.h3_wire.specs.Tries.{Expects}
 use Rattle.h3_wire.specs.UnknownSize.{let_go_by}
+use Rattle.h3_wire.specs.declared.frame.kinds.FrameKinds.{FrameKinds}
 use Rattle.h3_wire.specs.UnreadFrames.{UnreadFrames}
 use Rattle.h3_wire.proofs.Pushing.{expects_pushed}
-use Rattle.h3_wire.proofs.SparedPieces.{pushed_bytes, pushed_same, pushed_session}
+use Rattle.h3_wire.proofs.SparedPieces.{pushed_bytes, pushed_same, pushed_known}
 use Rattle.h3_wire.proofs.frame.buffer.FrameBuffer.push.Goals as goal
 
 pub invariant_of-self : goal.invariant_of-self
 invariant_of-self c =
     let i = c.self.inside in
-    let kept = expects_pushed (let_go_by i.unread.session) c.push.result i.decoder i.unread.pieces c.push.new.self.pieces c.args.bytes c.self.invariant
+    let kept = expects_pushed (let_go_by i.unread.known_to) c.push.result i.decoder i.unread.pieces c.push.new.self.pieces c.args.bytes c.self.invariant
     (pushed_bytes c.push.result i.unread c.push.new.self c.args.bytes c.push.ensures.ok) (pushed_same c.push.result i.unread c.push.new.self c.push.ensures.same) in
-    subst (λ b. Expects (let_go_by b) i.decoder (concat c.push.new.self.pieces)) (sym (pushed_session c.push.result i.unread c.push.new.self c.args.bytes c.push.ensures.ok c.push.ensures.same)) kept
+    subst (λ (k : FrameKinds). Expects (let_go_by k) i.decoder (concat c.push.new.self.pieces)) (sym (pushed_known c.push.result i.unread c.push.new.self c.args.bytes c.push.ensures.ok c.push.ensures.same)) kept
 
 pub returns-clause-bytes : goal.returns-clause-bytes
 returns-clause-bytes c =

@@ -1,9 +1,10 @@
-use Rattle.std.proofs.Common.{◌≡◌, arith, inl, inr, subst, sym}
+use Rattle.std.proofs.Common.{◌≡◌, arith, inl, inr, refl, subst, sym}
 use Rattle.std.specs.List.{concat}
 use Rattle.std.proofs.lemmas.Bool.{cases_lt}
 use Rattle.h3_wire.specs.Tries.{Expects}
-use Rattle.h3_wire.specs.UnknownSize.{Sparing, let_go_by}
-use Rattle.h3_wire.proofs.SuitingKinds.{expects_as}
+use Rattle.h3_wire.specs.UnknownSize.{Sparing, let_go_by, no_kinds}
+use Rattle.h3_wire.specs.declared.frame.kinds.FrameKinds.{FrameKinds}
+use Rattle.h3_wire.proofs.SuitingKinds.{expects_within}
 use Rattle.h3_wire.proofs.frame.buffer.FrameBuffer.spare.Goals as goal
 
 pub invariant_of-self : goal.invariant_of-self
@@ -11,9 +12,9 @@ invariant_of-self c =
     let i = c.self.inside in
     let new = c.spare.new.self in
     elim (cases_lt 0 i.unread.passing) [
-      | inl some ↦ subst (λ (s : Sparing). Expects (let_go_by s.session) i.decoder (concat s.pieces)) (sym (c.spare.ensures.same some)) c.self.invariant
+      | inl some ↦ subst (λ (s : Sparing). Expects (let_go_by s.known_to) i.decoder (concat s.pieces)) (sym (c.spare.ensures.same some)) c.self.invariant
       | inr few ↦
           let zero : i.unread.passing ≡ 0 = omega (arith, few) in
-          let plain = subst (λ b. Expects (let_go_by b) i.decoder (concat i.unread.pieces)) (c.spare.ensures.plain zero) c.self.invariant in
-          subst (λ p. Expects (let_go_by new.session) i.decoder (concat p)) (sym c.spare.ensures.pieces) (expects_as (let_go_by new.session) i.decoder (concat i.unread.pieces) plain)
+          let plain = subst (λ (k : FrameKinds). Expects (let_go_by k) i.decoder (concat i.unread.pieces)) (c.spare.ensures.plain zero) c.self.invariant in
+          subst (λ p. Expects (let_go_by new.known_to) i.decoder (concat p)) (sym c.spare.ensures.pieces) (expects_within (let_go_by no_kinds) (let_go_by new.known_to) i.decoder (concat i.unread.pieces) (λ e. refl) plain)
     ]

@@ -8,4 +8,4 @@ use Rattle.h3_wire.proofs.frame.sparing.FrameBytes.begins_other.Goals as goal
 pub returns-then-self-gt0 : goal.returns-then-self-gt0
 returns-then-self-gt0 c =
     let i = c.self.inside in
-    spared_begins i.session i.let_go.pieces i.kept.pieces i.passing i.gone c.self.invariant.0 c.if-self-gt0.true ∙ ap (λ (s : Sparing). begins_other (concat s.pieces)) c.self.view_is
+    spared_begins i.known_to i.let_go.pieces i.kept.pieces i.passing i.gone c.self.invariant.0 c.if-self-gt0.true ∙ ap (λ (s : Sparing). begins_other (concat s.pieces)) c.self.view_is

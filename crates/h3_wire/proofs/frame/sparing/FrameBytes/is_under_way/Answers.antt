@@ -8,7 +8,7 @@ use Rattle.h3_wire.proofs.frame.sparing.FrameBytes.is_under_way.Goals as goal
 pub returns-then-suits : goal.returns-then-suits
 returns-then-suits c =
     let i = c.self.inside in
-    let is = subst IsPassing c.self.view_is (is_passing i.session i.passing i.gone i.let_go.pieces i.kept.pieces c.self.invariant.0) in
+    let is = subst IsPassing c.self.view_is (is_passing i.known_to i.passing i.gone i.let_go.pieces i.kept.pieces c.self.invariant.0) in
     let size : i.passing ≡ c.args.self.now.passing = ap (λ (s : Sparing). s.passing) c.self.view_is in
     let there = passing_by c.args.kinds c.args.self.now i.passing is c.if-self-gt0.true size (sym c.suits.ensures ∙ c.if-suits.true) in
     longer_of c.args.kinds (concat c.args.self.now.pieces) c.len.result (Some i.passing) c.len.ensures there
@@ -16,5 +16,5 @@ returns-then-suits c =
 pub returns-else-suits : goal.returns-else-suits
 returns-else-suits c =
     let i = c.self.inside in
-    let is = subst IsPassing c.self.view_is (is_passing i.session i.passing i.gone i.let_go.pieces i.kept.pieces c.self.invariant.0) in
-    c.if-suits.false ∙ sym (ap (is_longer _) (unsuited 0 c.args.self.now c.args.kinds is (sym c.suits.ensures ∙ c.if-suits.false)).none)
+    let is = subst IsPassing c.self.view_is (is_passing i.known_to i.passing i.gone i.let_go.pieces i.kept.pieces c.self.invariant.0) in
+    c.if-suits.false ∙ sym (ap (is_longer _) (unsuited c.args.self.now c.args.kinds is (sym c.suits.ensures ∙ c.if-suits.false)).none)

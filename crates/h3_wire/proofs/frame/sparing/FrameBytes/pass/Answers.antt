@@ -1,9 +1,9 @@
-use Rattle.std.proofs.Common.{◌≡◌, false, ◌++◌, ◌-◌, ◌^◌, ◌<◌, ◌≤◌, List, ℕ, length, drop, arith, ap, refl, sym, subst, ◌∙◌}
+use Rattle.std.proofs.Common.{◌≡◌, ◌++◌, ◌-◌, ◌^◌, ◌<◌, ◌≤◌, List, ℕ, length, drop, arith, ap, refl, sym, subst, ◌∙◌}
 use Rattle.std.proofs.lemmas.List.{length-drop}
 use Rattle.std.specs.List.{concat}
 use Rattle.h3_wire.specs.Pieces.{IsRest}
-use Rattle.h3_wire.specs.UnknownSize.{Sparing, AreLetGo}
-use Rattle.h3_wire.proofs.SparedPieces.{passed_rest, passed_bytes, none_let_go, none_spared, size_of_both}
+use Rattle.h3_wire.specs.UnknownSize.{Sparing, AreLetGo, no_kinds}
+use Rattle.h3_wire.proofs.SparedPieces.{passed_rest, passed_bytes, none_let_go, none_says, none_spared, size_of_both}
 use Rattle.h3_wire.proofs.frame.sparing.FrameBytes.pass.Goals as goal
 
 pub advance-requires : goal.advance-requires
@@ -19,9 +19,10 @@ invariant_of-self c =
     let left = c.advance.new.self.pieces in
     let fewer : length (concat left) ≡ length (concat i.kept.pieces) - (i.passing - i.gone) = ap length c.advance.ensures.value ∙ length-drop (i.passing - i.gone) (concat i.kept.pieces) in
     let fits : length (concat left) < 2 ^ 64 = omega (arith, fewer, size_of_both i.let_go.pieces i.kept.pieces, c.self.invariant.1) in (
-      subst (λ (p : List (List ℕ)). AreLetGo false 0 0 p) (sym c.new-self-inside.ensures) none_let_go,
+      subst (λ (p : List (List ℕ)). AreLetGo no_kinds 0 0 p) (sym c.new-self-inside.ensures) none_let_go,
       subst (λ (p : List (List ℕ)). length (concat (p ++ left)) < 2 ^ 64) (sym c.new-self-inside.ensures) fits,
       none_spared 0 0 left refl,
+      none_says i.number _,
     )
 
 pub returns-clause-bytes : goal.returns-clause-bytes

@@ -6,4 +6,4 @@ use Rattle.h3_wire.proofs.frame.sparing.FrameBytes.passing.Goals as goal
 pub returns-clause-is : goal.returns-clause-is
 returns-clause-is c =
     let i = c.self.inside in
-    subst IsPassing c.self.view_is (is_passing i.session i.passing i.gone i.let_go.pieces i.kept.pieces c.self.invariant.0)
+    subst IsPassing c.self.view_is (is_passing i.known_to i.passing i.gone i.let_go.pieces i.kept.pieces c.self.invariant.0)

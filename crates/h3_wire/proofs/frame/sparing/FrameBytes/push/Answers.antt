@@ -26,4 +26,4 @@ invariant_of-self c =
     let more : length (concat new) ≡ length (concat i.kept.pieces ++ c.args.bytes) = ap length c.in-Ok.ensures.bytes in
     let fits : length (concat (i.let_go.pieces ++ new)) < 2 ^ 64 =
     omega (arith, all, more, length-append (concat i.kept.pieces) c.args.bytes, size_of_both i.let_go.pieces i.kept.pieces, size_of_both i.let_go.pieces new, c.requires.fits) in
-    (c.release.ensures.front i.session c.self.invariant.0, subst (λ (p : List (List ℕ)). length (concat p) < 2 ^ 64) (sym c.release.ensures.pieces) fits, c.release.ensures.spared)
+    (c.release.ensures.front i.known_to c.self.invariant.0, subst (λ (p : List (List ℕ)). length (concat p) < 2 ^ 64) (sym c.release.ensures.pieces) fits, c.release.ensures.spared, c.release.ensures.says i.known_to i.number c.self.invariant.0 c.self.invariant.3)
