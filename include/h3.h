@@ -693,8 +693,6 @@ static inline uint32_t h3_next_by_priority(h3_endpoint *endpoint, uint64_t *id);
 static inline uint32_t h3_set_priority(h3_endpoint *endpoint, uint64_t id, uint32_t urgency,
                                        uint32_t incremental, uint64_t *detail);
 
-<<<<<<< e6a48731e4d6735a12aa04c4dcd0bdb9315ce896
-=======
 /* The request of a stream asks for this priority: a server passes what h3_priority_read read of its
  * `priority` field. It counts unless a PRIORITY_UPDATE frame said another one, before the request
  * came or after, or you set one (h3_set_priority). Refused as h3_set_priority is. */
@@ -715,7 +713,6 @@ static inline uint32_t h3_priority(h3_endpoint *endpoint, uint64_t id, uint32_t 
 static inline uint32_t h3_send_priority(h3_endpoint *endpoint, uint64_t id, uint32_t urgency,
                                         uint32_t incremental, uint64_t *detail);
 
->>>>>>> 56eaced7d08a605dde68ddbec55e60a681128430
 /* QUIC has no credit for a stream (`held` 1), so that h3_next_by_priority skips it, or it has
  * credit again (`held` 0). A request stream that is open, or the local control, encoder or decoder
  * stream. h3_next_to_send names a stream that is held as any. Refused, in this order: H3_ARGUMENT

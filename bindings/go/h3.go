@@ -232,9 +232,6 @@ func (e *Endpoint) SetPriority(id uint64, priority Priority) error {
 	return refusal(C.h3_set_priority(&e.raw, C.uint64_t(id), urgency, incremental, &detail), detail)
 }
 
-<<<<<<< e6a48731e4d6735a12aa04c4dcd0bdb9315ce896
-// Hold says that QUIC has no credit for a stream, so that NextByPriority skips it, or that it has credit again.
-=======
 // SetInitialPriority says which priority a request asks for by its `priority` field (ReadPriority). It counts unless the client updated it, or
 // SetPriority set one. Until then a stream has urgency 3, and is not incremental.
 func (e *Endpoint) SetInitialPriority(id uint64, priority Priority) error {
@@ -257,8 +254,7 @@ func (e *Endpoint) SendPriority(id uint64, priority Priority) error {
 	return refusal(C.h3_send_priority(&e.raw, C.uint64_t(id), urgency, incremental, &detail), detail)
 }
 
-// Hold says that QUIC has no credit for a stream, so that NextByPriority passes it over, or that it has credit again.
->>>>>>> 56eaced7d08a605dde68ddbec55e60a681128430
+// Hold says that QUIC has no credit for a stream, so that NextByPriority skips it, or that it has credit again.
 func (e *Endpoint) Hold(id uint64, held bool) error {
 	var detail C.uint64_t
 	return refusal(C.h3_hold(&e.raw, C.uint64_t(id), bit(held), &detail), detail)

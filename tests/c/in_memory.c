@@ -164,12 +164,8 @@ static void prefer(side *server, uint64_t id, const fields *head) {
   uint32_t urgency, incremental;
   size_t len;
   const char *priority = find(head, "priority", &len);
-<<<<<<< e6a48731e4d6735a12aa04c4dcd0bdb9315ce896
   if (priority && h3_priority_read(priority, len, &urgency, &incremental) == H3_OK)
-    h3_set_priority(&server->h3, id, urgency, incremental, NULL);
-=======
-  if (priority && h3_priority_read(priority, len, &urgency, &incremental) == H3_OK) h3_set_initial_priority(&server->h3, id, urgency, incremental, NULL);
->>>>>>> 56eaced7d08a605dde68ddbec55e60a681128430
+    h3_set_initial_priority(&server->h3, id, urgency, incremental, NULL);
 }
 
 static void on_fields(side *at, uint64_t id, const h3_item *item) {

@@ -325,9 +325,6 @@ impl Endpoint {
         self.call(|handle, detail, out| unsafe { raw::h3_raw_set_priority(handle, id, urgency, incremental, detail, out) })
     }
 
-<<<<<<< e6a48731e4d6735a12aa04c4dcd0bdb9315ce896
-    /// QUIC has no credit for a stream, so that `next_by_priority` skips it, or has it again.
-=======
     /// The request of a stream asks for this priority by its `priority` field (`Priority::read`). It counts unless the client updated it, or
     /// `set_priority` set one. Until then a stream has urgency 3, and is not incremental.
     ///
@@ -360,8 +357,7 @@ impl Endpoint {
         self.call(|handle, detail, out| unsafe { raw::h3_raw_send_priority(handle, id, urgency, incremental, detail, out) })
     }
 
-    /// QUIC has no credit for a stream, so that `next_by_priority` passes it over, or has it again.
->>>>>>> 56eaced7d08a605dde68ddbec55e60a681128430
+    /// QUIC has no credit for a stream, so that `next_by_priority` skips it, or has it again.
     ///
     /// # Errors
     ///
