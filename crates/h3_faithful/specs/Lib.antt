@@ -1,5 +1,7 @@
 pub mod Sends
 pub mod Faithful
 pub mod Steps
+pub mod Flight
 pub mod WorkedFaithful
 pub mod WorkedMemory
+pub mod WorkedFlight

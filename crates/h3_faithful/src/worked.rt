@@ -120,3 +120,19 @@ pub fn strict_verdicts_wait_for_memory()
     ensures other { pulled Client 4 verdict_run verdict_answers ≡ status_pulled }
     ensures faultless { list_any is_connection_fault verdict_answers ≡ false }
 {}
+
+ghost use Rattle.h3_faithful.specs.Flight.{answers_in_flight, answers_landed, events_landed, new_flying};
+ghost use Rattle.h3_faithful.specs.WorkedFlight.{first_answers, first_run, home_content, overtaken_answers, overtaken_run};
+
+/// Bytes that QUIC took before a stream was reset arrive after that, and the reset has the code that was given.
+pub fn bytes_in_flight_outlive_a_reset()
+    ensures answers { answers_in_flight (new_flying no_tables) overtaken_run ≡ overtaken_answers }
+    ensures sent { sent Client 0 (events_landed overtaken_run) (answers_landed overtaken_run overtaken_answers) ≡ home_content }
+    ensures handed { pulled Server 0 (events_landed overtaken_run) (answers_landed overtaken_run overtaken_answers) ≡ home_content }
+{}
+
+/// Bytes in flight arrive before those that wait, and the end waits for both.
+pub fn bytes_in_flight_arrive_first()
+    ensures answers { answers_in_flight (new_flying no_tables) first_run ≡ first_answers }
+    ensures handed { pulled Server 0 (events_landed first_run) (answers_landed first_run first_answers) ≡ home_content }
+{}
