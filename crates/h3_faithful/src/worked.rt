@@ -136,3 +136,18 @@ pub fn bytes_in_flight_arrive_first()
     ensures answers { answers_in_flight (new_flying no_tables) first_run ≡ first_answers }
     ensures handed { pulled Server 0 (events_landed first_run) (answers_landed first_run first_answers) ≡ home_content }
 {}
+
+ghost use Rattle.h3_faithful.specs.Flight.FlightAnswer.{Answers, Taken};
+ghost use Rattle.h3_faithful.specs.FlightWorld.{aloft, lands_at, left_waiting, takes_up};
+ghost use Rattle.h3_faithful.specs.WorkedFlight.{sent_world, taken_world};
+ghost use Rattle.h3_world.specs.declared.event.Answer.TheVariants as answer;
+
+/// In a world bytes that were taken wait no more, and arrive before those that wait.
+pub fn what_flies_counts_as_not_delivered()
+    ensures short { (takes_up no_tables sent_world Client 0 22).0 ≡ Answers (answer.Short 21) }
+    ensures taken { (takes_up no_tables sent_world Client 0 10).0 ≡ Taken 10 }
+    ensures waits { left_waiting no_tables taken_world Client 0 ≡ 11 }
+    ensures lands { (lands_at no_tables taken_world Client 0 15).0 ≡ Answers (answer.Delivered 15) }
+    ensures gone { aloft (lands_at no_tables taken_world Client 0 15).1 Client 0 ≡ 0 }
+    ensures left { left_waiting no_tables (lands_at no_tables taken_world Client 0 15).1 Client 0 ≡ 6 }
+{}
