@@ -32,7 +32,7 @@ use Rattle.h3_headline.specs.Contents.{KeepsParts}
 use Rattle.h3_strict.proofs.KeepsCounts.{KeepsAt, KeepsBut}
 use Rattle.h3_strict.proofs.PullEvents.{given_up_again}
 use Rattle.h3_strict.proofs.PulledTallies.{answer_streams, pulled_in}
-use Rattle.h3_strict.proofs.PullsAnyhow.{listed_is, pulled_is}
+use Rattle.h3_strict.proofs.PullResults.{listed_is, pulled_is}
 use Rattle.h3_strict.proofs.TunnelFaultless.{PullsSafely}
 use Rattle.h3_strict.proofs.TunnelPull.{pulls_so, safe_where}
 use Rattle.h3_strict.proofs.TunnelPulls.{leaves_loose, pull_stays}

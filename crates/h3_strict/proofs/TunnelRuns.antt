@@ -23,7 +23,7 @@ use Rattle.h3_headline.specs.Contents.{KeepsParts}
 use Rattle.h3_headline.specs.FlowLaws.{same_both}
 use Rattle.h3_strict.proofs.KeepsCounts.{KeepsBut, no_stream, same_streams, streams_keep}
 use Rattle.h3_strict.proofs.PlainLists.{faults_same}
-use Rattle.h3_strict.proofs.PullsAnyhow.{listed_is, pulled_is}
+use Rattle.h3_strict.proofs.PullResults.{listed_is, pulled_is}
 use Rattle.h3_strict.proofs.TunnelEvents.{body_event, fields_event, finish_event, head_event, trailer_event, trailer_fields_event}
 use Rattle.h3_strict.proofs.TunnelFaultless.{PullsSafely, items_same}
 use Rattle.h3_strict.proofs.TunnelParts.{tunnel_same}
