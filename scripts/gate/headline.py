@@ -22,7 +22,7 @@ CRATES = f"{TOP}/crates"
 CONTRACT = f"{CRATES}/h3_session/src/run.rt"
 # The parts: their headings, and from which names each part goes on, a name with dots by its module. The last one takes what is left.
 PARTS = (
-    ("## All that it rests on", ("HandsOutAlways", "AreFew", "JudgesPlainly", "IsMadeSetup")),
+    ("## All that it rests on", ("HandsOutAlways", "AreFew", "JudgesPlainly")),
     ("## How a list of fields is read", tuple(f"h3_world.specs.Lists.{name}" for name in ("unreadable", "as_flagged", "pull_of", "list_of"))),
     ("## What is answered", ("Run", "Happens", "empty_world")),
     ("## The endpoints that are returned", ("RunsInWorld",)),
@@ -52,8 +52,9 @@ PAGES = {
 MOST = {PARTS[0][0]: 490, PARTS[1][0]: 250, PARTS[2][0]: 1500}
 # the pages on which no name stands for two definitions
 SITTINGS = ("docs/MESSAGES.md", "docs/headline/lists.md", "docs/HEADLINE.md")
-# but for these: the Rust crate h3 has a type of that name in two modules, and so have the ports of them
-OF_TWO_MODULES = ("Settings",)
+# but for these: the Rust crate h3 has a type of that name in two modules, and so have the ports of them; and a contract sees a `Setup` of the
+# code as that of the definitions
+OF_TWO_MODULES = ("Settings", "Setup")
 WIDTH = 140
 WORD = re.compile(r"[^\s(){}\[\],;.]+")
 USE = re.compile(r"^\s*(?:pub |ghost )?use Rattle\.([\w.]+?)(?:\.\{(.*)\}| as (\w+))?;?$")

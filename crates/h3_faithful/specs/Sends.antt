@@ -11,12 +11,11 @@ use Rattle.h3_connection.specs.Announcing.{section_of}
 use Rattle.h3_connection.specs.OwnIds.{other}
 use Rattle.h3_connection.specs.Pulling.{is_for}
 use Rattle.h3_connection.specs.StrictConnection.{is_strict}
-use Rattle.h3_world.specs.Setup.{announced_at}
+use Rattle.h3_world.specs.Setup.{Setup, announced_at}
 use Rattle.h3_world.specs.declared.event.Answer.{Answer}
 use Rattle.h3_world.specs.declared.event.Answer.TheVariants as answer
 use Rattle.h3_world.specs.declared.event.Event.{Event}
 use Rattle.h3_world.specs.declared.event.Event.TheVariants as event
-use Rattle.h3_world.specs.declared.setup.Setup.{Setup}
 use Rattle.h3_headline.specs.Changes.{goes_away, resets_on}
 use Rattle.h3_headline.specs.Messages.{MessageContent, any_of, has_finished, is_on}
 use Rattle.h3_headline.specs.Messages.MessageContent.{FieldSection}

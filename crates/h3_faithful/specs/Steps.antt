@@ -15,7 +15,7 @@ use Rattle.h3_world.specs.declared.event.Answer.{Answer}
 use Rattle.h3_world.specs.declared.event.Answer.TheVariants as answer
 use Rattle.h3_world.specs.declared.event.Event.{Event}
 use Rattle.h3_world.specs.declared.event.Event.TheVariants as event
-use Rattle.h3_world.specs.declared.setup.Setup.{Setup}
+use Rattle.h3_world.specs.Setup.{Setup}
 use Rattle.h3_memory.specs.Kept.{KeepingWorld, caught_up, nothing_kept, with_kept}
 use Rattle.h3_memory.specs.MemoryStep.{HappensWithMemory}
 use Rattle.h3_strict.specs.GivesUp.{GivesUp}

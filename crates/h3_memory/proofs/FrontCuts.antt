@@ -11,7 +11,7 @@ use Rattle.h3_world.specs.Ends.{Ends, end_at, with_end}
 use Rattle.h3_world.specs.Refused.{with_insertions}
 use Rattle.h3_world.specs.Sendable.{IsSendableSection}
 use Rattle.h3_world.specs.World.{World}
-use Rattle.h3_world.specs.declared.setup.Setup.{Setup}
+use Rattle.h3_world.specs.Setup.{Setup}
 use Rattle.h3_headline.specs.Cited.{Laws}
 use Rattle.h3_headline.specs.Standing.{Stands}
 use Rattle.h3_memory.proofs.KeptLaws.{KeptLaws}

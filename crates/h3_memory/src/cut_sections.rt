@@ -7,7 +7,7 @@ ghost use Rattle.h3_world.specs.Ends.{Ends, end_at, with_end};
 ghost use Rattle.h3_world.specs.Refused.{with_insertions};
 ghost use Rattle.h3_world.specs.Sendable.{IsSendableSection};
 ghost use Rattle.h3_world.specs.World.{World};
-ghost use Rattle.h3_world.specs.declared.setup.Setup.{Setup};
+ghost use Rattle.h3_world.specs.Setup.{Setup};
 ghost use Rattle.h3_headline.specs.Standing.{Stands};
 
 /// Two endpoints that stand in a world, and keep nothing, stand in one in which the insertions for a front of a section's fields were made, and

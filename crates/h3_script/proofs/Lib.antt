@@ -4,9 +4,9 @@ pub mod Denials
 pub mod Fields
 pub mod HeadWords
 pub mod Lines
-pub mod MadeSetups
 pub mod Numbers
 pub mod OneRefusal
+pub mod PlainSetups
 mod PrintedLines
 pub mod Reading
 pub mod Requests

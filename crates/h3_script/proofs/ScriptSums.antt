@@ -27,8 +27,7 @@ use Rattle.h3_script.specs.Words.{words_of}
 use Rattle.h3_connection.specs.Sending.{fields_cost}
 use Rattle.h3_script.specs.Script.{lines_of, said, SayEvents, SaysSoFar, lines_length, IsScript}
 use Rattle.h3_world.specs.Sendable.{NamesTaken, if_by, sent_by}
-use Rattle.h3_world.specs.Setup.{both_take_any}
-use Rattle.h3_world.specs.declared.setup.Setup.{Setup}
+use Rattle.h3_world.specs.Setup.{Setup, both_take_any}
 use Rattle.h3_world.specs.declared.event.Event.{Event}
 use Rattle.h3_world.specs.declared.event.Event.TheVariants as does
 use Rattle.h3_script.proofs.Scripts.{pieces_length}

@@ -9,7 +9,7 @@ use Rattle.h3_world.specs.declared.event.Answer.TheVariants as answer
 use Rattle.h3_world.specs.declared.event.Event.{Event}
 use Rattle.h3_world.specs.declared.event.Event.TheVariants as event
 use Rattle.h3_world.specs.declared.lists.ListPull.{ListPull}
-use Rattle.h3_world.specs.declared.setup.Setup.{Setup}
+use Rattle.h3_world.specs.Setup.{Setup}
 use Rattle.h3_world.specs.Ends.{Ends, answered, answers_of_ends}
 use Rattle.h3_world.specs.Headline.{ComesOut, Happens, IsDelivered, PullComesOut}
 use Rattle.h3_world.specs.Lists.{pull_of}

@@ -4,7 +4,7 @@ use Rattle.std.specs.List.{AllByRecursion}
 use Rattle.h3_connection.specs.State.{EndpointState}
 use Rattle.h3_world.specs.declared.event.Answer.{Answer}
 use Rattle.h3_world.specs.declared.event.Event.{Event}
-use Rattle.h3_world.specs.declared.setup.Setup.{Setup}
+use Rattle.h3_world.specs.Setup.{Setup}
 use Rattle.h3_world.specs.Ends.{Ends, new_ends, ends_after, answers_of_ends}
 use Rattle.h3_world.specs.Few.{AreFew}
 use Rattle.h3_world.specs.Headline.{Happens}

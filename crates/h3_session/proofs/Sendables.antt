@@ -15,10 +15,9 @@ use Rattle.h3_proto.specs.declared.stream.Side.TheVariants.{Client, Server}
 use Rattle.h3_connection.specs.Sending.{fields_cost}
 use Rattle.h3_world.specs.Few.{AreFew}
 use Rattle.h3_world.specs.Sendable.{IsSendable, IsSendableBy, IsSendableHead, IsSendableList, NamesTaken, NamesTakenIn, sent_by}
-use Rattle.h3_world.specs.Setup.{both_take_any}
+use Rattle.h3_world.specs.Setup.{Setup, both_take_any}
 use Rattle.h3_world.specs.declared.event.Event.{Event}
 use Rattle.h3_world.specs.declared.event.Event.TheVariants as event
-use Rattle.h3_world.specs.declared.setup.Setup.{Setup}
 use Rattle.h3_session.specs.Typed.{IsHeader, IsTyped}
 use Rattle.h3_session.proofs.Costs.{cost_is}
 use Rattle.h3_session.proofs.NamedLists.{list_taken}

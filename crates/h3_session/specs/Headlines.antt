@@ -3,7 +3,7 @@ use Rattle.std.specs.Prelude.{List}
 use Rattle.h3_connection.specs.State.{EndpointState, StandsFor}
 use Rattle.h3_world.specs.declared.event.Answer.{Answer}
 use Rattle.h3_world.specs.declared.event.Event.{Event}
-use Rattle.h3_world.specs.declared.setup.Setup.{Setup}
+use Rattle.h3_world.specs.Setup.{Setup}
 use Rattle.h3_world.specs.Ends.{Ends}
 use Rattle.h3_world.specs.Headline.{Happens}
 use Rattle.h3_world.specs.Run.{Run}

@@ -6,9 +6,8 @@ use Rattle.h3_connection.specs.Announcing.{section_of}
 use Rattle.h3_connection.specs.OwnIds.{other}
 use Rattle.h3_world.specs.declared.event.Answer.{Answer}
 use Rattle.h3_world.specs.declared.event.Event.{Event}
-use Rattle.h3_world.specs.declared.setup.Setup.{Setup}
 use Rattle.h3_world.specs.Headline.{is_connection_fault}
-use Rattle.h3_world.specs.Setup.{announced_at}
+use Rattle.h3_world.specs.Setup.{Setup, announced_at}
 use Rattle.h3_headline.specs.Messages.{Is, IsFrontOf, has_finished, has_pulled_end, pulled, sent}
 
 -- Each side is handed of each stream what the other side sent on it.

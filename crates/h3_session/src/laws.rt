@@ -36,7 +36,6 @@
 //!   sides run in a world (`two_limited_endpoints_run_in_a_world`, `two_strict_limited_endpoints_run_in_a_world`). A side without a limit
 //!   takes every list (`sides_without_limits_take_all`). Sides that are not strict and have none refuse nothing more than the world of a
 //!   connection (`plain_sides_refuse_nothing_more`).
-//! - What `Setup::new` answers may be given to `run` (`setups_are_made`).
 //! - Lists: a header section and a trailer are sent as the lists of their fields are (`heads_are_sent_as_their_lists`).
 //! - Datagrams: what is written in front of a payload reads back as the id of its stream (`datagrams_read_back`).
 //! - Shutting down: no request below the last GOAWAY is rejected (`nothing_below_a_goaway_is_rejected`). What is drained stays drained
@@ -86,7 +85,6 @@ pub use h3_strict::limits::{
 pub use h3_strict::strict::{
     strict_endpoints_take_what_they_send, two_strict_endpoints_run_in_a_world,
 };
-pub use h3_world::laws::setups_are_made;
 
 /// A header section is sent as the list of its fields is, and so is a trailer: `send_head` is `send_fields` of that list, in every history.
 pub fn heads_are_sent_as_their_lists(header: &Header)
@@ -151,8 +149,6 @@ pub fn datagrams_read_back()
 {
     h3_capsule::laws::datagrams_read_back();
 }
-
-ghost use Rattle.h3_world.specs.declared.setup.Setup.{Setup};
 ghost use Rattle.h3_strict.specs.Limits.{EarlyAreTaken};
 ghost use Rattle.h3_strict.specs.Tallies.{JudgesStrictly};
 
@@ -164,7 +160,7 @@ pub fn sides_without_limits_take_all()
 
 ghost use Rattle.h3_world.specs.Headline.{Happens};
 ghost use Rattle.h3_world.specs.Run.{Run};
-ghost use Rattle.h3_world.specs.Setup.{JudgesPlainly};
+ghost use Rattle.h3_world.specs.Setup.{JudgesPlainly, Setup};
 ghost use Rattle.h3_world.specs.World.{World, empty_world};
 ghost use Rattle.h3_session.specs.Strict.{RunsBetween};
 

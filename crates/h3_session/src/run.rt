@@ -4,7 +4,7 @@ ghost use Rattle.std.specs.List.{list_any};
 ghost use Rattle.h3_world.specs.Ends.{new_ends};
 ghost use Rattle.h3_world.specs.Few.{AreFew};
 ghost use Rattle.h3_world.specs.Headline.{is_out_of_memory};
-ghost use Rattle.h3_world.specs.Setup.{IsMadeSetup, JudgesPlainly};
+ghost use Rattle.h3_world.specs.Setup.{JudgesPlainly};
 ghost use Rattle.h3_faithful.specs.Faithful.{Faithful};
 ghost use Rattle.h3_session.specs.Headlines.{RunsInKeepingWorld, RunsInWorld};
 ghost use Rattle.h3_session.specs.Messages.{HandsOutAlways};
@@ -128,10 +128,7 @@ fn beside<A: Drop, B: Drop>(first: A, second: Result<B, AllocError>) -> Result<(
 ///   With everything delivered everything comes out, and no more header sections wait than were announced.
 /// - `judged`: if a side does ask for that, all that `front` says holds of all answers. The endpoints that are returned then stand in the
 ///   last world, once they are taken for ones without strict messages and limits.
-///
-/// What `Setup::new` answers is a made setup: `h3_world::laws::setups_are_made`.
 pub fn run(alloc: Global, setup: Setup, events: &[Event]) -> Result<Outcome, AllocError>
-    requires { IsMadeSetup setup }
     ensures calls { IfOk result (λ out. RunsByCalls (new_ends setup) events.now out.answers.items out.client out.server) }
     ensures each { IfOk result (λ out. AnswersEach (new_ends setup) events.now out.answers.items) }
     ensures messages { IfOk result (λ out. AreFew setup events.now → JudgesPlainly setup → HandsOutAlways setup events.now out.answers.items) }
@@ -157,8 +154,9 @@ pub fn run(alloc: Global, setup: Setup, events: &[Event]) -> Result<Outcome, All
     strict_endpoints_run_in_a_world();
     strict_endpoints_hand_out_what_was_sent();
     events_are_typed(events);
-    let client = Endpoint::announcing(alloc, Side::Client, setup.client);
-    let server = Endpoint::announcing(alloc, Side::Server, setup.server);
+    let (client, server) = setup.into_sides();
+    let client = Endpoint::announcing(alloc, Side::Client, client);
+    let server = Endpoint::announcing(alloc, Side::Server, server);
     let (mut client, mut server) = both(client, server)?;
     let answers = run_between(alloc, &mut client, &mut server, events);
     let ((client, server), answers) = beside((client, server), answers)?;

@@ -9,7 +9,7 @@ use Rattle.h3_world.specs.Ends.{Ends, answered, answers_of_ends}
 use Rattle.h3_world.specs.Flow.{Flow}
 use Rattle.h3_world.specs.Headline.{is_connection_fault}
 use Rattle.h3_world.specs.Sendable.{IsSendable}
-use Rattle.h3_world.specs.Setup.{IsMadeSetup, JudgesPlainly}
+use Rattle.h3_world.specs.Setup.{IsMadeSetup, JudgesPlainly, Setup}
 use Rattle.h3_world.specs.Sound.{IsSoundWorld}
 use Rattle.h3_world.specs.Streams.{flow}
 use Rattle.h3_world.specs.World.{World, empty_world}
@@ -17,7 +17,6 @@ use Rattle.h3_world.specs.declared.event.Answer.{Answer}
 use Rattle.h3_world.specs.declared.event.Answer.TheVariants as answer
 use Rattle.h3_world.specs.declared.event.Event.{Event}
 use Rattle.h3_world.specs.declared.event.Event.TheVariants as event
-use Rattle.h3_world.specs.declared.setup.Setup.{Setup}
 use Rattle.h3_headline.specs.ContentLaws.{out_front}
 use Rattle.h3_headline.specs.Contents.{contents, out, reader_of}
 use Rattle.h3_headline.specs.Exactly.{IsAllOf, IsExactly, Reader, reader_at}

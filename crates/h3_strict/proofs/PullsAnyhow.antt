@@ -31,7 +31,7 @@ use Rattle.h3_world.specs.Headline.{is_connection_fault}
 use Rattle.h3_world.specs.Lists.{listed_pull}
 use Rattle.h3_world.specs.Pulling.{PausesExactly, PullsNext, settled}
 use Rattle.h3_world.specs.Sending.{given_up as gives_up}
-use Rattle.h3_world.specs.Setup.{IsMadeSetup, JudgesPlainly}
+use Rattle.h3_world.specs.Setup.{IsMadeSetup, JudgesPlainly, Setup}
 use Rattle.h3_world.specs.Sound.{IsSoundWorld}
 use Rattle.h3_world.specs.Step.{IsExact, Step}
 use Rattle.h3_world.specs.Streams.{flow, is_open}
@@ -39,7 +39,6 @@ use Rattle.h3_world.specs.World.{World}
 use Rattle.h3_world.specs.declared.event.Answer.{Answer}
 use Rattle.h3_world.specs.declared.event.Answer.TheVariants as answer
 use Rattle.h3_world.specs.declared.event.Event.TheVariants as event
-use Rattle.h3_world.specs.declared.setup.Setup.{Setup}
 use Rattle.h3_headline.specs.CancelLaws.{given_up_stands}
 use Rattle.h3_headline.specs.Cited.{Laws}
 use Rattle.h3_headline.specs.ComingLaws.{incoming_none, incoming_there}

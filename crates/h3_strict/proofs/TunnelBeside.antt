@@ -13,13 +13,12 @@ use Rattle.h3_connection.specs.declared.setup.Announced.{Announced}
 use Rattle.h3_world.specs.Delivering as deliveries
 use Rattle.h3_world.specs.Ends.{Ends, answered, end_at}
 use Rattle.h3_world.specs.Refusals.{next_id}
-use Rattle.h3_world.specs.Setup.{announced_at}
+use Rattle.h3_world.specs.Setup.{Setup, announced_at}
 use Rattle.h3_world.specs.World.{World}
 use Rattle.h3_world.specs.declared.event.Answer.{Answer}
 use Rattle.h3_world.specs.declared.event.Answer.TheVariants as answer
 use Rattle.h3_world.specs.declared.event.Event.{Event}
 use Rattle.h3_world.specs.declared.event.Event.TheVariants as event
-use Rattle.h3_world.specs.declared.setup.Setup.{Setup}
 use Rattle.h3_headline.specs.Contents.{KeepsParts}
 use Rattle.h3_headline.specs.KeepsPartsLaws.{keeps_delivery, keeps_end, keeps_reset, keeps_same}
 use Rattle.h3_headline.specs.Standing.{Stands}

@@ -13,11 +13,10 @@ use Rattle.h3_world.specs.Headline.{is_connection_fault}
 use Rattle.h3_world.specs.Refused.{with_insertions}
 use Rattle.h3_world.specs.Run.{Run}
 use Rattle.h3_world.specs.Sendable.{IsSendable}
-use Rattle.h3_world.specs.Setup.{IsMadeSetup}
+use Rattle.h3_world.specs.Setup.{IsMadeSetup, Setup}
 use Rattle.h3_world.specs.World.{World}
 use Rattle.h3_world.specs.declared.event.Answer.{Answer}
 use Rattle.h3_world.specs.declared.event.Event.{Event}
-use Rattle.h3_world.specs.declared.setup.Setup.{Setup}
 use Rattle.h3_headline.specs.Standing.{Stands}
 use Rattle.h3_strict.proofs.PlainSetups.{judges_plainly, setup_plainly}
 use Rattle.h3_strict.proofs.StepsAnyhow.{EveryPull, EveryStep, any_event}

@@ -18,14 +18,13 @@ use Rattle.h3_world.specs.Order.{next_part}
 use Rattle.h3_world.specs.Pulling.{PausesExactly, settled}
 use Rattle.h3_world.specs.Run.{Run}
 use Rattle.h3_world.specs.Sending.{given_up}
-use Rattle.h3_world.specs.Setup.{announced_at}
+use Rattle.h3_world.specs.Setup.{Setup, announced_at}
 use Rattle.h3_world.specs.Streams.{flow}
 use Rattle.h3_world.specs.World.{World}
 use Rattle.h3_world.specs.declared.event.Answer.{Answer}
 use Rattle.h3_world.specs.declared.event.Answer.TheVariants as answer
 use Rattle.h3_world.specs.declared.event.Event.{Event}
 use Rattle.h3_world.specs.declared.event.Event.TheVariants as event
-use Rattle.h3_world.specs.declared.setup.Setup.{Setup}
 use Rattle.h3_headline.specs.Standing.{Stands}
 use Rattle.h3_strict.specs.PlainEnds.{is_malformed_refusal, plain_ends, plain_setup}
 use Rattle.h3_strict.specs.Plainly.{plainly}

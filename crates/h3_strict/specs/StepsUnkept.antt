@@ -10,7 +10,7 @@ use Rattle.h3_world.specs.Sendable.{IsSendableSection}
 use Rattle.h3_world.specs.World.{World}
 use Rattle.h3_world.specs.declared.event.Answer.{Answer}
 use Rattle.h3_world.specs.declared.event.Event.{Event}
-use Rattle.h3_world.specs.declared.setup.Setup.{Setup}
+use Rattle.h3_world.specs.Setup.{Setup}
 use Rattle.h3_headline.specs.Standing.{Stands}
 
 -- the end once its encoder made the insertions for some of these fields, and sent nothing

@@ -9,7 +9,7 @@ use Rattle.h3_world.specs.Ends.{new_ends, answers_of_ends}
 use Rattle.h3_world.specs.Headline.{Happens, is_out_of_memory}
 use Rattle.h3_world.specs.Run.{Run}
 use Rattle.h3_world.specs.World.{World, empty_world}
-use Rattle.h3_world.specs.declared.setup.Setup.{Setup}
+use Rattle.h3_world.specs.Setup.{Setup}
 use Rattle.h3_world.specs.declared.event.Event.{Event}
 use Rattle.h3_world.specs.declared.event.Answer.{Answer}
 use Rattle.h3_memory.specs.Kept.{KeepingWorld, nothing_kept}

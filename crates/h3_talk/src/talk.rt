@@ -4,7 +4,7 @@ ghost use Rattle.std.specs.Process.{exit_status};
 ghost use Rattle.h3_script.specs.Few.{AreFew};
 ghost use Rattle.h3_script.specs.Inputs.{RefusesInput};
 ghost use Rattle.h3_talk.specs.Talks.{AnswersTo, Prints, AnswersScript, Loses};
-ghost use Rattle.h3_world.specs.Setup.{IsMadeSetup, JudgesPlainly};
+ghost use Rattle.h3_world.specs.Setup.{JudgesPlainly};
 
 use h3_script::input::read_script;
 use h3_script::output::write_answers;
@@ -31,7 +31,6 @@ pub fn talk<R: Read, W: Write>(alloc: Global, reader: &mut R, writer: &mut W) ->
         (W.contents writer.old) (W.contents writer.new) }
     ensures statuses { result ≤ 2 }
 {
-    h3_script::laws::a_script_has_a_made_setup();
     h3_script::laws::a_script_judges_plainly();
     h3_script::laws::a_script_has_few_events();
     match read_script(alloc, reader, writer) {
@@ -55,7 +54,6 @@ pub fn exit_code<R: Read, W: Write>(alloc: Global, reader: &mut R, writer: &mut 
 
 /// Writes the answers to the events of a script.
 fn answer<W: Write>(alloc: Global, script: Script, writer: &mut W) -> u8
-    requires made { IsMadeSetup script.setup }
     requires plain { JudgesPlainly script.setup }
     requires few { AreFew script.setup script.events.items }
     ensures answered { result ≡ 0 → Prints script.setup script.events.items (W.contents writer.old) (W.contents writer.new) }
@@ -74,7 +72,6 @@ fn answer<W: Write>(alloc: Global, script: Script, writer: &mut W) -> u8
 
 /// The answers of a run, without the endpoints that it leaves.
 fn answers_to(alloc: Global, setup: Setup, events: &[Event]) -> Result<Vec<Answer>, AllocError>
-    requires made { IsMadeSetup setup }
     requires plain { JudgesPlainly setup }
     requires few { AreFew setup events.now }
     ensures { IfOk result (λ answers. AnswersTo setup events.now answers.items) }

@@ -3,9 +3,8 @@ use Rattle.std.specs.Prelude.{◌^◌, ◌<◌, List, length, sum_by}
 use Rattle.std.specs.List.{AllByRecursion}
 use Rattle.h3_proto.specs.declared.stream.Side.TheVariants.{Client, Server}
 use Rattle.h3_world.specs.Sendable.{NamesTaken, sent_by}
-use Rattle.h3_world.specs.Setup.{both_take_any}
+use Rattle.h3_world.specs.Setup.{Setup, both_take_any}
 use Rattle.h3_world.specs.declared.event.Event.{Event}
-use Rattle.h3_world.specs.declared.setup.Setup.{Setup}
 
 -- Fewer than 2^48 events, of which each side is handed less than 2^56 bytes to send, and whose headers name no `:protocol` that one of the
 -- two sides does not take.

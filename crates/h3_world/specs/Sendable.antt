@@ -14,8 +14,7 @@ use Rattle.h3_proto.specs.declared.stream.Side.TheVariants.{Client, Server}
 use Rattle.h3_connection.specs.Sending.{fields_cost}
 use Rattle.h3_world.specs.declared.event.Event.{Event}
 use Rattle.h3_world.specs.declared.event.Event.TheVariants as event
-use Rattle.h3_world.specs.declared.setup.Setup.{Setup}
-use Rattle.h3_world.specs.Setup.{both_take_any}
+use Rattle.h3_world.specs.Setup.{Setup, both_take_any}
 
 -- a field section that may be sent: its bytes are bytes, and it is below the bound of all sums
 pub record IsSendableSection (fields : List Field) : Type 0 where

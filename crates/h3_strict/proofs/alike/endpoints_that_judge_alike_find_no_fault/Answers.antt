@@ -8,8 +8,7 @@ use Rattle.h3_strict.proofs.TunnelFaultless.{BoundLaws}
 use Rattle.h3_strict.proofs.TunnelRuns.{new_tunnels, strict_holds}
 use Rattle.h3_strict.proofs.UnkeptRuns.{unkept_faultless}
 use Rattle.h3_strict.specs.PlainEnds.{plain_ends, plain_setup}
-use Rattle.h3_world.specs.Setup.{IsMadeSetup}
-use Rattle.h3_world.specs.declared.setup.Setup.{Setup}
+use Rattle.h3_world.specs.Setup.{IsMadeSetup, Setup}
 use Rattle.h3_strict.specs.Tunnels.{AreBare, TunnelsStand}
 use Rattle.h3_strict.proofs.alike.endpoints_that_judge_alike_find_no_fault.Goals as goal
 

@@ -5,10 +5,9 @@ use Rattle.h3_connection.specs.OwnIds.{other}
 use Rattle.h3_world.specs.Ends.{answers_of_ends, new_ends}
 use Rattle.h3_world.specs.Headline.{is_connection_fault}
 use Rattle.h3_world.specs.Sendable.{IsSendable}
-use Rattle.h3_world.specs.Setup.{IsMadeSetup}
+use Rattle.h3_world.specs.Setup.{IsMadeSetup, Setup}
 use Rattle.h3_world.specs.World.{empty_world}
 use Rattle.h3_world.specs.declared.event.Event.{Event}
-use Rattle.h3_world.specs.declared.setup.Setup.{Setup}
 use Rattle.h3_headline.specs.Exactly.{IsAllOf, IsExactly, reader_at}
 use Rattle.h3_headline.specs.Messages.{IsFrontOf, has_finished, has_pulled_end, pulled, sent}
 use Rattle.h3_headline.specs.Standing.{Stands}

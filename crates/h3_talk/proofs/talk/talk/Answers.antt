@@ -1,8 +1,5 @@
 use Rattle.h3_talk.proofs.talk.talk.Goals as goal
 
-pub answer-requires-clause-made : goal.answer-requires-clause-made
-answer-requires-clause-made g c = c.a_script_has_a_made_setup.ensures _ _ _ _ c.in-Ok.ensures.ok.script
-
 pub answer-requires-clause-few : goal.answer-requires-clause-few
 answer-requires-clause-few g c = c.a_script_has_few_events.ensures _ _ _ c.in-Ok.ensures.ok.script
 
