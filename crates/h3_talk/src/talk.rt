@@ -9,7 +9,7 @@ ghost use Rattle.h3_world.specs.Setup.{JudgesPlainly};
 use h3_script::input::read_script;
 use h3_script::output::write_answers;
 use h3_script::script::Script;
-use h3_session::laws::plain_sides_refuse_nothing_more;
+use h3_session::laws::calls_are_steps_of_two_endpoints;
 use h3_session::run::{Outcome, run};
 use h3_world::event::{Answer, Event};
 use h3_world::setup::Setup;
@@ -76,7 +76,7 @@ fn answers_to(alloc: Global, setup: Setup, events: &[Event]) -> Result<Vec<Answe
     requires few { AreFew setup events.now }
     ensures { IfOk result (λ answers. AnswersTo setup events.now answers.items) }
 {
-    plain_sides_refuse_nothing_more();
+    calls_are_steps_of_two_endpoints();
     match run(alloc, setup, events) {
         Ok(outcome) => Ok(answers_of(outcome)),
         Err(e) => Err(e),
