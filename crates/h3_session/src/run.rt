@@ -6,7 +6,7 @@ ghost use Rattle.h3_world.specs.Few.{AreFew};
 ghost use Rattle.h3_world.specs.Headline.{is_out_of_memory};
 ghost use Rattle.h3_world.specs.Setup.{JudgesPlainly};
 ghost use Rattle.h3_faithful.specs.Faithful.{Faithful};
-ghost use Rattle.h3_session.specs.Headlines.{RunsInKeepingWorld, RunsInWorld};
+ghost use Rattle.h3_session.specs.Headlines.{RunsInOneWorld, RunsInWorld};
 ghost use Rattle.h3_session.specs.Acting.{ActsEach, RunsByCalls};
 
 mod acting;
@@ -87,9 +87,12 @@ fn beside<A: Drop, B: Drop>(first: A, second: Result<B, AllocError>) -> Result<(
 ///   what the other side sent on it, and with the end it is all of that. A send that is next on its stream is accepted, or an allocation fails.
 ///   (A strict side, or a list, may be found malformed. And a strict connection begins no request after GOAWAY.) With nothing left to
 ///   deliver, a pull pauses only after all that was sent. If both sides ask for strict messages, or both do not, there is no connection fault.
-/// - `memory`: within the bounds of `headline` all answers are those of a run of a world in which allocations may fail. What a side keeps
-///   and has not read counts as not delivered there. An answer that does not report out of memory is one of that world, and one that does
-///   loses nothing; no connection fault arises. The endpoints that are returned stand in its last world, with what they keep.
+/// - `world`: within the same bounds, all answers up to a connection fault are those of a run of one world, in which allocations may fail.
+///   What a side keeps and has not read counts as not delivered there. An answer that does not report out of memory is one of that world,
+///   and one that does loses nothing. Beside that a strict side refuses a send as malformed, and nothing changes; and a pull finds a message
+///   malformed or too long, and gives it up. If no connection fault arises, the endpoints that are returned stand in the last world, with
+///   what they keep, once they are taken for ones without strict messages and limits. If neither side asks for these, each step is plain or
+///   one of refused memory, and the endpoints stand there as they are.
 ///
 /// If no answer reports out of memory:
 /// - `headline`: its bounds are fewer than 2^48 events, with less than 2^56 bytes for each side to send, and no `:protocol` that one of the
@@ -102,7 +105,7 @@ fn beside<A: Drop, B: Drop>(first: A, second: Result<B, AllocError>) -> Result<(
 pub fn run(alloc: Global, setup: Setup, events: &[Event]) -> Result<Outcome, AllocError>
     ensures calls { IfOk result (λ out. RunsByCalls (new_ends setup) events.now out.answers.items out.client out.server) }
     ensures faithful { IfOk result (λ out. AreFew setup events.now → Faithful setup events.now out.answers.items) }
-    ensures memory { IfOk result (λ out. AreFew setup events.now → JudgesPlainly setup → RunsInKeepingWorld setup events.now out.answers.items out.client out.server) }
+    ensures world { IfOk result (λ out. AreFew setup events.now → RunsInOneWorld setup events.now out.answers.items out.client out.server) }
     ensures headline { IfOk result (λ out. list_any is_out_of_memory out.answers.items ≡ false → AreFew setup events.now → JudgesPlainly setup →
         RunsInWorld setup events.now out.answers.items out.client out.server) }
 {

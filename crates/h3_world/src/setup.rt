@@ -19,7 +19,7 @@ pub struct Setup {
 }
 
 impl Model for Setup {
-    ghost use Rattle.h3_world.specs.Setup.{Setup as Sides};
+    ghost use Rattle.h3_world.specs.Setup.{Setup as Sides, IsMadeSetup};
 
     ghost Value = { Sides };
 

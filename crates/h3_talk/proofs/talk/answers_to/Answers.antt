@@ -6,7 +6,7 @@ use Rattle.h3_talk.proofs.talk.answers_to.Goals as goal
 pub returns-in-Ok : goal.returns-in-Ok
 returns-in-Ok c =
     let out = c.in-Ok.outcome in
-    let kept : RunsInKeepingWorld c.args.setup c.args.events.now out.answers.items out.client out.server = c.in-Ok.ensures.memory c.requires.few c.requires.plain in
+    let kept : RunsInKeepingWorld c.args.setup c.args.events.now out.answers.items out.client out.server = (c.in-Ok.ensures.world c.requires.few).plainly c.requires.plain in
     rw c.answers_of.ensures (record {
       each = c.calls_are_steps_of_two_endpoints.ensures.each (new_ends c.args.setup) c.args.events.now out.answers.items out.client out.server c.in-Ok.ensures.calls;
       faithful = c.in-Ok.ensures.faithful c.requires.few;
