@@ -157,6 +157,7 @@ pub fn datagrams_read_back()
 {
     h3_capsule::laws::datagrams_read_back();
 }
+
 ghost use Rattle.h3_strict.specs.Limits.{EarlyAreTaken};
 ghost use Rattle.h3_strict.specs.Tallies.{JudgesStrictly};
 

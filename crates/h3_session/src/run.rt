@@ -92,7 +92,7 @@ fn beside<A: Drop, B: Drop>(first: A, second: Result<B, AllocError>) -> Result<(
 ///   and one that does loses nothing. Beside that a strict side refuses a send as malformed, and nothing changes; and a pull finds a message
 ///   malformed or too long, and gives it up. If no connection fault arises, the endpoints that are returned stand in the last world, with
 ///   what they keep, once they are taken for ones without strict messages and limits. If neither side asks for these, each step is plain or
-///   one of refused memory, and the endpoints stand there as they are.
+///   one of memory, and the endpoints stand there as they are.
 ///
 /// If no answer reports out of memory:
 /// - `headline`: its bounds are fewer than 2^48 events, with less than 2^56 bytes for each side to send, and no `:protocol` that one of the
