@@ -23,7 +23,7 @@ CONTRACT = f"{CRATES}/h3_session/src/run.rt"
 # The parts: their headings, and from which names each part goes on, a name with dots by its module. The last one takes what is left.
 PARTS = (
     ("## How a list of fields is read", tuple(f"h3_world.specs.Lists.{name}" for name in ("unreadable", "as_flagged", "pull_of", "list_of"))),
-    ("## All that it rests on", ("Faithful", "AreFew")),
+    ("## All that it rests on", ("Faithful", "AreSmall")),
     ("## What is answered", ("Run", "Happens", "empty_world", "JudgesPlainly")),
     ("## The endpoints that are returned", ("RunsInWorld",)),
     ("## What each call leaves", ("RunsByCalls", "new_ends")),

@@ -10,7 +10,7 @@ pub mod PlainSetups
 mod PrintedLines
 pub mod Reading
 pub mod Requests
-pub mod ScriptSums
+pub mod ScriptSizes
 pub mod Scripts
 pub mod SectionLines
 pub mod Unique

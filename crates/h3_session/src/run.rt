@@ -2,9 +2,9 @@
 ghost use Rattle.std.specs.Prelude.{◌≡◌, false, Ok, IfOk};
 ghost use Rattle.std.specs.List.{list_any};
 ghost use Rattle.h3_world.specs.Ends.{new_ends};
-ghost use Rattle.h3_world.specs.Few.{AreFew};
 ghost use Rattle.h3_world.specs.Headline.{is_out_of_memory};
 ghost use Rattle.h3_world.specs.Setup.{JudgesPlainly};
+ghost use Rattle.h3_world.specs.Small.{AreSmall};
 ghost use Rattle.h3_faithful.specs.Faithful.{Faithful};
 ghost use Rattle.h3_session.specs.Headlines.{RunsInOneWorld, RunsInWorld};
 ghost use Rattle.h3_session.specs.Acting.{ActsEach, RunsByCalls};
@@ -95,8 +95,8 @@ fn beside<A: Drop, B: Drop>(first: A, second: Result<B, AllocError>) -> Result<(
 ///   one of memory, and the endpoints stand there as they are.
 ///
 /// If no answer reports out of memory:
-/// - `headline`: its bounds are fewer than 2^48 events, with less than 2^56 bytes for each side to send, and no `:protocol` that one of the
-///   two sides does not take. Neither side may ask for strict messages or limit what is unfinished. Then the answers are a run of the world
+/// - `headline`: its bounds are less than 2^56 bytes for a section or body that is sent, and no `:protocol` that one of the two sides does
+///   not take. Neither side may ask for strict messages or limit what is unfinished. Then the answers are a run of the world
 ///   of a connection, and the endpoints that are returned stand in its last world. In each of its steps no connection fault arises, and a
 ///   send that is in order and within the known limit is accepted. A pull returns what was sent, or pauses exactly when that isn't there.
 ///   With everything delivered everything comes out, and no more header sections wait than were announced.
@@ -104,9 +104,9 @@ fn beside<A: Drop, B: Drop>(first: A, second: Result<B, AllocError>) -> Result<(
 /// What follows from `calls` is a law (`crate::laws::calls_are_steps_of_two_endpoints`).
 pub fn run(alloc: Global, setup: Setup, events: &[Event]) -> Result<Outcome, AllocError>
     ensures calls { IfOk result (λ out. RunsByCalls (new_ends setup) events.now out.answers.items out.client out.server) }
-    ensures faithful { IfOk result (λ out. AreFew setup events.now → Faithful setup events.now out.answers.items) }
-    ensures world { IfOk result (λ out. AreFew setup events.now → RunsInOneWorld setup events.now out.answers.items out.client out.server) }
-    ensures headline { IfOk result (λ out. list_any is_out_of_memory out.answers.items ≡ false → AreFew setup events.now → JudgesPlainly setup →
+    ensures faithful { IfOk result (λ out. AreSmall setup events.now → Faithful setup events.now out.answers.items) }
+    ensures world { IfOk result (λ out. AreSmall setup events.now → RunsInOneWorld setup events.now out.answers.items out.client out.server) }
+    ensures headline { IfOk result (λ out. list_any is_out_of_memory out.answers.items ≡ false → AreSmall setup events.now → JudgesPlainly setup →
         RunsInWorld setup events.now out.answers.items out.client out.server) }
 {
     each_side_gets_what_the_other_sent();

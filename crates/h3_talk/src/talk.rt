@@ -1,7 +1,7 @@
 //! The program: a script in, the answers out.
 ghost use Rattle.std.specs.Prelude.{◌≡◌, ◌⊎◌, ◌≤◌, IfOk};
 ghost use Rattle.std.specs.Process.{exit_status};
-ghost use Rattle.h3_script.specs.Few.{AreFew};
+ghost use Rattle.h3_script.specs.Small.{AreSmall};
 ghost use Rattle.h3_script.specs.Inputs.{RefusesInput};
 ghost use Rattle.h3_talk.specs.Talks.{AnswersTo, Prints, AnswersScript, Loses};
 ghost use Rattle.h3_world.specs.Setup.{JudgesPlainly};
@@ -32,7 +32,7 @@ pub fn talk<R: Read, W: Write>(alloc: Global, reader: &mut R, writer: &mut W) ->
     ensures statuses { result ≤ 2 }
 {
     h3_script::laws::a_script_judges_plainly();
-    h3_script::laws::a_script_has_few_events();
+    h3_script::laws::a_script_has_small_events();
     match read_script(alloc, reader, writer) {
         Ok(script) => answer(alloc, script, writer),
         Err(status) => status,
@@ -55,7 +55,7 @@ pub fn exit_code<R: Read, W: Write>(alloc: Global, reader: &mut R, writer: &mut 
 /// Writes the answers to the events of a script.
 fn answer<W: Write>(alloc: Global, script: Script, writer: &mut W) -> u8
     requires plain { JudgesPlainly script.setup }
-    requires few { AreFew script.setup script.events.items }
+    requires small { AreSmall script.setup script.events.items }
     ensures answered { result ≡ 0 → Prints script.setup script.events.items (W.contents writer.old) (W.contents writer.new) }
     ensures statuses { (result ≡ 0) ⊎ (result ≡ 2) }
 {
@@ -73,7 +73,7 @@ fn answer<W: Write>(alloc: Global, script: Script, writer: &mut W) -> u8
 /// The answers of a run, without the endpoints that it leaves.
 fn answers_to(alloc: Global, setup: Setup, events: &[Event]) -> Result<Vec<Answer>, AllocError>
     requires plain { JudgesPlainly setup }
-    requires few { AreFew setup events.now }
+    requires small { AreSmall setup events.now }
     ensures { IfOk result (λ answers. AnswersTo setup events.now answers.items) }
 {
     calls_are_steps_of_two_endpoints();

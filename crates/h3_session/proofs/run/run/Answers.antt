@@ -16,15 +16,15 @@ returns-clause-calls c =
     c.into_sides.ensures.client c.into_sides.ensures.server c.announcing-client.ensures c.announcing-server.ensures c.in_ok-client.ensures.0 c.in_ok-client.ensures.1 c.run_between-answers.ensures c.in_ok-client-2.ensures.0 c.in_ok-client-2.ensures.1
 
 pub returns-clause-headline : goal.returns-clause-headline
-returns-clause-headline c = λ whole few plain.
+returns-clause-headline c = λ whole small plain.
     let calls = ran (λ v. v.items) c.args.setup _ _ c.args.events.now c.announcing-client.result c.announcing-server.result c.run_between-answers.result _ _ _ _ _ c.in_ok-client-2.answers
     c.into_sides.ensures.client c.into_sides.ensures.server c.announcing-client.ensures c.announcing-server.ensures c.in_ok-client.ensures.0 c.in_ok-client.ensures.1 c.run_between-answers.ensures c.in_ok-client-2.ensures.0 c.in_ok-client-2.ensures.1 in
     runs_in_world c.args.setup c.args.events.now c.in_ok-client-2.answers.items _ _
     (c.two_endpoints_run_in_a_world.ensures c.args.setup c.args.events.now c.into_sides.ensures.made plain) c.events_are_typed.ensures
-    (runs_to (new_ends c.args.setup) c.args.events.now c.in_ok-client-2.answers.items _ _ calls whole) few
+    (runs_to (new_ends c.args.setup) c.args.events.now c.in_ok-client-2.answers.items _ _ calls whole) small
 
 pub returns-clause-world : goal.returns-clause-world
-returns-clause-world c = λ few.
+returns-clause-world c = λ small.
     let calls = ran (λ v. v.items) c.args.setup _ _ c.args.events.now c.announcing-client.result c.announcing-server.result c.run_between-answers.result _ _ _ _ _ c.in_ok-client-2.answers
     c.into_sides.ensures.client c.into_sides.ensures.server c.announcing-client.ensures c.announcing-server.ensures c.in_ok-client.ensures.0 c.in_ok-client.ensures.1 c.run_between-answers.ensures c.in_ok-client-2.ensures.0 c.in_ok-client-2.ensures.1 in
     let setup = c.args.setup in
@@ -34,13 +34,13 @@ returns-clause-world c = λ few.
       until_fault = c.each_side_gets_what_the_other_sent.ensures.runs setup c.args.events.now answers ends c.into_sides.ensures.made sendable run;
       stands = c.each_side_gets_what_the_other_sent.ensures.stands setup c.args.events.now answers ends c.into_sides.ensures.made sendable run;
       plainly = λ plain. c.two_endpoints_run_with_memory.ensures setup c.args.events.now answers ends c.into_sides.ensures.made plain sendable run;
-    }) c.events_are_typed.ensures calls few
+    }) c.events_are_typed.ensures calls small
 
 pub returns-clause-faithful : goal.returns-clause-faithful
-returns-clause-faithful c = λ few.
+returns-clause-faithful c = λ small.
     let calls = ran (λ v. v.items) c.args.setup _ _ c.args.events.now c.announcing-client.result c.announcing-server.result c.run_between-answers.result _ _ _ _ _ c.in_ok-client-2.answers
     c.into_sides.ensures.client c.into_sides.ensures.server c.announcing-client.ensures c.announcing-server.ensures c.in_ok-client.ensures.0 c.in_ok-client.ensures.1 c.run_between-answers.ensures c.in_ok-client-2.ensures.0 c.in_ok-client-2.ensures.1 in
     let setup = c.args.setup in
     let answers = c.in_ok-client-2.answers.items in
     of_runs setup c.args.events.now answers _ _
-    (λ ends sendable run. c.each_side_gets_what_the_other_sent.ensures.faithful setup c.args.events.now answers ends c.into_sides.ensures.made sendable run) c.events_are_typed.ensures calls few
+    (λ ends sendable run. c.each_side_gets_what_the_other_sent.ensures.faithful setup c.args.events.now answers ends c.into_sides.ensures.made sendable run) c.events_are_typed.ensures calls small

@@ -6,12 +6,12 @@ use Rattle.h3_talk.proofs.talk.answers_to.Goals as goal
 pub returns-in-Ok : goal.returns-in-Ok
 returns-in-Ok c =
     let out = c.in-Ok.outcome in
-    let kept : RunsInKeepingWorld c.args.setup c.args.events.now out.answers.items out.client out.server = (c.in-Ok.ensures.world c.requires.few).plainly c.requires.plain in
+    let kept : RunsInKeepingWorld c.args.setup c.args.events.now out.answers.items out.client out.server = (c.in-Ok.ensures.world c.requires.small).plainly c.requires.plain in
     rw c.answers_of.ensures (record {
       each = c.calls_are_steps_of_two_endpoints.ensures.each (new_ends c.args.setup) c.args.events.now out.answers.items out.client out.server c.in-Ok.ensures.calls;
-      faithful = c.in-Ok.ensures.faithful c.requires.few;
+      faithful = c.in-Ok.ensures.faithful c.requires.small;
       whole = λ not_memory.
-          let runs : RunsInWorld c.args.setup c.args.events.now out.answers.items out.client out.server = c.in-Ok.ensures.headline not_memory c.requires.few c.requires.plain in
+          let runs : RunsInWorld c.args.setup c.args.events.now out.answers.items out.client out.server = c.in-Ok.ensures.headline not_memory c.requires.small c.requires.plain in
           record {
             world = runs.world;
             run = runs.run;
