@@ -22,15 +22,12 @@ CRATES = f"{TOP}/crates"
 CONTRACT = f"{CRATES}/h3_session/src/run.rt"
 # The parts: their headings, and from which names each part goes on, a name with dots by its module. The last one takes what is left.
 PARTS = (
-    ("## All that it rests on", ("HandsOutAlways", "AreFew", "JudgesPlainly", "IsMadeSetup")),
     ("## How a list of fields is read", tuple(f"h3_world.specs.Lists.{name}" for name in ("unreadable", "as_flagged", "pull_of", "list_of"))),
-    ("## What is answered", ("Run", "Happens", "empty_world")),
+    ("## All that it rests on", ("Faithful", "AreSmall")),
+    ("## What is answered", ("Run", "Happens", "empty_world", "JudgesPlainly")),
     ("## The endpoints that are returned", ("RunsInWorld",)),
-    ("## The same answers by two endpoints", ("RunsTo", "AnswersEach", "new_ends")),
-    ("## What each call leaves", ("RunsByCalls",)),
-    ("## If a side is strict", ("RunsUntilMemory", "RunsToEnd", "TakesWhatIsSent", "one_judges_more")),
-    ("## By events and answers", ("Faithful",)),
-    ("## If allocations fail", None),
+    ("## What each call leaves", ("RunsByCalls", "new_ends")),
+    ("## One world", None),
 )
 # Behind these the values of the code: a heading, and from which types of the signature its rows come, and from those that which parts list.
 VALUES = (
@@ -39,21 +36,20 @@ VALUES = (
 )
 # The pages, each with its parts in their order there.
 PAGES = {
-    "docs/MESSAGES.md": (PARTS[0][0],),
-    "docs/headline/lists.md": (PARTS[1][0],),
+    "docs/MESSAGES.md": (PARTS[1][0],),
+    "docs/headline/lists.md": (PARTS[0][0],),
     "docs/HEADLINE.md": (PARTS[2][0], VALUES[0][0]),
     "docs/headline/endpoints.md": (PARTS[3][0], VALUES[1][0]),
-    "docs/headline/calls.md": (PARTS[4][0], PARTS[5][0]),
-    "docs/headline/strict.md": (PARTS[6][0],),
-    "docs/headline/faithful.md": (PARTS[7][0],),
-    "docs/headline/memory.md": (PARTS[8][0],),
+    "docs/headline/calls.md": (PARTS[4][0],),
+    "docs/headline/world.md": (PARTS[5][0],),
 }
 # how many lines the first parts may have: a sitting each
-MOST = {PARTS[0][0]: 490, PARTS[1][0]: 250, PARTS[2][0]: 1500}
+MOST = {PARTS[0][0]: 330, PARTS[1][0]: 490, PARTS[2][0]: 1500}
 # the pages on which no name stands for two definitions
 SITTINGS = ("docs/MESSAGES.md", "docs/headline/lists.md", "docs/HEADLINE.md")
-# but for these: the Rust crate h3 has a type of that name in two modules, and so have the ports of them
-OF_TWO_MODULES = ("Settings",)
+# but for these: the Rust crate h3 has a type of that name in two modules, and so have the ports of them; and a contract sees a `Setup` of the
+# code as that of the definitions
+OF_TWO_MODULES = ("Settings", "Setup")
 WIDTH = 140
 WORD = re.compile(r"[^\s(){}\[\],;.]+")
 USE = re.compile(r"^\s*(?:pub |ghost )?use Rattle\.([\w.]+?)(?:\.\{(.*)\}| as (\w+))?;?$")

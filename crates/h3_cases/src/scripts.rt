@@ -61,7 +61,8 @@ fn read(told: &mut Told, text: &[u8], most: u64)
 
 /// The tables and how many streams may wait, of the client and of the server; and the events.
 fn of_script(told: &mut Told, script: &Script) {
-    let (client, server) = (script.setup.client.limits, script.setup.server.limits);
+    let client = script.setup.announced_at(Side::Client).limits;
+    let server = script.setup.announced_at(Side::Server).limits;
     told.show(client.table);
     told.then_show(client.blocked);
     told.then_show(server.table);

@@ -21,7 +21,7 @@ use Rattle.h3_world.specs.declared.event.Answer.TheVariants as answer
 use Rattle.h3_world.specs.declared.event.Event.{Event}
 use Rattle.h3_world.specs.declared.event.Event.TheVariants as event
 use Rattle.h3_world.specs.declared.lists.ListPull.TheVariants as list
-use Rattle.h3_world.specs.declared.setup.Setup.{Setup}
+use Rattle.h3_world.specs.Setup.{Setup}
 use Rattle.h3_headline.specs.Changes.{StaysAs, StaysBy}
 use Rattle.h3_headline.specs.ContentLaws.{out_front, stays}
 use Rattle.h3_headline.specs.Contents.{Carries, GoneStays, KeepsParts, MovesBy, contents, out, reader_of}

@@ -7,11 +7,10 @@ use Rattle.h3_proto.specs.declared.stream.Side.TheVariants.{Client, Server}
 use Rattle.h3_world.specs.Ends.{Ends, new_ends}
 use Rattle.h3_world.specs.Headline.{is_connection_fault, is_out_of_memory}
 use Rattle.h3_world.specs.Sendable.{IsSendable}
-use Rattle.h3_world.specs.Setup.{IsMadeSetup, announced_at}
+use Rattle.h3_world.specs.Setup.{IsMadeSetup, Setup, announced_at}
 use Rattle.h3_world.specs.World.{World}
 use Rattle.h3_world.specs.declared.event.Answer.{Answer}
 use Rattle.h3_world.specs.declared.event.Event.{Event}
-use Rattle.h3_world.specs.declared.setup.Setup.{Setup}
 use Rattle.h3_memory.specs.Kept.{KeepingWorld}
 use Rattle.h3_memory.specs.Refused.{AnswerOf, EndsRun, EndsStep}
 use Rattle.h3_strict.specs.HoldsBehind.{HoldsBehind}

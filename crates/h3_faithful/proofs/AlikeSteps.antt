@@ -29,7 +29,7 @@ use Rattle.h3_world.specs.Lists.{listed_pull}
 use Rattle.h3_world.specs.Pulling.{settled}
 use Rattle.h3_world.specs.Refused.{with_insertions}
 use Rattle.h3_world.specs.Sendable.{IsSendable}
-use Rattle.h3_world.specs.Setup.{IsMadeSetup}
+use Rattle.h3_world.specs.Setup.{IsMadeSetup, Setup}
 use Rattle.h3_world.specs.Step.{Step}
 use Rattle.h3_world.specs.World.{World}
 use Rattle.h3_world.specs.declared.event.Answer.{Answer}
@@ -37,7 +37,6 @@ use Rattle.h3_world.specs.declared.event.Answer.TheVariants as answer
 use Rattle.h3_world.specs.declared.event.Event.{Event}
 use Rattle.h3_world.specs.declared.event.Event.TheVariants as event
 use Rattle.h3_world.specs.declared.lists.ListPull.TheVariants as list
-use Rattle.h3_world.specs.declared.setup.Setup.{Setup}
 use Rattle.h3_headline.specs.Contents.{KeepsParts}
 use Rattle.h3_headline.specs.KeepsPartsLaws.{keeps_with_party}
 use Rattle.h3_memory.specs.Kept.{KeepingWorld, caught_up, is_settled}

@@ -26,7 +26,7 @@ use Rattle.h3_world.specs.Order.{is_over}
 use Rattle.h3_world.specs.Pulling.{PausesExactly, PullsNext, settled}
 use Rattle.h3_world.specs.Sendable.{IsSendable}
 use Rattle.h3_world.specs.Sending.{given_up}
-use Rattle.h3_world.specs.Setup.{IsMadeSetup, JudgesPlainly}
+use Rattle.h3_world.specs.Setup.{IsMadeSetup, JudgesPlainly, Setup}
 use Rattle.h3_world.specs.Step.{IsExact}
 use Rattle.h3_world.specs.Streams.{flow}
 use Rattle.h3_world.specs.World.{World}
@@ -35,7 +35,6 @@ use Rattle.h3_world.specs.declared.event.Answer.TheVariants as answer
 use Rattle.h3_world.specs.declared.event.Event.{Event}
 use Rattle.h3_world.specs.declared.lists.ListPull.TheVariants as list
 use Rattle.h3_world.specs.declared.event.Event.TheVariants as event
-use Rattle.h3_world.specs.declared.setup.Setup.{Setup}
 use Rattle.h3_headline.specs.GivenUp.{IsGone, giving_up}
 use Rattle.h3_headline.specs.SettledLaws.{settled_alive, settled_none}
 use Rattle.h3_memory.specs.Kept.{Delivery, KeepingWorld, caught_up, is_settled, kept_at, read_deliveries, with_kept}

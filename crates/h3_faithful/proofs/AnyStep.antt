@@ -6,12 +6,11 @@ use Rattle.h3_connection.specs.declared.event.Refusal.TheVariants as refusal
 use Rattle.h3_world.specs.Ends.{Ends, answered}
 use Rattle.h3_world.specs.Headline.{is_connection_fault, is_out_of_memory}
 use Rattle.h3_world.specs.Sendable.{IsSendable}
-use Rattle.h3_world.specs.Setup.{IsMadeSetup}
+use Rattle.h3_world.specs.Setup.{IsMadeSetup, Setup}
 use Rattle.h3_world.specs.declared.event.Answer.{Answer}
 use Rattle.h3_world.specs.declared.event.Answer.TheVariants as answer
 use Rattle.h3_world.specs.declared.event.Event.{Event}
 use Rattle.h3_world.specs.declared.event.Event.TheVariants as event
-use Rattle.h3_world.specs.declared.setup.Setup.{Setup}
 use Rattle.h3_memory.specs.Kept.{KeepingWorld}
 use Rattle.h3_memory.specs.Keeping.{StandsKeeping}
 use Rattle.h3_memory.specs.Refused.{AnswerOf, EndsStep}

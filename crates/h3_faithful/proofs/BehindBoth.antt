@@ -18,10 +18,9 @@ use Rattle.h3_connection.specs.declared.setup.Announced.{Announced}
 use Rattle.h3_world.specs.Ends.{Ends, end_at}
 use Rattle.h3_world.specs.Delivering.{is_closed}
 use Rattle.h3_world.specs.Pulling.{own_delivered}
-use Rattle.h3_world.specs.Setup.{announced_at}
+use Rattle.h3_world.specs.Setup.{Setup, announced_at}
 use Rattle.h3_world.specs.Streams.{flow, has_outgoing, is_open}
 use Rattle.h3_world.specs.World.{World, party}
-use Rattle.h3_world.specs.declared.setup.Setup.{Setup}
 use Rattle.h3_headline.specs.ComingLaws.{kind_is}
 use Rattle.h3_headline.specs.FlowLaws.{open_there, same_number}
 use Rattle.h3_headline.specs.Standing.{StandsAt}

@@ -9,10 +9,9 @@ use Rattle.h3_connection.specs.OwnIds.{other}
 use Rattle.h3_connection.specs.Shown as shown
 use Rattle.h3_connection.specs.declared.arrival.Arrival.{Arrival}
 use Rattle.h3_world.specs.Ends.{Ends, end_at, with_end}
-use Rattle.h3_world.specs.Setup.{IsMadeSetup, announced_at}
+use Rattle.h3_world.specs.Setup.{IsMadeSetup, Setup, announced_at}
 use Rattle.h3_world.specs.Streams.{has_outgoing}
 use Rattle.h3_world.specs.World.{World}
-use Rattle.h3_world.specs.declared.setup.Setup.{Setup}
 use Rattle.h3_memory.specs.Kept.{KeepingWorld, caught_up, is_settled}
 use Rattle.h3_memory.specs.Keeping.{StandsKeeping, came_of, text_of}
 use Rattle.h3_memory.specs.ReadsNext.{ReadsNext}

@@ -33,7 +33,7 @@ use Rattle.h3_world.specs.declared.event.Answer.TheVariants as answer
 use Rattle.h3_world.specs.declared.event.Event.{Event}
 use Rattle.h3_world.specs.declared.event.Event.TheVariants as event
 use Rattle.h3_world.specs.declared.lists.ListPull.{ListPull}
-use Rattle.h3_world.specs.declared.setup.Setup.{Setup}
+use Rattle.h3_world.specs.Setup.{Setup}
 use Rattle.h3_headline.specs.ComingLaws.{sound_exchange, sound_flow}
 use Rattle.h3_headline.specs.Contents.{HasSameParts, contents, out, out_of, part_contents, piece_of}
 use Rattle.h3_headline.specs.Exactly.{IsAllOf, IsExactly, Reader, as_listed, reader_at}

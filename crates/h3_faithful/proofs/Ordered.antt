@@ -28,7 +28,7 @@ use Rattle.h3_world.specs.Lists.{unreadable}
 use Rattle.h3_world.specs.Order.{outgoing_of}
 use Rattle.h3_world.specs.OwnStreams.{settings_bytes}
 use Rattle.h3_world.specs.Refusals.{none_after}
-use Rattle.h3_world.specs.Setup.{announced_at, takes_any}
+use Rattle.h3_world.specs.Setup.{Setup, announced_at, takes_any}
 use Rattle.h3_world.specs.Sound.{IsSoundFlow}
 use Rattle.h3_world.specs.Step.{Does, Step}
 use Rattle.h3_world.specs.Streams.{flow, is_open}
@@ -37,7 +37,6 @@ use Rattle.h3_world.specs.declared.event.Answer.{Answer}
 use Rattle.h3_world.specs.declared.event.Answer.TheVariants as answer
 use Rattle.h3_world.specs.declared.event.Event.{Event}
 use Rattle.h3_world.specs.declared.event.Event.TheVariants as event
-use Rattle.h3_world.specs.declared.setup.Setup.{Setup}
 use Rattle.h3_headline.specs.Contents.{contents, has_end}
 use Rattle.h3_headline.specs.FlowLaws.{same_number}
 use Rattle.h3_headline.specs.Changes.{goes_away, resets_on}
@@ -51,7 +50,7 @@ use Rattle.h3_memory.specs.MemoryStep.{Answers, StepOf}
 use Rattle.h3_memory.specs.MemoryStep.{LacksMemory as AnswersWithoutMemory}
 use Rattle.h3_strict.specs.PlainEnds.{is_malformed_refusal, plain_setup}
 use Rattle.h3_faithful.specs.Faithful.{AcceptsNext, IsAccepted, asks_for_strict}
-use Rattle.h3_faithful.specs.Sends.{awaits_head, begins_late, goes_on, is_between, is_head, is_next, is_trailer, opens, sends_list, takes_size}
+use Rattle.h3_faithful.specs.Sends.{awaits_head, begins_late, goes_on, is_between, is_head_section, is_next, is_trailer_section, opens, sends_list, takes_size}
 use Rattle.h3_faithful.specs.Steps.{AsPlainly, GivesMessageUp, HappensAnywhere, LacksMemory, PullsOn, RefusesMalformed, is_strict_send}
 use Rattle.h3_faithful.proofs.Takes.{both_hold, both_of, opposite, takes_body_next, takes_end_next, takes_head_next, three_of}
 
@@ -107,7 +106,7 @@ abbrev IsPlaced : Setup → World → Event → Type 0
 IsPlaced setup w e = IsInOrder setup w e ⊎ (IsUnreadable setup w e ⊎ IsLate setup w e)
 
 -- what is next is so of the lists that go out
-listed_head : (c : MessageContent) → is_head (as_listed c) ≡ is_head c
+listed_head : (c : MessageContent) → is_head_section (as_listed c) ≡ is_head_section c
 listed_head (FieldSection OfInterim as_list fields) = refl
 listed_head (FieldSection OfHead as_list fields) = refl
 listed_head (FieldSection OfTrailer as_list fields) = refl
@@ -115,7 +114,7 @@ listed_head (Byte b) = refl
 listed_head (TooLarge size) = refl
 listed_head Foreign = refl
 
-listed_trailer : (c : MessageContent) → is_trailer (as_listed c) ≡ is_trailer c
+listed_trailer : (c : MessageContent) → is_trailer_section (as_listed c) ≡ is_trailer_section c
 listed_trailer (FieldSection OfInterim as_list fields) = refl
 listed_trailer (FieldSection OfHead as_list fields) = refl
 listed_trailer (FieldSection OfTrailer as_list fields) = refl
@@ -123,19 +122,19 @@ listed_trailer (Byte b) = refl
 listed_trailer (TooLarge size) = refl
 listed_trailer Foreign = refl
 
-heads_listed : (l : List MessageContent) → list_any is_head (map as_listed l) ≡ list_any is_head l
+heads_listed : (l : List MessageContent) → list_any is_head_section (map as_listed l) ≡ list_any is_head_section l
 heads_listed [] = refl
-heads_listed (c ∷ l) = ap (λ b. b || list_any is_head (map as_listed l)) (listed_head c) ∙ ap (λ b. is_head c || b) (heads_listed l)
+heads_listed (c ∷ l) = ap (λ b. b || list_any is_head_section (map as_listed l)) (listed_head c) ∙ ap (λ b. is_head_section c || b) (heads_listed l)
 
-trailers_listed : (l : List MessageContent) → list_any is_trailer (map as_listed l) ≡ list_any is_trailer l
+trailers_listed : (l : List MessageContent) → list_any is_trailer_section (map as_listed l) ≡ list_any is_trailer_section l
 trailers_listed [] = refl
-trailers_listed (c ∷ l) = ap (λ b. b || list_any is_trailer (map as_listed l)) (listed_trailer c) ∙ ap (λ b. is_trailer c || b) (trailers_listed l)
+trailers_listed (c ∷ l) = ap (λ b. b || list_any is_trailer_section (map as_listed l)) (listed_trailer c) ∙ ap (λ b. is_trailer_section c || b) (trailers_listed l)
 
 awaits_listed : (l : List MessageContent) → awaits_head (map as_listed l) ≡ awaits_head l
 awaits_listed l = ap not (heads_listed l)
 
 between_listed : (l : List MessageContent) → is_between (map as_listed l) ≡ is_between l
-between_listed l = ap (λ b. b && not (list_any is_trailer (map as_listed l))) (heads_listed l) ∙ ap (λ b. list_any is_head l && not b) (trailers_listed l)
+between_listed l = ap (λ b. b && not (list_any is_trailer_section (map as_listed l))) (heads_listed l) ∙ ap (λ b. list_any is_head_section l && not b) (trailers_listed l)
 
 module _ (setup : Setup) (w : World) (side : Side) (id : ℕ) (before : List Event) (given : List Answer) (t : Tells w side id before given) (on : goes_on side id before given ≡ true) where
   abbrev ps : Setup
@@ -228,8 +227,8 @@ module _ (setup : Setup) (w : World) (side : Side) (id : ℕ) (before : List Eve
       let a = both_of (is_on side id acting i) (is_between all && not (has_pseudo (head_of_fields fields)) && takes_size setup side fields) h in
       moved (λ s n. IsPlaced ps w (event.TrailerFields s n fields)) acting i a.0 (trailer_fields_placed fields a.1)
   placed (event.Finish acting i) h =
-      let a = both_of (is_on side id acting i) (list_any is_head all) h in
-      moved (λ s n. IsPlaced ps w (event.Finish s n)) acting i a.0 (inl (here, takes_end_next f live unfinished (ap (list_any is_head) t.sent_is ∙ heads_listed all ∙ a.1)))
+      let a = both_of (is_on side id acting i) (list_any is_head_section all) h in
+      moved (λ s n. IsPlaced ps w (event.Finish s n)) acting i a.0 (inl (here, takes_end_next f live unfinished (ap (list_any is_head_section) t.sent_is ∙ heads_listed all ∙ a.1)))
   placed e h = absurd (cc)
 
 -- **What is in order is accepted** (`ordered_sends_are_accepted` of `h3_headline`).

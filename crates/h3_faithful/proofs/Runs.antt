@@ -9,21 +9,20 @@ use Rattle.h3_world.specs.Ends.{Ends, answered, new_ends}
 use Rattle.h3_world.specs.Headline.{is_connection_fault, is_out_of_memory}
 use Rattle.h3_world.specs.Run.{Run}
 use Rattle.h3_world.specs.Sendable.{IsSendable}
-use Rattle.h3_world.specs.Setup.{IsMadeSetup, JudgesPlainly}
+use Rattle.h3_world.specs.Setup.{IsMadeSetup, JudgesPlainly, Setup}
 use Rattle.h3_world.specs.World.{empty_world}
 use Rattle.h3_world.specs.declared.event.Answer.{Answer}
 use Rattle.h3_world.specs.declared.event.Answer.TheVariants as answer
 use Rattle.h3_world.specs.declared.event.Event.{Event}
 use Rattle.h3_world.specs.declared.event.Event.TheVariants as event
 use Rattle.h3_world.specs.declared.lists.ListPull.TheVariants as list
-use Rattle.h3_world.specs.declared.setup.Setup.{Setup}
 use Rattle.h3_memory.specs.Kept.{KeepingWorld, nothing_kept}
 use Rattle.h3_memory.specs.Keeping.{StandsKeeping}
 use Rattle.h3_memory.specs.Refused.{AnswerOf, EndsRun, EndsStep}
 use Rattle.h3_memory.specs.Theorem.{RunsWithMemory}
 use Rattle.h3_strict.specs.PlainEnds.{Alike, Judges, RefusesMalformed as RefusedSo, StepsPlainly, is_malformed_refusal, judges, plain_ends, plain_setup}
 use Rattle.h3_faithful.specs.Faithful.{is_without_fault}
-use Rattle.h3_faithful.specs.Steps.{HappensAnywhere, RunsUntilFault, is_send}
+use Rattle.h3_faithful.specs.Steps.{HappensAnywhere, RunsUntilFault, StandsAnywhere, is_send}
 use Rattle.h3_faithful.proofs.Accounts.{MemoryMoves}
 use Rattle.h3_faithful.proofs.AnyPull.{StepLaws, plain_step}
 use Rattle.h3_faithful.proofs.AnyStep.{any_step}
@@ -91,6 +90,23 @@ module _ (laws : RunLaws) (setup : Setup) (made : IsMadeSetup setup) where
   ran (suc n) k ends [] (a ∷ answers) last stands quiet sendable run none = absurd run
   ran (suc n) k ends (e ∷ events) [] last stands quiet sendable run none = absurd run
 
+  -- all of it, where there is no fault
+  record RanAll (k : KeepingWorld) (events : List Event) (answers : List Answer) (last : Ends) : Type 0 where
+    world : KeepingWorld
+    run : Run (HappensAnywhere setup) k events answers world
+    stands : StandsKeeping (plain_setup setup) world (plain_ends last)
+
+  ran_all : (k : KeepingWorld) (ends : Ends) (events : List Event) (answers : List Answer) (last : Ends) → StandsKeeping ps k (plain_ends ends) → QuietSides setup ends → AllByRecursion (IsSendable setup) events
+      → EndsRun ends events answers last → list_any is_connection_fault answers ≡ false → RanAll k events answers last
+  ran_all k ends [] [] last stands quiet sendable run none = record { world = k; run = refl; stands = subst (λ x. StandsKeeping ps k (plain_ends x)) (sym run) stands }
+  ran_all k ends (e ∷ events) (a ∷ answers) last stands quiet sendable run none =
+      let faultless = neither (is_connection_fault a) (list_any is_connection_fault answers) none in
+      let on = any_step laws.steps laws.moves setup made k ends stands run.0 e a sendable.0 (refuses_plainly laws.quiet setup ends e quiet) run.1 faultless.0 in
+      let r = ran_all on.after run.0 events answers last on.stands (quiet_step laws.quiet setup ends run.0 e a quiet run.1) sendable.1 run.2 faultless.1 in
+      record { world = r.world; run = (on.after, on.happens, r.run); stands = r.stands }
+  ran_all k ends [] (a ∷ answers) last stands quiet sendable run none = absurd run
+  ran_all k ends (e ∷ events) [] last stands quiet sendable run none = absurd run
+
   -- An event that judges nothing finds no fault.
   unjudged_faultless : (k : KeepingWorld) (ends new : Ends) (e : Event) (a : Answer) → StandsKeeping ps k (plain_ends ends) → IsSendable setup e → EndsStep ends e a new
       → (judges ends e ≡ true → is_connection_fault (answered ends e).0 ≡ false) → is_connection_fault a ≡ false
@@ -135,3 +151,10 @@ module _ (laws : RunLaws) (setup : Setup) (made : IsMadeSetup setup) where
     where
       front : (n : ℕ) → is_without_fault n answers → RanTo setup first n events answers ends
       front n none = ran n first (new_ends setup) events answers ends new_stand (new_quiet laws.quiet setup) sendable run none
+
+  -- **And where they stand at the end.**
+  pub stands_at_the_end : (events : List Event) (answers : List Answer) (ends : Ends) → AllByRecursion (IsSendable setup) events → EndsRun (new_ends setup) events answers ends → list_any is_connection_fault answers ≡ false
+      → StandsAnywhere setup events answers ends
+  stands_at_the_end events answers ends sendable run none =
+      let r = ran_all first (new_ends setup) events answers ends new_stand (new_quiet laws.quiet setup) sendable run none in
+      record { runs = record { world = r.world; run = r.run }; stands = r.stands }

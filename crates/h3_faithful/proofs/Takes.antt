@@ -13,7 +13,7 @@ use Rattle.h3_world.specs.World.{Party}
 use Rattle.h3_headline.specs.Contents.{contents, has_end}
 use Rattle.h3_headline.specs.Messages.{MessageContent}
 use Rattle.h3_headline.specs.Messages.MessageContent.{Byte}
-use Rattle.h3_faithful.specs.Sends.{awaits_head, is_between, is_head, is_trailer}
+use Rattle.h3_faithful.specs.Sends.{awaits_head, is_between, is_head_section, is_trailer_section}
 
 -- tests and their parts
 pub none_of : (a b : Bool) → (a || b) ≡ false → (a ≡ false) × (b ≡ false)
@@ -67,7 +67,7 @@ not_end : (before : Option Part) → is_before_head before ≡ true → (is_in_b
 not_end before h (inl body) = not_in_body before h body
 not_end before h (inr trailer) = not_trailer before h trailer
 
-unsent : (p : Party) (before : Option Part) (n : ℕ) (parts : List Part) → is_before_head before ≡ true → AreSent p before n parts → list_any is_head (contents parts) ≡ false → is_unsent (flat_map own_part parts) ≡ true
+unsent : (p : Party) (before : Option Part) (n : ℕ) (parts : List Part) → is_before_head before ≡ true → AreSent p before n parts → list_any is_head_section (contents parts) ≡ false → is_unsent (flat_map own_part parts) ≡ true
 unsent p before n [] first h none = refl
 unsent p before n (Interim s ∷ parts) first h none = unsent p (Some (Interim s)) _ parts refl h.2 none
 unsent p before n (Head s ∷ parts) first h none = absurd (cc)
@@ -76,7 +76,7 @@ unsent p before n (Trailer s ∷ parts) first h none = absurd (not_in_body befor
 unsent p before n (End ∷ parts) first h none = absurd (not_end before first h.0)
 
 -- behind a header section none may come
-sent_head : (parts : List Part) → list_any is_head (contents parts) ≡ true → is_unsent (flat_map own_part parts) ≡ false
+sent_head : (parts : List Part) → list_any is_head_section (contents parts) ≡ true → is_unsent (flat_map own_part parts) ≡ false
 sent_head [] h = cc
 sent_head (Interim s ∷ parts) h = sent_head parts h
 sent_head (Head s ∷ parts) h = refl
@@ -85,11 +85,11 @@ sent_head (Trailer s ∷ parts) h = refl
 sent_head (End ∷ parts) h = sent_head parts h
 
 -- without a trailer the last part is none
-behind_bytes : (bytes : List ℕ) (rest : List MessageContent) → list_any is_trailer (map Byte bytes ++ rest) ≡ false → list_any is_trailer rest ≡ false
+behind_bytes : (bytes : List ℕ) (rest : List MessageContent) → list_any is_trailer_section (map Byte bytes ++ rest) ≡ false → list_any is_trailer_section rest ≡ false
 behind_bytes [] rest h = h
 behind_bytes (b ∷ bytes) rest h = behind_bytes bytes rest h
 
-no_trailer : (parts : List Part) → list_any is_trailer (contents parts) ≡ false → list_any own.is_trailer (flat_map own_part parts) ≡ false
+no_trailer : (parts : List Part) → list_any is_trailer_section (contents parts) ≡ false → list_any own.is_trailer (flat_map own_part parts) ≡ false
 no_trailer [] h = refl
 no_trailer (Interim s ∷ parts) h = no_trailer parts h
 no_trailer (Head s ∷ parts) h = no_trailer parts h
@@ -105,16 +105,16 @@ last_none (p ∷ q ∷ ps) h = last_none (q ∷ ps) (none_of (own.is_trailer p) 
 -- **What comes next is taken.**
 pub takes_head_next : (p : Party) (f : Flow) → IsSoundFlow p f → f.is_reset ≡ false → has_end f.sent ≡ false → awaits_head (contents f.sent) ≡ true → takes_head (outgoing_of f) ≡ true
 takes_head_next p f sound live goes awaits =
-    both_hold (is_unended (outgoing_of f)) (is_unsent (flat_map own_part f.sent)) (unended f live goes) (unsent p None 0 f.sent refl sound.sent (opposite (list_any is_head (contents f.sent)) awaits))
+    both_hold (is_unended (outgoing_of f)) (is_unsent (flat_map own_part f.sent)) (unended f live goes) (unsent p None 0 f.sent refl sound.sent (opposite (list_any is_head_section (contents f.sent)) awaits))
 
 pub takes_body_next : (f : Flow) → f.is_reset ≡ false → has_end f.sent ≡ false → is_between (contents f.sent) ≡ true → takes_body (outgoing_of f) ≡ true
 takes_body_next f live goes between =
     let parts : List OwnPart = flat_map own_part f.sent in
-    let is = both_of (list_any is_head (contents f.sent)) (not (list_any is_trailer (contents f.sent))) between in
-    let none = last_none parts (no_trailer f.sent (opposite (list_any is_trailer (contents f.sent)) is.1)) in
+    let is = both_of (list_any is_head_section (contents f.sent)) (not (list_any is_trailer_section (contents f.sent))) between in
+    let none = last_none parts (no_trailer f.sent (opposite (list_any is_trailer_section (contents f.sent)) is.1)) in
     ap (λ b. b && not (is_unsent parts) && not (last_is_trailer parts)) (unended f live goes) ∙ ap (λ u. not u && not (last_is_trailer parts)) (sent_head f.sent is.0) ∙ ap not none
 
-pub takes_end_next : (f : Flow) → f.is_reset ≡ false → has_end f.sent ≡ false → list_any is_head (contents f.sent) ≡ true → takes_end (outgoing_of f) ≡ true
+pub takes_end_next : (f : Flow) → f.is_reset ≡ false → has_end f.sent ≡ false → list_any is_head_section (contents f.sent) ≡ true → takes_end (outgoing_of f) ≡ true
 takes_end_next f live goes head =
     let parts : List OwnPart = flat_map own_part f.sent in
     ap (λ b. b && not (is_unsent parts)) (unended f live goes) ∙ ap not (sent_head f.sent head)

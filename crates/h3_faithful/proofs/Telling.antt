@@ -26,7 +26,7 @@ use Rattle.h3_world.specs.declared.event.Answer.{Answer}
 use Rattle.h3_world.specs.declared.event.Answer.TheVariants as answer
 use Rattle.h3_world.specs.declared.event.Event.{Event}
 use Rattle.h3_world.specs.declared.event.Event.TheVariants as event
-use Rattle.h3_world.specs.declared.setup.Setup.{Setup}
+use Rattle.h3_world.specs.Setup.{Setup}
 use Rattle.h3_headline.specs.ChangeLaws as change
 use Rattle.h3_headline.specs.Changes.{StaysAs, StaysBy, goes_away, resets_on}
 use Rattle.h3_headline.specs.ComingLaws.{sound_flow}

@@ -8,12 +8,11 @@ use Rattle.h3_connection.specs.declared.event.Refusal.TheVariants as refusal
 use Rattle.h3_world.specs.Headline.{is_connection_fault}
 use Rattle.h3_world.specs.Lists.{pull_of}
 use Rattle.h3_world.specs.Pauses.{pause_of}
-use Rattle.h3_world.specs.Setup.{announced_at}
+use Rattle.h3_world.specs.Setup.{Setup, announced_at}
 use Rattle.h3_world.specs.declared.event.Answer.{Answer}
 use Rattle.h3_world.specs.declared.event.Answer.TheVariants as answer
 use Rattle.h3_world.specs.declared.event.Event.{Event}
 use Rattle.h3_world.specs.declared.event.Event.TheVariants as event
-use Rattle.h3_world.specs.declared.setup.Setup.{Setup}
 use Rattle.h3_headline.specs.Changes.{resets_on}
 use Rattle.h3_headline.specs.Exactly.{IsAllOf, IsExactly, reader_at}
 use Rattle.h3_headline.specs.Messages.{IsFrontOf, any_of, has_finished, has_pulled_end, is_on, pulled, sent}

@@ -11,12 +11,11 @@ use Rattle.h3_connection.specs.Announcing.{section_of}
 use Rattle.h3_connection.specs.OwnIds.{other}
 use Rattle.h3_connection.specs.Pulling.{is_for}
 use Rattle.h3_connection.specs.StrictConnection.{is_strict}
-use Rattle.h3_world.specs.Setup.{announced_at}
+use Rattle.h3_world.specs.Setup.{Setup, announced_at}
 use Rattle.h3_world.specs.declared.event.Answer.{Answer}
 use Rattle.h3_world.specs.declared.event.Answer.TheVariants as answer
 use Rattle.h3_world.specs.declared.event.Event.{Event}
 use Rattle.h3_world.specs.declared.event.Event.TheVariants as event
-use Rattle.h3_world.specs.declared.setup.Setup.{Setup}
 use Rattle.h3_headline.specs.Changes.{goes_away, resets_on}
 use Rattle.h3_headline.specs.Messages.{MessageContent, any_of, has_finished, is_on}
 use Rattle.h3_headline.specs.Messages.MessageContent.{FieldSection}
@@ -32,13 +31,13 @@ opens side id _ _ = false
 abbrev pub goes_on : Side → ℕ → List Event → List Answer → Bool
 goes_on side id events answers = any_of (opens side id) events answers && not (has_finished side id events answers) && not (any_of (resets_on side id) events answers)
 
-abbrev pub is_head : MessageContent → Bool
-is_head (FieldSection OfHead as_list fields) = true
-is_head _ = false
+abbrev pub is_head_section : MessageContent → Bool
+is_head_section (FieldSection OfHead as_list fields) = true
+is_head_section _ = false
 
-abbrev pub is_trailer : MessageContent → Bool
-is_trailer (FieldSection OfTrailer as_list fields) = true
-is_trailer _ = false
+abbrev pub is_trailer_section : MessageContent → Bool
+is_trailer_section (FieldSection OfTrailer as_list fields) = true
+is_trailer_section _ = false
 
 -- The other side takes a section of that size (RFC 9114, section 4.2.2).
 abbrev pub takes_size : Setup → Side → List Field → Bool
@@ -46,10 +45,10 @@ takes_size setup side fields = nat_le (section_size fields) (section_of (announc
 
 -- behind these contents a header section may come; and what stands between it and the trailer
 abbrev pub awaits_head : List MessageContent → Bool
-awaits_head before = not (list_any is_head before)
+awaits_head before = not (list_any is_head_section before)
 
 abbrev pub is_between : List MessageContent → Bool
-is_between before = list_any is_head before && not (list_any is_trailer before)
+is_between before = list_any is_head_section before && not (list_any is_trailer_section before)
 
 -- The event sends what is next on the side's stream, behind these contents, as the other side takes it.
 abbrev pub is_next : Setup → Side → ℕ → List MessageContent → Event → Bool
@@ -58,7 +57,7 @@ is_next setup side id before (event.Fields acting i fields) = is_on side id acti
 is_next setup side id before (event.Body acting i bytes) = is_on side id acting i && is_between before
 is_next setup side id before (event.Trailer acting i trailer) = is_on side id acting i && (is_between before && not (has_pseudo trailer) && takes_size setup side (head_fields trailer))
 is_next setup side id before (event.TrailerFields acting i fields) = is_on side id acting i && (is_between before && not (has_pseudo (head_of_fields fields)) && takes_size setup side fields)
-is_next setup side id before (event.Finish acting i) = is_on side id acting i && list_any is_head before
+is_next setup side id before (event.Finish acting i) = is_on side id acting i && list_any is_head_section before
 is_next setup side id before _ = false
 
 abbrev pub sends_list : Event → Bool

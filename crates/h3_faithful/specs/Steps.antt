@@ -6,6 +6,7 @@ use Rattle.h3_connection.specs.declared.event.Malformation.{Malformation}
 use Rattle.h3_connection.specs.declared.event.Pull.{Pull}
 use Rattle.h3_connection.specs.declared.event.Pull.TheVariants.{Fault}
 use Rattle.h3_connection.specs.declared.event.StreamFault.TheVariants.{Malformed}
+use Rattle.h3_world.specs.Ends.{Ends}
 use Rattle.h3_world.specs.Headline.{is_connection_fault, is_out_of_memory}
 use Rattle.h3_world.specs.Lists.{pull_of}
 use Rattle.h3_world.specs.Pulling.{settled}
@@ -15,11 +16,12 @@ use Rattle.h3_world.specs.declared.event.Answer.{Answer}
 use Rattle.h3_world.specs.declared.event.Answer.TheVariants as answer
 use Rattle.h3_world.specs.declared.event.Event.{Event}
 use Rattle.h3_world.specs.declared.event.Event.TheVariants as event
-use Rattle.h3_world.specs.declared.setup.Setup.{Setup}
+use Rattle.h3_world.specs.Setup.{Setup}
 use Rattle.h3_memory.specs.Kept.{KeepingWorld, caught_up, nothing_kept, with_kept}
+use Rattle.h3_memory.specs.Keeping.{StandsKeeping}
 use Rattle.h3_memory.specs.MemoryStep.{HappensWithMemory}
 use Rattle.h3_strict.specs.GivesUp.{GivesUp}
-use Rattle.h3_strict.specs.PlainEnds.{is_malformed_refusal, plain_setup}
+use Rattle.h3_strict.specs.PlainEnds.{is_malformed_refusal, plain_ends, plain_setup}
 use Rattle.h3_faithful.specs.Faithful.{asks_for_strict, is_without_fault}
 
 -- The side that sends asks for strict messages.
@@ -56,7 +58,7 @@ pub data HappensAnywhere (setup : Setup) (k : KeepingWorld) (e : Event) (a : Ans
   -- a pull gives the message up
   GivesMessageUp : PullsOn setup k e a new → HappensAnywhere setup k e a new
 
--- **The answers up to a fault of the connection are those of a run of such steps.**
+-- **The answers are those of a run of such steps.**
 pub record RunsAnywhere (setup : Setup) (events : List Event) (answers : List Answer) : Type 0 where
   pub world : KeepingWorld
   pub run : Run (HappensAnywhere setup) (nothing_kept (empty_world (plain_setup setup))) events answers world
@@ -70,7 +72,12 @@ is_send (event.TrailerFields side id fields) = true
 is_send (event.Finish side id) = true
 is_send _ = false
 
--- No send finds such a fault.
+-- So it is up to a fault of the connection, and no send finds such a fault.
 pub record RunsUntilFault (setup : Setup) (events : List Event) (answers : List Answer) : Type 0 where
   pub runs : (n : ℕ) → is_without_fault n answers → RunsAnywhere setup (take n events) (take n answers)
   pub sends : (n : ℕ) (e : Event) (a : Answer) (later : List Event) (others : List Answer) → is_without_fault n answers → drop n events ≡ e ∷ later → drop n answers ≡ a ∷ others → is_send e ≡ true → is_connection_fault a ≡ false
+
+-- Where there is none, these ends stand in the last world, with what they keep, as the same ends that judge plainly.
+pub record StandsAnywhere (setup : Setup) (events : List Event) (answers : List Answer) (ends : Ends) : Type 0 where
+  pub runs : RunsAnywhere setup events answers
+  pub stands : StandsKeeping (plain_setup setup) runs.world (plain_ends ends)

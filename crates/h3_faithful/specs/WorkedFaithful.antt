@@ -18,7 +18,7 @@ use Rattle.h3_world.specs.declared.event.Answer.TheVariants as answer
 use Rattle.h3_world.specs.declared.event.Event.{Event}
 use Rattle.h3_world.specs.declared.event.Event.TheVariants as event
 use Rattle.h3_world.specs.declared.lists.ListPull.TheVariants as list
-use Rattle.h3_world.specs.declared.setup.Setup.{Setup}
+use Rattle.h3_world.specs.Setup.{Setup}
 use Rattle.h3_headline.specs.Messages.{MessageContent, sent}
 use Rattle.h3_headline.specs.Messages.MessageContent.{Byte, FieldSection}
 use Rattle.h3_headline.specs.Messages.SectionKind.{OfHead, OfTrailer}

@@ -1,23 +1,25 @@
 //! The statement. This function does nothing: its contract is the law.
-ghost use Rattle.std.specs.List.{AllByRecursion};
-ghost use Rattle.std.specs.Prelude.{List};
+ghost use Rattle.std.specs.List.{AllByRecursion, list_any};
+ghost use Rattle.std.specs.Prelude.{◌≡◌, List, false};
 ghost use Rattle.h3_world.specs.Ends.{Ends, new_ends};
+ghost use Rattle.h3_world.specs.Headline.{is_connection_fault};
 ghost use Rattle.h3_world.specs.Sendable.{IsSendable};
-ghost use Rattle.h3_world.specs.Setup.{IsMadeSetup};
+ghost use Rattle.h3_world.specs.Setup.{IsMadeSetup, Setup};
 ghost use Rattle.h3_world.specs.declared.event.Answer.{Answer};
 ghost use Rattle.h3_world.specs.declared.event.Event.{Event};
-ghost use Rattle.h3_world.specs.declared.setup.Setup.{Setup};
 ghost use Rattle.h3_memory.specs.Refused.{EndsRun};
 ghost use Rattle.h3_faithful.specs.Faithful.{Faithful, UntilFault};
-ghost use Rattle.h3_faithful.specs.Steps.{RunsUntilFault};
+ghost use Rattle.h3_faithful.specs.Steps.{RunsUntilFault, StandsAnywhere};
 
 /// What a client and a server get of each other. It is so of every setup, over every schedule of events that may be sent, however both
 /// answer by the contracts of their calls, whichever allocations fail: up to a fault of the connection (`until_fault`), and the answers up
-/// to it are those of a run (`runs`). Between sides that both ask for strict messages, or both do not, there is no such fault (`faithful`),
-/// whatever they limit.
+/// to it are those of a run (`runs`), in whose last world both stand if there is none (`stands`). Between sides that both ask for strict
+/// messages, or both do not, there is no such fault (`faithful`), whatever they limit.
 pub fn each_side_gets_what_the_other_sent()
     ensures until_fault { (setup : Setup) (events : List Event) (answers : List Answer) (ends : Ends) → IsMadeSetup setup → AllByRecursion (IsSendable setup) events → EndsRun (new_ends setup) events answers ends → UntilFault setup events answers }
     ensures runs { (setup : Setup) (events : List Event) (answers : List Answer) (ends : Ends) → IsMadeSetup setup → AllByRecursion (IsSendable setup) events → EndsRun (new_ends setup) events answers ends → RunsUntilFault setup events answers }
+    ensures stands { (setup : Setup) (events : List Event) (answers : List Answer) (ends : Ends) → IsMadeSetup setup → AllByRecursion (IsSendable setup) events → EndsRun (new_ends setup) events answers ends →
+        list_any is_connection_fault answers ≡ false → StandsAnywhere setup events answers ends }
     ensures faithful { (setup : Setup) (events : List Event) (answers : List Answer) (ends : Ends) → IsMadeSetup setup → AllByRecursion (IsSendable setup) events → EndsRun (new_ends setup) events answers ends → Faithful setup events answers }
 {
     h3_connection::laws::tries_and_waiting_streams_are_bounded();

@@ -1,7 +1,7 @@
 -- A delivery of bytes, of the end or of the reset of a request stream happens in the world, and both ends stand in it after that.
 use Rattle.std.proofs.Common.{refl, ◌≡◌, Bool, true, false, if◌then◌else◌, sym, subst, ℕ, not, ◌||◌, ◌*◌, length, ap, ◌∙◌, Some, Option, ◌&&◌, None, ◌≤◌, nat_lt, arith, take, ◌<◌, ◌^◌}
 use Rattle.h3_proto.specs.declared.stream.Side.TheVariants.{Client, Server}
-use Rattle.h3_world.specs.declared.setup.Setup.{Setup}
+use Rattle.h3_world.specs.Setup.{Setup}
 use Rattle.h3_world.specs.declared.event.Answer.{Answer}
 use Rattle.h3_world.specs.declared.event.Answer.TheVariants as answer
 use Rattle.h3_world.specs.Ends.{Ends, done, end_at, with_end, answered, was_offered}

@@ -7,7 +7,7 @@ use Rattle.h3_connection.specs.Keeping.{arrives, read_arrival}
 use Rattle.h3_connection.specs.OwnIds.{other}
 use Rattle.h3_connection.specs.Outgoing.{Outgoing}
 use Rattle.h3_connection.specs.Sending.{advance, advance_at, order_after, take_at}
-use Rattle.h3_world.specs.declared.setup.Setup.{Setup}
+use Rattle.h3_world.specs.Setup.{Setup}
 use Rattle.h3_world.specs.World.{World}
 use Rattle.std.specs.Prelude.{◌||◌}
 use Rattle.h3_connection.specs.Arrivals.{stream_of}

@@ -2,12 +2,11 @@
 -- every schedule.
 use Rattle.std.proofs.Common.{◌≡◌, Bool, true, false, refl, List}
 use Rattle.h3_connection.specs.OwnIds.{is_own}
-use Rattle.h3_world.specs.declared.setup.Setup.{Setup}
 use Rattle.h3_world.specs.declared.event.Event.{Event}
 use Rattle.h3_world.specs.declared.event.Event.TheVariants as event
 use Rattle.h3_world.specs.Ends.{Ends, new_ends}
 use Rattle.h3_world.specs.Sendable.{IsSendable}
-use Rattle.h3_world.specs.Setup.{IsMadeSetup, JudgesPlainly}
+use Rattle.h3_world.specs.Setup.{IsMadeSetup, JudgesPlainly, Setup}
 use Rattle.h3_world.specs.World.{World, empty_world}
 use Rattle.std.specs.List.{AllByRecursion}
 use Rattle.h3_headline.proofs.DeliverEventLaws.{deliver_on, end_on, gone_on}

@@ -5,7 +5,6 @@ use Rattle.h3_world.specs.Ends.{Ends, answered, end_at, was_offered, with_end, d
 use Rattle.h3_world.specs.World.{World, party}
 use Rattle.std.proofs.Common.{◌≡◌, ◌*◌, [], length, refl, sym, subst, ℕ, Bool, true, ◌||◌, ap, ◌∙◌, nat_lt, not, if◌then◌else◌, take, ◌&&◌, false}
 use Rattle.h3_proto.specs.declared.stream.Side.TheVariants.{Client, Server}
-use Rattle.h3_world.specs.declared.setup.Setup.{Setup}
 use Rattle.h3_world.specs.declared.event.Answer.TheVariants as answer
 use Rattle.h3_proto.specs.declared.stream.Side.{Side}
 use Rattle.h3_connection.specs.OwnIds.{is_own, other}
@@ -19,7 +18,7 @@ use Rattle.h3_world.specs.Streams.{waiting, flow}
 use Rattle.h3_connection.specs.declared.event.Refusal.TheVariants as refusal
 use Rattle.h3_world.specs.Delivering.{delivered, delivered_message, delivered_own, is_closed, delivered_end, delivered_reset, reset_code}
 use Rattle.h3_world.specs.Machine.{served}
-use Rattle.h3_world.specs.Setup.{IsMadeSetup}
+use Rattle.h3_world.specs.Setup.{IsMadeSetup, Setup}
 use Rattle.std.specs.Prelude.{◌==◌, unwrap_or, option_map}
 use Rattle.h3_world.specs.Order.{is_finished}
 use Rattle.h3_headline.specs.Cited.{StreamLaws}

@@ -1,12 +1,11 @@
 -- After a delivery on an own stream, what both sides wrote is still what writers take, and the sections that were sent are as before.
-use Rattle.h3_world.specs.declared.setup.Setup.{Setup}
 use Rattle.h3_world.specs.Ends.{Ends}
 use Rattle.h3_world.specs.World.{World}
 use Rattle.std.proofs.Common.{ℕ, ◌≡◌, nat_lt, Bool, true, false, refl, sym, subst, not, ◌&&◌, if◌then◌else◌, ap, ◌∙◌, ◌||◌}
 use Rattle.h3_proto.specs.declared.stream.Side.{Side}
 use Rattle.h3_proto.specs.declared.stream.Side.TheVariants.{Client, Server}
 use Rattle.h3_world.specs.Delivering.{delivered_own, delivered_end, is_closed, delivered_reset}
-use Rattle.h3_world.specs.Setup.{IsMadeSetup}
+use Rattle.h3_world.specs.Setup.{IsMadeSetup, Setup}
 use Rattle.h3_connection.specs.OwnIds.{is_own}
 use Rattle.h3_world.specs.declared.event.Event.TheVariants as event
 use Rattle.h3_world.specs.Machine.{served}

@@ -1,7 +1,6 @@
 -- Over a whole run, what is handed out of a flow is a front of what is sent on it.
 use Rattle.std.proofs.Common.{ℕ, List, false, [], refl, ◌∷◌, sym, subst, ◌≡◌, ap, ap₂, Bool, true, None, ◌∙◌, arith}
 use Rattle.h3_proto.specs.declared.stream.Side.{Side}
-use Rattle.h3_world.specs.declared.setup.Setup.{Setup}
 use Rattle.h3_world.specs.declared.event.Event.{Event}
 use Rattle.h3_world.specs.declared.event.Answer.{Answer}
 use Rattle.h3_world.specs.Sound.{IsSoundWorld}
@@ -17,7 +16,7 @@ use Rattle.h3_proto.specs.StreamIds.{is_request_stream}
 use Rattle.h3_proto.specs.declared.stream.Side.TheVariants.{Client, Server}
 use Rattle.std.specs.Prelude.{map}
 use Rattle.h3_connection.specs.Announcing.{section_of}
-use Rattle.h3_world.specs.Setup.{announced_at}
+use Rattle.h3_world.specs.Setup.{Setup, announced_at}
 use Rattle.h3_world.specs.Order.{next_part}
 use Rattle.h3_headline.specs.Cited.{WorldLaws}
 use Rattle.h3_headline.specs.ContentLaws.{moves_then, stays}

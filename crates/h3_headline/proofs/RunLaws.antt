@@ -1,6 +1,6 @@
 -- Two endpoints that stand in a world stay in one over a whole schedule, where they do over each event.
 use Rattle.std.proofs.Common.{List, [], ◌∷◌, refl}
-use Rattle.h3_world.specs.declared.setup.Setup.{Setup}
+use Rattle.h3_world.specs.Setup.{Setup}
 use Rattle.h3_world.specs.declared.event.Event.{Event}
 use Rattle.h3_world.specs.Ends.{Ends, ends_after, answers_of_ends, answered}
 use Rattle.h3_world.specs.Headline.{Happens}

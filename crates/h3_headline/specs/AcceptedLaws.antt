@@ -10,7 +10,7 @@ use Rattle.h3_qpack.specs.EncoderHistory.{is_refused, EncoderHistory, encoder_af
 use Rattle.h3_qpack.specs.Instructions.{AreAccepted}
 use Rattle.h3_qpack.specs.Schedule.SessionEvent.{DecoderInstructionRead}
 use Rattle.h3_proto.specs.declared.stream.Side.{Side}
-use Rattle.h3_world.specs.declared.setup.Setup.{Setup}
+use Rattle.h3_world.specs.Setup.{Setup}
 use Rattle.h3_world.specs.Following.{HasSession, replies_left}
 use Rattle.h3_world.specs.World.{World, party}
 use Rattle.h3_qpack.specs.DecoderState.{decoder_after_all, DecoderState, decoder_after, inserting, greatest_capacity, insertion_of}

@@ -1,6 +1,6 @@
 -- Where two endpoints answer an event as the machine of the world does, the event happens in the world, and they stand in it after that.
 use Rattle.std.proofs.Common.{sym, subst}
-use Rattle.h3_world.specs.declared.setup.Setup.{Setup}
+use Rattle.h3_world.specs.Setup.{Setup}
 use Rattle.h3_world.specs.declared.event.Event.{Event}
 use Rattle.h3_world.specs.Ends.{Ends, answered}
 use Rattle.h3_world.specs.Headline.{Happens}

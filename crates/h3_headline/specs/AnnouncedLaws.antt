@@ -5,7 +5,7 @@ use Rattle.h3_proto.specs.Config.{announced, grease_pairs, own_pairs, table_pair
 use Rattle.h3_proto.specs.declared.config.Config.{Config}
 use Rattle.h3_proto.specs.declared.frame.SettingsError.TheVariants.{InvalidSettingValue}
 use Rattle.h3_connection.specs.declared.setup.Announced.{Announced}
-use Rattle.h3_world.specs.Setup.{IsMade, IsMadeSetup, announced_at}
+use Rattle.h3_world.specs.Setup.{IsMade, IsMadeSetup, Setup, announced_at}
 use Rattle.h3_world.specs.TakesLaws.{refusal_is}
 use Rattle.std.proofs.lemmas.Bool.{eqb-true, ne_eqb}
 use Rattle.std.specs.Prelude.{◌&&◌, ◌||◌, find, Option, Some, option_map}
@@ -26,7 +26,6 @@ use Rattle.h3_world.specs.Following.{opening}
 use Rattle.std.specs.Prelude.{unwrap_or}
 use Rattle.h3_proto.specs.ReceivedLaws.{announced_received_with_table}
 use Rattle.h3_proto.specs.declared.stream.Side.{Side}
-use Rattle.h3_world.specs.declared.setup.Setup.{Setup}
 use Rattle.h3_headline.specs.PeerStreams.{Announces, Parts}
 use Rattle.h3_headline.specs.Standing.{with_meaning}
 

@@ -8,7 +8,7 @@ use Rattle.h3_connection.specs.Endpoint.{EndpointHistory, Own, bytes_waiting}
 use Rattle.h3_connection.specs.OwnIds.{other}
 use Rattle.h3_connection.specs.Order.{default_precedence}
 use Rattle.h3_connection.specs.StreamSets.{HaveDistinctIds, stream_at}
-use Rattle.h3_world.specs.declared.setup.Setup.{Setup}
+use Rattle.h3_world.specs.Setup.{Setup}
 use Rattle.h3_world.specs.World.{World, party, Party}
 use Rattle.h3_world.specs.Streams.{flow, is_open}
 use Rattle.h3_world.specs.Order.{outgoing_of}

@@ -4,11 +4,10 @@ use Rattle.std.specs.Prelude.{◌&&◌, nat_lt, nat_le, length, if◌then◌else
 use Rattle.std.proofs.lemmas.Grind.{common_steps}
 use Rattle.h3_proto.specs.StreamIds.{is_request_stream, index_of}
 use Rattle.h3_proto.specs.declared.stream.Side.TheVariants.{Client, Server}
-use Rattle.h3_world.specs.declared.setup.Setup.{Setup}
 use Rattle.h3_world.specs.Streams.{is_open, exchange, flow}
 use Rattle.h3_world.specs.World.{empty_world, no_exchange}
 use Rattle.h3_proto.specs.declared.stream.Side.{Side}
-use Rattle.h3_world.specs.Setup.{JudgesPlainly, TakesAnyLength, announced_at}
+use Rattle.h3_world.specs.Setup.{JudgesPlainly, Setup, TakesAnyLength, announced_at}
 use Rattle.h3_connection.specs.OwnIds.{other}
 use Rattle.h3_connection.specs.PeerReading.{none_read}
 use Rattle.h3_connection.specs.Updates.{most_updates}

@@ -4,8 +4,7 @@ use Rattle.std.specs.List.{AllByRecursion}
 use Rattle.h3_proto.specs.declared.stream.Side.{Side}
 use Rattle.h3_connection.specs.Endpoint.{EndpointHistory, kind_of, is_critical_of, Own}
 use Rattle.h3_connection.specs.OwnIds.{other}
-use Rattle.h3_world.specs.declared.setup.Setup.{Setup}
-use Rattle.h3_world.specs.Setup.{announced_at, takes_any}
+use Rattle.h3_world.specs.Setup.{Setup, announced_at, takes_any}
 use Rattle.h3_world.specs.Streams.{flow}
 use Rattle.h3_world.specs.World.{World, party, Party}
 use Rattle.h3_proto.specs.declared.stream.Side.TheVariants.{Client}

@@ -14,7 +14,7 @@ use Rattle.h3_connection.specs.Refusals.{first_of}
 use Rattle.h3_connection.specs.StreamSets.{stream_at}
 use Rattle.h3_connection.specs.declared.event.Refusal.{Refusal}
 use Rattle.h3_connection.specs.declared.event.Refusal.TheVariants as refusal
-use Rattle.h3_world.specs.declared.setup.Setup.{Setup}
+use Rattle.h3_world.specs.Setup.{Setup}
 use Rattle.h3_world.specs.Order.{is_over}
 use Rattle.std.specs.List.{AllByRecursion}
 use Rattle.h3_connection.specs.declared.event.StreamFault.{StreamFault}

@@ -2,7 +2,6 @@
 use Rattle.std.proofs.Common.{◌≡◌, true, false, ℕ, [], refl, sym, subst, Option, Some, None, Bool, not, List, ◌∷◌, ap, ◌∙◌, ◌+◌, length, ◌++◌, MatchOption}
 use Rattle.h3_world.specs.Flow.{Flow, Part, flow_bytes}
 use Rattle.h3_proto.specs.declared.stream.Side.{Side}
-use Rattle.h3_world.specs.declared.setup.Setup.{Setup}
 use Rattle.h3_world.specs.Streams.{flow, with_flow, is_open, has_outgoing, waiting}
 use Rattle.h3_world.specs.World.{World, Party, with_party, party}
 use Rattle.h3_connection.specs.declared.event.Refusal.{Refusal}
@@ -22,7 +21,7 @@ use Rattle.h3_connection.specs.OwnIds.{control_id, decoder_id, encoder_id}
 use Rattle.h3_connection.specs.declared.setup.Limits.{Limits}
 use Rattle.h3_world.specs.Came.{settings_came}
 use Rattle.h3_world.specs.Delivering.{having_learned}
-use Rattle.h3_world.specs.Setup.{has_table}
+use Rattle.h3_world.specs.Setup.{Setup, has_table}
 use Rattle.h3_headline.specs.FlowLaws.{party-with_other}
 use Rattle.std.specs.Prelude.{if◌then◌else◌, ◌||◌, ◌&&◌, ◌==◌, nat_lt, is_some}
 use Rattle.h3_world.specs.Order.{outgoing_of, is_finished, is_sent_off, is_over, next_part}

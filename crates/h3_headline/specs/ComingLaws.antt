@@ -8,7 +8,7 @@ use Rattle.h3_world.specs.Sound.{IsSoundExchange, IsSoundFlow, IsSoundWorld}
 use Rattle.h3_proto.specs.StreamIds.{index_of, is_request_stream}
 use Rattle.h3_proto.specs.declared.stream.Side.{Side}
 use Rattle.h3_proto.specs.declared.stream.Side.TheVariants.{Client, Server}
-use Rattle.h3_world.specs.declared.setup.Setup.{Setup}
+use Rattle.h3_world.specs.Setup.{Setup}
 use Rattle.h3_connection.specs.Outgoing.{nothing_sent}
 use Rattle.h3_world.specs.Flow.{Flow, Part, own_part, part_bytes, flow_bytes}
 use Rattle.h3_world.specs.Order.{outgoing_of, is_end, last_part}

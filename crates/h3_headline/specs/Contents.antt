@@ -11,8 +11,7 @@ use Rattle.h3_world.specs.World.{World}
 use Rattle.h3_world.specs.declared.event.Answer.{Answer}
 use Rattle.h3_connection.specs.Announcing.{section_of}
 use Rattle.h3_connection.specs.OwnIds.{other}
-use Rattle.h3_world.specs.declared.setup.Setup.{Setup}
-use Rattle.h3_world.specs.Setup.{announced_at, flags_secrets}
+use Rattle.h3_world.specs.Setup.{Setup, announced_at, flags_secrets}
 use Rattle.h3_world.specs.declared.event.Event.{Event}
 use Rattle.h3_world.specs.Sound.{IsSoundWorld}
 use Rattle.h3_headline.specs.Exactly.{IsAllOf, IsExactly, Reader, as_listed}

@@ -8,7 +8,6 @@ use Rattle.h3_qpack.specs.DecodedSection.{Fields, Missing, decode_section}
 use Rattle.h3_qpack.specs.DecoderState.{DecoderState}
 use Rattle.h3_qpack.specs.Encodings.{IsWritten, IsDecoderAt}
 use Rattle.h3_proto.specs.declared.stream.Side.{Side}
-use Rattle.h3_world.specs.declared.setup.Setup.{Setup}
 use Rattle.h3_world.specs.Flow.{Section, Part, Flow}
 use Rattle.h3_world.specs.World.{World, party, Party}
 use Rattle.h3_world.specs.Came.{insertions_came}
@@ -16,7 +15,7 @@ use Rattle.h3_world.specs.Streams.{flow}
 use Rattle.h3_connection.specs.declared.setup.Announced.{Announced}
 use Rattle.h3_world.specs.Flow.Part.{Interim, Head, Body, Trailer, End}
 use Rattle.h3_world.specs.Order.{next_part}
-use Rattle.h3_world.specs.Setup.{announced_at, flags_secrets, takes_any}
+use Rattle.h3_world.specs.Setup.{Setup, announced_at, flags_secrets, takes_any}
 use Rattle.h3_world.specs.Sound.{IsSoundFlow}
 use Rattle.std.specs.List.{AllByRecursion}
 use Rattle.h3_headline.specs.Cited.{ListsAreTheirValue}

@@ -14,9 +14,8 @@ use Rattle.h3_field.specs.Field.{Field, section_size}
 use Rattle.h3_proto.specs.declared.stream.Side.{Side}
 use Rattle.h3_connection.specs.Endpoint.{first_decoder}
 use Rattle.h3_connection.specs.OwnIds.{other}
-use Rattle.h3_world.specs.declared.setup.Setup.{Setup}
 use Rattle.h3_world.specs.Came.{instructions_came}
-use Rattle.h3_world.specs.Setup.{announced_at}
+use Rattle.h3_world.specs.Setup.{Setup, announced_at}
 use Rattle.h3_world.specs.World.{World, party, Exchange}
 use Rattle.h3_qpack.specs.TableHistory.{table_of, table_state}
 use Rattle.std.specs.List.{AllByRecursion}

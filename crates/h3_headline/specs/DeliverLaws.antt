@@ -12,7 +12,7 @@ use Rattle.h3_proto.specs.declared.stream.Side.{Side}
 use Rattle.h3_connection.specs.Delivering.{opened, delivery_refusal, taken, closed_refusal, opened_at, with_incoming, incoming_at, with_end, end_at}
 use Rattle.h3_connection.specs.Outgoing.{Outgoing}
 use Rattle.h3_connection.specs.StreamSets.{stream_at, set_stream}
-use Rattle.h3_world.specs.declared.setup.Setup.{Setup}
+use Rattle.h3_world.specs.Setup.{Setup}
 use Rattle.h3_world.specs.World.{World, party}
 use Rattle.h3_world.specs.Streams.{flow, is_open, has_outgoing, waiting, with_flow}
 use Rattle.h3_world.specs.Order.{outgoing_of}

@@ -12,9 +12,8 @@ use Rattle.h3_connection.specs.Endpoint.{first_decoder}
 use Rattle.h3_connection.specs.OwnIds.{other}
 use Rattle.h3_connection.specs.StrictConnection.{is_strict}
 use Rattle.h3_connection.specs.declared.setup.Announced.{Announced}
-use Rattle.h3_world.specs.declared.setup.Setup.{Setup}
 use Rattle.h3_world.specs.Came.{settings_came}
-use Rattle.h3_world.specs.Setup.{IsMadeSetup, announced_at}
+use Rattle.h3_world.specs.Setup.{IsMadeSetup, Setup, announced_at}
 use Rattle.h3_world.specs.World.{World, party}
 use Rattle.h3_world.specs.Sound.{IsSoundParty}
 use Rattle.std.specs.List.{AllByRecursion}

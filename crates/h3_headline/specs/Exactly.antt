@@ -7,8 +7,7 @@ use Rattle.h3_proto.specs.declared.stream.Side.{Side}
 use Rattle.h3_connection.specs.Announcing.{section_of}
 use Rattle.h3_connection.specs.OwnIds.{other}
 use Rattle.h3_world.specs.Lists.{as_flagged}
-use Rattle.h3_world.specs.Setup.{announced_at, flags_secrets}
-use Rattle.h3_world.specs.declared.setup.Setup.{Setup}
+use Rattle.h3_world.specs.Setup.{Setup, announced_at, flags_secrets}
 use Rattle.h3_headline.specs.Messages.{MessageContent}
 use Rattle.h3_headline.specs.Messages.MessageContent.{Byte, FieldSection, TooLarge}
 

@@ -10,7 +10,6 @@ use Rattle.h3_proto.specs.declared.stream.Side.{Side}
 use Rattle.h3_connection.specs.Lasts.{last_id}
 use Rattle.h3_connection.specs.OwnIds.{other, is_own}
 use Rattle.h3_connection.specs.Pulling.{is_client}
-use Rattle.h3_world.specs.declared.setup.Setup.{Setup}
 use Rattle.h3_world.specs.Came.{goaways_came, insertions_came}
 use Rattle.h3_world.specs.Refusals.{next_id, open_refusal, head_refusal, fields_refusal, body_refusal, trailer_refusal, trailer_fields_refusal, finish_refusal, reset_refusal, cancel_refusal, goaway_refusal}
 use Rattle.h3_world.specs.World.{World, Party, with_party, party}
@@ -31,7 +30,7 @@ use Rattle.h3_world.specs.declared.event.Event.TheVariants as event
 use Rattle.h3_world.specs.declared.event.Answer.TheVariants as answer
 use Rattle.h3_world.specs.Order.{next_part}
 use Rattle.h3_world.specs.Pulling.{settled}
-use Rattle.h3_world.specs.Setup.{announced_at}
+use Rattle.h3_world.specs.Setup.{Setup, announced_at}
 use Rattle.std.proofs.Math.Nat.{div-add-mod}
 use Rattle.h3_world.specs.Ends.{Ends}
 use Rattle.h3_headline.specs.FlowLaws.{open_there, same_number}

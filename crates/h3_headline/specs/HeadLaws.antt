@@ -13,7 +13,6 @@ use Rattle.h3_connection.specs.StrictConnection.{begins_none_after}
 use Rattle.h3_connection.specs.Refusals.{is_too_large, first_of, refusal_of_head, refusal_of_trailer, unless_going}
 use Rattle.h3_connection.specs.Sending.{appended as part_appended, broken_head_at, counted, encoded, fields_cost, asked, head_part, does, content_of_own, known_of, saying_at, telling_at}
 use Rattle.h3_connection.specs.StreamSets.{stream_at}
-use Rattle.h3_world.specs.declared.setup.Setup.{Setup}
 use Rattle.h3_world.specs.declared.event.Answer.TheVariants as answer
 use Rattle.h3_world.specs.Ends.{Ends, end_at, answered}
 use Rattle.h3_world.specs.Flow.{Flow, Section, Part}
@@ -22,7 +21,7 @@ use Rattle.h3_world.specs.Sending.{appended, having_encoded, section_sent, with_
 use Rattle.h3_world.specs.Streams.{flow, is_open}
 use Rattle.h3_world.specs.World.{World, party, with_party}
 use Rattle.h3_world.specs.Came.{settings_known}
-use Rattle.h3_world.specs.Setup.{announced_at, IsPlain, takes_any}
+use Rattle.h3_world.specs.Setup.{Setup, announced_at, IsPlain, takes_any}
 use Rattle.std.specs.Prelude.{option_map, not, ◌&&◌, is_some, ◌||◌}
 use Rattle.h3_connection.specs.StrictMessages.{malformation_by}
 use Rattle.h3_connection.specs.StrictSending.{broken_protocol, violation_of_own_head, broken_trailer, unless_malformed, early_trailer}

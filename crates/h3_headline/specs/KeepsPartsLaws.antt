@@ -12,7 +12,7 @@ use Rattle.h3_connection.specs.OwnIds.{other, is_own}
 use Rattle.h3_connection.specs.declared.event.StreamFault.{StreamFault}
 use Rattle.h3_world.specs.Sending.{given_up}
 use Rattle.std.proofs.lemmas.Grind.{common_steps}
-use Rattle.h3_world.specs.declared.setup.Setup.{Setup}
+use Rattle.h3_world.specs.Setup.{Setup}
 use Rattle.h3_world.specs.Delivering.{delivered_own, further, having_listened, delivered_message, delivery, is_closed, may_end, delivered_end, end_delivery, delivered_reset, reset_delivery, reset_code}
 use Rattle.h3_connection.specs.declared.event.Refusal.TheVariants as refusal
 use Rattle.h3_world.specs.declared.event.Answer.TheVariants as answer

@@ -10,7 +10,7 @@ use Rattle.h3_connection.specs.LimitedReading.{listened_whole}
 use Rattle.h3_connection.specs.UnlimitedLaws.{decoder_unlimited}
 use Rattle.h3_connection.specs.Endpoint.{EndpointHistory, limit_of, goaway_encoding, is_second}
 use Rattle.h3_connection.specs.declared.setup.Announced.{Announced}
-use Rattle.h3_world.specs.Setup.{TakesAnyLength, has_table, announced_at}
+use Rattle.h3_world.specs.Setup.{Setup, TakesAnyLength, has_table, announced_at}
 use Rattle.std.proofs.lemmas.List.{take-append-drop}
 use Rattle.h3_field.specs.Instruction.{DecoderInstruction, decoder_bytes}
 use Rattle.h3_qpack.specs.Instructions.{AreAccepted}
@@ -28,7 +28,6 @@ use Rattle.h3_connection.specs.StrictConnectionLaws.{held_taken, known_missed}
 use Rattle.h3_connection.specs.PeerReading.{Peer, PeerFound, with_unread, read_peer}
 use Rattle.h3_connection.specs.Unidirectional.{Unidirectional}
 use Rattle.h3_connection.specs.Updates.{most_updates}
-use Rattle.h3_world.specs.declared.setup.Setup.{Setup}
 use Rattle.h3_world.specs.OwnStreams.{settings_bytes}
 use Rattle.std.proofs.lemmas.Grind.{common_steps}
 use Rattle.h3_connection.specs.Delivering.{heard_as, unless_second, with_unidirectional}

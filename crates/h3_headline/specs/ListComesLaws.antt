@@ -16,7 +16,6 @@ use Rattle.h3_connection.specs.OwnIds.{other}
 use Rattle.h3_connection.specs.StreamSets.{stream_at}
 use Rattle.h3_connection.specs.declared.event.Pull.{Pull}
 use Rattle.h3_connection.specs.declared.event.Pull.TheVariants as pull
-use Rattle.h3_world.specs.declared.setup.Setup.{Setup}
 use Rattle.h3_world.specs.Came.{insertions_came}
 use Rattle.h3_connection.specs.Coming.{decoded_fields, fields_behind, fields_in, fields_next, fields_of_kind, fields_there, next_section, section_in}
 use Rattle.h3_world.specs.Flow.{Flow, Part, Section, flow_bytes, part_bytes}
@@ -24,7 +23,7 @@ use Rattle.h3_world.specs.Flow.Part.{Interim, Head, Body, Trailer, End}
 use Rattle.h3_world.specs.Lists.{as_flagged}
 use Rattle.h3_world.specs.Order.{is_over, next_part, section_of_part}
 use Rattle.h3_world.specs.Pauses.{pause_before, section_pause}
-use Rattle.h3_world.specs.Setup.{IsMadeSetup, announced_at, flags_secrets}
+use Rattle.h3_world.specs.Setup.{IsMadeSetup, Setup, announced_at, flags_secrets}
 use Rattle.h3_world.specs.Sound.{IsSentSection, IsSoundFlow, IsSoundWorld}
 use Rattle.h3_world.specs.Streams.{flow, is_open}
 use Rattle.h3_world.specs.World.{Party, World, party}

@@ -16,8 +16,7 @@ use Rattle.h3_connection.specs.Endpoint.{EndpointHistory, is_second, first_decod
 use Rattle.h3_connection.specs.OwnIds.{other, encoder_id, decoder_id}
 use Rattle.h3_connection.specs.Unidirectional.{Unidirectional}
 use Rattle.h3_connection.specs.Unidirectional.Role.{Encoder, Untold, Decoder}
-use Rattle.h3_world.specs.declared.setup.Setup.{Setup}
-use Rattle.h3_world.specs.Setup.{TakesAnyLength, announced_at}
+use Rattle.h3_world.specs.Setup.{Setup, TakesAnyLength, announced_at}
 use Rattle.h3_qpack.specs.DecoderState.{DecoderState, decoder_after_all}
 use Rattle.h3_field.specs.InstructionAnswer.{IsReply}
 use Rattle.h3_qpack.specs.EncoderHistory.{encoder_after_all, EncoderHistory}

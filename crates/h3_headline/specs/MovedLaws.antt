@@ -3,7 +3,6 @@ use Rattle.std.proofs.Common.{◌≡◌, true, false, arith, ℕ, [], refl, sym,
 use Rattle.std.proofs.lemmas.Grind.{common_steps}
 use Rattle.h3_world.specs.Flow.{Flow, Part, Section, flow_bytes}
 use Rattle.h3_proto.specs.declared.stream.Side.{Side}
-use Rattle.h3_world.specs.declared.setup.Setup.{Setup}
 use Rattle.h3_world.specs.Streams.{flow, with_flow, is_open}
 use Rattle.h3_world.specs.World.{World, Party, with_party, party}
 use Rattle.h3_connection.specs.declared.event.Refusal.{Refusal}
@@ -35,7 +34,7 @@ use Rattle.h3_connection.specs.declared.event.Item.{Item}
 use Rattle.h3_connection.specs.declared.event.Item.TheVariants as item
 use Rattle.h3_connection.specs.declared.event.Pull.TheVariants as pull
 use Rattle.h3_world.specs.Items.{HasCome, handed_out, acknowledgment_of, after_item}
-use Rattle.h3_world.specs.Setup.{announced_at, takes_any}
+use Rattle.h3_world.specs.Setup.{Setup, announced_at, takes_any}
 use Rattle.h3_world.specs.Lists.{as_flagged, item_of, list_of, pull_of, unreadable}
 use Rattle.h3_world.specs.declared.lists.ListItem.{ListItem}
 use Rattle.h3_world.specs.declared.lists.ListItem.TheVariants as listed

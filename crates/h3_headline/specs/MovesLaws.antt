@@ -6,7 +6,7 @@ use Rattle.h3_connection.specs.StreamSetLaws.{set-here, set-other, set-distinct}
 use Rattle.h3_proto.specs.declared.stream.Side.{Side}
 use Rattle.h3_connection.specs.Endpoint.{EndpointHistory, Own}
 use Rattle.h3_connection.specs.OwnIds.{other}
-use Rattle.h3_world.specs.declared.setup.Setup.{Setup}
+use Rattle.h3_world.specs.Setup.{Setup}
 use Rattle.h3_world.specs.World.{World, party}
 use Rattle.h3_world.specs.Streams.{is_open, flow}
 use Rattle.h3_field.specs.Instruction.{DecoderInstruction}

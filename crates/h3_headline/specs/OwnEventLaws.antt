@@ -10,13 +10,12 @@ use Rattle.std.specs.Prelude.{◌==◌}
 use Rattle.h3_connection.specs.Endpoint.{EndpointHistory, Own}
 use Rattle.h3_connection.specs.declared.setup.Announced.{Announced}
 use Rattle.h3_connection.specs.StreamSets.{stream_at}
-use Rattle.h3_world.specs.declared.setup.Setup.{Setup}
 use Rattle.h3_world.specs.Order.{outgoing_of}
 use Rattle.std.proofs.lemmas.List.{length-drop}
 use Rattle.h3_connection.specs.Shown as shown
 use Rattle.h3_world.specs.Flow as flows
 use Rattle.h3_world.specs.OwnStreams.{control_stream, encoder_stream, decoder_stream}
-use Rattle.h3_world.specs.Setup.{announced_at, IsMadeSetup}
+use Rattle.h3_world.specs.Setup.{Setup, announced_at, IsMadeSetup}
 use Rattle.h3_connection.specs.declared.arrival.Arrival.TheVariants.{BytesCame}
 use Rattle.h3_connection.specs.Keeping.{arrives}
 use Rattle.h3_world.specs.Sound.{IsSoundWorld}

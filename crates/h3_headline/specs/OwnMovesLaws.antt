@@ -3,7 +3,6 @@ use Rattle.std.proofs.Common.{◌≡◌, ℕ, if◌then◌else◌, Some, None, s
 use Rattle.h3_proto.specs.declared.stream.Side.{Side}
 use Rattle.h3_connection.specs.Endpoint.{EndpointHistory, Own, first_decoder}
 use Rattle.h3_connection.specs.StreamSets.{stream_at, HaveDistinctIds, set_stream}
-use Rattle.h3_world.specs.declared.setup.Setup.{Setup}
 use Rattle.h3_world.specs.Order.{outgoing_of}
 use Rattle.h3_world.specs.Streams.{flow, is_open}
 use Rattle.h3_world.specs.World.{World, Party, party}
@@ -17,7 +16,7 @@ use Rattle.h3_proto.specs.declared.stream.Side.TheVariants.{Client, Server}
 use Rattle.h3_qpack.specs.WholeInstructions.{whole_in, rest_in}
 use Rattle.h3_connection.specs.StreamSetLaws.{set-here}
 use Rattle.h3_connection.specs.Unidirectional.Role.{Encoder, Decoder, Control}
-use Rattle.h3_world.specs.Setup.{announced_at}
+use Rattle.h3_world.specs.Setup.{Setup, announced_at}
 use Rattle.h3_qpack.specs.EncoderHistory.{EncoderHistory}
 use Rattle.h3_connection.specs.declared.setup.Limits.{Limits}
 use Rattle.h3_headline.specs.Arriving.{saying}

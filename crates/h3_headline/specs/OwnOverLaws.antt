@@ -1,7 +1,6 @@
 -- Bytes of an own stream go over: both endpoints stand in the world after that.
 use Rattle.h3_proto.specs.declared.stream.Side.{Side}
 use Rattle.h3_proto.specs.declared.stream.Side.TheVariants.{Client, Server}
-use Rattle.h3_world.specs.declared.setup.Setup.{Setup}
 use Rattle.h3_world.specs.Sound.{IsSoundWorld, IsSoundParty}
 use Rattle.h3_world.specs.World.{World, party, Party}
 use Rattle.std.proofs.Common.{◌≡◌, ℕ, Option, Some, None, ap, ◌∙◌, ◌+◌, ◌++◌, drop, flat_map, refl, ◌-◌, length, sym, subst, take, arith, Bool, true, false, if◌then◌else◌, List, ◌≤◌, []}
@@ -10,7 +9,7 @@ use Rattle.h3_connection.specs.OwnUpdates.{control_frames}
 use Rattle.h3_connection.specs.Updates.{most_updates}
 use Rattle.h3_connection.specs.Outgoing.{Outgoing, part_bytes_waiting}
 use Rattle.h3_connection.specs.StreamSets.{stream_at}
-use Rattle.h3_world.specs.Setup.{TakesAnyLength, announced_at, IsMadeSetup}
+use Rattle.h3_world.specs.Setup.{Setup, TakesAnyLength, announced_at, IsMadeSetup}
 use Rattle.h3_connection.specs.StrictConnection.{settings_refused}
 use Rattle.h3_connection.specs.OwnIds.{control_id, encoder_id, decoder_id, other}
 use Rattle.h3_connection.specs.declared.setup.Announced.{Announced}

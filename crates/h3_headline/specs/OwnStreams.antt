@@ -8,13 +8,12 @@ use Rattle.h3_connection.specs.Endpoint.{Own, EndpointHistory, bytes_waiting}
 use Rattle.h3_connection.specs.OwnUpdates.{control_frames}
 use Rattle.h3_connection.specs.OwnIds.{other, is_own, control_id, encoder_id, decoder_id}
 use Rattle.h3_connection.specs.StreamSets.{stream_at}
-use Rattle.h3_world.specs.declared.setup.Setup.{Setup}
 use Rattle.h3_qpack.specs.EncoderHistory.{encoder_after_all}
 use Rattle.h3_connection.specs.Control.{increment}
 use Rattle.h3_connection.specs.declared.setup.Limits.{Limits}
 use Rattle.h3_world.specs.Delivering.{having_learned, delivered_own}
 use Rattle.h3_qpack.specs.WholeInstructions.{decoder_instructions_in, insertions_in}
-use Rattle.h3_world.specs.Setup.{TakesAnyLength, announced_at}
+use Rattle.h3_world.specs.Setup.{Setup, TakesAnyLength, announced_at}
 use Rattle.h3_connection.specs.Sending.{own_advanced, advance}
 use Rattle.h3_proto.specs.declared.stream.Side.TheVariants.{Client, Server}
 use Rattle.h3_connection.specs.declared.event.Refusal.{Refusal}

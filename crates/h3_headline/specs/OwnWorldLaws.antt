@@ -3,7 +3,6 @@ use Rattle.std.proofs.Common.{◌≡◌, ℕ, refl, ◌-◌, ◌∙◌, ◌+◌,
 use Rattle.h3_proto.specs.declared.stream.Side.{Side}
 use Rattle.h3_proto.specs.declared.stream.Side.TheVariants.{Client, Server}
 use Rattle.h3_connection.specs.OwnIds.{other, control_id, encoder_id, decoder_id}
-use Rattle.h3_world.specs.declared.setup.Setup.{Setup}
 use Rattle.h3_world.specs.Delivering.{delivered_own, further, having_listened, having_learned}
 use Rattle.h3_world.specs.World.{World, party, with_party, Party}
 use Rattle.h3_connection.specs.Endpoint.{Own, EndpointHistory}
@@ -13,7 +12,7 @@ use Rattle.h3_connection.specs.Control.{increment}
 use Rattle.h3_field.specs.Instruction.EncoderInstruction.{SetCapacity}
 use Rattle.h3_qpack.specs.EncoderHistory.{using_table, encoder_after_all}
 use Rattle.h3_connection.specs.declared.setup.Limits.{Limits}
-use Rattle.h3_world.specs.Setup.{has_table}
+use Rattle.h3_world.specs.Setup.{Setup, has_table}
 use Rattle.h3_qpack.specs.WholeInstructions.{decoder_instructions_in}
 use Rattle.h3_headline.specs.Arriving.{saying}
 use Rattle.h3_headline.specs.FlowLaws.{flow-with_party, is_open-with_party}

@@ -17,9 +17,8 @@ use Rattle.h3_field.specs.Instruction.{DecoderInstruction, encoder_bytes}
 use Rattle.h3_qpack.specs.EncoderHistory.{using_table}
 use Rattle.h3_connection.specs.declared.setup.Limits.{Limits}
 use Rattle.h3_world.specs.Delivering.{having_learned, delivered_own}
-use Rattle.h3_world.specs.Setup.{has_table, IsMadeSetup, announced_at}
+use Rattle.h3_world.specs.Setup.{Setup, has_table, IsMadeSetup, announced_at}
 use Rattle.h3_world.specs.World.{Party, World, party}
-use Rattle.h3_world.specs.declared.setup.Setup.{Setup}
 use Rattle.h3_world.specs.Sound.{IsSoundWorld}
 use Rattle.h3_headline.specs.AcceptedLaws.{counts_all}
 use Rattle.h3_headline.specs.AnnouncedLaws.{announces_at}

@@ -5,7 +5,7 @@ use Rattle.h3_connection.specs.Endpoint.{EndpointHistory, kind_of}
 use Rattle.h3_connection.specs.Keeping.{pulls, pulls_behind}
 use Rattle.h3_connection.specs.Sending.{pull_at, pull_unless, pull_peer, pulled_unidirectional}
 use Rattle.h3_connection.specs.declared.event.Pull.TheVariants as pull
-use Rattle.h3_world.specs.declared.setup.Setup.{Setup}
+use Rattle.h3_world.specs.Setup.{Setup}
 use Rattle.h3_world.specs.World.{World, party}
 use Rattle.h3_connection.specs.Delivering.{with_unidirectional}
 use Rattle.h3_connection.specs.StreamSets.{stream_at}

@@ -27,12 +27,11 @@ use Rattle.h3_connection.specs.StrictConnection.{settings_refused}
 use Rattle.h3_connection.specs.Delivering.{with_unidirectional}
 use Rattle.h3_qpack.specs.EncoderHistory.{EncoderHistory, encoder_after_all, using_table}
 use Rattle.h3_connection.specs.declared.setup.Limits.{Limits}
-use Rattle.h3_world.specs.Setup.{TakesAnyLength, has_table, announced_at}
+use Rattle.h3_world.specs.Setup.{Setup, TakesAnyLength, has_table, announced_at}
 use Rattle.h3_field.specs.Instruction.EncoderInstruction.{SetCapacity}
 use Rattle.std.specs.List.{AllByRecursion}
 use Rattle.h3_field.specs.InstructionAnswer.{IsReply}
 use Rattle.h3_qpack.specs.Instructions.{AreAccepted}
-use Rattle.h3_world.specs.declared.setup.Setup.{Setup}
 use Rattle.h3_headline.specs.Standing.{AreGoaways, replies_unread, with_meaning}
 use Rattle.h3_wire.specs.declared.frame.kinds.FrameKinds.{FrameKinds}
 

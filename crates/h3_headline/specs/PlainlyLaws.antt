@@ -7,12 +7,11 @@ use Rattle.h3_field.specs.Secret.{guarded, is_secret}
 use Rattle.h3_proto.specs.declared.stream.Side.{Side}
 use Rattle.h3_world.specs.Lists.{as_flagged}
 use Rattle.h3_world.specs.Sendable.{IsSendable}
-use Rattle.h3_world.specs.Setup.{both_take_any}
+use Rattle.h3_world.specs.Setup.{Setup, both_take_any}
 use Rattle.h3_world.specs.declared.event.Answer.{Answer}
 use Rattle.h3_world.specs.declared.event.Answer.TheVariants as answer
 use Rattle.h3_world.specs.declared.event.Event.{Event}
 use Rattle.h3_world.specs.declared.event.Event.TheVariants as event
-use Rattle.h3_world.specs.declared.setup.Setup.{Setup}
 use Rattle.h3_headline.specs.Exactly.{IsAllOf, IsExactly, IsReadBack, Reader}
 use Rattle.h3_headline.specs.Messages.{Is, IsFrontOf, MessageContent, if_done, is_on, plainly, sent, sent_in, values_of}
 use Rattle.h3_headline.specs.Messages.MessageContent.{Byte, FieldSection, Foreign, TooLarge}

@@ -6,7 +6,6 @@ use Rattle.h3_connection.specs.Keeping.{pulls}
 use Rattle.h3_connection.specs.OwnIds.{other, decoder_id, control_id}
 use Rattle.h3_connection.specs.declared.event.Pull.{Pull}
 use Rattle.h3_connection.specs.declared.event.Pull.TheVariants as pull
-use Rattle.h3_world.specs.declared.setup.Setup.{Setup}
 use Rattle.h3_world.specs.declared.event.Event.TheVariants as event
 use Rattle.h3_world.specs.declared.event.Answer.TheVariants as answer
 use Rattle.h3_world.specs.Ends.{Ends, answered, end_at, was_pulled, with_end}
@@ -19,7 +18,7 @@ use Rattle.h3_world.specs.Order.{next_part, is_over}
 use Rattle.h3_world.specs.Pauses.{pause_before, pause_of, paused}
 use Rattle.h3_world.specs.Streams.{flow, is_open}
 use Rattle.h3_proto.specs.declared.stream.Side.TheVariants.{Client, Server}
-use Rattle.h3_world.specs.Setup.{announced_at, IsMadeSetup, JudgesPlainly}
+use Rattle.h3_world.specs.Setup.{Setup, announced_at, IsMadeSetup, JudgesPlainly}
 use Rattle.h3_world.specs.Shown.{streams_waiting, limits_shown, sizes_shown}
 use Rattle.h3_world.specs.Step.{IsWithinLimits}
 use Rattle.std.proofs.lemmas.Bool.{le-ltb}

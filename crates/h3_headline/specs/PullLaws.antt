@@ -26,8 +26,7 @@ use Rattle.h3_connection.specs.Keeping.{pulls, pulls_behind}
 use Rattle.h3_connection.specs.Pulling.{Pulled, pull_stream}
 use Rattle.h3_connection.specs.Sending.{pull_at, pull_unless, pull_request, pulled, if_too_many, after_answer}
 use Rattle.h3_connection.specs.StreamSets.{set_stream}
-use Rattle.h3_world.specs.declared.setup.Setup.{Setup}
-use Rattle.h3_world.specs.Setup.{announced_at, IsPlain}
+use Rattle.h3_world.specs.Setup.{Setup, announced_at, IsPlain}
 use Rattle.h3_world.specs.Came.{insertions_came}
 use Rattle.h3_world.specs.Machine.{count_waited_for}
 use Rattle.h3_world.specs.Sound.{IsSoundWorld}

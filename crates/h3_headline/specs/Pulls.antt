@@ -11,7 +11,7 @@ use Rattle.h3_connection.specs.Endpoint.{EndpointHistory, Kind, Own, heads_waiti
 use Rattle.h3_connection.specs.Keeping.{pulls}
 use Rattle.h3_connection.specs.declared.event.Pull.{Pull}
 use Rattle.h3_connection.specs.declared.event.Pull.TheVariants as pull
-use Rattle.h3_world.specs.declared.setup.Setup.{Setup}
+use Rattle.h3_world.specs.Setup.{Setup}
 use Rattle.h3_world.specs.Pulling.{Pulls, PausesExactly, pull_unidirectional, pull_unopened, fault_or}
 use Rattle.std.specs.Prelude.{not, ◌==◌}
 use Rattle.h3_connection.specs.declared.event.Item.TheVariants as item

@@ -1,6 +1,6 @@
 -- A run, cut at any place.
 use Rattle.std.specs.Prelude.{◌≡◌, List, ◌++◌}
-use Rattle.h3_world.specs.declared.setup.Setup.{Setup}
+use Rattle.h3_world.specs.Setup.{Setup}
 use Rattle.h3_world.specs.declared.event.Event.{Event}
 use Rattle.h3_world.specs.declared.event.Answer.{Answer}
 use Rattle.h3_world.specs.Headline.{Happens}

@@ -1,5 +1,5 @@
 -- Where a call of a sender is served, the event happens in the world, and both ends stand in it after that.
-use Rattle.h3_world.specs.declared.setup.Setup.{Setup}
+use Rattle.h3_world.specs.Setup.{Setup}
 use Rattle.h3_world.specs.declared.event.Answer.{Answer}
 use Rattle.h3_world.specs.Ends.{Ends, answered}
 use Rattle.h3_world.specs.World.{World}

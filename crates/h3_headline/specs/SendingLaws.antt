@@ -2,7 +2,7 @@
 use Rattle.h3_proto.specs.declared.stream.Side.{Side}
 use Rattle.h3_proto.specs.declared.stream.Side.TheVariants.{Client, Server}
 use Rattle.h3_connection.specs.OwnIds.{other}
-use Rattle.h3_world.specs.declared.setup.Setup.{Setup}
+use Rattle.h3_world.specs.Setup.{Setup}
 use Rattle.h3_world.specs.Ends.{Ends, end_at, with_end}
 use Rattle.h3_world.specs.World.{World, Party}
 use Rattle.std.proofs.Common.{◌*◌, ◌^◌, ◌≤◌, length, ◌≡◌, refl, sym, ap, ◌∙◌, subst, Option, Some, None, ℕ, Bool, true, false, List, ◌∷◌, if◌then◌else◌}

@@ -5,7 +5,6 @@ use Rattle.h3_proto.specs.declared.stream.Side.{Side}
 use Rattle.h3_proto.specs.declared.stream.Side.TheVariants.{Client, Server}
 use Rattle.h3_connection.specs.OwnIds.{other}
 use Rattle.h3_qpack.specs.EncoderHistory.{EncoderHistory}
-use Rattle.h3_world.specs.declared.setup.Setup.{Setup}
 use Rattle.h3_world.specs.Sound.{IsSoundWorld}
 use Rattle.h3_world.specs.World.{World, party}
 use Rattle.h3_field.specs.Field.{Field}
@@ -19,7 +18,7 @@ use Rattle.h3_header.specs.TakenLaws.{takes_named}
 use Rattle.h3_world.specs.Sendable.{IsSendableHead, IsSendableList, IsSendable}
 use Rattle.h3_world.specs.declared.event.Event.TheVariants as event
 use Rattle.h3_world.specs.Ends.{Ends}
-use Rattle.h3_world.specs.Setup.{IsMadeSetup, IsPlain, announced_at, both_take_any, takes_any}
+use Rattle.h3_world.specs.Setup.{IsMadeSetup, IsPlain, Setup, announced_at, both_take_any, takes_any}
 use Rattle.h3_headline.specs.Calls.{IsWritableAs, IsWritableHead}
 use Rattle.h3_headline.specs.CancelLaws.{cancel_served}
 use Rattle.h3_headline.specs.Cited.{Laws, ReadingLaws, StreamLaws}

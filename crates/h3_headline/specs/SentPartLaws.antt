@@ -13,7 +13,7 @@ use Rattle.h3_world.specs.Flow.Part.{Interim, Head, Body, Trailer, End}
 use Rattle.h3_world.specs.Order.{next_part, is_end, last_part, outgoing_of, section_of_part}
 use Rattle.h3_world.specs.Sound.{IsSoundFlow}
 use Rattle.h3_world.specs.World.{Party}
-use Rattle.h3_world.specs.declared.setup.Setup.{Setup}
+use Rattle.h3_world.specs.Setup.{Setup}
 use Rattle.h3_headline.specs.Arriving.{cut, made}
 use Rattle.h3_headline.specs.Calls.{Extends}
 use Rattle.h3_headline.specs.Standing.{IsReadable, ReceivesFlow, StandsBefore, WaitsIn, place_after, section_frame}

@@ -9,10 +9,9 @@ use Rattle.h3_qpack.specs.Encodings.{HasInsertions, IsDecoderAt, IsWritten}
 use Rattle.h3_qpack.specs.Exchange as exchange
 use Rattle.h3_qpack.specs.WholeInstructions.{whole_in}
 use Rattle.h3_connection.specs.OwnIds.{other}
-use Rattle.h3_world.specs.declared.setup.Setup.{Setup}
 use Rattle.h3_world.specs.Came.{settings_came, instructions_came, insertions_came}
 use Rattle.h3_world.specs.Following.{HasCapacity, as_encoded, EncodedSection, section_in, sections_in, sections_left, sections_on, undecoded, HasSession}
-use Rattle.h3_world.specs.Setup.{IsMadeSetup, announced_at, flags_secrets}
+use Rattle.h3_world.specs.Setup.{IsMadeSetup, Setup, announced_at, flags_secrets}
 use Rattle.h3_world.specs.Sound.{IsSoundParty, IsSentSection, IsSentPart, AreSent, IsSoundExchange, IsSoundWorld}
 use Rattle.h3_world.specs.World.{World, party, Party, Exchange, no_exchange}
 use Rattle.h3_qpack.specs.EncoderHistory.{EncoderHistory}

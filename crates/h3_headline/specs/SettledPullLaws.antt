@@ -12,7 +12,7 @@ use Rattle.h3_connection.specs.Keeping.{pulls, pulls_behind}
 use Rattle.h3_connection.specs.Pulling.{just, pull_stream, is_client}
 use Rattle.h3_connection.specs.Sending.{pull_at, pull_unless, pull_request, pulled, if_too_many, after_answer}
 use Rattle.h3_connection.specs.declared.event.Pull.{Pull}
-use Rattle.h3_world.specs.declared.setup.Setup.{Setup}
+use Rattle.h3_world.specs.Setup.{Setup}
 use Rattle.h3_world.specs.World.{World}
 use Rattle.h3_connection.specs.OwnIds.{other}
 use Rattle.h3_connection.specs.declared.event.Fault.TheVariants.{Stream}

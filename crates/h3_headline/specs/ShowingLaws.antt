@@ -10,8 +10,7 @@ use Rattle.h3_field.specs.Instruction.{EncoderInstruction, encoder_bytes}
 use Rattle.h3_qpack.specs.WholeInstructions.{whole_in}
 use Rattle.h3_connection.specs.Endpoint.{EndpointHistory, first_decoder}
 use Rattle.h3_connection.specs.OwnIds.{other}
-use Rattle.h3_world.specs.declared.setup.Setup.{Setup}
-use Rattle.h3_world.specs.Setup.{IsMadeSetup, announced_at}
+use Rattle.h3_world.specs.Setup.{IsMadeSetup, Setup, announced_at}
 use Rattle.h3_headline.specs.Cited.{StreamLaws}
 use Rattle.h3_world.specs.Came.{insertions_came}
 use Rattle.h3_proto.specs.StreamIds.{is_request_stream, index_of}

@@ -14,8 +14,7 @@ use Rattle.h3_connection.specs.OwnIds.{other, control_id, encoder_id, decoder_id
 use Rattle.h3_connection.specs.Unidirectional.{Unidirectional, Role, untold}
 use Rattle.h3_connection.specs.Unidirectional.Role.{Untold, Control, Encoder, Decoder}
 use Rattle.h3_proto.specs.declared.stream.Side.{Side}
-use Rattle.h3_world.specs.declared.setup.Setup.{Setup}
-use Rattle.h3_world.specs.Setup.{TakesAnyLength, announced_at, takes_any}
+use Rattle.h3_world.specs.Setup.{Setup, TakesAnyLength, announced_at, takes_any}
 use Rattle.h3_world.specs.OwnStreams.{settings_bytes}
 use Rattle.h3_qpack.specs.WholeInstructions.{rest_in, whole_in}
 use Rattle.h3_connection.specs.Endpoint.{goaway_encoding, EndpointHistory, Own, first_decoder}

@@ -4,7 +4,7 @@ use Rattle.h3_qpack.specs.DecoderState.{DecoderState}
 use Rattle.h3_table.specs.Table.{table}
 use Rattle.h3_proto.specs.declared.stream.Side.{Side}
 use Rattle.h3_connection.specs.OwnIds.{other}
-use Rattle.h3_world.specs.declared.setup.Setup.{Setup}
+use Rattle.h3_world.specs.Setup.{Setup}
 use Rattle.h3_world.specs.Came.{decoder_at, insertions_came}
 use Rattle.h3_world.specs.World.{World, party}
 

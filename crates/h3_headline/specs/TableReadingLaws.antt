@@ -12,10 +12,9 @@ use Rattle.h3_qpack.specs.WholeInstructions.{whole_in}
 use Rattle.h3_proto.specs.declared.stream.Side.{Side}
 use Rattle.h3_connection.specs.Endpoint.{first_decoder}
 use Rattle.h3_connection.specs.OwnIds.{other}
-use Rattle.h3_world.specs.declared.setup.Setup.{Setup}
 use Rattle.h3_world.specs.Came.{insertions_came, instructions_came}
 use Rattle.h3_world.specs.Following.{replies_left}
-use Rattle.h3_world.specs.Setup.{IsMadeSetup, announced_at}
+use Rattle.h3_world.specs.Setup.{IsMadeSetup, Setup, announced_at}
 use Rattle.h3_world.specs.Sound.{IsSoundWorld}
 use Rattle.h3_world.specs.World.{World, party}
 use Rattle.h3_headline.specs.AcceptedLaws.{accepted_front, replies_accepted}

@@ -12,8 +12,7 @@ use Rattle.h3_proto.specs.declared.stream.Side.{Side}
 use Rattle.h3_connection.specs.OwnIds.{other}
 use Rattle.h3_connection.specs.PeerReading.{Peer}
 use Rattle.h3_connection.specs.Unidirectional.{Unidirectional}
-use Rattle.h3_world.specs.declared.setup.Setup.{Setup}
-use Rattle.h3_world.specs.Setup.{announced_at}
+use Rattle.h3_world.specs.Setup.{Setup, announced_at}
 use Rattle.h3_world.specs.OwnStreams.{settings_bytes}
 use Rattle.h3_qpack.specs.DecoderState.{decoder_after_all}
 use Rattle.h3_connection.specs.Listeners.{Decoding}

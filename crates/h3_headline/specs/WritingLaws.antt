@@ -1,7 +1,6 @@
 -- A side writes on its own streams: both ends stand in the world after it.
 use Rattle.h3_proto.specs.declared.stream.Side.{Side}
 use Rattle.h3_proto.specs.declared.stream.Side.TheVariants.{Client, Server}
-use Rattle.h3_world.specs.declared.setup.Setup.{Setup}
 use Rattle.h3_world.specs.Sound.{IsSoundParty, IsSoundWorld}
 use Rattle.h3_world.specs.World.{World, party, Party, with_party}
 use Rattle.std.proofs.Common.{subst, ◌≡◌, refl, sym, ap, ◌∙◌, length, ℕ, Bool, true, false, if◌then◌else◌, Option, Some, None, nat_lt, ◌^◌, ◌<◌, ◌≤◌, [], ◌∷◌, ◌++◌}
@@ -25,7 +24,7 @@ use Rattle.h3_world.specs.Machine.{served}
 use Rattle.h3_world.specs.OwnStreams.{settings_bytes}
 use Rattle.h3_world.specs.Refusals.{goaway_refusal}
 use Rattle.h3_world.specs.Sending.{with_goaway}
-use Rattle.h3_world.specs.Setup.{announced_at}
+use Rattle.h3_world.specs.Setup.{Setup, announced_at}
 use Rattle.h3_headline.specs.Calls.{Both, Hears, Serves, with_goaways, with_own}
 use Rattle.h3_headline.specs.ControlStreamLaws.{goaways_then, last_of_none}
 use Rattle.h3_headline.specs.FlowLaws.{flow-with_party, is_open-with_party, other-other, party-with_other, party-with_party}

@@ -13,10 +13,9 @@ use Rattle.h3_connection.specs.Keeping.{arrives, arrives_behind, read_arrival}
 use Rattle.h3_connection.specs.OwnIds.{other, is_own}
 use Rattle.h3_connection.specs.Sending.{own_advanced}
 use Rattle.h3_connection.specs.StreamSets.{stream_at}
-use Rattle.h3_world.specs.declared.setup.Setup.{Setup}
 use Rattle.h3_world.specs.Delivering.{delivered_own, delivered_message, is_closed, reset_code}
 use Rattle.h3_world.specs.Flow.{Flow}
-use Rattle.h3_world.specs.Setup.{IsMadeSetup}
+use Rattle.h3_world.specs.Setup.{IsMadeSetup, Setup}
 use Rattle.h3_world.specs.World.{World, party, with_party}
 use Rattle.h3_headline.specs.Calls.{Both}
 use Rattle.h3_headline.specs.Cited.{Laws}

@@ -6,9 +6,8 @@ use Rattle.h3_connection.specs.declared.arrival.Arrival.{Arrival}
 use Rattle.h3_connection.specs.Endpoint.{EndpointHistory}
 use Rattle.h3_connection.specs.Keeping.{read_all, unkept, unless_faulty}
 use Rattle.h3_connection.specs.OwnIds.{other}
-use Rattle.h3_world.specs.declared.setup.Setup.{Setup}
 use Rattle.h3_world.specs.Ends.{Ends, end_at}
-use Rattle.h3_world.specs.Setup.{IsMadeSetup}
+use Rattle.h3_world.specs.Setup.{IsMadeSetup, Setup}
 use Rattle.h3_world.specs.World.{World}
 use Rattle.h3_headline.specs.Cited.{Laws}
 use Rattle.h3_memory.specs.Kept.{Delivery, Bytes, End, Reset, KeepingWorld, kept_at, read_delivery, read_deliveries}

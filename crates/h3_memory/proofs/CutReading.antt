@@ -10,7 +10,7 @@ use Rattle.h3_connection.specs.Incoming.{Incoming}
 use Rattle.h3_connection.specs.Outgoing.{Outgoing}
 use Rattle.h3_connection.specs.OwnIds.{other, control_id, encoder_id, decoder_id}
 use Rattle.h3_connection.specs.StreamSets.{Streams}
-use Rattle.h3_world.specs.declared.setup.Setup.{Setup}
+use Rattle.h3_world.specs.Setup.{Setup}
 use Rattle.h3_world.specs.Delivering.{is_closed}
 use Rattle.h3_world.specs.World.{World}
 use Rattle.h3_headline.specs.WaitingLaws.{self}

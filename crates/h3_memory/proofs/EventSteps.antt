@@ -3,8 +3,7 @@ use Rattle.std.proofs.Common.{ℕ}
 use Rattle.h3_proto.specs.declared.stream.Side.{Side}
 use Rattle.h3_world.specs.declared.event.Event.{Event}
 use Rattle.h3_world.specs.declared.event.Event.TheVariants as event
-use Rattle.h3_world.specs.Setup.{IsMadeSetup, JudgesPlainly}
-use Rattle.h3_world.specs.declared.setup.Setup.{Setup}
+use Rattle.h3_world.specs.Setup.{IsMadeSetup, JudgesPlainly, Setup}
 use Rattle.h3_headline.specs.Cited.{Laws}
 use Rattle.h3_memory.specs.Theorem.{StepsOn}
 use Rattle.h3_memory.proofs.KeptLaws.{KeptLaws}

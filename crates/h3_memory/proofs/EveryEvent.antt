@@ -4,12 +4,11 @@ use Rattle.std.proofs.Common.{List}
 use Rattle.std.specs.List.{AllByRecursion}
 use Rattle.h3_proto.specs.declared.stream.Side.{Side}
 use Rattle.h3_connection.specs.OwnIds.{other}
-use Rattle.h3_world.specs.declared.setup.Setup.{Setup}
 use Rattle.h3_world.specs.declared.event.Event.{Event}
 use Rattle.h3_world.specs.declared.event.Answer.{Answer}
 use Rattle.h3_world.specs.Ends.{Ends, new_ends}
 use Rattle.h3_world.specs.Sendable.{IsSendable}
-use Rattle.h3_world.specs.Setup.{IsMadeSetup, JudgesPlainly}
+use Rattle.h3_world.specs.Setup.{IsMadeSetup, JudgesPlainly, Setup}
 use Rattle.h3_headline.specs.BeginningLaws.{begins}
 use Rattle.h3_headline.specs.Cited.{Laws}
 use Rattle.h3_memory.specs.Refused.{EndsRun}

@@ -19,9 +19,8 @@ use Rattle.h3_connection.specs.StrictConnectionLaws.{front_missed, held_taken, r
 use Rattle.h3_connection.specs.declared.setup.Announced.{Announced}
 use Rattle.h3_connection.specs.Unidirectional.Role.{Control}
 use Rattle.h3_world.specs.Refused.{held_back}
-use Rattle.h3_world.specs.declared.setup.Setup.{Setup}
 use Rattle.h3_world.specs.Came.{settings_came}
-use Rattle.h3_world.specs.Setup.{IsMadeSetup, TakesAnyLength}
+use Rattle.h3_world.specs.Setup.{IsMadeSetup, Setup, TakesAnyLength}
 use Rattle.h3_world.specs.World.{World, party}
 use Rattle.h3_headline.specs.AnnouncedLaws.{announces_at}
 use Rattle.h3_headline.specs.Cited.{Laws}

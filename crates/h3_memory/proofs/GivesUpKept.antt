@@ -13,14 +13,13 @@ use Rattle.h3_world.specs.Items.{HasCome, acknowledgment_of, after_item, handed_
 use Rattle.h3_world.specs.Order.{next_part}
 use Rattle.h3_world.specs.Pulling.{PausesExactly, PullsNext, settled}
 use Rattle.h3_world.specs.Sending.{given_up}
-use Rattle.h3_world.specs.Setup.{announced_at}
+use Rattle.h3_world.specs.Setup.{Setup, announced_at}
 use Rattle.h3_world.specs.Sound.{IsSoundWorld}
 use Rattle.h3_world.specs.Step.{Step}
 use Rattle.h3_world.specs.Streams.{flow, is_open}
 use Rattle.h3_world.specs.World.{Party, World, party, with_party}
 use Rattle.h3_world.specs.declared.event.Answer.TheVariants as answer
 use Rattle.h3_world.specs.declared.event.Event.TheVariants as event
-use Rattle.h3_world.specs.declared.setup.Setup.{Setup}
 use Rattle.h3_headline.specs.FlowLaws.{flow-with_flow, open_there, there-with_party}
 use Rattle.h3_headline.specs.GoneLaws.{item_leaves}
 use Rattle.h3_headline.specs.SettledLaws.{settled_alive, settled_none}

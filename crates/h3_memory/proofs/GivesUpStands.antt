@@ -12,11 +12,10 @@ use Rattle.h3_connection.specs.declared.event.StreamFault.{StreamFault}
 use Rattle.h3_world.specs.Ends.{Ends, end_at, with_end}
 use Rattle.h3_world.specs.Pulling.{settled}
 use Rattle.h3_world.specs.Sending.{given_up}
-use Rattle.h3_world.specs.Setup.{IsMadeSetup}
+use Rattle.h3_world.specs.Setup.{IsMadeSetup, Setup}
 use Rattle.h3_world.specs.Order.{is_over}
 use Rattle.h3_world.specs.Streams.{flow, is_open}
 use Rattle.h3_world.specs.World.{World}
-use Rattle.h3_world.specs.declared.setup.Setup.{Setup}
 use Rattle.h3_headline.specs.CancelLaws.{given_up_stands}
 use Rattle.h3_headline.specs.Cited.{Laws}
 use Rattle.h3_headline.specs.ComingLaws.{incoming_none, incoming_there}

@@ -13,12 +13,11 @@ use Rattle.h3_connection.specs.Keeping.{arrives, read_all, unkept}
 use Rattle.h3_connection.specs.OwnIds.{other}
 use Rattle.h3_connection.specs.Sending.{advance}
 use Rattle.h3_connection.specs.Shown as shown
-use Rattle.h3_world.specs.declared.setup.Setup.{Setup}
 use Rattle.h3_world.specs.declared.event.Answer.{Answer}
 use Rattle.h3_world.specs.declared.event.Answer.TheVariants as answer
 use Rattle.h3_world.specs.Delivering.{delivered, is_closed}
 use Rattle.h3_world.specs.Ends.{Ends}
-use Rattle.h3_world.specs.Setup.{IsMadeSetup}
+use Rattle.h3_world.specs.Setup.{IsMadeSetup, Setup}
 use Rattle.h3_world.specs.Streams.{has_outgoing, waiting}
 use Rattle.h3_world.specs.World.{World}
 use Rattle.h3_headline.specs.Cited.{Laws}

@@ -13,12 +13,11 @@ use Rattle.h3_connection.specs.Keeping.{arrives, read_all, unkept}
 use Rattle.h3_connection.specs.Outgoing.{Outgoing}
 use Rattle.h3_connection.specs.OwnIds.{other, is_own}
 use Rattle.h3_connection.specs.Shown as shown
-use Rattle.h3_world.specs.declared.setup.Setup.{Setup}
 use Rattle.h3_world.specs.declared.event.Answer.TheVariants as answer
 use Rattle.h3_world.specs.Delivering.{delivered_end, delivered_reset, end_delivery, is_closed, may_end, reset_code, reset_delivery}
 use Rattle.h3_world.specs.Flow.{Flow, flow_bytes}
 use Rattle.h3_world.specs.Order.{is_end, is_finished, last_part, outgoing_of}
-use Rattle.h3_world.specs.Setup.{IsMadeSetup}
+use Rattle.h3_world.specs.Setup.{IsMadeSetup, Setup}
 use Rattle.h3_world.specs.Streams.{flow, is_open, has_outgoing, waiting}
 use Rattle.h3_world.specs.World.{World}
 use Rattle.h3_headline.specs.Cited.{Laws}

@@ -10,7 +10,7 @@ use Rattle.h3_connection.specs.OwnIds.{other, is_own, control_id, encoder_id, de
 use Rattle.h3_connection.specs.Sending.{advance, order_after, own_advanced, take_at}
 use Rattle.h3_connection.specs.StreamSets.{HaveDistinctIds, Streams, stream_at, set_stream}
 use Rattle.h3_connection.specs.declared.order.SendOrder.{SendOrder}
-use Rattle.h3_world.specs.declared.setup.Setup.{Setup}
+use Rattle.h3_world.specs.Setup.{Setup}
 use Rattle.h3_world.specs.Delivering.{is_closed}
 use Rattle.h3_world.specs.Streams.{is_open}
 use Rattle.h3_world.specs.World.{World}

@@ -5,7 +5,7 @@ use Rattle.h3_proto.specs.declared.stream.Side.TheVariants.{Client}
 use Rattle.h3_connection.specs.OwnIds.{other}
 use Rattle.h3_connection.specs.declared.event.Pull.{Pull}
 use Rattle.h3_connection.specs.declared.event.Refusal.{Refusal}
-use Rattle.h3_world.specs.declared.setup.Setup.{Setup}
+use Rattle.h3_world.specs.Setup.{Setup}
 use Rattle.h3_world.specs.declared.event.Event.{Event}
 use Rattle.h3_world.specs.declared.event.Event.TheVariants as event
 use Rattle.h3_world.specs.declared.event.Answer.{Answer}

@@ -15,8 +15,7 @@ use Rattle.h3_connection.specs.OwnIds.{other, encoder_id, decoder_id}
 use Rattle.h3_connection.specs.PartReading.{HearsPart, ListensPart}
 use Rattle.h3_connection.specs.StreamSets.{stream_at}
 use Rattle.h3_connection.specs.Unidirectional.Role.{Encoder, Decoder}
-use Rattle.h3_world.specs.declared.setup.Setup.{Setup}
-use Rattle.h3_world.specs.Setup.{IsMadeSetup, TakesAnyLength}
+use Rattle.h3_world.specs.Setup.{IsMadeSetup, Setup, TakesAnyLength}
 use Rattle.h3_world.specs.World.{World, party}
 use Rattle.h3_headline.specs.Cited.{Laws}
 use Rattle.h3_headline.specs.Standing.{StandsAt}

@@ -14,7 +14,7 @@ use Rattle.h3_connection.specs.StreamSets.{Streams, stream_at}
 use Rattle.h3_connection.specs.Unidirectional.{Unidirectional, untold}
 use Rattle.h3_connection.specs.Unidirectional.Role.{Untold, Decoder}
 use Rattle.h3_world.specs.Refused.{held_back, with_replies_held}
-use Rattle.h3_world.specs.declared.setup.Setup.{Setup}
+use Rattle.h3_world.specs.Setup.{Setup}
 use Rattle.h3_world.specs.Came.{settings_came}
 use Rattle.h3_world.specs.Flow.{Flow}
 use Rattle.h3_world.specs.Order.{outgoing_of}

@@ -18,9 +18,8 @@ use Rattle.h3_connection.specs.PartReading.{is_reader}
 use Rattle.h3_connection.specs.StreamSets.{Streams, stream_at}
 use Rattle.h3_connection.specs.Unidirectional.{role_after}
 use Rattle.h3_connection.specs.Unidirectional.Role.{Control, Encoder, Decoder}
-use Rattle.h3_world.specs.declared.setup.Setup.{Setup}
 use Rattle.h3_world.specs.OwnStreams.{settings_bytes}
-use Rattle.h3_world.specs.Setup.{IsMadeSetup, announced_at}
+use Rattle.h3_world.specs.Setup.{IsMadeSetup, Setup, announced_at}
 use Rattle.h3_world.specs.Streams.{is_open}
 use Rattle.h3_world.specs.World.{World, party}
 use Rattle.h3_headline.specs.Cited.{StreamLaws, Laws}

@@ -18,7 +18,7 @@ use Rattle.h3_connection.specs.StreamSets.{Streams, stream_at}
 use Rattle.h3_connection.specs.Unidirectional as unidirectional
 use Rattle.h3_connection.specs.Unidirectional.{Role, untold}
 use Rattle.h3_connection.specs.declared.setup.Announced.{Announced}
-use Rattle.h3_world.specs.declared.setup.Setup.{Setup}
+use Rattle.h3_world.specs.Setup.{Setup}
 use Rattle.h3_world.specs.Delivering.{is_closed}
 use Rattle.h3_world.specs.Flow as flows
 use Rattle.h3_world.specs.Flow.{Flow, flow_bytes}

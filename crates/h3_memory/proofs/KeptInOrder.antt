@@ -8,10 +8,9 @@ use Rattle.h3_connection.specs.Keeping.{settles, unkept}
 use Rattle.h3_connection.specs.OwnIds.{other}
 use Rattle.h3_connection.specs.Shown as shown
 use Rattle.h3_world.specs.Ends.{Ends, end_at}
-use Rattle.h3_world.specs.Setup.{IsMadeSetup}
+use Rattle.h3_world.specs.Setup.{IsMadeSetup, Setup}
 use Rattle.h3_world.specs.Streams.{has_outgoing}
 use Rattle.h3_world.specs.World.{World}
-use Rattle.h3_world.specs.declared.setup.Setup.{Setup}
 use Rattle.h3_headline.specs.Cited.{Laws}
 use Rattle.h3_headline.specs.DeliverLaws.{has_outgoing_is}
 use Rattle.h3_headline.specs.SendingLaws.{both_of}

@@ -8,7 +8,7 @@ use Rattle.h3_connection.specs.declared.arrival.Arrival.TheVariants.{BytesCame, 
 use Rattle.h3_connection.specs.Delivering.{closed_refusal}
 use Rattle.h3_connection.specs.Keeping.{refused_behind}
 use Rattle.h3_connection.specs.OwnIds.{other}
-use Rattle.h3_world.specs.declared.setup.Setup.{Setup}
+use Rattle.h3_world.specs.Setup.{Setup}
 use Rattle.h3_world.specs.Delivering.{is_closed, reset_code}
 use Rattle.h3_world.specs.World.{World}
 use Rattle.h3_memory.specs.Kept.{Delivery, Bytes, End, Reset, read_delivery, read_deliveries}

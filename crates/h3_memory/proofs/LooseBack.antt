@@ -9,7 +9,7 @@ use Rattle.h3_connection.specs.declared.arrival.Arrival.TheVariants.{BytesCame}
 use Rattle.h3_connection.specs.Endpoint.{EndpointHistory}
 use Rattle.h3_connection.specs.OwnIds.{other, control_id, decoder_id}
 use Rattle.h3_world.specs.Refused.{held_back}
-use Rattle.h3_world.specs.declared.setup.Setup.{Setup}
+use Rattle.h3_world.specs.Setup.{Setup}
 use Rattle.h3_world.specs.Came.{settings_came}
 use Rattle.h3_world.specs.World.{World, party}
 use Rattle.h3_headline.specs.FlowLaws.{other-other, same_number}

@@ -6,7 +6,7 @@ use Rattle.h3_field.specs.Field.{Field}
 use Rattle.h3_proto.specs.declared.stream.Side.{Side}
 use Rattle.h3_connection.specs.OwnIds.{other, is_own}
 use Rattle.h3_connection.specs.Sections.{own_instructions}
-use Rattle.h3_world.specs.declared.setup.Setup.{Setup}
+use Rattle.h3_world.specs.Setup.{Setup}
 use Rattle.h3_world.specs.declared.event.Answer.TheVariants as answer
 use Rattle.h3_world.specs.Delivering.{is_closed, may_end}
 use Rattle.h3_world.specs.Flow.{Flow, flow_bytes}

@@ -7,7 +7,7 @@ use Rattle.h3_proto.specs.declared.stream.Side.{Side}
 use Rattle.h3_proto.specs.declared.stream.Side.TheVariants.{Client, Server}
 use Rattle.h3_connection.specs.OwnIds.{other, is_own}
 use Rattle.h3_connection.specs.declared.event.Refusal.TheVariants as refusal
-use Rattle.h3_world.specs.declared.setup.Setup.{Setup}
+use Rattle.h3_world.specs.Setup.{Setup}
 use Rattle.h3_world.specs.declared.event.Event.{Event}
 use Rattle.h3_world.specs.declared.event.Event.TheVariants as event
 use Rattle.h3_world.specs.declared.event.Answer.{Answer}

@@ -8,11 +8,10 @@ use Rattle.h3_connection.specs.Control.{increment}
 use Rattle.h3_connection.specs.Endpoint.{Own}
 use Rattle.h3_connection.specs.OwnIds.{other, is_own, control_id, encoder_id, decoder_id}
 use Rattle.h3_connection.specs.Sending.{own_advanced}
-use Rattle.h3_world.specs.declared.setup.Setup.{Setup}
 use Rattle.h3_world.specs.Delivering.{delivered_own, is_closed}
 use Rattle.h3_world.specs.Flow.{Flow}
 use Rattle.h3_world.specs.Pulling.{own_delivered}
-use Rattle.h3_world.specs.Setup.{announced_at}
+use Rattle.h3_world.specs.Setup.{Setup, announced_at}
 use Rattle.h3_world.specs.Streams.{flow}
 use Rattle.h3_world.specs.World.{World, Party, party}
 use Rattle.h3_headline.specs.OwnEventLaws.{each_own}

@@ -8,8 +8,7 @@ use Rattle.h3_connection.specs.Keeping.{keeping}
 use Rattle.h3_connection.specs.OwnIds.{other}
 use Rattle.h3_connection.specs.PartReading as reading
 use Rattle.h3_connection.specs.PartReading.{MayRead, PeerReadsPart, ReadsOn, ReadsWhole, ReadsFront, Holds, ReadsFrames, Hears, Listens, after_frames, early}
-use Rattle.h3_world.specs.declared.setup.Setup.{Setup}
-use Rattle.h3_world.specs.Setup.{IsMadeSetup}
+use Rattle.h3_world.specs.Setup.{IsMadeSetup, Setup}
 use Rattle.h3_world.specs.World.{World}
 use Rattle.h3_headline.specs.Cited.{Laws}
 use Rattle.h3_memory.specs.Kept.{Delivery, ReadsPart, Stops}

@@ -8,7 +8,7 @@ use Rattle.h3_connection.specs.declared.arrival.Arrival.TheVariants.{BytesCame}
 use Rattle.h3_connection.specs.Endpoint.{EndpointHistory}
 use Rattle.h3_connection.specs.OwnIds.{other, is_own, control_id, encoder_id, decoder_id}
 use Rattle.h3_connection.specs.StreamSets.{HaveDistinctIds}
-use Rattle.h3_world.specs.declared.setup.Setup.{Setup}
+use Rattle.h3_world.specs.Setup.{Setup}
 use Rattle.h3_world.specs.Delivering.{is_closed}
 use Rattle.h3_world.specs.World.{World}
 use Rattle.h3_headline.specs.FlowLaws.{same_number}

@@ -5,7 +5,7 @@ use Rattle.h3_field.specs.Field.{Field}
 use Rattle.h3_proto.specs.declared.stream.Side.{Side}
 use Rattle.h3_connection.specs.OwnIds.{other, is_own}
 use Rattle.h3_connection.specs.declared.event.StreamFault.TheVariants as stream_fault
-use Rattle.h3_world.specs.declared.setup.Setup.{Setup}
+use Rattle.h3_world.specs.Setup.{Setup}
 use Rattle.h3_world.specs.Delivering.{delivered, delivered_own, delivered_message, delivered_reset, is_closed, reset_code}
 use Rattle.h3_world.specs.Flow.{Flow}
 use Rattle.h3_world.specs.Refused.{having_inserted_for, held_back, with_insertions, with_replies_held}

@@ -22,7 +22,7 @@ use Rattle.h3_world.specs.declared.event.Answer.TheVariants as answer
 use Rattle.h3_world.specs.declared.event.Event.{Event}
 use Rattle.h3_world.specs.declared.event.Event.TheVariants as event
 use Rattle.h3_world.specs.declared.lists.ListPull.TheVariants as list
-use Rattle.h3_world.specs.declared.setup.Setup.{Setup}
+use Rattle.h3_world.specs.Setup.{Setup}
 use Rattle.h3_headline.specs.Contents.{KeepsParts}
 use Rattle.h3_headline.specs.FlowLaws.{open_there}
 use Rattle.h3_headline.specs.KeepsPartsLaws.{keeps_delivery, keeps_end, keeps_flows, keeps_given_up, keeps_reset, keeps_same, keeps_with_party}

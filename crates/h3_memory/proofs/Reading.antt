@@ -6,7 +6,6 @@ use Rattle.h3_proto.specs.declared.stream.Side.{Side}
 use Rattle.h3_connection.specs.Endpoint.{Own}
 use Rattle.h3_connection.specs.OwnIds.{is_own, control_id, encoder_id, decoder_id}
 use Rattle.h3_connection.specs.declared.event.Refusal.TheVariants as refusal
-use Rattle.h3_world.specs.declared.setup.Setup.{Setup}
 use Rattle.h3_world.specs.declared.event.Answer.{Answer}
 use Rattle.h3_world.specs.declared.event.Answer.TheVariants as answer
 use Rattle.h3_world.specs.declared.event.Event.TheVariants as event
@@ -15,7 +14,7 @@ use Rattle.h3_world.specs.Flow.{Flow, flow_bytes, bytes_waiting}
 use Rattle.h3_world.specs.Order.{is_end, is_finished, last_part}
 use Rattle.h3_world.specs.OwnStreams.{control_stream, encoder_stream, decoder_stream}
 use Rattle.h3_world.specs.Pulling.{own_delivered}
-use Rattle.h3_world.specs.Setup.{announced_at}
+use Rattle.h3_world.specs.Setup.{Setup, announced_at}
 use Rattle.h3_world.specs.Sound.{IsSoundWorld}
 use Rattle.h3_world.specs.Streams.{flow, is_open, has_outgoing, waiting}
 use Rattle.h3_world.specs.World.{World, party}

@@ -8,7 +8,7 @@ use Rattle.h3_connection.specs.Endpoint.{EndpointHistory}
 use Rattle.h3_connection.specs.Incoming.{Incoming}
 use Rattle.h3_connection.specs.OwnIds.{other, control_id, decoder_id}
 use Rattle.h3_connection.specs.StreamSets.{Streams, HaveDistinctIds}
-use Rattle.h3_world.specs.declared.setup.Setup.{Setup}
+use Rattle.h3_world.specs.Setup.{Setup}
 use Rattle.h3_world.specs.Delivering.{is_closed}
 use Rattle.h3_world.specs.World.{World, party}
 use Rattle.h3_headline.specs.Standing.{StandsAt, are_settings_there}

@@ -7,7 +7,7 @@ use Rattle.h3_proto.specs.declared.stream.Side.TheVariants.{Client, Server}
 use Rattle.h3_connection.specs.OwnIds.{other, is_own, control_id, encoder_id, decoder_id}
 use Rattle.h3_connection.specs.declared.event.StreamFault.{StreamFault}
 use Rattle.h3_connection.specs.declared.event.StreamFault.TheVariants as stream_fault
-use Rattle.h3_world.specs.declared.setup.Setup.{Setup}
+use Rattle.h3_world.specs.Setup.{Setup}
 use Rattle.h3_world.specs.Delivering.{delivered, delivered_own, delivered_message, delivered_end, delivered_reset, is_closed, reset_code}
 use Rattle.h3_world.specs.Flow.{Flow}
 use Rattle.h3_world.specs.Pulling.{own_delivered}

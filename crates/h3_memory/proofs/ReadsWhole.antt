@@ -12,9 +12,8 @@ use Rattle.h3_connection.specs.Keeping.{read_arrival}
 use Rattle.h3_connection.specs.Outgoing.{Outgoing}
 use Rattle.h3_connection.specs.OwnIds.{other, is_own, control_id, decoder_id}
 use Rattle.h3_connection.specs.StreamSets.{HaveDistinctIds, Streams, stream_at}
-use Rattle.h3_world.specs.declared.setup.Setup.{Setup}
 use Rattle.h3_world.specs.Delivering.{is_closed, reset_code}
-use Rattle.h3_world.specs.Setup.{IsMadeSetup}
+use Rattle.h3_world.specs.Setup.{IsMadeSetup, Setup}
 use Rattle.h3_world.specs.Streams.{is_open}
 use Rattle.h3_world.specs.World.{World}
 use Rattle.h3_headline.specs.Cited.{Laws}

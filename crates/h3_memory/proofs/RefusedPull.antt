@@ -19,7 +19,7 @@ use Rattle.h3_connection.specs.PartReading.{HasNoSection, IsBetweenFrames, Resum
 use Rattle.h3_connection.specs.Skipping.{skipped}
 use Rattle.h3_connection.specs.StreamSets.{Streams, stream_at, set_stream}
 use Rattle.h3_connection.specs.StrictConnection.{kinds_of}
-use Rattle.h3_world.specs.declared.setup.Setup.{Setup}
+use Rattle.h3_world.specs.Setup.{Setup}
 use Rattle.h3_world.specs.Ends.{Ends, end_at, with_end}
 use Rattle.h3_world.specs.World.{World}
 use Rattle.h3_headline.specs.SendingLaws.{both_of}

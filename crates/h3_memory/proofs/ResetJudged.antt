@@ -12,7 +12,7 @@ use Rattle.h3_connection.specs.Sending.{closed_or}
 use Rattle.h3_connection.specs.Sending as sender
 use Rattle.h3_connection.specs.declared.event.Refusal.{Refusal}
 use Rattle.h3_connection.specs.declared.event.Refusal.TheVariants as refusal
-use Rattle.h3_world.specs.declared.setup.Setup.{Setup}
+use Rattle.h3_world.specs.Setup.{Setup}
 use Rattle.h3_world.specs.Ends.{Ends, end_at}
 use Rattle.h3_world.specs.Flow.{Flow, Part}
 use Rattle.h3_world.specs.Order.{outgoing_of}

@@ -4,7 +4,7 @@ use Rattle.std.specs.Prelude.{◌==◌}
 use Rattle.std.proofs.lemmas.Grind.{common_steps}
 use Rattle.h3_proto.specs.declared.stream.Side.{Side}
 use Rattle.h3_connection.specs.OwnIds.{is_own, control_id, encoder_id, decoder_id}
-use Rattle.h3_world.specs.declared.setup.Setup.{Setup}
+use Rattle.h3_world.specs.Setup.{Setup}
 use Rattle.h3_world.specs.Delivering.{is_closed}
 use Rattle.h3_world.specs.Flow.{Flow}
 use Rattle.h3_world.specs.Order.{is_finished}

@@ -11,7 +11,7 @@ use Rattle.h3_connection.specs.Sending as sender
 use Rattle.h3_connection.specs.StreamSets.{stream_at}
 use Rattle.h3_connection.specs.StreamSetLaws.{set-distinct}
 use Rattle.h3_connection.specs.declared.event.Refusal.{Refusal}
-use Rattle.h3_world.specs.declared.setup.Setup.{Setup}
+use Rattle.h3_world.specs.Setup.{Setup}
 use Rattle.h3_world.specs.declared.event.Event.TheVariants as event
 use Rattle.h3_world.specs.declared.event.Answer.{Answer}
 use Rattle.h3_world.specs.declared.event.Answer.TheVariants as answer

@@ -10,7 +10,7 @@ use Rattle.h3_world.specs.Sendable.{IsSendable}
 use Rattle.h3_world.specs.World.{empty_world}
 use Rattle.h3_world.specs.declared.event.Answer.{Answer}
 use Rattle.h3_world.specs.declared.event.Event.{Event}
-use Rattle.h3_world.specs.declared.setup.Setup.{Setup}
+use Rattle.h3_world.specs.Setup.{Setup}
 use Rattle.h3_headline.specs.Standing.{Stands}
 use Rattle.h3_memory.specs.Kept.{KeepingWorld, nothing_kept}
 use Rattle.h3_memory.specs.Keeping.{Held, StandsKeeping, held_of}

@@ -8,7 +8,7 @@ use Rattle.h3_connection.specs.Endpoint.{Own}
 use Rattle.h3_connection.specs.OwnIds.{other, control_id, encoder_id, decoder_id}
 use Rattle.h3_connection.specs.Sending.{own_advanced}
 use Rattle.h3_connection.specs.declared.event.StreamFault.{StreamFault}
-use Rattle.h3_world.specs.declared.setup.Setup.{Setup}
+use Rattle.h3_world.specs.Setup.{Setup}
 use Rattle.h3_world.specs.Flow.{Flow, part_bytes, flow_bytes}
 use Rattle.h3_world.specs.Order.{is_finished}
 use Rattle.h3_world.specs.Sending.{given_up}

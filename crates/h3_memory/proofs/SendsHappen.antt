@@ -18,7 +18,6 @@ use Rattle.h3_connection.specs.Shown.{peer_limits, table_sizes, waiting_heads}
 use Rattle.h3_connection.specs.declared.event.Refusal.{Refusal}
 use Rattle.h3_connection.specs.declared.event.Refusal.TheVariants as refusal
 use Rattle.h3_connection.specs.declared.setup.Announced.{Announced}
-use Rattle.h3_world.specs.declared.setup.Setup.{Setup}
 use Rattle.h3_world.specs.declared.event.Event.{Event}
 use Rattle.h3_world.specs.declared.event.Event.TheVariants as event
 use Rattle.h3_world.specs.declared.event.Answer.{Answer}
@@ -27,7 +26,7 @@ use Rattle.h3_world.specs.EndLists.{send_fields, send_trailer_fields}
 use Rattle.h3_world.specs.Ends.{Ends, end_at, answered, done}
 use Rattle.h3_world.specs.Refusals.{next_id}
 use Rattle.h3_world.specs.Sendable.{IsSendable}
-use Rattle.h3_world.specs.Setup.{IsMadeSetup, IsPlain, announced_at}
+use Rattle.h3_world.specs.Setup.{IsMadeSetup, IsPlain, Setup, announced_at}
 use Rattle.h3_world.specs.Step.{Step}
 use Rattle.h3_world.specs.Streams.{has_outgoing}
 use Rattle.h3_world.specs.World.{World}

@@ -19,7 +19,6 @@ use Rattle.h3_connection.specs.declared.event.Refusal.{Refusal}
 use Rattle.h3_connection.specs.declared.event.Refusal.TheVariants as refusal
 use Rattle.h3_connection.specs.declared.event.StreamFault.{StreamFault}
 use Rattle.h3_connection.specs.declared.event.StreamFault.TheVariants.{Canceled}
-use Rattle.h3_world.specs.declared.setup.Setup.{Setup}
 use Rattle.h3_world.specs.declared.event.Answer.{Answer}
 use Rattle.h3_world.specs.declared.event.Answer.TheVariants as answer
 use Rattle.h3_world.specs.Came.{settings_known}
@@ -28,7 +27,7 @@ use Rattle.h3_world.specs.Flow.Part.{Interim, Head, Body, Trailer, End}
 use Rattle.h3_world.specs.Order.{is_finished, is_over, outgoing_of}
 use Rattle.h3_world.specs.Refusals.{next_id, none_after, is_critical, open_refusal, head_refusal, fields_refusal, body_refusal, trailer_refusal, trailer_fields_refusal, finish_refusal, cancel_refusal, goaway_refusal}
 use Rattle.h3_world.specs.Lists.{unreadable}
-use Rattle.h3_world.specs.Setup.{announced_at, takes_any}
+use Rattle.h3_world.specs.Setup.{Setup, announced_at, takes_any}
 use Rattle.h3_world.specs.Sending.{appended, opened, having_encoded, section_sent, sent_head, sent_fields, sent_body, sent_trailer, sent_trailer_fields, finished, given_up, with_goaway}
 use Rattle.h3_world.specs.Step.{Does}
 use Rattle.h3_world.specs.Streams.{flow, with_flow, is_open}

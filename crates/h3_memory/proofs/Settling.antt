@@ -17,7 +17,7 @@ use Rattle.h3_connection.specs.declared.event.Item.TheVariants as item
 use Rattle.h3_connection.specs.declared.event.Pull.TheVariants as pull
 use Rattle.h3_connection.specs.declared.event.StreamFault.{StreamFault}
 use Rattle.h3_connection.specs.declared.event.StreamFault.TheVariants.{Reset}
-use Rattle.h3_world.specs.declared.setup.Setup.{Setup}
+use Rattle.h3_world.specs.Setup.{Setup}
 use Rattle.h3_world.specs.Delivering.{further, having_listened, delivered, delivered_own, delivered_message, delivered_reset, is_closed, reset_code}
 use Rattle.h3_world.specs.Flow.{Flow}
 use Rattle.h3_world.specs.Order.{is_over}

@@ -19,7 +19,7 @@ use Rattle.h3_connection.specs.StreamSetLaws.{set-here, set-same}
 use Rattle.h3_connection.specs.StreamSets.{Streams, stream_at}
 use Rattle.h3_connection.specs.Unidirectional.{Role, Unidirectional, role_after, untold, with_bytes}
 use Rattle.h3_connection.specs.Unidirectional.Role.{Untold, Control, Encoder, Decoder}
-use Rattle.h3_world.specs.declared.setup.Setup.{Setup}
+use Rattle.h3_world.specs.Setup.{Setup}
 use Rattle.h3_world.specs.World.{World, party}
 use Rattle.h3_headline.specs.Cited.{StreamLaws}
 use Rattle.h3_headline.specs.FlowLaws.{same_number}

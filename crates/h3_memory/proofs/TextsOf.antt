@@ -5,12 +5,11 @@ use Rattle.h3_proto.specs.StreamIds.{is_request_stream}
 use Rattle.h3_proto.specs.declared.stream.Side.{Side}
 use Rattle.h3_proto.specs.declared.stream.Side.TheVariants.{Client, Server}
 use Rattle.h3_connection.specs.OwnIds.{is_own, control_id, encoder_id, decoder_id}
-use Rattle.h3_world.specs.declared.setup.Setup.{Setup}
 use Rattle.h3_world.specs.Delivering.{is_closed}
 use Rattle.h3_world.specs.Flow.{flow_bytes}
 use Rattle.h3_world.specs.OwnStreams.{control_stream, encoder_stream, decoder_stream}
 use Rattle.h3_world.specs.Pulling.{own_delivered}
-use Rattle.h3_world.specs.Setup.{announced_at}
+use Rattle.h3_world.specs.Setup.{Setup, announced_at}
 use Rattle.h3_world.specs.Streams.{flow, is_open}
 use Rattle.h3_world.specs.World.{World, party}
 use Rattle.h3_headline.specs.FlowLaws.{same_number}

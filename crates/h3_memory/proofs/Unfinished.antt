@@ -18,9 +18,8 @@ use Rattle.h3_qpack.specs.WholeInstructions.{whole_in, rest_in, decoder_instruct
 use Rattle.h3_wire.specs.Fronts.{IsUnfinishedFront}
 use Rattle.h3_connection.specs.Endpoint.{goaway_encoding}
 use Rattle.h3_connection.specs.declared.setup.Announced.{Announced}
-use Rattle.h3_world.specs.declared.setup.Setup.{Setup}
 use Rattle.h3_world.specs.OwnStreams.{settings_bytes}
-use Rattle.h3_world.specs.Setup.{announced_at}
+use Rattle.h3_world.specs.Setup.{Setup, announced_at}
 use Rattle.h3_headline.specs.Cited.{StreamLaws}
 use Rattle.h3_headline.specs.ControlLaws.{length_settings}
 use Rattle.h3_headline.specs.ControlStreamLaws.{less_of, rest_unfinished, settings_wait}

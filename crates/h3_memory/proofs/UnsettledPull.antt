@@ -10,14 +10,13 @@ use Rattle.h3_connection.specs.Keeping.{pulls, pulls_behind, pulled_after, read_
 use Rattle.h3_connection.specs.OwnIds.{other}
 use Rattle.h3_connection.specs.Sending.{pull_at, pull_unless}
 use Rattle.h3_connection.specs.StreamSets.{HaveDistinctIds}
-use Rattle.h3_world.specs.declared.setup.Setup.{Setup}
 use Rattle.h3_world.specs.declared.event.Event.TheVariants as event
 use Rattle.h3_world.specs.declared.event.Answer.TheVariants as answer
 use Rattle.h3_connection.specs.Coming.{fields_behind, fields_item, fields_of_kind}
 use Rattle.h3_world.specs.Lists.{listed_pull}
 use Rattle.h3_world.specs.Pulling.{list_next}
 use Rattle.h3_world.specs.Ends.{Ends, end_at, with_end, answered}
-use Rattle.h3_world.specs.Setup.{IsMadeSetup, JudgesPlainly}
+use Rattle.h3_world.specs.Setup.{IsMadeSetup, JudgesPlainly, Setup}
 use Rattle.h3_world.specs.Step.{Step, IsExact}
 use Rattle.h3_world.specs.World.{World}
 use Rattle.h3_headline.specs.Cited.{Laws}

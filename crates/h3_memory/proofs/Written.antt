@@ -8,8 +8,7 @@ use Rattle.h3_proto.specs.declared.stream.Side.{Side}
 use Rattle.h3_proto.specs.declared.stream.Side.TheVariants.{Client, Server}
 use Rattle.h3_connection.specs.Endpoint.{Own, goaway_encoding}
 use Rattle.h3_connection.specs.OwnIds.{other, is_own, control_id, encoder_id, decoder_id}
-use Rattle.h3_world.specs.declared.setup.Setup.{Setup}
-use Rattle.h3_world.specs.Setup.{announced_at}
+use Rattle.h3_world.specs.Setup.{Setup, announced_at}
 use Rattle.h3_world.specs.Flow.{Flow, flow_bytes}
 use Rattle.h3_world.specs.Order.{is_finished}
 use Rattle.h3_world.specs.OwnStreams.{control_stream, encoder_stream, decoder_stream, settings_bytes}

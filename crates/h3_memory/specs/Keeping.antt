@@ -14,14 +14,13 @@ use Rattle.h3_connection.specs.PartReading.{Resumes}
 use Rattle.h3_connection.specs.PeerReading.{with_unread}
 use Rattle.h3_connection.specs.StreamSets.{HaveDistinctIds, Streams}
 use Rattle.h3_connection.specs.declared.setup.Announced.{Announced}
-use Rattle.h3_world.specs.declared.setup.Setup.{Setup}
 use Rattle.h3_world.specs.Delivering.{is_closed, reset_code}
 use Rattle.h3_world.specs.Ends.{Ends}
 use Rattle.h3_world.specs.Flow.{flow_bytes}
 use Rattle.h3_memory.specs.Kept.{Delivery, Bytes, End, Reset, KeepingWorld, kept_at}
 use Rattle.h3_world.specs.OwnStreams.{control_stream, encoder_stream, decoder_stream}
 use Rattle.h3_world.specs.Pulling.{own_delivered}
-use Rattle.h3_world.specs.Setup.{announced_at}
+use Rattle.h3_world.specs.Setup.{Setup, announced_at}
 use Rattle.h3_world.specs.Order.{is_finished}
 use Rattle.h3_world.specs.Streams.{flow, is_open, has_outgoing}
 use Rattle.h3_world.specs.World.{World, party}

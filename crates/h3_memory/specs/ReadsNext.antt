@@ -5,7 +5,7 @@ use Rattle.h3_connection.specs.declared.arrival.Arrival.{Arrival}
 use Rattle.h3_connection.specs.Endpoint.{EndpointHistory}
 use Rattle.h3_connection.specs.Keeping.{read_arrival, unkept}
 use Rattle.h3_world.specs.Ends.{Ends, end_at, with_end}
-use Rattle.h3_world.specs.declared.setup.Setup.{Setup}
+use Rattle.h3_world.specs.Setup.{Setup}
 use Rattle.h3_memory.specs.Kept.{KeepingWorld, caught_up}
 use Rattle.h3_memory.specs.Keeping.{StandsKeeping}
 

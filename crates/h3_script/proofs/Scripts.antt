@@ -7,7 +7,7 @@ use Rattle.h3_script.specs.Pieces.{begun, pieces, texts}
 use Rattle.h3_script.specs.ScriptLine.{is_skipped, SaysSetup, SaysEvent, Denies}
 use Rattle.h3_script.specs.Script.{lines_of, said, SayEvents, SaysSoFar, lines_length, IsScript, IsBeginning, IsRefused, TooFar, NoSetup, NoEvent, RefusesLine, At, Nothing, RefusesScript}
 use Rattle.h3_script.specs.LineErrors.{refusal_at}
-use Rattle.h3_world.specs.declared.setup.Setup.{Setup}
+use Rattle.h3_world.specs.Setup.{Setup}
 use Rattle.h3_world.specs.declared.event.Event.{Event}
 use Rattle.h3_script.specs.declared.error.LineError.{LineError}
 use Rattle.h3_script.specs.declared.error.LineError.TheVariants.{NoSuchLine, OutOfMemory}

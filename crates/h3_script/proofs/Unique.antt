@@ -16,7 +16,7 @@ use Rattle.h3_script.specs.HeadText.{IsResponse, IsRequest, HeadBy, is_status, I
 use Rattle.h3_script.specs.ScriptLine.{setup_of, side_event, number_event, deliver_event, number_by, deliver_by, short_event, SaysSection, SaysHead, SaysTrailer, IsBody, SaysEvent}
 use Rattle.h3_script.specs.BodyLine.{body_of}
 use Rattle.h3_script.specs.Script.{lines_of, said, SayEvents, SaysSoFar, IsScript}
-use Rattle.h3_world.specs.declared.setup.Setup.{Setup}
+use Rattle.h3_world.specs.Setup.{Setup}
 use Rattle.h3_world.specs.declared.event.Event.{Event}
 use Rattle.h3_world.specs.declared.event.Event.TheVariants as does
 use Rattle.h3_script.proofs.Fields.{fields_one}

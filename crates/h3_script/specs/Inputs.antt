@@ -3,7 +3,7 @@ use Rattle.std.specs.Prelude.{◌≡◌, ◌⊎◌, ℕ, ◌^◌, ◌≤◌, Lis
 use Rattle.std.specs.Io.KnownBytes.{Consumes, IsAtEnd, Appends}
 use Rattle.h3_script.specs.Lines.{refused_line}
 use Rattle.h3_script.specs.Script.{IsScript, RefusesLine}
-use Rattle.h3_world.specs.declared.setup.Setup.{Setup}
+use Rattle.h3_world.specs.Setup.{Setup}
 use Rattle.h3_world.specs.declared.event.Event.{Event}
 use Rattle.h3_script.specs.declared.input.Failure.{Failure}
 use Rattle.h3_script.specs.declared.input.Failure.TheVariants.{Lost, Line}

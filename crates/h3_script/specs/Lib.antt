@@ -1,5 +1,5 @@
 pub mod BodyLine
-pub mod Few
+pub mod Small
 pub mod HeadText
 pub mod Inputs
 pub mod LineErrors

@@ -3,7 +3,7 @@ use Rattle.std.specs.Prelude.{◌≡◌, ℕ, ◌+◌, ◌<◌, ◌≤◌, not, 
 use Rattle.std.specs.List.{filter}
 use Rattle.h3_script.specs.Pieces.{pieces}
 use Rattle.h3_script.specs.ScriptLine.{is_skipped, SaysSetup, SaysEvent}
-use Rattle.h3_world.specs.declared.setup.Setup.{Setup}
+use Rattle.h3_world.specs.Setup.{Setup}
 use Rattle.h3_world.specs.declared.event.Event.{Event}
 use Rattle.h3_script.specs.declared.error.ScriptError.{ScriptError}
 use Rattle.h3_script.specs.declared.error.ScriptError.TheVariants.{Line, OutOfMemory}

@@ -8,8 +8,7 @@ use Rattle.h3_header.specs.Head.{Head as Fields}
 use Rattle.h3_connection.specs.Announcing.{announced_by}
 use Rattle.h3_script.specs.Words.{words_of, number_of, id_of, side_of}
 use Rattle.h3_script.specs.HeadText.{IsHeadText, IsTrailerText}
-use Rattle.h3_world.specs.Setup.{both}
-use Rattle.h3_world.specs.declared.setup.Setup.{Setup}
+use Rattle.h3_world.specs.Setup.{Setup, both}
 use Rattle.h3_world.specs.declared.event.Event.{Event}
 use Rattle.h3_world.specs.declared.event.Event.TheVariants as event
 use Rattle.h3_script.specs.declared.error.LineError.{LineError}

@@ -1,10 +1,9 @@
 //! What holds of scripts. These functions do nothing: their contracts are the laws.
 ghost use Rattle.std.specs.Prelude.{◌≡◌, ℕ, ◌^◌, List};
-ghost use Rattle.h3_script.specs.Few.{AreFew};
-ghost use Rattle.h3_world.specs.Setup.{IsMadeSetup, JudgesPlainly};
+ghost use Rattle.h3_script.specs.Small.{AreSmall};
+ghost use Rattle.h3_world.specs.Setup.{JudgesPlainly, Setup as Made};
 ghost use Rattle.h3_script.specs.Script.{IsScript, RefusesLine};
 ghost use Rattle.h3_world.specs.declared.event.Event.{Event as Does};
-ghost use Rattle.h3_world.specs.declared.setup.Setup.{Setup as Made};
 
 /// No line of a script is refused.
 pub fn no_line_of_a_script_is_refused()
@@ -23,14 +22,9 @@ pub fn a_script_is_read_in_one_way()
         → (s ≡ t) × (xs ≡ ys) }
 {}
 
-/// A script of at most 2^48 bytes has fewer than 2^48 events, passes each side less than 2^56 bytes to send, and names no `:protocol`.
-pub fn a_script_has_few_events()
-    ensures { (text : List ℕ) (setup : Made) (events : List Does) → IsScript (2 ^ 48) text setup events → AreFew setup events }
-{}
-
-/// The setup of a script is one that `Setup::new` makes.
-pub fn a_script_has_a_made_setup()
-    ensures { (most : ℕ) (text : List ℕ) (setup : Made) (events : List Does) → IsScript most text setup events → IsMadeSetup setup }
+/// A script of at most 2^48 bytes sends no section or body of 2^56 bytes or more, and names no `:protocol`.
+pub fn a_script_has_small_events()
+    ensures { (text : List ℕ) (setup : Made) (events : List Does) → IsScript (2 ^ 48) text setup events → AreSmall setup events }
 {}
 
 /// A script asks for no strict messages, and for no limit on what is unfinished.

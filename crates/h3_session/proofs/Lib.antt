@@ -50,9 +50,7 @@ pub mod Runs
 pub mod Carrying
 pub mod Sendables
 pub mod Headlines
-pub mod Messages
-mod Between
-pub mod Strict
+pub mod TakingAll
 pub mod LentFrames
 pub mod WellSentLists
 pub mod SentAnswers

@@ -2,8 +2,12 @@
 use Rattle.std.proofs.Common.{◌≡◌, ℕ, zero, suc, List, [], ◌∷◌, ◌++◌, length, take, Bool, true, false, refl, ap, sym, subst}
 use Rattle.std.specs.List.{list_any}
 use Rattle.std.specs.Prelude.{◌||◌, Result, Ok, IfOk}
+use Rattle.h3_proto.specs.declared.stream.Side.TheVariants.{Client, Server}
+use Rattle.h3_connection.specs.Endpoint.{new_endpoint}
 use Rattle.h3_connection.specs.State.{EndpointState, StandsFor}
-use Rattle.h3_world.specs.Ends.{Ends, answered, answers_of_ends}
+use Rattle.h3_connection.specs.declared.setup.Announced.{Announced}
+use Rattle.h3_world.specs.Ends.{Ends, answered, answers_of_ends, new_ends}
+use Rattle.h3_world.specs.Setup.{Setup}
 use Rattle.h3_world.specs.Headline.{is_out_of_memory}
 use Rattle.h3_world.specs.declared.event.Answer.{Answer}
 use Rattle.h3_world.specs.declared.event.Event.{Event}
@@ -61,14 +65,16 @@ acts_to client server (e ∷ events) [] c s ends h at_client at_server not_memor
 pub runs_to : (ends : Ends) (events : List Event) (answers : List Answer) (c s : EndpointState) → RunsByCalls ends events answers c s → list_any is_out_of_memory answers ≡ false → RunsTo ends events answers c s
 runs_to ends events answers c s h not_memory = acts_to h.client h.server events answers c s ends h.acts h.client_stands h.server_stands not_memory
 
--- Two endpoints that were made, a run between them, and what is handed back of it.
-pub ran : {V E : Type 0} (items : V → List Answer) (ends : Ends) (events : List Event) (first second : Result EndpointState E) (told : Result V E) (client server client_after server_after : EndpointState)
-    (out : EndpointState × EndpointState) (answers : V) → IfOk first (λ c. StandsFor c ends.client) → IfOk second (λ s. StandsFor s ends.server) → first ≡ Ok client → second ≡ Ok server
-    → IfOk told (λ v. ActsEach client server events (items v) client_after server_after)
-    → (client_after, server_after) ≡ out → told ≡ Ok answers → RunsByCalls ends events (items answers) out.0 out.1
-ran items ends events first second told client server client_after server_after out answers one two first_is second_is acts same is =
-    let client_stands : StandsFor client ends.client = subst (λ r. IfOk r (λ c. StandsFor c ends.client)) first_is one in
-    let server_stands : StandsFor server ends.server = subst (λ r. IfOk r (λ s. StandsFor s ends.server)) second_is two in
+-- Two endpoints that were made of a setup, a run between them, and what is handed back of it.
+pub ran : {V E : Type 0} (items : V → List Answer) (setup : Setup) (one two : Announced) (events : List Event) (first second : Result EndpointState E) (told : Result V E) (client server client_after server_after : EndpointState)
+    (out : EndpointState × EndpointState) (answers : V) → one ≡ setup.client → two ≡ setup.server → IfOk first (λ c. StandsFor c (new_endpoint Client one)) → IfOk second (λ s. StandsFor s (new_endpoint Server two))
+    → first ≡ Ok client → second ≡ Ok server → IfOk told (λ v. ActsEach client server events (items v) client_after server_after)
+    → (client_after, server_after) ≡ out → told ≡ Ok answers → RunsByCalls (new_ends setup) events (items answers) out.0 out.1
+ran items setup one two events first second told client server client_after server_after out answers of_client of_server at_client at_server first_is second_is acts same is =
+    let made_client = subst (λ a. IfOk first (λ c. StandsFor c (new_endpoint Client a))) of_client at_client in
+    let made_server = subst (λ a. IfOk second (λ s. StandsFor s (new_endpoint Server a))) of_server at_server in
+    let client_stands : StandsFor client (new_ends setup).client = subst (λ r. IfOk r (λ c. StandsFor c (new_ends setup).client)) first_is made_client in
+    let server_stands : StandsFor server (new_ends setup).server = subst (λ r. IfOk r (λ s. StandsFor s (new_ends setup).server)) second_is made_server in
     let here = subst (λ r. IfOk r (λ v. ActsEach client server events (items v) client_after server_after)) is acts in
-    subst (λ p. RunsByCalls ends events (items answers) p.0 p.1) same
+    subst (λ p. RunsByCalls (new_ends setup) events (items answers) p.0 p.1) same
     (record { client = client; server = server; client_stands = client_stands; server_stands = server_stands; acts = here })

@@ -21,9 +21,7 @@ pub mod Turns
 pub mod Prioritized
 pub mod Typed
 pub mod Headlines
-pub mod Messages
 pub mod SentHeads
-pub mod Strict
 pub mod Frames
 pub mod SendingLists
 pub mod Lacking

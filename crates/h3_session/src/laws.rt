@@ -34,15 +34,14 @@
 //! - Limits on what is unfinished: if each takes what is sent to it they change nothing (`limits_that_take_what_is_sent_change_nothing`). A
 //!   limit takes it if it is at least four times what its side announces (`limits_above_what_is_announced_take_what_is_sent`). So two such
 //!   sides run in a world (`two_limited_endpoints_run_in_a_world`, `two_strict_limited_endpoints_run_in_a_world`). A side without a limit
-//!   takes every list (`sides_without_limits_take_all`). Sides that are not strict and have none refuse nothing more than the world of a
-//!   connection (`plain_sides_refuse_nothing_more`).
-//! - What `Setup::new` answers may be given to `run` (`setups_are_made`).
+//!   takes every list (`sides_without_limits_take_all`).
 //! - Lists: a header section and a trailer are sent as the lists of their fields are (`heads_are_sent_as_their_lists`).
 //! - Datagrams: what is written in front of a payload reads back as the id of its stream (`datagrams_read_back`).
 //! - Shutting down: no request below the last GOAWAY is rejected (`nothing_below_a_goaway_is_rejected`). What is drained stays drained
 //!   (`drained_stays`).
 //! - Events: `next_event` answers `None` after at most two events, and then all was reported (`events_are_reported_once`).
 ghost use Rattle.std.specs.Prelude.{◌≡◌, ℕ, List};
+ghost use Rattle.std.specs.List.{list_any};
 ghost use Rattle.h3_header.specs.Head.{head_fields};
 ghost use Rattle.h3_connection.specs.Endpoint.{EndpointHistory};
 ghost use Rattle.h3_connection.specs.Sending.{send_head, send_trailer};
@@ -51,7 +50,10 @@ ghost use Rattle.h3_world.specs.Ends.{Ends};
 ghost use Rattle.h3_world.specs.declared.event.Answer.{Answer};
 ghost use Rattle.h3_world.specs.declared.event.Event.{Event};
 ghost use Rattle.h3_memory.specs.Refused.{EndsRun};
+ghost use Rattle.h3_world.specs.Headline.{is_out_of_memory};
+ghost use Rattle.h3_world.specs.Setup.{Setup};
 ghost use Rattle.h3_session.specs.Acting.{RunsByCalls};
+ghost use Rattle.h3_session.specs.Running.{AnswersEach, RunsTo};
 ghost use Rattle.h3_connection.specs.declared.event.Refusal.{Refusal};
 ghost use Rattle.h3_session.specs.SendingLists.{send_fields, send_trailer_fields};
 
@@ -86,7 +88,6 @@ pub use h3_strict::limits::{
 pub use h3_strict::strict::{
     strict_endpoints_take_what_they_send, two_strict_endpoints_run_in_a_world,
 };
-pub use h3_world::laws::setups_are_made;
 
 /// A header section is sent as the list of its fields is, and so is a trailer: `send_head` is `send_fields` of that list, in every history.
 pub fn heads_are_sent_as_their_lists(header: &Header)
@@ -108,10 +109,15 @@ pub fn strict_endpoints_send_no_broken_field_list()
 {}
 
 /// Events that were answered by their calls are steps of the two endpoints that were stood for, whether allocations fail or not. What is
-/// stored then stands for the endpoints after them.
+/// stored then stands for the endpoints after them (`steps`). There are as many answers as events, and those up to the first that reports
+/// out of memory are the answers of two endpoints of the definitions with the bytes carried between them (`each`). If none does, what is
+/// stored stands for these (`whole`).
 pub fn calls_are_steps_of_two_endpoints()
-    ensures { (ends : Ends) (events : List Event) (answers : List Answer) (client server : EndpointState) → RunsByCalls ends events answers client server →
+    ensures steps { (ends : Ends) (events : List Event) (answers : List Answer) (client server : EndpointState) → RunsByCalls ends events answers client server →
         (new : Ends) × EndsRun ends events answers new × StandsFor client new.client × StandsFor server new.server }
+    ensures each { (ends : Ends) (events : List Event) (answers : List Answer) (client server : EndpointState) → RunsByCalls ends events answers client server → AnswersEach ends events answers }
+    ensures whole { (ends : Ends) (events : List Event) (answers : List Answer) (client server : EndpointState) → RunsByCalls ends events answers client server → list_any is_out_of_memory answers ≡ false →
+        RunsTo ends events answers client server }
 {}
 
 ghost use Rattle.std.specs.Prelude.{Result};
@@ -152,26 +158,13 @@ pub fn datagrams_read_back()
     h3_capsule::laws::datagrams_read_back();
 }
 
-ghost use Rattle.h3_world.specs.declared.setup.Setup.{Setup};
 ghost use Rattle.h3_strict.specs.Limits.{EarlyAreTaken};
 ghost use Rattle.h3_strict.specs.Tallies.{JudgesStrictly};
 
-/// A side without a limit on what is unfinished takes each list that comes, whenever it was sent. So of two such sides `run` asks nothing of
-/// what is sent before the settings came.
+/// A side without a limit on what is unfinished takes each list that comes, whenever it was sent. So of two such sides the laws of limits ask
+/// nothing of what is sent before the settings came.
 pub fn sides_without_limits_take_all()
     ensures { (setup : Setup) (ends : Ends) (events : List Event) → JudgesStrictly setup → EarlyAreTaken setup ends events }
-{}
-
-ghost use Rattle.h3_world.specs.Headline.{Happens};
-ghost use Rattle.h3_world.specs.Run.{Run};
-ghost use Rattle.h3_world.specs.Setup.{JudgesPlainly};
-ghost use Rattle.h3_world.specs.World.{World, empty_world};
-ghost use Rattle.h3_session.specs.Strict.{RunsBetween};
-
-/// Between two sides that are not strict and limit nothing, each step of a run that `run` promises (`front`) happens in the world of a
-/// connection: no send is refused as malformed beside it.
-pub fn plain_sides_refuse_nothing_more()
-    ensures { (setup : Setup) (events : List Event) (answers : List Answer) → JudgesPlainly setup → RunsBetween setup events answers → (w : World) × Run (Happens setup) (empty_world setup) events answers w }
 {}
 
 ghost use Rattle.std.specs.Prelude.{is_some, true, Some, None};

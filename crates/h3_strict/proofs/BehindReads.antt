@@ -28,9 +28,8 @@ use Rattle.h3_connection.specs.declared.setup.Announced.{Announced}
 use Rattle.h3_world.specs.Ends.{end_at}
 use Rattle.h3_world.specs.OwnStreams.{settings_bytes}
 use Rattle.h3_world.specs.Pulling.{own_delivered}
-use Rattle.h3_world.specs.Setup.{IsMadeSetup, announced_at}
+use Rattle.h3_world.specs.Setup.{IsMadeSetup, Setup, announced_at}
 use Rattle.h3_world.specs.World.{World, party}
-use Rattle.h3_world.specs.declared.setup.Setup.{Setup}
 use Rattle.h3_headline.specs.Cited.{StreamLaws}
 use Rattle.h3_headline.specs.EncoderStreamLaws.{all_dropped}
 use Rattle.h3_headline.specs.FlowLaws.{other-other}

@@ -34,7 +34,7 @@ use Rattle.h3_world.specs.declared.event.Answer.{Answer}
 use Rattle.h3_world.specs.declared.event.Answer.TheVariants as answer
 use Rattle.h3_world.specs.declared.event.Event.{Event}
 use Rattle.h3_world.specs.declared.event.Event.TheVariants as event
-use Rattle.h3_world.specs.declared.setup.Setup.{Setup}
+use Rattle.h3_world.specs.Setup.{Setup}
 use Rattle.h3_strict.proofs.PlainStreams.{count_set, waits_at}
 use Rattle.h3_strict.specs.PlainEnds.{AreBounded, FewWaitAt, FewWaitBehind}
 

@@ -36,13 +36,12 @@ use Rattle.h3_world.specs.Flow.Part.{Body, End, Head as HeadPart, Interim, Trail
 use Rattle.h3_world.specs.Order.{outgoing_of}
 use Rattle.h3_world.specs.Refusals.{body_refusal, fields_refusal, finish_refusal, head_refusal, none_after, trailer_fields_refusal, trailer_refusal}
 use Rattle.h3_world.specs.Sending.{appended, finished, having_encoded, section_sent, sent_body, sent_fields, sent_head, with_section, sent_trailer, sent_trailer_fields}
-use Rattle.h3_world.specs.Setup.{announced_at, takes_any}
+use Rattle.h3_world.specs.Setup.{Setup, announced_at, takes_any}
 use Rattle.h3_world.specs.Step.{Does}
 use Rattle.h3_world.specs.Streams.{flow, is_open}
 use Rattle.h3_world.specs.World.{World, party}
 use Rattle.h3_world.specs.declared.event.Answer.{Answer}
 use Rattle.h3_world.specs.declared.event.Answer.TheVariants as answer
-use Rattle.h3_world.specs.declared.setup.Setup.{Setup}
 use Rattle.h3_headline.specs.ComingLaws.{sound_flow}
 use Rattle.h3_headline.specs.FlowLaws.{open_there}
 use Rattle.h3_headline.specs.Messages.{is_on}

@@ -21,11 +21,10 @@ use Rattle.h3_qpack.specs.InstructionSizes.{most_instruction}
 use Rattle.h3_qpack.specs.ShortInstructionLaws.{taken_instructions_short}
 use Rattle.h3_qpack.specs.WholeInstructions.{rest_in}
 use Rattle.h3_world.specs.Ends.{Ends, end_at}
-use Rattle.h3_world.specs.Setup.{IsMadeSetup, announced_at}
+use Rattle.h3_world.specs.Setup.{IsMadeSetup, Setup, announced_at}
 use Rattle.h3_world.specs.Sound.{IsSoundWorld}
 use Rattle.h3_world.specs.Streams.{is_open}
 use Rattle.h3_world.specs.World.{World, party}
-use Rattle.h3_world.specs.declared.setup.Setup.{Setup}
 use Rattle.h3_headline.specs.AnnouncedLaws.{announces_at}
 use Rattle.h3_headline.specs.Cited.{StreamLaws}
 use Rattle.h3_headline.specs.DeliverLaws.{has_outgoing_is}

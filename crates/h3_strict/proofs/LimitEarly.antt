@@ -23,13 +23,12 @@ use Rattle.h3_world.specs.Ends.{Ends, answered, answers_of_ends, done, end_at, e
 use Rattle.h3_world.specs.Headline.{Happens, is_connection_fault}
 use Rattle.h3_world.specs.Run.{Run}
 use Rattle.h3_world.specs.Sendable.{IsSendable}
-use Rattle.h3_world.specs.Setup.{IsMadeSetup, announced_at, takes_any}
+use Rattle.h3_world.specs.Setup.{IsMadeSetup, Setup, announced_at, takes_any}
 use Rattle.h3_world.specs.World.{World, empty_world, party}
 use Rattle.h3_world.specs.declared.event.Answer.{Answer}
 use Rattle.h3_world.specs.declared.event.Answer.TheVariants as answer
 use Rattle.h3_world.specs.declared.event.Event.{Event}
 use Rattle.h3_world.specs.declared.event.Event.TheVariants as event
-use Rattle.h3_world.specs.declared.setup.Setup.{Setup}
 use Rattle.h3_headline.specs.Cited.{StreamLaws}
 use Rattle.h3_headline.specs.Messages.{is_done}
 use Rattle.h3_headline.specs.SettingsLaws.{too_large_with_meaning}

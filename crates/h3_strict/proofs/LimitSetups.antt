@@ -5,8 +5,7 @@ use Rattle.h3_proto.specs.declared.stream.Side.TheVariants.{Client, Server}
 use Rattle.h3_connection.specs.Announcing.{section_of}
 use Rattle.h3_connection.specs.OwnIds.{other}
 use Rattle.h3_connection.specs.declared.setup.Announced.{Announced}
-use Rattle.h3_world.specs.Setup.{IsMade, IsMadeSetup, JudgesPlainly, announced_at, refuses_sessions}
-use Rattle.h3_world.specs.declared.setup.Setup.{Setup}
+use Rattle.h3_world.specs.Setup.{IsMade, IsMadeSetup, JudgesPlainly, Setup, announced_at, refuses_sessions}
 use Rattle.h3_strict.specs.Limits.{AsksForNone, AsksForStrict, unlimited, unlimited_setup}
 use Rattle.h3_strict.specs.Tallies.{JudgesStrictly}
 

@@ -8,11 +8,10 @@ use Rattle.h3_world.specs.Ends.{Ends, answered, answers_of_ends, end_at, ends_af
 use Rattle.h3_world.specs.Headline.{Happens}
 use Rattle.h3_world.specs.Run.{Run}
 use Rattle.h3_world.specs.Sendable.{IsSendable}
-use Rattle.h3_world.specs.Setup.{IsMadeSetup}
+use Rattle.h3_world.specs.Setup.{IsMadeSetup, Setup}
 use Rattle.h3_world.specs.World.{World, empty_world}
 use Rattle.h3_world.specs.declared.event.Answer.{Answer}
 use Rattle.h3_world.specs.declared.event.Event.{Event}
-use Rattle.h3_world.specs.declared.setup.Setup.{Setup}
 use Rattle.h3_headline.specs.Standing.{Stands}
 use Rattle.h3_strict.proofs.LimitRuns.{EndWithin, FindNone, looks_within, runs_unlimited}
 use Rattle.h3_strict.proofs.LimitSetups.{setup_unlimited, unlimited_plainly, unlimited_strictly}

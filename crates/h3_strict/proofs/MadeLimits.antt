@@ -9,8 +9,7 @@ use Rattle.h3_qpack.specs.InstructionSizes.{most_instruction}
 use Rattle.h3_connection.specs.Announcing.{section_of}
 use Rattle.h3_connection.specs.AnnouncingLaws.{limit_takes_announced}
 use Rattle.h3_connection.specs.declared.setup.Announced.{Announced}
-use Rattle.h3_world.specs.Setup.{IsMade, IsMadeSetup}
-use Rattle.h3_world.specs.declared.setup.Setup.{Setup}
+use Rattle.h3_world.specs.Setup.{IsMade, IsMadeSetup, Setup}
 use Rattle.h3_headline.specs.AnnouncedLaws.{announces}
 use Rattle.h3_headline.specs.PeerStreams.{Announces}
 use Rattle.h3_strict.specs.Limits.{LimitsTakeWhatIsSent}

@@ -30,14 +30,13 @@ use Rattle.h3_world.specs.Headline.{Happens}
 use Rattle.h3_world.specs.Refusals.{next_id}
 use Rattle.h3_world.specs.Run.{Run}
 use Rattle.h3_world.specs.Sendable.{IsSendable}
-use Rattle.h3_world.specs.Setup.{IsMadeSetup, TakesAnyLength, announced_at}
+use Rattle.h3_world.specs.Setup.{IsMadeSetup, Setup, TakesAnyLength, announced_at}
 use Rattle.h3_world.specs.Streams.{flow}
 use Rattle.h3_world.specs.World.{World, empty_world, no_exchange}
 use Rattle.h3_world.specs.declared.event.Answer.{Answer}
 use Rattle.h3_world.specs.declared.event.Answer.TheVariants as answer
 use Rattle.h3_world.specs.declared.event.Event.{Event}
 use Rattle.h3_world.specs.declared.event.Event.TheVariants as event
-use Rattle.h3_world.specs.declared.setup.Setup.{Setup}
 use Rattle.h3_headline.specs.Cited.{Laws}
 use Rattle.h3_headline.specs.FlowLaws.{same_both}
 use Rattle.h3_headline.specs.ListEventLaws.{same_lists}

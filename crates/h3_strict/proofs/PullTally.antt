@@ -33,11 +33,10 @@ use Rattle.h3_world.specs.Items.{HasCome, acknowledgment_of, after_item}
 use Rattle.h3_world.specs.Order.{is_over, next_part}
 use Rattle.h3_world.specs.Pauses.{paused}
 use Rattle.h3_world.specs.Pulling.{Pulls, PullsNext, fault_or, pull_unidirectional, pull_unopened, settled}
-use Rattle.h3_world.specs.Setup.{IsMadeSetup, announced_at}
+use Rattle.h3_world.specs.Setup.{IsMadeSetup, Setup, announced_at}
 use Rattle.h3_world.specs.Streams.{flow, is_open}
 use Rattle.h3_world.specs.World.{Party, World, party, with_party}
 use Rattle.h3_world.specs.declared.event.Answer.TheVariants as answer
-use Rattle.h3_world.specs.declared.setup.Setup.{Setup}
 use Rattle.h3_headline.specs.Cited.{Laws}
 use Rattle.h3_headline.specs.ComingLaws.{incoming_none, incoming_there, kind_is, sound_flow}
 use Rattle.h3_headline.specs.Contents.{KeepsParts}

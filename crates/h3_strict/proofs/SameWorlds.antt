@@ -16,7 +16,7 @@ use Rattle.h3_world.specs.declared.event.Answer.{Answer}
 use Rattle.h3_world.specs.declared.event.Answer.TheVariants as answer
 use Rattle.h3_world.specs.declared.event.Event.{Event}
 use Rattle.h3_world.specs.declared.event.Event.TheVariants as event
-use Rattle.h3_world.specs.declared.setup.Setup.{Setup}
+use Rattle.h3_world.specs.Setup.{Setup}
 
 does_same : (r : Option Refusal) (old : World) (success : Answer) (after : World) (a : Answer) (v w : World) → Does r old success after a v → Does r old success after a w → v ≡ w
 does_same (Some r) old success after a v w h k = h.1 ∙ sym k.1

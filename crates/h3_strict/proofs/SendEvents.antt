@@ -29,11 +29,10 @@ use Rattle.h3_world.specs.Flow.{Flow, Part, own_part}
 use Rattle.h3_world.specs.Flow.Part.{Body, End, Head as HeadPart, Interim, Trailer}
 use Rattle.h3_world.specs.Order.{is_over, outgoing_of}
 use Rattle.h3_world.specs.Sending.{appended, having_encoded, section_sent, with_section}
-use Rattle.h3_world.specs.Setup.{announced_at}
+use Rattle.h3_world.specs.Setup.{Setup, announced_at}
 use Rattle.h3_world.specs.Sound.{AreSent, MayFollow, is_before_head as is_before, is_in_body, is_trailer}
 use Rattle.h3_world.specs.Streams.{flow, is_open, with_flow}
 use Rattle.h3_world.specs.World.{Party, World, party, with_party}
-use Rattle.h3_world.specs.declared.setup.Setup.{Setup}
 use Rattle.h3_headline.specs.ComingLaws.{incoming_there, sound_flow}
 use Rattle.h3_headline.specs.FlowLaws.{flow-with_party, open_there, same_number, there-with_party}
 use Rattle.h3_headline.specs.KeepsPartsLaws.{flow_at, same_flow}

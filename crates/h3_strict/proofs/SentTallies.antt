@@ -24,10 +24,9 @@ use Rattle.h3_connection.specs.declared.setup.Announced.{Announced}
 use Rattle.h3_world.specs.Ends.{Ends, end_at}
 use Rattle.h3_world.specs.Flow.{own_part}
 use Rattle.h3_world.specs.Order.{outgoing_of}
-use Rattle.h3_world.specs.Setup.{announced_at}
+use Rattle.h3_world.specs.Setup.{Setup, announced_at}
 use Rattle.h3_world.specs.Streams.{flow, is_open}
 use Rattle.h3_world.specs.World.{World, party}
-use Rattle.h3_world.specs.declared.setup.Setup.{Setup}
 use Rattle.h3_headline.specs.SettingsLaws.{value_with_meaning}
 use Rattle.h3_headline.specs.Standing.{StandsAt, Stands, are_settings_there, with_meaning}
 use Rattle.h3_strict.proofs.KeepsCounts.{out_set, HasAnswered, MayAnswer, in_set}

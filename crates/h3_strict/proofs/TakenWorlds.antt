@@ -34,7 +34,7 @@ use Rattle.h3_world.specs.Refusals.{body_refusal, cancel_refusal, finish_refusal
 use Rattle.h3_world.specs.Run.{Run}
 use Rattle.h3_world.specs.Sending.{appended, cut_off, finished, given_up, having_encoded, opened, section_sent, sent_body, sent_head, sent_trailer, with_goaway, sent_fields, sent_trailer_fields}
 use Rattle.h3_world.specs.Lists.{pull_of, unreadable}
-use Rattle.h3_world.specs.Setup.{announced_at, takes_any}
+use Rattle.h3_world.specs.Setup.{Setup, announced_at, takes_any}
 use Rattle.h3_world.specs.Step.{Does, Step}
 use Rattle.h3_world.specs.Streams.{flow, is_open, with_flow}
 use Rattle.h3_world.specs.World.{Party, World, empty_world, no_exchange, party, with_party}
@@ -42,7 +42,6 @@ use Rattle.h3_world.specs.declared.event.Answer.{Answer}
 use Rattle.h3_world.specs.declared.event.Answer.TheVariants as answer
 use Rattle.h3_world.specs.declared.event.Event.{Event}
 use Rattle.h3_world.specs.declared.event.Event.TheVariants as event
-use Rattle.h3_world.specs.declared.setup.Setup.{Setup}
 use Rattle.h3_headline.specs.Contents.{KeepsParts}
 use Rattle.h3_headline.specs.FlowLaws.{flow-with_party, open_there, same_both, there-with_party}
 use Rattle.h3_headline.specs.KeepsPartsLaws.{flow_at, keeps_delivery, keeps_end, keeps_flows, keeps_given_up, keeps_reset, keeps_with_flow, keeps_with_party, same_flow}

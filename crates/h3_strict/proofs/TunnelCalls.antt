@@ -32,10 +32,9 @@ use Rattle.h3_world.specs.Ends.{Ends, end_at, with_end}
 use Rattle.h3_world.specs.Flow.{Flow, Part, own_part}
 use Rattle.h3_world.specs.Flow.Part.{Body, End, Head as HeadPart, Interim}
 use Rattle.h3_world.specs.Sending.{appended, having_encoded, section_sent, with_section}
-use Rattle.h3_world.specs.Setup.{announced_at}
+use Rattle.h3_world.specs.Setup.{Setup, announced_at}
 use Rattle.h3_world.specs.Streams.{flow, is_open}
 use Rattle.h3_world.specs.World.{World, party}
-use Rattle.h3_world.specs.declared.setup.Setup.{Setup}
 use Rattle.h3_headline.specs.ComingLaws.{sound_flow}
 use Rattle.h3_headline.specs.FlowLaws.{open_there}
 use Rattle.h3_headline.specs.Messages.{is_on}

@@ -19,13 +19,12 @@ use Rattle.h3_connection.specs.declared.event.Pull.TheVariants as pull
 use Rattle.h3_world.specs.Ends.{Ends, end_at}
 use Rattle.h3_world.specs.Headline.{is_connection_fault}
 use Rattle.h3_world.specs.Lists.{listed_pull, pull_of}
-use Rattle.h3_world.specs.Setup.{announced_at}
+use Rattle.h3_world.specs.Setup.{Setup, announced_at}
 use Rattle.h3_world.specs.World.{World}
 use Rattle.h3_world.specs.declared.event.Answer.{Answer}
 use Rattle.h3_world.specs.declared.event.Answer.TheVariants as answer
 use Rattle.h3_world.specs.declared.event.Event.{Event}
 use Rattle.h3_world.specs.declared.event.Event.TheVariants as event
-use Rattle.h3_world.specs.declared.setup.Setup.{Setup}
 use Rattle.h3_strict.proofs.PulledTallies.{answer_is}
 use Rattle.h3_strict.proofs.TunnelFaults.{ends_all}
 use Rattle.h3_strict.proofs.BehindPulls.{is_item}

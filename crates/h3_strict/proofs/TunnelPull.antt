@@ -41,12 +41,11 @@ use Rattle.h3_world.specs.Order.{is_over, next_part}
 use Rattle.h3_world.specs.Pauses.{paused}
 use Rattle.h3_world.specs.Pulling.{Pulls, PullsNext, settled}
 use Rattle.h3_world.specs.Sending.{given_up}
-use Rattle.h3_world.specs.Setup.{announced_at, takes_any}
+use Rattle.h3_world.specs.Setup.{Setup, announced_at, takes_any}
 use Rattle.h3_world.specs.Sound.{IsSoundFlow}
 use Rattle.h3_world.specs.Streams.{flow, is_open}
 use Rattle.h3_world.specs.World.{Party, World, party, with_party}
 use Rattle.h3_world.specs.declared.event.Answer.TheVariants as answer
-use Rattle.h3_world.specs.declared.setup.Setup.{Setup}
 use Rattle.h3_headline.specs.ComingLaws.{kind_is, sound_flow}
 use Rattle.h3_headline.specs.Contents.{KeepsParts}
 use Rattle.h3_headline.specs.FlowLaws.{flow-with_party, open_there, there-with_party}

@@ -26,7 +26,7 @@ use Rattle.h3_world.specs.Sending.{opened}
 use Rattle.h3_world.specs.World.{World}
 use Rattle.h3_world.specs.declared.event.Answer.{Answer}
 use Rattle.h3_world.specs.declared.event.Answer.TheVariants as answer
-use Rattle.h3_world.specs.declared.setup.Setup.{Setup}
+use Rattle.h3_world.specs.Setup.{Setup}
 use Rattle.h3_headline.specs.Contents.{KeepsParts}
 use Rattle.h3_strict.proofs.KeepsAny.{any_stream, arrives_any}
 use Rattle.h3_strict.proofs.KeepsCounts.{KeepsAt, KeepsBut, SameCounts, SendsSame, advance_keeps, no_stream, not_itself, nothing_taken, once_lost, same_counts, same_streams, sends_same, set_in, set_out, streams_keep, that}

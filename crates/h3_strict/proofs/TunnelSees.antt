@@ -29,11 +29,10 @@ use Rattle.h3_world.specs.Came.{insertions_came}
 use Rattle.h3_world.specs.Ends.{Ends, end_at}
 use Rattle.h3_world.specs.Flow.{Flow, own_part}
 use Rattle.h3_world.specs.Order.{is_over, next_part, outgoing_of, section_of_part}
-use Rattle.h3_world.specs.Setup.{IsMadeSetup, announced_at, flags_secrets, takes_any}
+use Rattle.h3_world.specs.Setup.{IsMadeSetup, Setup, announced_at, flags_secrets, takes_any}
 use Rattle.h3_world.specs.Sound.{IsSoundFlow, IsSoundWorld}
 use Rattle.h3_world.specs.Streams.{flow, is_open}
 use Rattle.h3_world.specs.World.{World, party}
-use Rattle.h3_world.specs.declared.setup.Setup.{Setup}
 use Rattle.h3_headline.specs.Cited.{Laws}
 use Rattle.h3_headline.specs.ComingLaws.{incoming_none, incoming_there, kind_is, sound_flow}
 use Rattle.h3_headline.specs.DecodesLaws.{next_readable}

@@ -8,7 +8,7 @@ use Rattle.h3_world.specs.Streams.{flow}
 use Rattle.h3_world.specs.World.{World}
 use Rattle.h3_world.specs.declared.event.Answer.{Answer}
 use Rattle.h3_world.specs.declared.event.Event.{Event}
-use Rattle.h3_world.specs.declared.setup.Setup.{Setup}
+use Rattle.h3_world.specs.Setup.{Setup}
 use Rattle.h3_headline.specs.Contents.{contents, has_end, out, reader_of}
 use Rattle.h3_headline.specs.Exactly.{IsAllOf, IsExactly, Reader, as_listed}
 use Rattle.h3_headline.specs.Messages.{IsFrontOf, MessageContent, contents_of, ended_in, finished_in, is_end_of, pulled_in, sent_in}

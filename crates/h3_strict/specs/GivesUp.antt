@@ -14,14 +14,13 @@ use Rattle.h3_world.specs.Lists.{pull_of}
 use Rattle.h3_world.specs.Order.{next_part}
 use Rattle.h3_world.specs.Pulling.{PausesExactly, settled}
 use Rattle.h3_world.specs.Sending.{given_up}
-use Rattle.h3_world.specs.Setup.{announced_at}
+use Rattle.h3_world.specs.Setup.{Setup, announced_at}
 use Rattle.h3_world.specs.Streams.{flow}
 use Rattle.h3_world.specs.World.{World}
 use Rattle.h3_world.specs.declared.event.Answer.{Answer}
 use Rattle.h3_world.specs.declared.event.Answer.TheVariants as answer
 use Rattle.h3_world.specs.declared.event.Event.{Event}
 use Rattle.h3_world.specs.declared.event.Event.TheVariants as event
-use Rattle.h3_world.specs.declared.setup.Setup.{Setup}
 use Rattle.h3_strict.specs.PlainEnds.{plain_setup}
 
 -- The side gives the message up that comes next on the stream: at once, or behind its next part, which it takes and hands to nobody.

@@ -15,12 +15,11 @@ use Rattle.h3_connection.specs.StreamSets.{stream_at}
 use Rattle.h3_world.specs.Ends.{Ends, answered, end_at, new_ends, with_end}
 use Rattle.h3_world.specs.Headline.{is_connection_fault}
 use Rattle.h3_world.specs.Refused.{with_insertions}
-use Rattle.h3_world.specs.Setup.{announced_at}
+use Rattle.h3_world.specs.Setup.{Setup, announced_at}
 use Rattle.h3_world.specs.World.{World, empty_world}
 use Rattle.h3_world.specs.declared.event.Answer.TheVariants as answer
 use Rattle.h3_world.specs.declared.event.Event.{Event}
 use Rattle.h3_world.specs.declared.event.Event.TheVariants as event
-use Rattle.h3_world.specs.declared.setup.Setup.{Setup}
 use Rattle.h3_headline.specs.Contents.{KeepsParts}
 use Rattle.h3_strict.specs.PlainEnds.{asks_strictly, finds_fault, judges, plain_setup}
 use Rattle.h3_strict.specs.StandsBehind.{StandsBehind}

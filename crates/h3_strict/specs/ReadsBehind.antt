@@ -10,9 +10,8 @@ use Rattle.h3_connection.specs.PeerReading.{with_unread}
 use Rattle.h3_world.specs.Ends.{Ends, end_at}
 use Rattle.h3_world.specs.OwnStreams.{control_stream, decoder_stream, encoder_stream}
 use Rattle.h3_world.specs.Pulling.{own_delivered}
-use Rattle.h3_world.specs.Setup.{announced_at}
+use Rattle.h3_world.specs.Setup.{Setup, announced_at}
 use Rattle.h3_world.specs.World.{World, party}
-use Rattle.h3_world.specs.declared.setup.Setup.{Setup}
 use Rattle.h3_headline.specs.Standing.{Stands}
 use Rattle.h3_strict.specs.PlainEnds.{plain_setup}
 

@@ -7,9 +7,8 @@ use Rattle.h3_connection.specs.Sending.{outgoing_at}
 use Rattle.h3_connection.specs.StreamSets.{stream_at}
 use Rattle.h3_connection.specs.declared.setup.Announced.{Announced}
 use Rattle.h3_world.specs.Ends.{Ends, end_at}
-use Rattle.h3_world.specs.Setup.{announced_at}
+use Rattle.h3_world.specs.Setup.{Setup, announced_at}
 use Rattle.h3_world.specs.World.{World}
-use Rattle.h3_world.specs.declared.setup.Setup.{Setup}
 use Rattle.h3_headline.specs.Standing.{Stands}
 use Rattle.h3_strict.specs.PlainEnds.{plain_setup}
 use Rattle.h3_strict.specs.Plainly.{plain, plain_incoming}

@@ -17,10 +17,9 @@ use Rattle.h3_world.specs.Ends.{Ends, end_at}
 use Rattle.h3_world.specs.Flow.{Flow, Part}
 use Rattle.h3_world.specs.Flow.Part.{Head}
 use Rattle.h3_world.specs.Order.{is_over}
-use Rattle.h3_world.specs.Setup.{TakesAnyLength, announced_at}
+use Rattle.h3_world.specs.Setup.{Setup, TakesAnyLength, announced_at}
 use Rattle.h3_world.specs.Streams.{flow}
 use Rattle.h3_world.specs.World.{World}
-use Rattle.h3_world.specs.declared.setup.Setup.{Setup}
 use Rattle.h3_strict.specs.Plainly.{is_malformation}
 use Rattle.h3_strict.specs.StrictPull.{CountsFlow}
 use Rattle.h3_strict.specs.Unbroken.{AreUnbroken, content_along}

@@ -17,10 +17,9 @@ use Rattle.h3_connection.specs.declared.place.Place.TheVariants.{BeforeHead}
 use Rattle.h3_world.specs.Ends.{Ends, end_at}
 use Rattle.h3_world.specs.Flow.{Flow, Part, Section}
 use Rattle.h3_world.specs.Flow.Part.{Head as HeadPart, Trailer}
-use Rattle.h3_world.specs.Setup.{announced_at}
+use Rattle.h3_world.specs.Setup.{Setup, announced_at}
 use Rattle.h3_world.specs.Streams.{flow}
 use Rattle.h3_world.specs.World.{World}
-use Rattle.h3_world.specs.declared.setup.Setup.{Setup}
 use Rattle.h3_headline.specs.Standing.{place_after}
 use Rattle.h3_strict.specs.Tallies.{asked_in, has_head}
 

@@ -10,7 +10,7 @@ use Rattle.h3_world.specs.declared.event.Answer.{Answer}
 use Rattle.h3_world.specs.declared.event.Answer.TheVariants as answer
 use Rattle.h3_world.specs.declared.event.Event.{Event}
 use Rattle.h3_world.specs.declared.event.Event.TheVariants as event
-use Rattle.h3_world.specs.declared.setup.Setup.{Setup}
+use Rattle.h3_world.specs.Setup.{Setup}
 
 -- The server's limit is as long as the payload of the client's SETTINGS, 21 bytes: seven ids, of which two take four bytes, and seven values, of which
 -- one takes two. It announces no table and lists of two bytes

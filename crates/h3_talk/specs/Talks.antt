@@ -1,5 +1,5 @@
 -- What the program reads and writes.
-use Rattle.std.specs.Prelude.{◌≡◌, ◌⊎◌, ℕ, ◌^◌, false, List, Option, take}
+use Rattle.std.specs.Prelude.{◌≡◌, ◌⊎◌, ℕ, ◌^◌, false, List, Option}
 use Rattle.std.specs.List.{list_any}
 use Rattle.std.specs.Io.KnownBytes.{Appends}
 use Rattle.h3_script.specs.Inputs.{HasRead, ReadsScript, LosesInput}
@@ -9,12 +9,12 @@ use Rattle.h3_world.specs.Ends.{new_ends, answers_of_ends}
 use Rattle.h3_world.specs.Headline.{Happens, is_out_of_memory}
 use Rattle.h3_world.specs.Run.{Run}
 use Rattle.h3_world.specs.World.{World, empty_world}
-use Rattle.h3_world.specs.declared.setup.Setup.{Setup}
+use Rattle.h3_world.specs.Setup.{Setup}
 use Rattle.h3_world.specs.declared.event.Event.{Event}
 use Rattle.h3_world.specs.declared.event.Answer.{Answer}
+use Rattle.h3_faithful.specs.Faithful.{Faithful}
 use Rattle.h3_memory.specs.Kept.{KeepingWorld, nothing_kept}
 use Rattle.h3_memory.specs.MemoryStep.{HappensWithMemory}
-use Rattle.h3_session.specs.Messages.{HandsOutAlways}
 use Rattle.h3_session.specs.Running.{AnswersEach}
 
 -- What is said of the answers to some events where none of them tells of refused memory: they are those of a run from the empty
@@ -25,13 +25,12 @@ pub record AreAnswers (setup : Setup) (events : List Event) (answers : List Answ
   pub of_ends : answers ≡ answers_of_ends (new_ends setup) events
 
 -- What is said of the answers to some events. There is one for each; and those up to the first that tells of refused memory are those of two
--- endpoints with the bytes carried between them, and of a run from the empty world, each step of which happens. Memory refused or not, all are
--- those of a run of a world in which memory may be refused; and after each of them no connection fault was told, what a side was given of a
--- stream is a front of what the other side sent, and with the end it is all of that.
+-- endpoints with the bytes carried between them. Memory refused or not, all are those of a run of a world in which memory may be refused; no
+-- connection fault is told; and after each of them, what a side was given of a stream is a front of what the other side sent, and with the end it
+-- is all of that.
 pub record AnswersTo (setup : Setup) (events : List Event) (answers : List Answer) : Type 0 where
   pub each : AnswersEach (new_ends setup) events answers
-  pub front : (n : ℕ) → list_any is_out_of_memory (take n answers) ≡ false → (w : World) × Run (Happens setup) (empty_world setup) (take n events) (take n answers) w
-  pub messages : HandsOutAlways setup events answers
+  pub faithful : Faithful setup events answers
   pub whole : list_any is_out_of_memory answers ≡ false → AreAnswers setup events answers
   pub world : KeepingWorld
   pub run : Run (HappensWithMemory setup) (nothing_kept (empty_world setup)) events answers world

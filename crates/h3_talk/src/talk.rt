@@ -1,15 +1,15 @@
 //! The program: a script in, the answers out.
 ghost use Rattle.std.specs.Prelude.{◌≡◌, ◌⊎◌, ◌≤◌, IfOk};
 ghost use Rattle.std.specs.Process.{exit_status};
-ghost use Rattle.h3_script.specs.Few.{AreFew};
+ghost use Rattle.h3_script.specs.Small.{AreSmall};
 ghost use Rattle.h3_script.specs.Inputs.{RefusesInput};
 ghost use Rattle.h3_talk.specs.Talks.{AnswersTo, Prints, AnswersScript, Loses};
-ghost use Rattle.h3_world.specs.Setup.{IsMadeSetup, JudgesPlainly};
+ghost use Rattle.h3_world.specs.Setup.{JudgesPlainly};
 
 use h3_script::input::read_script;
 use h3_script::output::write_answers;
 use h3_script::script::Script;
-use h3_session::laws::plain_sides_refuse_nothing_more;
+use h3_session::laws::calls_are_steps_of_two_endpoints;
 use h3_session::run::{Outcome, run};
 use h3_world::event::{Answer, Event};
 use h3_world::setup::Setup;
@@ -31,9 +31,8 @@ pub fn talk<R: Read, W: Write>(alloc: Global, reader: &mut R, writer: &mut W) ->
         (W.contents writer.old) (W.contents writer.new) }
     ensures statuses { result ≤ 2 }
 {
-    h3_script::laws::a_script_has_a_made_setup();
     h3_script::laws::a_script_judges_plainly();
-    h3_script::laws::a_script_has_few_events();
+    h3_script::laws::a_script_has_small_events();
     match read_script(alloc, reader, writer) {
         Ok(script) => answer(alloc, script, writer),
         Err(status) => status,
@@ -55,9 +54,8 @@ pub fn exit_code<R: Read, W: Write>(alloc: Global, reader: &mut R, writer: &mut 
 
 /// Writes the answers to the events of a script.
 fn answer<W: Write>(alloc: Global, script: Script, writer: &mut W) -> u8
-    requires made { IsMadeSetup script.setup }
     requires plain { JudgesPlainly script.setup }
-    requires few { AreFew script.setup script.events.items }
+    requires small { AreSmall script.setup script.events.items }
     ensures answered { result ≡ 0 → Prints script.setup script.events.items (W.contents writer.old) (W.contents writer.new) }
     ensures statuses { (result ≡ 0) ⊎ (result ≡ 2) }
 {
@@ -74,12 +72,11 @@ fn answer<W: Write>(alloc: Global, script: Script, writer: &mut W) -> u8
 
 /// The answers of a run, without the endpoints that it leaves.
 fn answers_to(alloc: Global, setup: Setup, events: &[Event]) -> Result<Vec<Answer>, AllocError>
-    requires made { IsMadeSetup setup }
     requires plain { JudgesPlainly setup }
-    requires few { AreFew setup events.now }
+    requires small { AreSmall setup events.now }
     ensures { IfOk result (λ answers. AnswersTo setup events.now answers.items) }
 {
-    plain_sides_refuse_nothing_more();
+    calls_are_steps_of_two_endpoints();
     match run(alloc, setup, events) {
         Ok(outcome) => Ok(answers_of(outcome)),
         Err(e) => Err(e),

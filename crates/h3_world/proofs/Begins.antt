@@ -15,8 +15,7 @@ use Rattle.h3_proto.specs.declared.stream.Side.{Side}
 use Rattle.h3_proto.specs.declared.stream.Side.TheVariants.{Client, Server}
 use Rattle.h3_connection.specs.Endpoint.{encoder_choices, first_encoder, most_kept}
 use Rattle.h3_connection.specs.declared.setup.Announced.{Announced}
-use Rattle.h3_world.specs.declared.setup.Setup.{Setup}
-use Rattle.h3_world.specs.Setup.{announced_at}
+use Rattle.h3_world.specs.Setup.{Setup, announced_at}
 use Rattle.h3_world.specs.Flow.{unused}
 use Rattle.h3_world.specs.World.{Exchange, empty_world, no_exchange, silent}
 use Rattle.h3_world.specs.OwnStreams.{settings_bytes}

@@ -12,7 +12,7 @@ use Rattle.h3_proto.specs.declared.stream.Side.{Side}
 use Rattle.h3_proto.specs.declared.stream.Side.TheVariants.{Client, Server}
 use Rattle.h3_connection.specs.OwnIds.{other}
 use Rattle.h3_connection.specs.Sections.{having_inserted, own_instructions}
-use Rattle.h3_world.specs.declared.setup.Setup.{Setup}
+use Rattle.h3_world.specs.Setup.{Setup}
 use Rattle.h3_world.specs.World.{World, Party, party, with_party}
 use Rattle.h3_world.specs.Came.{settings_came, insertions_came}
 use Rattle.h3_world.specs.Following.{HasSession, HasCapacity, limits_for, opening}

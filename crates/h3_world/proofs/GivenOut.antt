@@ -6,7 +6,7 @@ use Rattle.h3_field.specs.Instruction.DecoderInstruction.{Acknowledge, CancelStr
 use Rattle.h3_qpack.specs.Session.{Session, UndecodedSection, oldest, without_oldest, decoded, after_cancellation, is_canceled, count_of}
 use Rattle.h3_qpack.specs.Schedule.SessionEvent.{Decode, Cancel}
 use Rattle.h3_proto.specs.declared.stream.Side.{Side}
-use Rattle.h3_world.specs.declared.setup.Setup.{Setup}
+use Rattle.h3_world.specs.Setup.{Setup}
 use Rattle.h3_connection.specs.OwnIds.{other}
 use Rattle.h3_world.specs.World.{World, party}
 use Rattle.h3_world.specs.Came.{settings_came, insertions_came}

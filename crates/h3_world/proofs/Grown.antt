@@ -4,9 +4,8 @@ use Rattle.std.specs.List.{AllByRecursion}
 use Rattle.h3_qpack.specs.Session.{Session, IsSound}
 use Rattle.h3_qpack.specs.Schedule.{SessionEvent, SessionStep, SessionRun, beginning}
 use Rattle.h3_proto.specs.declared.stream.Side.{Side}
-use Rattle.h3_world.specs.declared.setup.Setup.{Setup}
 use Rattle.h3_world.specs.World.{World}
-use Rattle.h3_world.specs.Setup.{announced_at, flags_secrets}
+use Rattle.h3_world.specs.Setup.{Setup, announced_at, flags_secrets}
 use Rattle.h3_world.specs.Following.{Follows, HasSession}
 use Rattle.h3_world.proofs.Guarding.{ChoosesNothing, run_guards}
 

@@ -8,7 +8,7 @@ use Rattle.h3_field.specs.Instruction.DecoderInstruction.{Acknowledge, CancelStr
 use Rattle.h3_qpack.specs.WholeInstructions.{whole_in, decoder_instructions_in}
 use Rattle.h3_world.proofs.Wholes.{whole_within}
 use Rattle.h3_proto.specs.declared.stream.Side.{Side}
-use Rattle.h3_world.specs.declared.setup.Setup.{Setup}
+use Rattle.h3_world.specs.Setup.{Setup}
 use Rattle.h3_connection.specs.declared.event.StreamFault.{StreamFault}
 use Rattle.h3_connection.specs.OwnIds.{other}
 use Rattle.h3_world.specs.Flow.{Flow, Part}

@@ -5,7 +5,7 @@ use Rattle.h3_qpack.specs.WholeInstructions.{decoder_instructions_in}
 use Rattle.h3_proto.specs.declared.stream.Side.{Side}
 use Rattle.h3_proto.specs.declared.stream.Side.TheVariants.{Client, Server}
 use Rattle.h3_connection.specs.OwnIds.{other}
-use Rattle.h3_world.specs.declared.setup.Setup.{Setup}
+use Rattle.h3_world.specs.Setup.{Setup}
 use Rattle.h3_world.specs.Came.{settings_came, insertions_came}
 use Rattle.h3_world.specs.Following.{sections_left}
 use Rattle.h3_world.specs.OwnStreams.{decoder_stream}

@@ -17,7 +17,7 @@ use Rattle.h3_table.specs.Table.{newest_from, or_else}
 use Rattle.h3_qpack.specs.WholeInstructions.{whole_in, insertions_in, is_insertion}
 use Rattle.h3_proto.specs.declared.stream.Side.{Side}
 use Rattle.h3_connection.specs.OwnIds.{other}
-use Rattle.h3_world.specs.declared.setup.Setup.{Setup}
+use Rattle.h3_world.specs.Setup.{Setup}
 use Rattle.h3_world.specs.World.{World, party}
 use Rattle.h3_world.specs.OwnStreams.{encoder_stream}
 use Rattle.h3_world.specs.Came.{settings_came}

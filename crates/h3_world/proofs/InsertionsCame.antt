@@ -11,14 +11,13 @@ use Rattle.h3_qpack.specs.WholeInstructions.{whole_in, is_insertion}
 use Rattle.h3_qpack.specs.Session.{inserted}
 use Rattle.h3_qpack.specs.Schedule.SessionEvent.{InsertionsRead}
 use Rattle.h3_proto.specs.declared.stream.Side.{Side}
-use Rattle.h3_world.specs.declared.setup.Setup.{Setup}
 use Rattle.h3_connection.specs.OwnIds.{other}
 use Rattle.h3_world.specs.World.{World, party}
 use Rattle.h3_world.specs.Came.{settings_came, insertions_came}
 use Rattle.h3_world.specs.Streams.{flow}
 use Rattle.h3_connection.specs.Control.{increment}
 use Rattle.h3_connection.specs.declared.setup.Limits.{Limits}
-use Rattle.h3_world.specs.Setup.{has_table}
+use Rattle.h3_world.specs.Setup.{Setup, has_table}
 use Rattle.h3_world.specs.Following.{opening, limits_for, HasSession}
 use Rattle.h3_world.proofs.Grown.{SessionsAreSound, session_is_sound, goes_on, steps_on}
 use Rattle.h3_world.specs.Following.{sections_left, replies_left}

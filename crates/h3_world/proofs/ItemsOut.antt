@@ -2,7 +2,7 @@
 use Rattle.std.proofs.Common.{◌≡◌, ℕ, ◌+◌, ◌≤◌, Bool, true, false, List, [], ◌++◌, length, refl, sym, ap, ◌∙◌, subst, append-nil, Option, Some, None}
 use Rattle.std.specs.Prelude.{drop, ◌==◌, if◌then◌else◌}
 use Rattle.h3_proto.specs.declared.stream.Side.{Side}
-use Rattle.h3_world.specs.declared.setup.Setup.{Setup}
+use Rattle.h3_world.specs.Setup.{Setup}
 use Rattle.h3_connection.specs.declared.event.Item.{Item}
 use Rattle.h3_connection.specs.OwnIds.{other}
 use Rattle.h3_world.specs.Flow.{Flow, Part}

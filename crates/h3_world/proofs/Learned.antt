@@ -8,8 +8,7 @@ use Rattle.h3_proto.specs.declared.stream.Side.{Side}
 use Rattle.h3_connection.specs.Control.{increment}
 use Rattle.h3_connection.specs.OwnIds.{other}
 use Rattle.h3_connection.specs.declared.setup.Limits.{Limits}
-use Rattle.h3_world.specs.declared.setup.Setup.{Setup}
-use Rattle.h3_world.specs.Setup.{announced_at, has_table}
+use Rattle.h3_world.specs.Setup.{Setup, announced_at, has_table}
 use Rattle.h3_world.specs.World.{World, Party, party}
 use Rattle.h3_world.specs.OwnStreams.{encoder_stream}
 use Rattle.h3_world.specs.Came.{settings_came, insertions_came, replies_read}

@@ -41,7 +41,6 @@ pub mod Happening
 pub mod Begins
 pub mod Short
 pub mod Runs
-pub mod Made
 pub mod SectionCapacities
 pub mod CutOff
 pub mod HeldBack

@@ -11,7 +11,6 @@ use Rattle.h3_connection.specs.declared.event.Item.{Item}
 use Rattle.h3_connection.specs.declared.event.Item.TheVariants as item
 use Rattle.h3_connection.specs.declared.event.Pull.{Pull}
 use Rattle.h3_connection.specs.declared.event.Pull.TheVariants as pull
-use Rattle.h3_world.specs.declared.setup.Setup.{Setup}
 use Rattle.h3_world.specs.declared.event.Event.TheVariants as event
 use Rattle.h3_world.specs.declared.event.Answer.{Answer}
 use Rattle.h3_world.specs.declared.event.Answer.TheVariants as answer
@@ -25,7 +24,7 @@ use Rattle.h3_world.specs.Machine.{item_there, listed, pull_next, pull_settled, 
 use Rattle.h3_world.specs.Order.{next_part, section_of_part}
 use Rattle.h3_world.specs.Pauses.{pause_before, section_pause}
 use Rattle.h3_world.specs.Pulling.{PausesExactly, Pulls, list_next, settled}
-use Rattle.h3_world.specs.Setup.{announced_at, flags_secrets}
+use Rattle.h3_world.specs.Setup.{Setup, announced_at, flags_secrets}
 use Rattle.h3_world.specs.Step.{IsExact, Step}
 use Rattle.h3_world.specs.Streams.{flow}
 use Rattle.h3_world.specs.World.{World, party}

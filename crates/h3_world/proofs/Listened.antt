@@ -7,9 +7,8 @@ use Rattle.h3_qpack.specs.WholeInstructions.{insertions_in, decoder_instructions
 use Rattle.h3_proto.specs.declared.stream.Side.{Side}
 use Rattle.h3_proto.specs.declared.stream.Side.TheVariants.{Client, Server}
 use Rattle.h3_connection.specs.declared.setup.Limits.{Limits}
-use Rattle.h3_world.specs.declared.setup.Setup.{Setup}
 use Rattle.h3_connection.specs.OwnIds.{other}
-use Rattle.h3_world.specs.Setup.{announced_at, has_table}
+use Rattle.h3_world.specs.Setup.{Setup, announced_at, has_table}
 use Rattle.h3_qpack.specs.EncoderHistory.{encoder_after_all}
 use Rattle.h3_world.specs.World.{World, Party, party, with_party}
 use Rattle.h3_world.specs.OwnStreams.{decoder_stream, settings_bytes}

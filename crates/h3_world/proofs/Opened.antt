@@ -5,7 +5,7 @@ use Rattle.std.proofs.lemmas.Grind.{common_steps}
 use Rattle.h3_proto.specs.StreamIds.{is_request_stream, index_of}
 use Rattle.h3_proto.specs.declared.stream.Side.{Side}
 use Rattle.h3_proto.specs.declared.stream.Side.TheVariants.{Client, Server}
-use Rattle.h3_world.specs.declared.setup.Setup.{Setup}
+use Rattle.h3_world.specs.Setup.{Setup}
 use Rattle.h3_connection.specs.OwnIds.{other}
 use Rattle.h3_world.specs.World.{World, no_exchange, party}
 use Rattle.h3_world.specs.Streams.{exchange, flow, is_open}

@@ -7,7 +7,7 @@ use Rattle.h3_field.specs.Instruction.{decoder_bytes}
 use Rattle.h3_qpack.specs.WholeInstructions.{whole_in, decoder_instructions_in}
 use Rattle.h3_world.proofs.Wholes.{whole_within}
 use Rattle.h3_proto.specs.declared.stream.Side.{Side}
-use Rattle.h3_world.specs.declared.setup.Setup.{Setup}
+use Rattle.h3_world.specs.Setup.{Setup}
 use Rattle.h3_world.specs.World.{Party}
 use Rattle.h3_world.proofs.ExactPauses.{whole_more}
 use Rattle.h3_world.proofs.SameSession.{knows_of, read_of, left_of}

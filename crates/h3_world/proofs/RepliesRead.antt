@@ -10,8 +10,7 @@ use Rattle.h3_qpack.specs.Schedule.SessionEvent.{UseTable, DecoderInstructionRea
 use Rattle.h3_proto.specs.declared.stream.Side.{Side}
 use Rattle.h3_connection.specs.OwnIds.{other}
 use Rattle.h3_connection.specs.declared.setup.Limits.{Limits}
-use Rattle.h3_world.specs.declared.setup.Setup.{Setup}
-use Rattle.h3_world.specs.Setup.{has_table}
+use Rattle.h3_world.specs.Setup.{Setup, has_table}
 use Rattle.h3_world.specs.World.{World, party}
 use Rattle.h3_world.specs.Came.{settings_came, insertions_came}
 use Rattle.h3_world.specs.Streams.{flow}

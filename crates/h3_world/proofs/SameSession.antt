@@ -4,9 +4,8 @@ use Rattle.std.specs.Prelude.{if◌then◌else◌, is_some, drop, length, nat_le
 use Rattle.h3_field.specs.Instruction.{DecoderInstruction}
 use Rattle.h3_qpack.specs.WholeInstructions.{decoder_instructions_in}
 use Rattle.h3_proto.specs.declared.stream.Side.{Side}
-use Rattle.h3_world.specs.declared.setup.Setup.{Setup}
 use Rattle.h3_connection.specs.OwnIds.{other}
-use Rattle.h3_world.specs.Setup.{announced_at}
+use Rattle.h3_world.specs.Setup.{Setup, announced_at}
 use Rattle.h3_world.specs.OwnStreams.{settings_bytes}
 use Rattle.h3_world.specs.World.{World, Party, party}
 use Rattle.h3_world.specs.Came.{settings_came, insertions_came}

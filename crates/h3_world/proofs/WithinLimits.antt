@@ -8,7 +8,7 @@ use Rattle.h3_qpack.specs.EncoderHistory.{blocks_out}
 use Rattle.h3_qpack.specs.Session.{IsSound}
 use Rattle.h3_proto.specs.declared.stream.Side.{Side}
 use Rattle.h3_proto.specs.declared.stream.Side.TheVariants.{Client, Server}
-use Rattle.h3_world.specs.declared.setup.Setup.{Setup}
+use Rattle.h3_world.specs.Setup.{Setup}
 use Rattle.h3_connection.specs.OwnIds.{other}
 use Rattle.h3_world.specs.Following.{limits_for}
 use Rattle.h3_world.specs.Flow.{Flow, Part, Section}

@@ -12,8 +12,7 @@ use Rattle.h3_connection.specs.Endpoint.{goaway_encoding}
 use Rattle.h3_connection.specs.OwnIds.{control_id, encoder_id, decoder_id}
 use Rattle.h3_connection.specs.Sections.{own_instructions}
 use Rattle.h3_connection.specs.declared.setup.Limits.{Limits}
-use Rattle.h3_world.specs.declared.setup.Setup.{Setup}
-use Rattle.h3_world.specs.Setup.{announced_at, has_table}
+use Rattle.h3_world.specs.Setup.{Setup, announced_at, has_table}
 use Rattle.h3_world.specs.World.{Party}
 use Rattle.h3_world.specs.OwnStreams.{settings_bytes, control_stream, encoder_stream, decoder_stream}
 use Rattle.h3_world.specs.Sending.{having_encoded}

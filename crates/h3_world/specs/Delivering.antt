@@ -10,10 +10,9 @@ use Rattle.h3_connection.specs.Sending.{own_advanced}
 use Rattle.h3_connection.specs.declared.setup.Limits.{Limits}
 use Rattle.h3_connection.specs.declared.event.Refusal.TheVariants as refusal
 use Rattle.h3_connection.specs.declared.event.StreamFault.TheVariants as stream_fault
-use Rattle.h3_world.specs.declared.setup.Setup.{Setup}
 use Rattle.h3_world.specs.declared.event.Answer.{Answer}
 use Rattle.h3_world.specs.declared.event.Answer.TheVariants as answer
-use Rattle.h3_world.specs.Setup.{announced_at, has_table}
+use Rattle.h3_world.specs.Setup.{Setup, announced_at, has_table}
 use Rattle.h3_world.specs.World.{World, Party, party, with_party}
 use Rattle.h3_world.specs.Came.{settings_came, insertions_came, replies_read}
 use Rattle.h3_world.specs.Streams.{flow, with_flow, has_outgoing, waiting}

@@ -11,7 +11,7 @@ use Rattle.h3_connection.specs.Sending as sender
 use Rattle.h3_connection.specs.Shown.{has_outgoing, waiting, is_finished, is_reset, peer_limits, table_sizes, waiting_heads}
 use Rattle.h3_connection.specs.declared.event.Pull.{Pull}
 use Rattle.h3_connection.specs.declared.event.Refusal.{Refusal}
-use Rattle.h3_world.specs.declared.setup.Setup.{Setup}
+use Rattle.h3_world.specs.Setup.{Setup}
 use Rattle.h3_world.specs.declared.event.Event.{Event}
 use Rattle.h3_world.specs.declared.event.Event.TheVariants as event
 use Rattle.h3_world.specs.declared.event.Answer.{Answer}

@@ -11,8 +11,7 @@ use Rattle.h3_qpack.specs.Schedule.{SessionEvent, SessionRun, beginning}
 use Rattle.h3_proto.specs.declared.stream.Side.{Side}
 use Rattle.h3_connection.specs.OwnIds.{other}
 use Rattle.h3_connection.specs.declared.setup.Limits.{Limits}
-use Rattle.h3_world.specs.declared.setup.Setup.{Setup}
-use Rattle.h3_world.specs.Setup.{announced_at, flags_secrets, has_table}
+use Rattle.h3_world.specs.Setup.{Setup, announced_at, flags_secrets, has_table}
 use Rattle.h3_world.specs.Flow.{Flow, Part, Section}
 use Rattle.h3_world.specs.Flow.Part.{Interim, Head, Body, Trailer, End}
 use Rattle.h3_world.specs.World.{World, party}

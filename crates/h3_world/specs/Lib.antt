@@ -22,7 +22,7 @@ pub mod Machine
 pub mod Following
 pub mod Sound
 pub mod Sendable
-pub mod Few
+pub mod Small
 pub mod ListLaws
 pub mod MadeLaws
 pub mod TakesLaws

@@ -1,5 +1,5 @@
--- What an event may send, and how much each side is handed to send.
-use Rattle.std.specs.Prelude.{◌≡◌, ℕ, ◌+◌, ◌^◌, ◌<◌, Bool, true, List, codes, length, bytes_eq, IfSome}
+-- What an event may send.
+use Rattle.std.specs.Prelude.{◌≡◌, ◌^◌, ◌<◌, Bool, true, List, codes, length, bytes_eq, IfSome}
 use Rattle.std.specs.List.{AllByRecursion}
 use Rattle.h3_field.specs.Field.{Field, section_size}
 use Rattle.h3_field.specs.ReadBack.{IsFieldOfBytes}
@@ -9,13 +9,9 @@ use Rattle.h3_header.specs.HeadTests.{takes_protocol}
 use Rattle.h3_header.specs.ProtocolText.{IsProtocolBy}
 use Rattle.h3_header.specs.Reads.{head_of_fields}
 use Rattle.h3_header.specs.ReadsBack.{ReadsBackBy, as_read}
-use Rattle.h3_proto.specs.declared.stream.Side.{Side}
-use Rattle.h3_proto.specs.declared.stream.Side.TheVariants.{Client, Server}
-use Rattle.h3_connection.specs.Sending.{fields_cost}
 use Rattle.h3_world.specs.declared.event.Event.{Event}
 use Rattle.h3_world.specs.declared.event.Event.TheVariants as event
-use Rattle.h3_world.specs.declared.setup.Setup.{Setup}
-use Rattle.h3_world.specs.Setup.{both_take_any}
+use Rattle.h3_world.specs.Setup.{Setup, both_take_any}
 
 -- a field section that may be sent: its bytes are bytes, and it is below the bound of all sums
 pub record IsSendableSection (fields : List Field) : Type 0 where
@@ -61,18 +57,3 @@ NamesTaken any (event.Fields acting id fields) = AllByRecursion (NamesTakenIn an
 NamesTaken any (event.Trailer acting id trailer) = IfSome trailer.protocol (IsProtocolBy any)
 NamesTaken any (event.TrailerFields acting id fields) = AllByRecursion (NamesTakenIn any) fields
 NamesTaken any _ = Unit {0}
-
-abbrev pub if_by : Side → Side → ℕ → ℕ
-if_by Client Client n = n
-if_by Client Server n = 0
-if_by Server Client n = 0
-if_by Server Server n = n
-
--- what the side is handed to send in an event: the bytes of names, values and bodies, and 64 for each field and each call
-abbrev pub sent_by : Side → Event → ℕ
-sent_by side (event.Head acting id head) = if_by side acting (fields_cost (head_fields head) + 64)
-sent_by side (event.Fields acting id fields) = if_by side acting (fields_cost fields + 64)
-sent_by side (event.TrailerFields acting id fields) = if_by side acting (fields_cost fields + 64)
-sent_by side (event.Trailer acting id trailer) = if_by side acting (fields_cost (head_fields trailer) + 64)
-sent_by side (event.Body acting id bytes) = if_by side acting (length bytes + 64)
-sent_by side _ = 0

@@ -13,7 +13,11 @@ use Rattle.h3_connection.specs.declared.setup.NewError.{NewError}
 use Rattle.h3_connection.specs.declared.setup.NewError.TheVariants as refusal
 use Rattle.h3_connection.specs.StrictConnection.{refuses_settings}
 use Rattle.h3_proto.specs.declared.frame.SettingsError.TheVariants.{InvalidSettingValue}
-use Rattle.h3_world.specs.declared.setup.Setup.{Setup}
+
+-- what a client announces, and a server
+pub record Setup : Type 0 where
+  pub client : Announced
+  pub server : Announced
 
 -- A side takes what the other one announces. One that does not ask for a strict connection takes all
 abbrev pub takes_settings : Setup → Bool
@@ -78,7 +82,8 @@ pub record IsMade (a : Announced) : Type 0 where
 abbrev pub refuses_sessions : Announced → Settings → Settings → Bool
 refuses_sessions a own peer = a.choices.extensions.strict_connection && own.enable_webtransport && peer.enable_webtransport && not peer.enable_datagram
 
--- What `Setup::new` makes: if a side asks for a strict connection, WebTransport on both sides wants datagrams of the other one (its drafts)
+-- Of each `Setup` it is so (its invariant): if a side asks for a strict connection, WebTransport on both sides wants datagrams of the other one
+-- (its drafts)
 pub record IsMadeSetup (setup : Setup) : Type 0 where
   pub sides : (side : Side) → IsMade (announced_at setup side)
   pub take : (side : Side) → refuses_sessions (announced_at setup side) (sides side).settings (sides (other side)).settings ≡ false

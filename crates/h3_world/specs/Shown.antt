@@ -8,7 +8,7 @@ use Rattle.h3_connection.specs.OwnIds.{other}
 use Rattle.h3_connection.specs.Shown.{limits_of}
 use Rattle.h3_connection.specs.declared.event.PeerLimits.{PeerLimits}
 use Rattle.h3_connection.specs.declared.event.TableSizes.{TableSizes}
-use Rattle.h3_world.specs.declared.setup.Setup.{Setup}
+use Rattle.h3_world.specs.Setup.{Setup}
 use Rattle.h3_world.specs.Flow.{Flow}
 use Rattle.h3_world.specs.World.{World, Exchange, party}
 use Rattle.h3_world.specs.Came.{settings_known, insertions_came}

@@ -4,8 +4,7 @@ use Rattle.h3_proto.specs.StreamIds.{is_request_stream, index_of}
 use Rattle.h3_proto.specs.declared.stream.Side.{Side}
 use Rattle.h3_proto.specs.declared.stream.Side.TheVariants.{Client, Server}
 use Rattle.h3_connection.specs.OwnIds.{control_id, encoder_id, decoder_id, is_own}
-use Rattle.h3_world.specs.declared.setup.Setup.{Setup}
-use Rattle.h3_world.specs.Setup.{announced_at}
+use Rattle.h3_world.specs.Setup.{Setup, announced_at}
 use Rattle.h3_world.specs.Flow.{Flow, bytes_waiting}
 use Rattle.h3_world.specs.World.{World, Exchange, no_exchange, party}
 use Rattle.h3_world.specs.OwnStreams.{control_stream, encoder_stream, decoder_stream}

@@ -11,8 +11,7 @@ use Rattle.h3_proto.specs.declared.stream.Side.TheVariants.{Client, Server}
 use Rattle.h3_connection.specs.OwnIds.{other}
 use Rattle.h3_connection.specs.StrictConnection.{is_strict, judges_connect, refuses_settings}
 use Rattle.h3_connection.specs.declared.setup.Announced.{Announced}
-use Rattle.h3_world.specs.Setup.{IsMade, IsMadeSetup, announced_at, refuses_sessions, takes_settings}
-use Rattle.h3_world.specs.declared.setup.Setup.{Setup}
+use Rattle.h3_world.specs.Setup.{IsMade, IsMadeSetup, Setup, announced_at, refuses_sessions, takes_settings}
 
 -- a reserved setting stands in front of no other one
 behind_grease : (send : Bool) (grease id : ℕ) (pairs : List (ℕ × ℕ)) → (reserved grease == id) ≡ false → value_of id (grease_pairs send grease ++ pairs) ≡ value_of id pairs

@@ -6,7 +6,7 @@ use Rattle.h3_header.specs.Head.{Head as Fields, trailer_head, response_head}
 use Rattle.h3_proto.specs.Config.{no_choices}
 use Rattle.h3_proto.specs.declared.stream.Side.{Side}
 use Rattle.h3_connection.specs.declared.setup.Announced.{Announced}
-use Rattle.h3_world.specs.declared.setup.Setup.{Setup}
+use Rattle.h3_world.specs.Setup.{Setup}
 use Rattle.h3_world.specs.declared.event.Event.{Event}
 use Rattle.h3_world.specs.declared.event.Answer.{Answer}
 use Rattle.h3_world.specs.Flow.{flow_bytes}

@@ -5,7 +5,7 @@ use Rattle.h3_proto.specs.declared.stream.Side.TheVariants.{Client, Server}
 use Rattle.h3_qpack.specs.EncoderHistory.{EncoderHistory}
 use Rattle.h3_connection.specs.Endpoint.{Own, first_encoder}
 use Rattle.h3_connection.specs.declared.setup.Announced.{Announced}
-use Rattle.h3_world.specs.declared.setup.Setup.{Setup}
+use Rattle.h3_world.specs.Setup.{Setup}
 use Rattle.h3_world.specs.Flow.{Flow, unused}
 
 -- A side: what it wrote on its control, encoder and decoder streams with how many bytes of each were delivered, and what its

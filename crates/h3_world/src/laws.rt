@@ -1,9 +1,9 @@
 //! Laws over the definitions. These functions do nothing: their contracts are the laws.
+ghost use Rattle.h3_world.specs.Setup.{Setup};
 ghost use Rattle.h3_world.specs.World.{World};
 ghost use Rattle.h3_world.specs.Step.{Step, IsExact};
 ghost use Rattle.h3_world.specs.Machine.{served};
 ghost use Rattle.h3_world.specs.Sound.{IsSoundWorld};
-ghost use Rattle.h3_world.specs.declared.setup.Setup.{Setup};
 ghost use Rattle.h3_world.specs.declared.event.Event.{Event};
 
 /// What the machine answers to any event, in a sound world, is a step that is allowed, and its pause is exact. So the steps can be
@@ -77,19 +77,7 @@ pub fn every_schedule_runs()
     h3_qpack::laws::encoders_without_insertions_use_no_table();
 }
 
-ghost use Rattle.std.specs.Prelude.{◌<◌, Bool, Ok};
-ghost use Rattle.h3_proto.specs.Config.{announced};
-ghost use Rattle.h3_proto.specs.declared.config.Config.{Config};
-ghost use Rattle.h3_connection.specs.Announcing.{announced_by};
-ghost use Rattle.h3_connection.specs.declared.setup.Limits.{Limits};
-ghost use Rattle.h3_world.specs.Setup.{both, IsMadeSetup};
-
-/// What `Setup::new` answers announces some settings on each side, with each number within its bound.
-pub fn setups_are_made()
-    ensures { (client server : Config) (client_limits server_limits : Limits) (client_grease server_grease : ℕ) (setup : Setup) → client_grease < 0x210842108421083 → server_grease < 0x210842108421083 →
-        both (announced_by (announced client client_grease) client_limits client.choices) (announced_by (announced server server_grease) server_limits server.choices) ≡ Ok setup → IsMadeSetup setup }
-{}
-
+ghost use Rattle.std.specs.Prelude.{◌<◌, Bool};
 ghost use Rattle.h3_qpack.specs.Schedule.{SessionEvent, SessionRun, beginning};
 ghost use Rattle.h3_qpack.specs.Session.{Session, count_of};
 

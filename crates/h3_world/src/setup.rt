@@ -2,20 +2,30 @@
 ghost use Rattle.std.specs.Prelude.{◌≡◌, ◌<◌};
 ghost use Rattle.h3_proto.specs.Config.{announced};
 ghost use Rattle.h3_connection.specs.Announcing.{announced_by};
-ghost use Rattle.h3_world.specs.Setup.{both, announced_at, takes_settings};
+ghost use Rattle.h3_world.specs.Setup.{both, announced_at, takes_settings, IsMadeSetup};
 
 use h3_connection::setup::{Announced, Limits, NewError};
 use h3_proto::config::Config;
 use h3_proto::frame::{SettingId, SettingsError};
 use h3_proto::stream::Side;
+use std::marker::Model;
 
-/// What a client and a server announce.
+/// What a client and a server announce. Each was made by `Setup::new`, so of each it is so that each side announces some settings, with
+/// every number within its bound, and takes what the other one announces (`IsMadeSetup`).
 #[derive(Drop)]
 pub struct Setup {
-    /// What the client announces.
-    pub client: Announced,
-    /// What the server announces.
-    pub server: Announced,
+    client: Announced,
+    server: Announced,
+}
+
+impl Model for Setup {
+    ghost use Rattle.h3_world.specs.Setup.{Setup as Sides, IsMadeSetup};
+
+    ghost Value = { Sides };
+
+    ghost view = { λ s. record { client = s.client; server = s.server } };
+
+    ghost invariant = { λ s. IsMadeSetup (record { client = s.client; server = s.server }) };
 }
 
 impl Setup {
@@ -38,26 +48,13 @@ impl Setup {
     {
         let client = Announced::new(client, client_limits, client_grease)?;
         let server = Announced::new(server, server_limits, server_grease)?;
-        let setup = Setup { client, server };
-        if !setup.takes_settings() {
+        if !take_settings(&client, &server) {
             return Err(NewError::Settings(SettingsError::InvalidSettingValue(
                 SettingId::ENABLE_WEBTRANSPORT,
                 1,
             )));
         }
-        Ok(setup)
-    }
-
-    // Whether each side takes what the other one announces.
-    fn takes_settings(&self) -> bool
-        ensures { result ≡ takes_settings self.now }
-    {
-        !(self
-            .client
-            .refuses_settings(Side::Client, &self.server.settings)
-            || self
-                .server
-                .refuses_settings(Side::Server, &self.client.settings))
+        Ok(Setup { client, server })
     }
 
     /// What the side announces.
@@ -69,4 +66,22 @@ impl Setup {
             Side::Server => &self.server,
         }
     }
+
+    /// What the client announces, and what the server does.
+    pub fn into_sides(self) -> (Announced, Announced)
+        ensures client { result.0 ≡ self.client }
+        ensures server { result.1 ≡ self.server }
+        ensures made { IsMadeSetup self }
+    {
+        let Setup { client, server } = self;
+        (client, server)
+    }
+}
+
+// Whether each side takes what the other one announces.
+fn take_settings(client: &Announced, server: &Announced) -> bool
+    ensures { result ≡ takes_settings (record { client = client.now; server = server.now }) }
+{
+    !(client.refuses_settings(Side::Client, &server.settings)
+        || server.refuses_settings(Side::Server, &client.settings))
 }

@@ -3,7 +3,7 @@ use Rattle.h3_faithful.proofs.Accounts.{MemoryMoves}
 use Rattle.h3_faithful.proofs.AlikeFaultless.{AlikeLaws}
 use Rattle.h3_faithful.proofs.AlikeRuns.{no_fault_alike}
 use Rattle.h3_faithful.proofs.Joined.{until_fault}
-use Rattle.h3_faithful.proofs.Runs.{RunLaws, runs_until_fault}
+use Rattle.h3_faithful.proofs.Runs.{RunLaws, runs_until_fault, stands_at_the_end}
 use Rattle.h3_faithful.proofs.SoundSteps.{SoundLaws}
 use Rattle.h3_faithful.proofs.laws.each_side_gets_what_the_other_sent.Goals as goal
 
@@ -54,6 +54,9 @@ laws c =
 
 pub returns-clause-runs : goal.returns-clause-runs
 returns-clause-runs c = λ setup events answers ends made sendable run. runs_until_fault (laws c) setup made events answers ends sendable run
+
+pub returns-clause-stands : goal.returns-clause-stands
+returns-clause-stands c = λ setup events answers ends made sendable run none. stands_at_the_end (laws c) setup made events answers ends sendable run none
 
 pub returns-clause-until_fault : goal.returns-clause-until_fault
 returns-clause-until_fault c = λ setup events answers ends made sendable run.

@@ -1,19 +1,22 @@
 -- The answers are those of the run, whose endpoints are let go.
-use Rattle.std.proofs.Common.{inl, take}
+use Rattle.h3_world.specs.Ends.{new_ends}
 use Rattle.h3_session.specs.Headlines.{RunsInKeepingWorld, RunsInWorld}
 use Rattle.h3_talk.proofs.talk.answers_to.Goals as goal
 
 pub returns-in-Ok : goal.returns-in-Ok
 returns-in-Ok c =
-    let kept : RunsInKeepingWorld c.args.setup c.args.events.now c.in-Ok.outcome.answers.items c.in-Ok.outcome.client c.in-Ok.outcome.server = c.in-Ok.ensures.memory c.requires.few c.requires.plain in
+    let out = c.in-Ok.outcome in
+    let kept : RunsInKeepingWorld c.args.setup c.args.events.now out.answers.items out.client out.server = (c.in-Ok.ensures.world c.requires.small).plainly c.requires.plain in
     rw c.answers_of.ensures (record {
-      each = c.in-Ok.ensures.each;
-      front = λ n not_memory.
-          c.plain_sides_refuse_nothing_more.ensures c.args.setup (take n c.args.events.now) (take n c.in-Ok.outcome.answers.items) c.requires.plain (c.in-Ok.ensures.front c.requires.few n not_memory (inl c.requires.plain));
-      messages = c.in-Ok.ensures.messages c.requires.few c.requires.plain;
+      each = c.calls_are_steps_of_two_endpoints.ensures.each (new_ends c.args.setup) c.args.events.now out.answers.items out.client out.server c.in-Ok.ensures.calls;
+      faithful = c.in-Ok.ensures.faithful c.requires.small;
       whole = λ not_memory.
-          let runs : RunsInWorld c.args.setup c.args.events.now c.in-Ok.outcome.answers.items c.in-Ok.outcome.client c.in-Ok.outcome.server = c.in-Ok.ensures.headline not_memory c.requires.few c.requires.plain in
-          record { world = runs.world; run = runs.run; of_ends = (c.in-Ok.ensures.runs not_memory).answered_so };
+          let runs : RunsInWorld c.args.setup c.args.events.now out.answers.items out.client out.server = c.in-Ok.ensures.headline not_memory c.requires.small c.requires.plain in
+          record {
+            world = runs.world;
+            run = runs.run;
+            of_ends = (c.calls_are_steps_of_two_endpoints.ensures.whole (new_ends c.args.setup) c.args.events.now out.answers.items out.client out.server c.in-Ok.ensures.calls not_memory).answered_so;
+          };
       world = kept.runs.world;
       run = kept.runs.run;
     })

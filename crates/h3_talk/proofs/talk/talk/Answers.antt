@@ -1,10 +1,7 @@
 use Rattle.h3_talk.proofs.talk.talk.Goals as goal
 
-pub answer-requires-clause-made : goal.answer-requires-clause-made
-answer-requires-clause-made g c = c.a_script_has_a_made_setup.ensures _ _ _ _ c.in-Ok.ensures.ok.script
-
-pub answer-requires-clause-few : goal.answer-requires-clause-few
-answer-requires-clause-few g c = c.a_script_has_few_events.ensures _ _ _ c.in-Ok.ensures.ok.script
+pub answer-requires-clause-small : goal.answer-requires-clause-small
+answer-requires-clause-small g c = c.a_script_has_small_events.ensures _ _ _ c.in-Ok.ensures.ok.script
 
 pub answer-requires-clause-plain : goal.answer-requires-clause-plain
 answer-requires-clause-plain g c = c.a_script_judges_plainly.ensures _ _ _ _ c.in-Ok.ensures.ok.script

@@ -1,4 +1,4 @@
--- What the events of a script hand to each side to send.
+-- What the events of a script send.
 use Rattle.std.proofs.Common.{◌≡◌, ℕ, ◌+◌, ◌*◌, ◌^◌, ◌==◌, ◌<◌, ◌≤◌, Bool, true, false, not, List, [], ◌∷◌, ◌++◌, length, map, sum_by, codes, bytes_eq, Option, Some, None, option_map, unwrap_or, refl, ◌∙◌, ap, sym, subst, arith, inl, inr, length-append, length-take, if◌then◌else◌}
 use Rattle.std.proofs.lemmas.List.{length-map, map-append}
 use Rattle.std.proofs.lemmas.List.Sums.{sum_by-append, sum_by-cons}
@@ -10,9 +10,8 @@ use Rattle.http_uri.specs.ByteClasses.{lowercase as lower_uri, index_of, hash_si
 use Rattle.http_uri.specs.Grammar.{IsForm, IsTail, without_fragment, normal_scheme, or_slash}
 use Rattle.http_uri.specs.Uri.{Spells, uri_scheme, uri_authority, uri_data, has_path}
 use Rattle.http_uri.specs.declared.uri.Uri.{Uri as Target}
-use Rattle.h3_field.specs.Field.{Field, plain_field}
+use Rattle.h3_field.specs.Field.{Field, field_size, plain_field, section_size}
 use Rattle.h3_proto.specs.declared.stream.Side.{Side}
-use Rattle.h3_proto.specs.declared.stream.Side.TheVariants.{Client, Server}
 use Rattle.h3_header.specs.Head.{Head, head_fields, to_field, regular_fields, pseudo_fields, response_head, trailer_head}
 use Rattle.std.specs.List.{AllByRecursion}
 use Rattle.std.specs.Prelude.{IfSome}
@@ -21,14 +20,13 @@ use Rattle.h3_header.specs.RequestPath.{behind, rooted, takes_slash}
 use Rattle.h3_header.specs.Request.{request_head}
 use Rattle.h3_script.specs.Pieces.{cut}
 use Rattle.h3_script.specs.HeadText.{AddsFields, IsHeadText, IsTrailerText, HeadBy, is_status}
-use Rattle.h3_script.specs.ScriptLine.{is_skipped, setup_of, SaysSection, IsBody, SaysEvent}
-use Rattle.h3_script.specs.Few.{AreFew}
+use Rattle.h3_script.specs.ScriptLine.{is_skipped, SaysSection, IsBody, SaysEvent}
+use Rattle.h3_script.specs.Small.{AreSmall}
 use Rattle.h3_script.specs.Words.{words_of}
-use Rattle.h3_connection.specs.Sending.{fields_cost}
 use Rattle.h3_script.specs.Script.{lines_of, said, SayEvents, SaysSoFar, lines_length, IsScript}
-use Rattle.h3_world.specs.Sendable.{NamesTaken, if_by, sent_by}
-use Rattle.h3_world.specs.Setup.{both_take_any}
-use Rattle.h3_world.specs.declared.setup.Setup.{Setup}
+use Rattle.h3_world.specs.Sendable.{NamesTaken}
+use Rattle.h3_world.specs.Setup.{Setup, both_take_any}
+use Rattle.h3_world.specs.Small.{IsSmall}
 use Rattle.h3_world.specs.declared.event.Event.{Event}
 use Rattle.h3_world.specs.declared.event.Event.TheVariants as does
 use Rattle.h3_script.proofs.Scripts.{pieces_length}
@@ -37,9 +35,9 @@ use Rattle.h3_script.proofs.Scripts.{pieces_length}
 abbrev field_sum : Field → ℕ
 field_sum f = length f.name + length f.value + 64
 
-cost_is : (fields : List Field) → fields_cost fields ≡ sum_by field_sum fields
-cost_is [] = refl
-cost_is (f ∷ fields) = omega (arith, sum_by-cons field_sum f fields, cost_is fields)
+size_most : (fields : List Field) → section_size fields ≤ sum_by field_sum fields
+size_most [] = omega arith
+size_most (f ∷ fields) = omega (arith, sum_by-cons field_sum f fields, sum_by-cons field_size f fields, size_most fields)
 
 -- those of all fields, and 64 for the call
 abbrev head_sum : Head → ℕ
@@ -207,12 +205,6 @@ trailer_sum m = refl
 trailer_few : (words : List (List ℕ)) (trailer : Head) → IsTrailerText words trailer → head_sum trailer ≤ 128 * (3 + lines_length words)
 trailer_few words trailer h = omega (arith, ap head_sum h.trailer_is, trailer_sum h.fields, fields_sum [] h.fields words h.adds, none_sum)
 
-if_by_most : (side acting : Side) (n : ℕ) → if_by side acting n ≤ n
-if_by_most Client Client n = omega arith
-if_by_most Client Server n = omega arith
-if_by_most Server Client n = omega arith
-if_by_most Server Server n = omega arith
-
 section_few : (name : List ℕ) (Says : List (List ℕ) → Head → Type 0) → ((words : List (List ℕ)) (x : Head) → Says words x → head_sum x ≤ 128 * (3 + lines_length words))
     → (words : List (List ℕ)) (acting : Side) (stream : ℕ) (x : Head) → SaysSection name Says words acting stream x → head_sum x ≤ 128 * lines_length words
 section_few name Says few [] acting stream x h = absurd h
@@ -222,43 +214,42 @@ section_few name Says few (a ∷ b ∷ c ∷ words) acting stream x h =
     let len = λ (l : List ℕ). length l + 1 in
     omega (arith, few words x h.section_is, sum_by-cons len a (b ∷ c ∷ words), sum_by-cons len b (c ∷ words), sum_by-cons len c words)
 
--- a field section is no more than so many times its line
-sent_few : (line : List ℕ) (side acting : Side) (x : Head) → head_sum x ≤ 128 * lines_length (words_of line) → if_by side acting (fields_cost (head_fields x) + 64) ≤ 128 * (length line + 1)
-sent_few line side acting x h =
-    omega (arith, if_by_most side acting (fields_cost (head_fields x) + 64), cost_is (head_fields x), h, pieces_length 32 line)
+-- A field section is no more than so many times its line,
+sent_small : (line : List ℕ) (x : Head) → head_sum x ≤ 128 * lines_length (words_of line) → length line + 1 ≤ 2 ^ 48 + 1 → section_size (head_fields x) < 2 ^ 56
+sent_small line x h few = omega (arith, size_most (head_fields x), h, pieces_length 32 line, few)
 
-body_few : (line : List ℕ) (side acting : Side) (stream : ℕ) (bytes : List ℕ) → IsBody line acting stream bytes → if_by side acting (length bytes + 64) ≤ 128 * (length line + 1)
-body_few line side acting stream bytes h =
+-- and so is a body.
+body_small : (line : List ℕ) (acting : Side) (stream : ℕ) (bytes : List ℕ) → IsBody line acting stream bytes → length line + 1 ≤ 2 ^ 48 + 1 → length bytes < 2 ^ 56
+body_small line acting stream bytes h few =
     let side_word : List ℕ = h.side in
     let id_word : List ℕ = h.id in
     let whole : length line ≡ length (codes "body " ++ (side_word ++ 32 ∷ (id_word ++ 32 ∷ bytes))) = ap length h.line_is in
     omega (
       arith,
-      if_by_most side acting (length bytes + 64),
+      few,
       whole,
       length-append (codes "body ") (side_word ++ 32 ∷ (id_word ++ 32 ∷ bytes)),
       length-append side_word (32 ∷ (id_word ++ 32 ∷ bytes)),
       length-append id_word (32 ∷ bytes),
     )
 
--- an event is handed no more than so many times its line
-event_few : (line : List ℕ) (side : Side) (event : Event) → SaysEvent line event → sent_by side event ≤ 128 * (length line + 1)
-event_few line side (does.OpenRequest acting) h = omega arith
-event_few line side (does.Head acting stream head) h = sent_few line side acting head (section_few (codes "head") IsHeadText head_few (words_of line) acting stream head h)
-event_few line side (does.Fields acting stream fields) h = absurd h
-event_few line side (does.Body acting stream bytes) h = body_few line side acting stream bytes h
-event_few line side (does.Trailer acting stream trailer) h = sent_few line side acting trailer (section_few (codes "trailer") IsTrailerText trailer_few (words_of line) acting stream trailer h)
-event_few line side (does.TrailerFields acting stream fields) h = absurd h
-event_few line side (does.Finish acting stream) h = omega arith
-event_few line side (does.Reset acting stream) h = omega arith
-event_few line side (does.Cancel acting stream) h = omega arith
-event_few line side (does.Goaway acting number) h = omega arith
-event_few line side (does.Deliver acting stream count) h = omega arith
-event_few line side (does.DeliverEnd acting stream) h = omega arith
-event_few line side (does.DeliverReset acting stream) h = omega arith
-event_few line side (does.Pull acting stream) h = omega arith
-event_few line side (does.PullFields acting stream) h = omega arith
-event_few line side (does.Show acting) h = omega arith
+event_small : (line : List ℕ) (event : Event) → SaysEvent line event → length line + 1 ≤ 2 ^ 48 + 1 → IsSmall event
+event_small line (does.OpenRequest acting) h few = tt
+event_small line (does.Head acting stream head) h few = sent_small line head (section_few (codes "head") IsHeadText head_few (words_of line) acting stream head h) few
+event_small line (does.Fields acting stream fields) h few = absurd h
+event_small line (does.Body acting stream bytes) h few = body_small line acting stream bytes h few
+event_small line (does.Trailer acting stream trailer) h few = sent_small line trailer (section_few (codes "trailer") IsTrailerText trailer_few (words_of line) acting stream trailer h) few
+event_small line (does.TrailerFields acting stream fields) h few = absurd h
+event_small line (does.Finish acting stream) h few = tt
+event_small line (does.Reset acting stream) h few = tt
+event_small line (does.Cancel acting stream) h few = tt
+event_small line (does.Goaway acting number) h few = tt
+event_small line (does.Deliver acting stream count) h few = tt
+event_small line (does.DeliverEnd acting stream) h few = tt
+event_small line (does.DeliverReset acting stream) h few = tt
+event_small line (does.Pull acting stream) h few = tt
+event_small line (does.PullFields acting stream) h few = tt
+event_small line (does.Show acting) h few = tt
 
 -- No header of a script has a protocol.
 none_by : (head other : Head) → head ≡ other → other.protocol ≡ None → head.protocol ≡ None
@@ -315,21 +306,13 @@ so_far_taken : (lines : List (List ℕ)) (setup : Setup) (events : List Event) �
 so_far_taken [] setup events h = absurd h
 so_far_taken (first ∷ rest) setup events h = events_taken (both_take_any setup) rest events h.1
 
-record EventsFew (lines : List (List ℕ)) (side : Side) (events : List Event) : Type 0 where
-  pub sums : sum_by (sent_by side) events ≤ 128 * lines_length lines
-  pub count : length events ≤ lines_length lines
-
-events_few : (lines : List (List ℕ)) (side : Side) (events : List Event) → SayEvents lines events → EventsFew lines side events
-events_few [] side [] h = record { sums = omega arith; count = omega arith }
-events_few [] side (e ∷ events) h = absurd h
-events_few (l ∷ lines) side [] h = absurd h
-events_few (l ∷ lines) side (e ∷ events) h =
-    let more = events_few lines side events h.1 in
+events_small : (lines : List (List ℕ)) (events : List Event) → SayEvents lines events → lines_length lines ≤ 2 ^ 48 + 1 → AllByRecursion IsSmall events
+events_small [] [] h few = tt
+events_small [] (e ∷ events) h few = absurd h
+events_small (l ∷ lines) [] h few = absurd h
+events_small (l ∷ lines) (e ∷ events) h few =
     let len = sum_by-cons (λ (l : List ℕ). length l + 1) l lines in
-    record {
-      sums = omega (arith, sum_by-cons (sent_by side) e events, event_few l side e h.0, more.sums, len);
-      count = omega (arith, more.count, len);
-    }
+    (event_small l e h.0 (omega (arith, few, len)), events_small lines events h.1 (omega (arith, few, len)))
 
 said_few : (lines : List (List ℕ)) → lines_length (said lines) ≤ lines_length lines
 said_few [] = omega arith
@@ -342,28 +325,13 @@ said_few (l ∷ lines) =
     either_few true xs ys n p q = p
     either_few false xs ys n p q = q
 
--- a setup has words
-setup_some : (words : List (List ℕ)) (setup : Setup) → setup_of words ≡ Some setup → 2 ≤ lines_length words
-setup_some [] setup h = cc
-setup_some (a ∷ []) setup h = cc
-setup_some (a ∷ b ∷ words) setup h =
-    let len = λ (l : List ℕ). length l + 1 in
-    omega (arith, sum_by-cons len a (b ∷ words), sum_by-cons len b words)
+so_far_small : (lines : List (List ℕ)) (setup : Setup) (events : List Event) → SaysSoFar lines (Some setup) events → lines_length lines ≤ 2 ^ 48 + 1 → AllByRecursion IsSmall events
+so_far_small [] setup events h few = absurd h
+so_far_small (first ∷ rest) setup events h few = events_small rest events h.1 (omega (arith, few, sum_by-cons (λ (l : List ℕ). length l + 1) first rest))
 
--- what a script hands to a side, and how many events it has
-record SideFew (side : Side) (events : List Event) : Type 0 where
-  pub sums : sum_by (sent_by side) events < 2 ^ 56
-  pub count : length events < 2 ^ 48
-
-so_far_few : (lines : List (List ℕ)) (side : Side) (setup : Setup) (events : List Event) → SaysSoFar lines (Some setup) events → lines_length lines ≤ 2 ^ 48 + 1 → SideFew side events
-so_far_few [] side setup events h le = absurd h
-so_far_few (first ∷ rest) side setup events h le =
-    let more = events_few rest side events h.1 in
-    let first_some : 2 ≤ length first + 1 = omega (arith, setup_some (words_of first) setup h.0, pieces_length 32 first) in
-    let len = sum_by-cons (λ (l : List ℕ). length l + 1) first rest in
-    record { sums = omega (arith, more.sums, len, le); count = omega (arith, more.count, first_some, len, le) }
-
-pub script_few : (text : List ℕ) (setup : Setup) (events : List Event) → IsScript (2 ^ 48) text setup events → AreFew setup events
-script_few text setup events h =
-    let few = λ (side : Side). so_far_few (said (lines_of text)) side setup events h.says (omega (arith, said_few (lines_of text), pieces_length 10 text, h.within)) in
-    record { count = (few Client).count; client_sends = (few Client).sums; server_sends = (few Server).sums; taken = so_far_taken (said (lines_of text)) setup events h.says }
+pub script_small : (text : List ℕ) (setup : Setup) (events : List Event) → IsScript (2 ^ 48) text setup events → AreSmall setup events
+script_small text setup events h =
+    record {
+      small = so_far_small (said (lines_of text)) setup events h.says (omega (arith, said_few (lines_of text), pieces_length 10 text, h.within));
+      taken = so_far_taken (said (lines_of text)) setup events h.says;
+    }
