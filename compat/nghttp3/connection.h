@@ -118,6 +118,7 @@ struct nghttp3_conn {
   bool has_own_table, has_peer_table; /* the table that the local decoder, and the local encoder, may use has room for entries */
   bool has_own_work;  /* the endpoint or one of the local unidirectional streams may have bytes for these */
   bool is_leaving;    /* nghttp3_conn_shutdown was called */
+  bool has_control, has_updates; /* bytes of the peer's control stream came; PRIORITY_UPDATE frames may have */
   int64_t next_id; /* after the last request that was opened, or came */
   int64_t end_id;  /* a server takes no request from here on */
   stream control, encoder, decoder;

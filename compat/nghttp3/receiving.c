@@ -60,7 +60,7 @@ static int tell_fields(nghttp3_conn *connection, stream *s, const h3_item *item)
   if (!all) return NGHTTP3_ERR_NOMEM;
   int error = is_trailer ? CALLBACK(connection, begin_trailers, s->id, connection->user_data, s->user_data)
                          : CALLBACK(connection, begin_headers, s->id, connection->user_data, s->user_data);
-  if (connection->is_server && !is_trailer) stream_read_priority(connection, s); /* of an update that came before the stream */
+  if (connection->has_updates && !is_trailer) stream_read_priority(connection, s); /* of an update that came before the stream */
   if (!error) error = tell_each(connection, s, all, item->fields, is_trailer);
   section_give(connection, all);
   return error;
@@ -372,6 +372,18 @@ static int tell_control(nghttp3_conn *connection) {
   return error;
 }
 
+/* Are these a control stream's type and its SETTINGS frame, and no more (RFC 9114, sections 6.2.1 and 7.2.4)? */
+static bool is_settings_alone(const uint8_t *bytes, size_t length) {
+  return length >= 3 && bytes[0] == 0 && bytes[1] == 4 && bytes[2] < 64 && length - 3 == bytes[2];
+}
+
+/* Bytes of a client's control stream were read. While only its SETTINGS came no PRIORITY_UPDATE frame did. */
+static void look_for_updates(nghttp3_conn *connection, const uint8_t *bytes, size_t length) {
+  if (connection->has_control || !is_settings_alone(bytes, length)) connection->has_updates = true;
+  connection->has_control = true;
+  if (connection->has_updates) read_priorities(connection);
+}
+
 static nghttp3_ssize read_unidirectional(nghttp3_conn *connection, int64_t id, const uint8_t *bytes, size_t length, int fin) {
   int fault = endpoint_deliver(connection, id, bytes, length, fin);
   if (fault == NGHTTP3_ERR_H3_SETTINGS_ERROR) return fault; /* settings that are refused are not told */
@@ -380,7 +392,7 @@ static nghttp3_ssize read_unidirectional(nghttp3_conn *connection, int64_t id, c
   if (fault || error) return fault ? fault : error;
   uint32_t type;
   bool is_control = h3_stream_kind(&connection->endpoint, (uint64_t)id, &type) == H3_OK && type == H3_STREAM_CONTROL;
-  if (connection->is_server && is_control) read_priorities(connection);
+  if (connection->is_server && is_control) look_for_updates(connection, bytes, length);
   error = resume_all_waiting(connection);
   return error ? error : (nghttp3_ssize)length;
 }

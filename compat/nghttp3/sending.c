@@ -32,8 +32,9 @@ inline int send_fields(nghttp3_conn *connection, stream *s, const field_list *fi
 int send_message_end(nghttp3_conn *connection, stream *s) {
   uint64_t detail = 0;
   uint32_t answer = h3_finish(&connection->endpoint, s->endpoint_id, &detail);
-  if (answer == H3_OK) s->has_ended = true;
-  return error_of_answer(answer, detail);
+  if (answer != H3_OK) return error_of_answer(answer, detail);
+  s->has_ended = true;
+  return 0;
 }
 
 int send_trailer(nghttp3_conn *connection, stream *s) {

@@ -139,6 +139,7 @@ pub(crate) fn sent(call: &Result<(), (Refusal, Bytes)>) -> Told
 }
 
 /// What a call of this endpoint tells that sends a list.
+#[inline(always)]
 pub(crate) fn listed(
     call: &Result<(), Refusal>,
     endpoint: &Endpoint,

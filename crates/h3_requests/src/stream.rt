@@ -111,6 +111,14 @@ impl RequestStream {
             && self.outgoing.is_empty()
     }
 
+    // The same of one on which so many bytes wait. (Mostly some do: so that is asked first.)
+    #[inline(always)]
+    pub(crate) fn is_over_with(&self, waiting: usize) -> bool
+        ensures { result ≡ true → IsOver self.now }
+    {
+        waiting == 0 && self.is_over()
+    }
+
     // Whether its end was returned or it was given up, and sending has ended.
     fn is_done(&self) -> bool
         ensures { result ≡ is_done self.now }

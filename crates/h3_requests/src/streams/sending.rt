@@ -58,7 +58,7 @@ impl RequestStreams {
         let waiting = stream.outgoing.waiting();
         stream.outgoing.advance(count.min(waiting));
         let left = stream.outgoing.waiting();
-        let is_over = stream.is_over();
+        let is_over = stream.is_over_with(left);
         self.ready.settle_rest(&precedence, id, left > 0);
         self.streams.retire_if(id, is_over);
         true

@@ -110,8 +110,8 @@ impl BoundedWords {
         self.next_within(first)
     }
 
-    // The same, with no look at the bounds. (A call of its own: most searches end at the bounds.)
-    #[inline(never)]
+    // The same, with no look at the bounds.
+    #[inline(always)]
     fn next_within(&self, first: u64) -> Option<(u64, u64)>
         ensures { IsFirstWord (λ q. (word_at self.now q).waiting) first result }
     {

@@ -163,6 +163,7 @@ impl Endpoint {
     }
 
     /// The end of a stream came. It is refused as bytes are.
+    #[inline(always)]
     #[tactic(auto, using(crate::proofs::ReceivingAtOnce::ends_at_once))]
     pub fn deliver_end(&mut self, id: StreamId) -> Result<(), DeliverError>
         ensures { DeliversEnd self.old self.new id result }

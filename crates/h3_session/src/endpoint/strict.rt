@@ -122,6 +122,7 @@ impl Endpoint {
     }
 
     // The same of one over which the walk was made.
+    #[inline(always)]
     pub(super) fn read_survey(&self, survey: &Survey<'_>) -> SentRead
         ensures violation { result.violation ≡ violation_of_own_list self.now.side self.now.peer.settings survey.now.fields.now }
         ensures said { IsSaidBy self.now.side survey.now.fields.now result.said }
