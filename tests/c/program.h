@@ -709,15 +709,17 @@ void Program::last_round(int side) {
 
 // all of a side goes out in the order of priorities, once QUIC has credit for each stream
 void Program::all_by_priority(int side) {
-  for (auto &[id, own] : sides_[side].flows)
-    for (int i = 0; i < 20 && own.is_held; i++) own.is_held = call([&] { return h3_hold(&sides_[side].end, id, 0, nullptr); }) != H3_OK;
+  h3_endpoint *end = &sides_[side].end;
+  for (auto &it : sides_[side].flows)
+    for (int i = 0; i < 20 && it.second.is_held; i++) // memory may be refused
+      it.second.is_held = call([&] { return h3_hold(end, it.first, 0, nullptr); }) != H3_OK;
   for (int turns = 0; turns < 20000; turns++) {
     uint64_t id = 0;
-    if (h3_next_by_priority(&sides_[side].end, &id) != H3_OK) break;
+    if (h3_next_by_priority(end, &id) != H3_OK) break;
     take(side, id, ALL);
   }
   uint64_t left = 0;
-  if (h3_next_to_send(&sides_[side].end, 0, &left) != H3_NONE) violated("comes_out", left, "it has no turn");
+  if (h3_next_to_send(end, 0, &left) != H3_NONE) violated("comes_out", left, "it has no turn");
 }
 
 void Program::run() {
