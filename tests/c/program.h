@@ -58,6 +58,7 @@ struct Flow {
   uint64_t code = 0;                 // of the reset
   uint64_t came = 0;                 // so many bytes were delivered
   bool seen = false, closed = false; // at the other side: something came; its end or reset came
+  bool reset_came = false;
   bool end_may_have_come = false;    // h3_read had it, and an item came out first, or memory was refused
   size_t out = 0;                    // so many parts came out there
   bool ended = false, given_up = false;
@@ -229,6 +230,7 @@ void Program::violated(const char *clause, uint64_t id, const char *more) {
   if (++counts.violations > TOLD) return;
   printf("failed programs: seed %llu, stream %llu: %s: %s\n", static_cast<unsigned long long>(seed_), static_cast<unsigned long long>(id),
       clause, more);
+  fflush(stdout); // a fuzzer ends here
 }
 
 // ---- the clauses ----
@@ -515,6 +517,7 @@ void Program::deliver_end(int from, uint64_t id) {
   bool is_second = answer == H3_AFTER_END && sent.end_may_have_come;
   if (answer != H3_OK && answer != H3_KEPT && !is_second) return violated("accepts", id, "an end is refused");
   sent.closed = sent.seen = true;
+  sent.reset_came = sent.reset_in_flight && !is_second;
 }
 
 // Bytes come, and with the last of them perhaps the end: they are read to a pause, the end or a fault.

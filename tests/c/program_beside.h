@@ -308,7 +308,7 @@ void Program::shows_drained(int side) {
     if (side == 1 && !flow(0, id).seen && own.goaways.back() > id) violated("goaway", id, "drained, and a request is to come");
     if (!is_open(side, id)) continue;
     if (!sent.reset && !sent.end_told) violated("goaway", id, "drained, and something is to be sent");
-    if (!peer.ended && !peer.given_up) violated("goaway", id, "drained, and something is to be pulled");
+    if (!peer.ended && !peer.given_up && !peer.reset_came) violated("goaway", id, "drained, and something is to be pulled");
   }
 }
 
