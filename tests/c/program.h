@@ -58,7 +58,7 @@ struct Flow {
   uint64_t code = 0;                 // of the reset
   uint64_t came = 0;                 // so many bytes were delivered
   bool seen = false, closed = false; // at the other side: something came; its end or reset came
-  bool reset_came = false;
+  bool reset_came = false, was_kept = false; // was_kept: bytes were taken, and memory was refused to read them
   bool end_may_have_come = false;    // h3_read had it, and an item came out first, or memory was refused
   size_t out = 0;                    // so many parts came out there
   bool ended = false, given_up = false;
@@ -497,6 +497,7 @@ void Program::deliver(int from, uint64_t id, size_t most) {
   if (answer == H3_MEMORY) return;
   if (answer == H3_CONNECTION) return no_connection_fault(!from, code, "delivery");
   if (answer != H3_OK && answer != H3_KEPT) return violated("accepts", id, "a delivery is refused");
+  sent.was_kept = sent.was_kept || answer == H3_KEPT;
   sent.flight.erase(sent.flight.begin(), sent.flight.begin() + static_cast<long>(n));
   sent.seen = true;
   sent.came += n;
@@ -549,6 +550,7 @@ bool Program::read_next(int from, uint64_t id, size_t &most) {
   if (answer == H3_NOT_OPEN && !n) return false; // nothing came but an end
   if (answer == H3_AFTER_END && sent.end_may_have_come) return sent.closed = true, false;
   sent.end_may_have_come = sent.end_may_have_come || is_last;
+  sent.was_kept = sent.was_kept || answer == H3_KEPT;
   if (answer == H3_MEMORY || answer == H3_KEPT) return below(2);
   if (answer != H3_OK) return violated("accepts", id, "a read is refused"), false;
   bool goes_on = read_item(!from, id, item, taken.data(), used);

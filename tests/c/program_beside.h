@@ -139,8 +139,8 @@ void Program::send_priority(uint64_t id) {
   const Flow &response = flow(1, id);
   uint32_t answer = call([&] { return h3_send_priority(&sides_[0].end, id, said.urgency, said.incremental, nullptr); });
   if (sides_[0].has_fault || answer == H3_MEMORY) return;
-  bool is_over = response.ended || response.given_up;
-  if (answer == H3_ENDED ? !is_over && !response.closed : answer != H3_OK) violated("priorities", id, h3_answer_text(answer));
+  bool is_over = response.ended || response.given_up, may_be_over = is_over || response.closed || response.end_may_have_come;
+  if (answer == H3_ENDED ? !may_be_over : answer != H3_OK) violated("priorities", id, h3_answer_text(answer));
   if (answer != H3_OK) return;
   if (is_over) violated("priorities", id, "an update of a response that came");
   counts.priorities++;
@@ -253,7 +253,7 @@ void Program::shows_kind(int side, uint64_t id) {
   if (id == ALONE[side][1] && sent.came) wanted = H3_STREAM_UNKNOWN;
   bool knows_sessions = reader.webtransport || !reader.strict_connection;
   if (id == ALONE[side][0] && sent.came > 2) wanted = knows_sessions ? H3_STREAM_SESSION : H3_STREAM_UNKNOWN; // with the session's id
-  if (type != wanted) violated("shows", id, "a stream of another type");
+  if (type != wanted && !(type == H3_STREAM_UNTOLD && sent.was_kept)) violated("shows", id, "a stream of another type");
 }
 
 // ---- what is reported ----
