@@ -654,10 +654,10 @@ static inline uint32_t h3_first_unseen(h3_endpoint *endpoint, uint64_t *id);
 /* *drained is 1 if nothing is left to be done, so that the connection can be closed without losing
  * a request, else 0. Then all of this is true: no request is to come (a server saw each one below
  * the id of its last GOAWAY; at a client a GOAWAY came from its server); each request stream was
- * pulled to H3_END or a fault of the stream, or canceled; each was finished or reset; all that
- * waited on it was taken, and h3_end_taken was called for its FIN; nothing waits on the local
- * control stream. A server that names an id above a request that never comes stays at 0: so give
- * shutting down a deadline.
+ * pulled to H3_END or a fault of the stream, was canceled, or its reset was delivered; each was
+ * finished or reset; all that waited on it was taken, and h3_end_taken was called for its FIN;
+ * nothing waits on the local control stream. A server that names an id above a request that never
+ * comes stays at 0: so give shutting down a deadline.
  * If you never call h3_end_taken, it stays 0 once a message was finished. After a fault of the
  * connection it says nothing: close the connection. Takes no memory, and reads the streams that are
  * not over. */

@@ -23,6 +23,21 @@ void begin(uint64_t seed) {
   steps_left = 60 + below(one_in(8) ? 1500 : 160);
 }
 
+void tell() {
+  printf(
+      "%s programs: %lu pairs, %lu calls, %lu allocations refused: %lu sends in order, %lu bytes (%lu of the caller), %lu lists and headers "
+      "(%lu too large), %lu pieces read in place, %lu ends, %lu messages that had to come out, %lu pauses after all; %lu malformed "
+      "(%lu too long); %lu trailers in a tunnel from a plain side; ",
+      counts.violations ? "failed" : "ok", counts.programs, counts.calls, allocations_refused, counts.sends, counts.bytes, counts.owned,
+      counts.lists, counts.too_large, counts.read_in_place, counts.ends, counts.came_out, counts.pauses, counts.malformed, counts.too_long,
+      counts.tunnel_faults);
+  printf(
+      "%lu priorities, %lu turns, %lu GOAWAYs, %lu requests rejected and %lu too late, %lu drained ends, %lu streams closed both ways, "
+      "%lu unblocked, %lu datagrams, %lu bytes of sessions; %lu violations\n",
+      counts.priorities, counts.turns, counts.goaways, counts.rejected, counts.late, counts.drained, counts.closed_both, counts.unblocked,
+      counts.datagrams, counts.raw, counts.violations);
+}
+
 } // namespace
 
 int main(int count, char **arguments) {
@@ -32,11 +47,6 @@ int main(int count, char **arguments) {
     begin(seed);
     Program(seed).run();
   }
-  printf(
-      "%s programs: %lu pairs, %lu calls, %lu allocations refused: %lu sends in order, %lu bytes, %lu lists and headers (%lu too large), "
-      "%lu ends, "
-      "%lu messages that had to come out; %lu malformed (%lu too long); %lu trailers in a tunnel from a plain side; %lu violations\n",
-      counts.violations ? "failed" : "ok", counts.programs, counts.calls, allocations_refused, counts.sends, counts.bytes, counts.lists,
-      counts.too_large, counts.ends, counts.came_out, counts.malformed, counts.too_long, counts.tunnel_faults, counts.violations);
+  tell();
   return counts.violations != 0;
 }

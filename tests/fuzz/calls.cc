@@ -27,9 +27,6 @@ extern "C" int LLVMFuzzerTestOneInput(const uint8_t *data, size_t size) {
   choices_left = size - 1;
   after = size;
   Program(*data).run();
-  if (counts.violations) {
-    fflush(stdout); // what they are
-    abort();
-  }
+  if (counts.violations) abort();
   return 0;
 }
