@@ -16,7 +16,7 @@ use Rattle.h3_memory.specs.Refused.{EndsRun}
 use Rattle.h3_memory.specs.Theorem.{RunsWithMemory}
 use Rattle.h3_faithful.specs.Steps.{RunsUntilFault, StandsAnywhere}
 use Rattle.h3_session.specs.Acting.{RunsByCalls}
-use Rattle.h3_session.specs.Headlines.{RunsInKeepingWorld, RunsInOneWorld, RunsInWorld}
+use Rattle.h3_session.specs.Headlines.{RunsInOneWorld, RunsInWorld}
 use Rattle.h3_session.specs.Running.{RunsTo}
 use Rattle.h3_session.specs.Typed.{IsTyped}
 use Rattle.h3_session.proofs.MemorySteps.{calls_run}
