@@ -74,7 +74,6 @@ pub mod ResetStep
 pub mod Runs
 pub mod SameSent
 pub mod SectionCutOff
-mod FrontCuts
 pub mod SendersStep
 pub mod SendingEvents
 pub mod SendsHappen

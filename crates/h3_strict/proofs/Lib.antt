@@ -62,7 +62,6 @@ mod KeepsAny
 mod TunnelKept
 mod BehindReads
 mod TunnelSees
-mod TunnelBeside
 mod TunnelFaults
 mod TunnelSends
 mod TunnelCalls
@@ -73,6 +72,5 @@ mod TunnelStreams
 mod TunnelPull
 mod SettledCalm
 mod TunnelFaultless
-mod UnkeptRuns
 mod TunnelRuns
 mod LooseRuns

@@ -22,29 +22,24 @@ use Rattle.h3_connection.specs.declared.event.StreamFault.{StreamFault}
 use Rattle.h3_connection.specs.declared.setup.Announced.{Announced}
 use Rattle.h3_world.specs.EndLists.{fields_refusal, send_fields, send_trailer_fields, trailer_fields_refusal}
 use Rattle.h3_world.specs.Ends.{Ends, answered, done, end_at, new_ends, with_end}
-use Rattle.h3_world.specs.Setup.{IsMadeSetup, announced_at}
+use Rattle.h3_world.specs.Setup.{announced_at}
 use Rattle.h3_world.specs.World.{World}
 use Rattle.h3_world.specs.declared.event.Answer.{Answer}
 use Rattle.h3_world.specs.declared.event.Answer.TheVariants as answer
 use Rattle.h3_world.specs.declared.event.Event.{Event}
 use Rattle.h3_world.specs.declared.event.Event.TheVariants as event
 use Rattle.h3_world.specs.declared.setup.Setup.{Setup}
-use Rattle.h3_headline.specs.Cited.{Laws}
 use Rattle.h3_headline.specs.Contents.{KeepsParts}
 use Rattle.h3_strict.proofs.KeepsCounts.{KeepsAt, KeepsBut}
-use Rattle.h3_strict.proofs.PlainSetups.{setup_plainly}
 use Rattle.h3_strict.proofs.PullEvents.{given_up_again}
 use Rattle.h3_strict.proofs.PulledTallies.{answer_streams, pulled_in}
 use Rattle.h3_strict.proofs.PullsAnyhow.{listed_is, pulled_is}
-use Rattle.h3_strict.proofs.StepsAnyhow.{EveryStep}
-use Rattle.h3_strict.proofs.TunnelBeside.{anyhow_stands, none_kept, stands_itself}
-use Rattle.h3_strict.proofs.TunnelFaultless.{PullsSafely, event_faultless, malformed_stays}
+use Rattle.h3_strict.proofs.TunnelFaultless.{PullsSafely}
 use Rattle.h3_strict.proofs.TunnelPull.{pulls_so, safe_where}
 use Rattle.h3_strict.proofs.TunnelPulls.{leaves_loose, pull_stays}
 use Rattle.h3_strict.proofs.TunnelQuiet.{cancel_event, deliver_event, end_event, goaway_event, lost_event, open_event, reset_event}
-use Rattle.h3_strict.proofs.TunnelSees.{Sees, sees_behind}
+use Rattle.h3_strict.proofs.TunnelSees.{Sees}
 use Rattle.h3_strict.proofs.TunnelSends.{kept_at}
-use Rattle.h3_strict.proofs.UnkeptRuns.{Holds}
 use Rattle.h3_strict.proofs.TunnelStreams.{no_trailer_marked}
 use Rattle.h3_strict.specs.WorldSteps.{KeepsNone, WorldStep}
 use Rattle.h3_strict.specs.Tunnels.{AreBare, marked}
@@ -216,15 +211,3 @@ new_bare setup = record { bare = bare; announced = announced }
     announced : (side : Side) → (end_at (new_ends setup) side).announced ≡ announced_at setup side
     announced Client = refl
     announced Server = refl
-
--- **Two ends that ask for no strict messages.**
-pub loose_holds : (laws : Laws) (steps : EveryStep) (setup : Setup) → IsMadeSetup setup → ((side : Side) → (announced_at setup side).choices.strict_messages ≡ false) → Holds setup (λ w ends. AreBare setup ends)
-loose_holds laws steps setup made loose = record {
-  faultless = λ w ends h t e sendable few.
-      let sees = sees_behind laws setup (setup_plainly setup made) w ends (stands_itself setup w ends h) in
-      event_faultless laws steps setup made w ends h sees t.announced (λ side. safely setup loose w ends sees t side) e sendable few;
-  leaves = λ w v ends h t e happens faultless g.
-      anyhow_stands setup (λ u n. AreBare setup n) w v ends e happens (malformed_stays ends e) t
-      (λ step. event_bare setup loose w ends (sees_behind laws setup (setup_plainly setup made) w ends (stands_itself setup w ends h)) t e v step (none_kept setup w ends h e));
-  inserts = λ w ends side id fields t. same_bare setup ends side (section.with_insertions (end_at ends side) id fields) (record { incoming = refl; announced = refl }) t;
-}

@@ -23,7 +23,7 @@ use Rattle.h3_connection.specs.declared.event.Pull.TheVariants as pull
 use Rattle.h3_connection.specs.declared.event.Refusal.TheVariants as refusal
 use Rattle.h3_connection.specs.declared.event.StreamFault.TheVariants as stream_fault
 use Rattle.h3_connection.specs.declared.setup.Announced.{Announced}
-use Rattle.h3_world.specs.Ends.{Ends, answered, delivery, end_at, end_delivery, new_ends, reset_delivery, with_end}
+use Rattle.h3_world.specs.Ends.{Ends, answered, delivery, end_at, end_delivery, reset_delivery, with_end}
 use Rattle.h3_world.specs.Headline.{is_connection_fault}
 use Rattle.h3_world.specs.Lists.{listed_pull, pull_of}
 use Rattle.h3_world.specs.Sendable.{IsSendable}
@@ -50,19 +50,11 @@ use Rattle.h3_strict.proofs.BehindPulls.{is_item}
 use Rattle.h3_strict.proofs.TunnelPull.{pulls_here, pulls_so}
 use Rattle.h3_strict.proofs.TunnelSees.{Sees}
 use Rattle.h3_strict.specs.Limits.{limit_at, unlimited_ends}
-use Rattle.h3_strict.specs.PlainEnds.{Alike, AreBounded, FewWaitAt, Judges, RefusesMalformed, StepsPlainly, asks_strictly, finds_fault, is_malformed_refusal, judges, plain_ends, plain_setup, refused_by, was_too_long}
+use Rattle.h3_strict.specs.PlainEnds.{Alike, FewWaitAt, Judges, RefusesMalformed, StepsPlainly, asks_strictly, finds_fault, is_malformed_refusal, judges, plain_ends, plain_setup, refused_by, was_too_long}
 use Rattle.h3_strict.specs.Plainly.{exceeds, is_excess, judged_as, judged_open}
 
 pub clash : {X : Type 0} → (b : Bool) → b ≡ true → b ≡ false → X
 clash b h k = absurd (let never : true ≡ false = sym h ∙ k in cc)
-
-pub first : (a b : Bool) → (a && b) ≡ true → a ≡ true
-first true b h = refl
-first false b h = absurd (cc)
-
-second : (a b : Bool) → (a && b) ≡ true → b ≡ true
-second true b h = h
-second false b h = absurd (cc)
 
 pub malformed_faultless : (a : Answer) → is_malformed_refusal a ≡ true → is_connection_fault a ≡ false
 malformed_faultless (answer.Refused (refusal.Malformed why)) h = refl
@@ -246,31 +238,3 @@ module _ (laws : Laws) (steps : EveryStep) (setup : Setup) (made : IsMadeSetup s
     event_faultless (event.Cancel s i) sendable few = within_faultless (event.Cancel s i) sendable refl
     event_faultless (event.Goaway s i) sendable few = within_faultless (event.Goaway s i) sendable refl
     event_faultless (event.Show s) sendable few = within_faultless (event.Show s) sendable refl
-
--- what judges is refused as malformed by none
-excess_unmalformed : (strict : Bool) (a : Answer) → is_excess strict (refused_by a) ≡ true → is_malformed_refusal a ≡ true → ⊥
-excess_unmalformed strict (answer.Refused (refusal.Malformed why)) h k = cc
-excess_unmalformed strict a h k = cc
-
-judged_unmalformed : (ends : Ends) (e : Event) → judges ends e ≡ true → is_malformed_refusal (answered ends e).0 ≡ true → ⊥
-judged_unmalformed ends (event.Pull side id) j k = let never : false ≡ true = sym (ap (λ x. is_malformed_refusal x.0) (pulled_is ends side (pulls (end_at ends side) id))) ∙ k in cc
-judged_unmalformed ends (event.PullFields side id) j k = let never : false ≡ true = sym (ap (λ x. is_malformed_refusal x.0) (listed_is ends side id (pulls (end_at ends side) id))) ∙ k in cc
-judged_unmalformed ends (event.Deliver s i count) j k = excess_unmalformed (is_strict (end_at ends (other s)).announced) (delivery ends s i count).0 (first _ _ j) k
-judged_unmalformed ends (event.DeliverEnd s i) j k = excess_unmalformed (is_strict (end_at ends (other s)).announced) (end_delivery ends s i).0 (first _ _ j) k
-judged_unmalformed ends (event.DeliverReset s i) j k = excess_unmalformed (is_strict (end_at ends (other s)).announced) (reset_delivery ends s i).0 (first _ _ j) k
-judged_unmalformed ends e j k = cc
-
--- so nothing has changed where a send is
-pub malformed_stays : (ends : Ends) (e : Event) → is_malformed_refusal (answered ends e).0 ≡ true → (answered ends e).1 ≡ ends
-malformed_stays ends e malformed = by_step (every_step ends e)
-  where
-    by_step : StepsPlainly ends e → (answered ends e).1 ≡ ends
-    by_step (RefusesMalformed told same) = same
-    by_step (Judges judged told) = absurd (judged_unmalformed ends e judged malformed)
-    by_step (Alike told same) = clash (is_malformed_refusal (answered ends e).0) malformed told
-
--- The bounds of both ends.
-pub record BoundLaws : Type 0 where
-  pub made : (setup : Setup) → AreBounded (new_ends setup)
-  pub kept : (ends : Ends) (e : Event) → AreBounded ends → AreBounded (answered ends e).1
-  pub few : (ends : Ends) → AreBounded ends → FewWaitAt ends

@@ -1,6 +1,6 @@
 -- Events by which no part is sent or handed out leave what stays where streams count the same.
-use Rattle.std.proofs.Common.{◌≡◌, inl, inr, ℕ, ◌+◌, Bool, true, false, List, [], ◌∷◌, take, refl, sym, ap, subst, ◌∙◌, Option, Some, None, nat_lt, if◌then◌else◌}
-use Rattle.std.specs.Prelude.{◌==◌, ◌&&◌, ◌||◌, not, unwrap_or, is_some}
+use Rattle.std.proofs.Common.{◌≡◌, inl, inr, ℕ, ◌+◌, Bool, true, false, take, refl, sym, ap, subst, ◌∙◌, Option, Some, None, nat_lt, if◌then◌else◌}
+use Rattle.std.specs.Prelude.{◌==◌, ◌&&◌, not, unwrap_or}
 use Rattle.h3_proto.specs.declared.stream.Side.{Side}
 use Rattle.h3_proto.specs.declared.stream.Side.TheVariants.{Client, Server}
 use Rattle.h3_connection.specs.Delivering.{give_up, given_up_once, incoming_at, opened_at}
@@ -11,7 +11,6 @@ use Rattle.h3_connection.specs.Outgoing.{nothing_sent, with_reset}
 use Rattle.h3_connection.specs.OwnIds.{other}
 use Rattle.h3_connection.specs.Pulling.{is_client}
 use Rattle.h3_connection.specs.Sending as sender
-use Rattle.h3_connection.specs.Refusals.{first_of}
 use Rattle.h3_connection.specs.Sending.{does, outgoing_at, with_outgoing}
 use Rattle.h3_connection.specs.Shown.{has_outgoing, is_finished, is_reset, waiting}
 use Rattle.h3_connection.specs.StreamSets.{stream_at}
@@ -22,19 +21,13 @@ use Rattle.h3_connection.specs.declared.event.Refusal.TheVariants as refusal
 use Rattle.h3_connection.specs.declared.event.StreamFault.TheVariants.{Canceled}
 use Rattle.h3_world.specs.Delivering.{reset_code}
 use Rattle.h3_world.specs.Ends.{Ends, delivery, done, end_at, end_delivery, reset_delivery, was_offered, with_end}
-use Rattle.h3_world.specs.Order.{is_over, is_sent_off}
-use Rattle.h3_world.specs.Refusals.{cancel_refusal, goaway_refusal, is_critical, open_refusal, reset_refusal}
-use Rattle.h3_world.specs.Sending.{cut_off, given_up, opened, with_goaway}
-use Rattle.h3_world.specs.Step.{Does}
-use Rattle.h3_world.specs.Streams.{flow, is_open}
+use Rattle.h3_world.specs.Refusals.{cancel_refusal, goaway_refusal, open_refusal, reset_refusal}
+use Rattle.h3_world.specs.Sending.{opened}
 use Rattle.h3_world.specs.World.{World}
 use Rattle.h3_world.specs.declared.event.Answer.{Answer}
 use Rattle.h3_world.specs.declared.event.Answer.TheVariants as answer
 use Rattle.h3_world.specs.declared.setup.Setup.{Setup}
 use Rattle.h3_headline.specs.Contents.{KeepsParts}
-use Rattle.h3_headline.specs.FlowLaws.{open_there}
-use Rattle.h3_headline.specs.KeepsPartsLaws.{keeps_flows, keeps_given_up, keeps_same, keeps_with_flow, keeps_with_party}
-use Rattle.h3_headline.specs.OpeningLaws.{flow_opened}
 use Rattle.h3_strict.proofs.KeepsAny.{any_stream, arrives_any}
 use Rattle.h3_strict.proofs.KeepsCounts.{KeepsAt, KeepsBut, SameCounts, SendsSame, advance_keeps, no_stream, not_itself, nothing_taken, once_lost, same_counts, same_streams, sends_same, set_in, set_out, streams_keep, that}
 use Rattle.h3_strict.proofs.TunnelSees.{Sees}
@@ -74,33 +67,6 @@ done_keeps s f ends success (Some r, e) h = keeps_one s f ends e h
 does_keeps : (f : ℕ → Bool) (r : Option Refusal) (e new : EndpointHistory) → (r ≡ None → KeepsBut f e new) → KeepsBut f e (does r e new).1
 does_keeps f None e new h = h refl
 does_keeps f (Some r) e new h = keeps_self e f
-
--- a world that is as it was, or after an event that keeps the parts
-world_keeps : (r : Option Refusal) (w goal v : World) (success a : Answer) → (r ≡ None → KeepsParts w goal) → Does r w success goal a v → KeepsParts w v
-world_keeps (Some r) w goal v success a h step = subst (KeepsParts w) (sym step.1) (keeps_same w)
-world_keeps None w goal v success a h step = subst (KeepsParts w) (sym step.1) (h refl)
-
-not_refused : (critical there : Bool) (rules : List (Bool × Refusal)) → first_of ((critical, refusal.Critical) ∷ (not there, refusal.NotOpen) ∷ rules) ≡ None → there ≡ true
-not_refused true there rules e = absurd (cc)
-not_refused false true rules e = refl
-not_refused false false rules e = absurd (cc)
-
--- **What an event that sends and hands out nothing leaves of the parts**, where nothing is kept.
-pub open_parts : (setup : Setup) (w v : World) (s : Side) (success a : Answer) → Does (open_refusal setup w s) w success (opened w) a v → KeepsParts w v
-open_parts setup w v s success a step = world_keeps (open_refusal setup w s) w (opened w) v success a (λ e. keeps_flows w (opened w) (flow_opened w)) step
-
-pub reset_parts : (w v : World) (s : Side) (i : ℕ) (a : Answer) → Does (reset_refusal w s i) w answer.Done (cut_off w s i) a v → KeepsParts w v
-reset_parts w v s i a step =
-    world_keeps (reset_refusal w s i) w (cut_off w s i) v answer.Done a
-    (λ none. keeps_with_flow w s i (record (flow w s i) { is_reset = true }) (open_there w s i (not_refused (is_critical i) (is_open w s i) ((is_sent_off (flow w s i), refusal.Ended) ∷ []) none)) (record { sent = refl; parts_out = refl; body_out = refl })) step
-
-pub goaway_parts : (w v : World) (s : Side) (i : ℕ) (a : Answer) → Does (goaway_refusal w s i) w answer.Done (with_goaway w s i) a v → KeepsParts w v
-goaway_parts w v s i a step = world_keeps (goaway_refusal w s i) w (with_goaway w s i) v answer.Done a (λ none. keeps_with_party w s _) step
-
-pub cancel_parts : (w v : World) (s : Side) (i : ℕ) (a : Answer) → Does (cancel_refusal w s i) w answer.Done (given_up w s i Canceled) a v → KeepsParts w v
-cancel_parts w v s i a step =
-    world_keeps (cancel_refusal w s i) w (given_up w s i Canceled) v answer.Done a
-    (λ none. keeps_given_up w s i Canceled (open_there w s i (not_refused (is_critical i) (is_open w s i) ((is_over (flow w (other s) i) || is_some (flow w (other s) i).fault, refusal.Ended) ∷ []) none))) step
 
 -- of what holds of the ends and their world, and stays so
 module _ (setup : Setup) (w : World) (ends : Ends) (P : World → Ends → Type 0)

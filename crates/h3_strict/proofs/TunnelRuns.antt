@@ -1,6 +1,5 @@
 -- Between two strict ends no event finds a fault of the connection, whatever the server knows.
-use Rattle.std.proofs.Common.{◌≡◌, ◌⊎◌, inl, inr, ℕ, Bool, true, false, List, [], refl, sym, ap, ◌∙◌, subst, Some, None}
-use Rattle.h3_field.specs.Field.{Field}
+use Rattle.std.proofs.Common.{◌≡◌, ◌⊎◌, inl, inr, ℕ, Bool, true, false, [], refl, sym, ap, ◌∙◌, subst, Some, None}
 use Rattle.h3_proto.specs.StreamIds.{is_request_stream}
 use Rattle.h3_proto.specs.declared.stream.Side.{Side}
 use Rattle.h3_proto.specs.declared.stream.Side.TheVariants.{Client, Server}
@@ -13,33 +12,25 @@ use Rattle.h3_world.specs.Flow.{Flow, unused}
 use Rattle.h3_world.specs.Headline.{is_connection_fault}
 use Rattle.h3_world.specs.Lists.{listed_pull, pull_of}
 use Rattle.h3_world.specs.Pulling.{Pulls}
-use Rattle.h3_world.specs.Setup.{IsMadeSetup, announced_at}
+use Rattle.h3_world.specs.Setup.{announced_at}
 use Rattle.h3_world.specs.Step.{Step}
 use Rattle.h3_world.specs.Streams.{flow}
 use Rattle.h3_world.specs.World.{World, empty_world, no_exchange}
 use Rattle.h3_world.specs.declared.event.Event.{Event}
 use Rattle.h3_world.specs.declared.event.Event.TheVariants as event
 use Rattle.h3_world.specs.declared.setup.Setup.{Setup}
-use Rattle.h3_headline.specs.Cited.{Laws}
 use Rattle.h3_headline.specs.Contents.{KeepsParts}
 use Rattle.h3_headline.specs.FlowLaws.{same_both}
 use Rattle.h3_connection.specs.Sections as section
-use Rattle.h3_headline.specs.KeepsPartsLaws.{keeps_with_party}
 use Rattle.h3_strict.proofs.KeepsCounts.{KeepsBut, no_stream, same_streams, streams_keep}
-use Rattle.h3_strict.proofs.UnkeptRuns.{Holds}
-use Rattle.h3_strict.specs.StepsUnkept.{having_cut_off}
-use Rattle.h3_world.specs.Refused.{with_insertions}
 use Rattle.h3_strict.proofs.PlainLists.{faults_same}
-use Rattle.h3_strict.proofs.PlainSetups.{setup_plainly}
 use Rattle.h3_strict.proofs.PullsAnyhow.{listed_is, pulled_is}
-use Rattle.h3_strict.proofs.StepsAnyhow.{EveryStep}
 use Rattle.h3_strict.proofs.TunnelEvents.{body_event, fields_event, finish_event, head_event, trailer_event, trailer_fields_event}
-use Rattle.h3_strict.proofs.TunnelFaultless.{PullsSafely, event_faultless, items_same, malformed_stays}
+use Rattle.h3_strict.proofs.TunnelFaultless.{PullsSafely, items_same}
 use Rattle.h3_strict.proofs.TunnelParts.{tunnel_same}
 use Rattle.h3_strict.proofs.TunnelPull.{pull_tunnels, safe}
-use Rattle.h3_strict.proofs.TunnelQuiet.{cancel_event, deliver_event, end_event, goaway_event, keeps_one, lost_event, only_at, open_event, reset_event}
-use Rattle.h3_strict.proofs.TunnelBeside.{anyhow_stands, none_kept, stands_itself}
-use Rattle.h3_strict.proofs.TunnelSees.{Sees, sees_behind}
+use Rattle.h3_strict.proofs.TunnelQuiet.{cancel_event, deliver_event, end_event, goaway_event, lost_event, open_event, reset_event}
+use Rattle.h3_strict.proofs.TunnelSees.{Sees}
 use Rattle.h3_strict.proofs.TunnelSends.{quiet_tunnels}
 use Rattle.h3_strict.specs.GivesUp.{GivesMessageUp, GivesUpBy}
 use Rattle.h3_strict.specs.PlainEnds.{plain_setup}
@@ -119,23 +110,3 @@ new_tunnels setup = record {
     announced : (side : Side) → (end_at (new_ends setup) side).announced ≡ announced_at setup side
     announced Client = refl
     announced Server = refl
-
--- insertions alone leave them
-inserts_stand : (setup : Setup) (w : World) (ends : Ends) (side : Side) (id : ℕ) (fields : List Field) → TunnelsStand setup w ends → TunnelsStand setup (with_insertions w side id fields) (having_cut_off ends side id fields)
-inserts_stand setup w ends side id fields t =
-    let e = end_at ends side in
-    quiet_tunnels setup w (with_insertions w side id fields) ends (having_cut_off ends side id fields) (only_at side no_stream) (keeps_with_party w side _)
-    (keeps_one side no_stream ends (section.with_insertions e id fields) (streams_keep no_stream e (section.with_insertions e id fields) (record { incoming = refl; outgoing = refl; announced = refl }))) t
-
--- **Two strict ends.**
-pub strict_holds : (laws : Laws) (steps : EveryStep) (setup : Setup) → IsMadeSetup setup → ((side : Side) → (announced_at setup side).choices.strict_messages ≡ true) → Holds setup (TunnelsStand setup)
-strict_holds laws steps setup made strict = record {
-  faultless = λ w ends h t e sendable few.
-      let sees = sees_behind laws setup (setup_plainly setup made) w ends (stands_itself setup w ends h) in
-      event_faultless laws steps setup made w ends h sees t.announced (λ side. safely setup strict w ends sees t side) e sendable few;
-  leaves = λ w v ends h t e happens faultless g.
-      anyhow_stands setup (TunnelsStand setup) w v ends e happens (malformed_stays ends e) t
-      (λ step. event_tunnels setup strict w ends (sees_behind laws setup (setup_plainly setup made) w ends (stands_itself setup w ends h)) t e v step (none_kept setup w ends h e) faultless
-      (sees_behind laws setup (setup_plainly setup made) v (answered ends e).1 (stands_itself setup v (answered ends e).1 g)));
-  inserts = λ w ends side id fields t. inserts_stand setup w ends side id fields t;
-}

@@ -11,7 +11,6 @@ pub mod Tallies
 pub mod Unbroken
 pub mod Limits
 pub mod GivesUp
-pub mod StepsUnkept
 pub mod Accounts
 pub mod AdvanceLaws
 pub mod GivingUpLaws
