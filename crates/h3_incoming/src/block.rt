@@ -1,9 +1,9 @@
 //! The answer of a pull whose header and trailer sections are the lists of fields that came, in a block of memory that serves again.
-ghost use Rattle.std.specs.Prelude.{◌≡◌, ◌<◌, ℕ, List, Option, length, IfSome};
+ghost use Rattle.std.specs.Prelude.{◌≡◌, ◌<◌, List, Option, length, IfSome};
 ghost use Rattle.h3_field.specs.Field.{Field};
 ghost use Rattle.h3_header.specs.Reads.{head_of_fields};
 ghost use Rattle.h3_incoming.specs.Answering.{fault_told, plain_pull};
-ghost use Rattle.h3_incoming.specs.BlockPulls.{fields_kept, status_kept, told_with, HasStatus};
+ghost use Rattle.h3_incoming.specs.BlockPulls.{fields_kept, told_with, HasStatus};
 ghost use Rattle.h3_incoming.specs.FieldsPulls.{list_of, listed_as, pull_of};
 ghost use Rattle.h3_incoming.specs.declared.fields.FieldsPull.TheVariants as answer;
 
@@ -79,13 +79,6 @@ impl BlockPull {
         self.block.fields()
     }
 
-    /// The status of a response's header section, as its `Header` has it. It takes no look at the fields.
-    pub fn status(&self) -> Option<StatusCode>
-        ensures { result ≡ status_kept self.now }
-    {
-        status_of(&self.told)
-    }
-
     // The fields of a header or trailer section with this status, or none.
     fn hold(&mut self, kind: MessageKind, status: Option<StatusCode>, block: FieldBlock)
         requires { status ≡ (head_of_fields block).status }
@@ -156,16 +149,6 @@ impl Answer for BlockPull {
 
     fn fault(&self) -> Option<Fault> {
         fault_of(&self.told)
-    }
-}
-
-// The status that the answer has.
-fn status_of(told: &Told) -> Option<StatusCode>
-    ensures { (fields : List Field) → HasStatus told.now fields → result ≡ status_kept (told_with told.now fields) }
-{
-    match told {
-        Told::Message(_, status) => *status,
-        Told::Plain(_) => None,
     }
 }
 

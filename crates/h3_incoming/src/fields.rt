@@ -1,9 +1,8 @@
 //! The answer of a pull whose header and trailer sections are the lists of fields that came, with no `Header` made of them.
-ghost use Rattle.std.specs.Prelude.{◌≡◌, ◌<◌, false, length, IfOk, IfSome, OnOk, OnErr, None};
+ghost use Rattle.std.specs.Prelude.{◌≡◌, ◌<◌, length, IfOk, IfSome, OnOk, OnErr, None};
 ghost use Rattle.h3_header.specs.BadPart.{IsHeadUnlessMany};
 ghost use Rattle.h3_header.specs.Head.{Head};
 ghost use Rattle.h3_header.specs.HeadRead.{IsHead, head_by};
-ghost use Rattle.h3_header.specs.Reads.{head_of_fields};
 ghost use Rattle.h3_connection.specs.declared.event.Pull.TheVariants as pull;
 ghost use Rattle.h3_incoming.specs.Answering.{message_at, plain_pull};
 ghost use Rattle.h3_incoming.specs.FieldsPulls.{list_of, listed_as, pull_of};
@@ -19,7 +18,6 @@ use h3_connection::place::Place;
 use h3_field::{FieldBlock, HeaderField};
 use h3_proto::stream::Side;
 use h3_proto::webtransport::SessionId;
-use http::StatusCode;
 use std::alloc::{AllocError, Global};
 use std::marker::Model;
 
@@ -27,30 +25,18 @@ use std::marker::Model;
 #[derive(Drop)]
 pub struct FieldList {
     fields: Vec<HeaderField>,
-    status: Option<StatusCode>,
 }
 
 impl Model for FieldList {
-    ghost use Rattle.std.specs.Prelude.{◌≡◌, List};
+    ghost use Rattle.std.specs.Prelude.{List};
     ghost use Rattle.h3_field.specs.Field.{Field};
-    ghost use Rattle.h3_header.specs.Reads.{head_of_fields};
 
     ghost Value = { List Field };
 
     ghost view = { λ l. l.fields.items };
-
-    ghost invariant = { λ l. l.status ≡ (head_of_fields l.fields.items).status };
 }
 
 impl FieldList {
-    // These fields, whose header has this status or none.
-    fn of(fields: Vec<HeaderField>, status: Option<StatusCode>) -> FieldList
-        requires { status ≡ (head_of_fields fields.items).status }
-        ensures { result ≡ fields.items }
-    {
-        FieldList { fields, status }
-    }
-
     /// The fields.
     pub fn fields(&self) -> &[HeaderField]
         ensures { result.now ≡ self.now }
@@ -63,13 +49,6 @@ impl FieldList {
         ensures { result.items ≡ self }
     {
         self.fields
-    }
-
-    /// The status of a response's header section, as its `Header` has it. It takes no look at the fields.
-    pub fn status(&self) -> Option<StatusCode>
-        ensures { result ≡ (head_of_fields self.now).status }
-    {
-        self.status
     }
 }
 
@@ -205,14 +184,13 @@ fn give_copies(
     outline: Outline,
     fields: &FieldBlock,
 ) -> Result<ListRead, AllocError>
-    requires { outline.status ≡ (head_of_fields fields.now).status }
     ensures read { IfOk result (λ r. r ≡ read.Head outline) }
     ensures is { OnOk result (out.new ≡ answer.Item (listed_as kind fields.now)) }
     ensures err { OnErr result (0 < length fields.now) }
 {
     match fields.to_fields(alloc) {
         Ok(copies) => {
-            let list = FieldList::of(copies, outline.status());
+            let list = FieldList { fields: copies };
             put(out, FieldsPull::Item(listed(kind, list)));
             Ok(ListRead::Head(outline))
         }

@@ -6,9 +6,6 @@ use Rattle.h3_incoming.specs.FieldsPulls.{list_of, pull_of}
 use Rattle.h3_incoming.proofs.FieldsPullLaws.{is_this, listed_of, never_malformed, ok_as, on_err, on_ok, status_is, told_of}
 use Rattle.h3_incoming.proofs.fields.give_fields.Goals as goal
 
-pub give_copies-requires : goal.give_copies-requires
-give_copies-requires c = status_is c.args.any_protocol c.args.fields.now c.in-Ok-Head.outline (c.lists_are_their_value.ensures.is_head c.args.any_protocol) (rw (c.in-Ok-Head.field-0-is, c.fields.ensures) at c.in-Ok-Head.ensures.ok)
-
 pub returns-in-Ok-Head-clause-read : goal.returns-in-Ok-Head-clause-read
 returns-in-Ok-Head-clause-read c = ok_as c.give_copies.result _ _ c.give_copies.ensures.read (rw (c.in-Ok-Head.field-0-is, c.fields.ensures) at c.in-Ok-Head.ensures.ok)
 
