@@ -133,12 +133,12 @@ class Tree:
     def lost(self):
         """the definitions that nothing needs"""
         needs, left = {}, []
-        pages = words_of("\n".join(read(it) for it in pages_of(ROOT)))
+        pages = words_of("\n".join(named_on(it) for it in pages_of(ROOT)))
         for file in self.files:
             scope = self.scope(file)
             for name, text in file.texts.items():
                 needs[file.module, name] = set(self.named(file, scope, text))
-                is_page = name in pages and len(name) > 6
+                is_page = name in pages
                 if file.is_source or file.is_asked or not name or is_page:
                     left.append((file.module, name))
         seen = set()
@@ -154,6 +154,11 @@ def pages_of(folder):
     for at, folders, names in os.walk(folder):
         folders[:] = sorted(set(folders) - {".git", "out", "build"})
         yield from (f"{at}/{it}" for it in names if it.endswith((".md", ".edit")))
+
+
+def named_on(page):
+    """the code of a page; an edit is code"""
+    return read(page) if page.endswith(".edit") else "\n".join(re.findall(r"`([^`\n]+)`", read(page)))
 
 
 def take_out(file, names):

@@ -1,6 +1,6 @@
-//! What a pull answers, written in one place. In a `Pull` header and trailer sections are `Header`s. A `FieldsPull` has the lists of fields
-//! that came, and a `BlockPull` has them in memory that serves again. An answer with a `Header` is large: one that is returned is moved
-//! from call to call, and each call clears the room for it.
+//! What a pull answers, written in one place. In a `Pull` header and trailer sections are `Header`s, and a `BlockPull` has the lists of
+//! fields that came, in memory that serves again. An answer with a `Header` is large: one that is returned is moved from call to call,
+//! and each call clears the room for it.
 ghost use Rattle.std.specs.Prelude.{◌≡◌, Bool, Option, None, List, IfOk, IfSome, OnOk, OnErr, false, []};
 ghost use Rattle.h3_field.specs.Field.{Field};
 ghost use Rattle.h3_header.specs.BadPart.{IsHeadUnlessMany};

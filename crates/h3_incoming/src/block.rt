@@ -4,10 +4,11 @@ ghost use Rattle.h3_field.specs.Field.{Field};
 ghost use Rattle.h3_header.specs.Reads.{head_of_fields};
 ghost use Rattle.h3_incoming.specs.Answering.{fault_told, plain_pull};
 ghost use Rattle.h3_incoming.specs.BlockPulls.{fields_kept, told_with, HasStatus};
-ghost use Rattle.h3_incoming.specs.FieldsPulls.{list_of, listed_as, pull_of};
+ghost use Rattle.h3_incoming.specs.FieldsPulls.{list_of, listed_as, plain_answer, pull_of};
 ghost use Rattle.h3_incoming.specs.declared.fields.FieldsPull.TheVariants as answer;
 
 use crate::answer::{Answer, MessageKind, Plain, kind_at};
+use crate::fields::{FieldsItem, FieldsPull};
 use crate::outline::{ListRead, read_unless};
 use h3_connection::event::Fault;
 use h3_connection::place::Place;
@@ -77,6 +78,17 @@ impl BlockPull {
         ensures { IfSome (list_of self.now) (λ fields. result ≡ fields) }
     {
         self.block.fields()
+    }
+
+    /// The answer, with its block as the list of a header or trailer section. Nothing is copied.
+    pub fn into_pull(self) -> FieldsPull
+        ensures { result ≡ self }
+    {
+        let BlockPull { told, block } = self;
+        match told {
+            Told::Message(kind, _) => FieldsPull::Item(listed(kind, block)),
+            Told::Plain(plain) => of_plain(plain),
+        }
     }
 
     // The fields of a header or trailer section with this status, or none.
@@ -149,6 +161,32 @@ impl Answer for BlockPull {
 
     fn fault(&self) -> Option<Fault> {
         fault_of(&self.told)
+    }
+}
+
+fn listed(kind: MessageKind, fields: FieldBlock) -> FieldsItem
+    ensures { result ≡ listed_as kind fields }
+{
+    match kind {
+        MessageKind::Interim => FieldsItem::Interim(fields),
+        MessageKind::Head => FieldsItem::Head(fields),
+        MessageKind::Trailer => FieldsItem::Trailer(fields),
+    }
+}
+
+fn of_plain(answer: Plain) -> FieldsPull
+    ensures { result ≡ plain_answer answer }
+{
+    match answer {
+        Plain::Body(bytes) => FieldsPull::Item(FieldsItem::Body(bytes)),
+        Plain::Raw(bytes) => FieldsPull::Item(FieldsItem::Raw(bytes)),
+        Plain::Session(session) => FieldsPull::Item(FieldsItem::Session(session)),
+        Plain::TooLarge(size) => FieldsPull::Item(FieldsItem::TooLarge(size)),
+        Plain::End => FieldsPull::Item(FieldsItem::End),
+        Plain::Pending => FieldsPull::Pending,
+        Plain::Waiting(count) => FieldsPull::Waiting(count),
+        Plain::Fault(fault) => FieldsPull::Fault(fault),
+        Plain::NoMessages => FieldsPull::NoMessages,
     }
 }
 

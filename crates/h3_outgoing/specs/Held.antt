@@ -19,6 +19,12 @@ abbrev pub past_of : List ℕ → ℕ
 past_of [] = 0
 past_of (b ∷ wire) = if nat_lt b 256 then 0 else suc (past_of wire)
 
+-- The caller's bytes, one behind the other, in these places. Where they do not suffice the places stay.
+abbrev pub filled_with : List ℕ → List ℕ → List ℕ
+filled_with [] bytes = []
+filled_with (b ∷ wire) [] = b ∷ wire
+filled_with (b ∷ wire) (byte ∷ bytes) = if nat_lt b 256 then b ∷ filled_with wire (byte ∷ bytes) else byte ∷ filled_with wire bytes
+
 -- The bytes in front of the first place stand in the buffer, as many as fit, and behind so many come so many places.
 pub record Fronts (wire before out : List ℕ) (count follow : ℕ) : Type 0 where
   pub copied : Filled (front_of wire) before out count

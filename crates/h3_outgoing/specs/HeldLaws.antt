@@ -1,14 +1,18 @@
 -- What stands in front of the places of a payload that the caller holds, and how many they are.
-use Rattle.std.proofs.Common.{arith, ◌≡◌, ◌≤◌, ◌<◌, ◌⊎◌, inl, inr, ℕ, zero, suc, List, [], ◌∷◌, ◌++◌, true, false, length, drop, refl, sym, ap, subst, ◌∙◌}
+use Rattle.std.proofs.Common.{arith, ◌≡◌, ◌≤◌, ◌<◌, ◌^◌, ◌⊎◌, inl, inr, ℕ, zero, suc, List, [], ◌∷◌, ◌++◌, true, false, length, drop, refl, sym, ap, subst, ◌∙◌}
 use Rattle.std.specs.Prelude.{nat_lt, if◌then◌else◌}
 use Rattle.std.specs.List.{AllByRecursion}
 use Rattle.std.proofs.lemmas.Bool.{cases_Bool, lt-ltb}
+use Rattle.std.proofs.lemmas.List.{length-replicate}
 use Rattle.h3_coding.specs.Encodings.{IsByte, encoding}
+use Rattle.h3_coding.specs.Encodings.IsEncoding.{one, two, four, eight}
+use Rattle.h3_coding.specs.EncodingLaws.{encoding_is_valid}
 use Rattle.h3_coding.specs.ShortestLaws.{encoding_one}
+use Rattle.h3_wire.specs.Encoded.{frame_encoding, head_encoding}
 use Rattle.h3_wire.specs.Outgoing.{all_of}
 use Rattle.h3_connection.specs.WaitingPieces.{frame_piece}
 use Rattle.h3_outgoing.specs.Copied.{Filled}
-use Rattle.h3_outgoing.specs.Held.{held, front_of, past_of, Fronts}
+use Rattle.h3_outgoing.specs.Held.{held, front_of, past_of, filled_with, Fronts}
 
 -- a byte at the front, and a place at the front
 pub front_in : (b : ℕ) (w : List ℕ) → nat_lt b 256 ≡ true → front_of (b ∷ w) ≡ b ∷ front_of w
@@ -74,3 +78,37 @@ pub begins : (kind : ℕ) (payload rest : List ℕ) → kind < 64 → past_of (a
 begins kind payload rest small =
     ap (λ l. past_of (((l ++ encoding (length payload)) ++ payload) ++ rest)) (encoding_one kind small)
     ∙ past_in kind ((encoding (length payload) ++ payload) ++ rest) (lt-ltb kind 256 (omega (arith, small)))
+
+-- With bytes of the caller's in its places, what is announced of a body is the DATA frame of these bytes, whatever they are.
+none_filled : (wire : List ℕ) → filled_with wire [] ≡ wire
+none_filled [] = refl
+none_filled (b ∷ wire) = refl
+
+pass_bytes : (xs rest bytes : List ℕ) → AllByRecursion IsByte xs → filled_with (xs ++ rest) bytes ≡ xs ++ filled_with rest bytes
+pass_bytes [] rest bytes h = refl
+pass_bytes (x ∷ xs) rest [] h = ap (λ l. x ∷ l) (sym (none_filled (xs ++ rest)) ∙ pass_bytes xs rest [] h.1)
+pass_bytes (x ∷ xs) rest (byte ∷ bytes) h =
+    ap (λ t. if t then x ∷ filled_with (xs ++ rest) (byte ∷ bytes) else byte ∷ filled_with (xs ++ rest) bytes) (lt-ltb x 256 h.0) ∙ ap (λ l. x ∷ l) (pass_bytes xs rest (byte ∷ bytes) h.1)
+
+both_bytes : (xs ys : List ℕ) → AllByRecursion IsByte xs → AllByRecursion IsByte ys → AllByRecursion IsByte (xs ++ ys)
+both_bytes [] ys h k = k
+both_bytes (x ∷ xs) ys h k = (h.0, both_bytes xs ys h.1 k)
+
+encoding_bytes : (n : ℕ) → n < 2 ^ 62 → AllByRecursion IsByte (encoding n)
+encoding_bytes n small = elim (encoding_is_valid n small) [
+  | one f ↦ f.each
+  | two f ↦ f.each
+  | four f ↦ f.each
+  | eight f ↦ f.each
+]
+
+fill_places : (bytes : List ℕ) → filled_with (held (length bytes)) bytes ≡ bytes
+fill_places [] = refl
+fill_places (byte ∷ bytes) = ap (λ l. byte ∷ l) (fill_places bytes)
+
+pub filled : (bytes : List ℕ) → length bytes < 2 ^ 62 → filled_with (frame_encoding 0 (held (length bytes))) bytes ≡ frame_encoding 0 bytes
+filled bytes small =
+    let head = head_encoding 0 (length bytes) in
+    ap (λ n. filled_with (head_encoding 0 n ++ held (length bytes)) bytes) (length-replicate (length bytes) 256)
+    ∙ pass_bytes head (held (length bytes)) bytes (both_bytes (encoding 0) (encoding (length bytes)) (encoding_bytes 0 (omega arith)) (encoding_bytes (length bytes) small))
+    ∙ ap (λ l. head ++ l) (fill_places bytes)

@@ -124,9 +124,9 @@ impl Endpoint {
         ensures pulls { PullsNext self.old self.new id (pull_of result) }
         ensures list { ListsNext self.old id (list_of result) }
     {
-        let mut out = FieldsPull::Pending;
+        let mut out = BlockPull::new(self.alloc);
         self.pull_into(id, &mut out);
-        out
+        out.into_pull()
     }
 
     /// The same, with the fields of a header section or trailer in a block of memory that serves again. `out` keeps the memory of its last
