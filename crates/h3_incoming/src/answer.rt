@@ -76,8 +76,8 @@ pub trait Answer: Drop {
 
     /// Returns what a decoded list is, and writes the header or trailer section that it is at this place, for this side. Of a malformed
     /// list it only returns why it is malformed. An `Err` says that an allocation failed: only for a list for which such an answer asks for
-    /// memory. It is returned for no malformed list, unless that has more fields than a map has names for. An answer that keeps lists
-    /// learns what the list is, if that is known. The value of `:protocol` may be any short token, or one of the two names alone.
+    /// memory. It is returned for no malformed list, unless that has more fields than a map has names for. What the list is may be known.
+    /// The value of `:protocol` may be any short token, or one of the two names alone.
     fn give_message(
         &mut self,
         alloc: Global,
@@ -93,9 +93,6 @@ pub trait Answer: Drop {
         ensures list { OnOk result ((h : Head) → head_by any_protocol fields ≡ IsHead h → IfSome (listed self.new) (λ l. l ≡ fields)) }
         ensures memory { OnErr result (asks any_protocol fields) }
         ensures good { OnErr result (IsHeadUnlessMany any_protocol fields) };
-
-    /// Whether header and trailer sections are kept as their lists, of which no `Header` is made.
-    fn keeps_lists() -> bool;
 
     /// An empty block for the fields of a section, with the memory of the last answer if that kept one. What the answer is then is not
     /// said: the caller gives one after this call.
@@ -265,10 +262,6 @@ impl Answer for Pull {
         fields: FieldBlock,
     ) -> Result<ListRead, AllocError> {
         give_header(self, alloc, side, place, any_protocol, &fields.fields())
-    }
-
-    fn keeps_lists() -> bool {
-        false
     }
 
     fn room(&mut self, alloc: Global) -> FieldBlock {

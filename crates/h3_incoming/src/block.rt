@@ -148,10 +148,6 @@ impl Answer for BlockPull {
         }
     }
 
-    fn keeps_lists() -> bool {
-        true
-    }
-
     fn room(&mut self, alloc: Global) -> FieldBlock {
         self.told = Told::Plain(Plain::Pending);
         let mut block = mem::replace(&mut self.block, FieldBlock::new(alloc));

@@ -118,16 +118,7 @@ fn judge_fields<O: Answer>(
     ensures good { OnErr result (IsHeadUnlessMany announced.now.choices.extensions.any_protocol fields) }
 {
     let any_protocol = announced.choices.extensions.any_protocol;
-    let keeps_lists = O::keeps_lists();
-    let read = read_at(
-        keeps_lists,
-        side,
-        announced,
-        place,
-        content,
-        known,
-        &fields.fields(),
-    );
+    let read = read_at(side, announced, place, content, known, &fields.fields());
     let strict = read.strict;
     let broken = if_whole(content, strict.broken);
     match out.give_message(alloc, side, place, any_protocol, read.list, fields) {
