@@ -89,7 +89,8 @@ pub trait Answer: Drop {
     ) -> Result<ListRead, AllocError>
         requires { IfSome known (λ r. r ≡ list_read (head_by any_protocol fields)) }
         ensures read { IfOk result (λ r. r ≡ list_read (head_by any_protocol fields)) }
-        ensures head { OnOk result ((h : Head) → head_by any_protocol fields ≡ IsHead h → told self.new ≡ pull.Item (message_at side place h)) }
+        ensures head { OnOk result
+            ((h : Head) → head_by any_protocol fields ≡ IsHead h → told self.new ≡ pull.Item (message_at side place h)) }
         ensures list { OnOk result ((h : Head) → head_by any_protocol fields ≡ IsHead h → IfSome (listed self.new) (λ l. l ≡ fields)) }
         ensures memory { OnErr result (asks any_protocol fields) }
         ensures good { OnErr result (IsHeadUnlessMany any_protocol fields) };

@@ -277,7 +277,8 @@ pub(crate) fn read_refused(
     any_protocol: bool,
     error: &HeaderError,
 ) -> Result<ListRead, AllocError>
-    ensures ok { IfOk result (λ r. (why : HeadRefusal) × Tells any_protocol fields.now error.now why × (r ≡ read.Malformed (malformation_of why))) }
+    ensures ok { IfOk result
+        (λ r. (why : HeadRefusal) × Tells any_protocol fields.now error.now why × (r ≡ read.Malformed (malformation_of why))) }
     ensures memory { OnErr result (told error.now ≡ None) }
     ensures good { OnErr result (IsHeadUnlessMany any_protocol fields.now) }
 {
