@@ -123,10 +123,8 @@ ghost use Rattle.h3_session.specs.SendingLists.{SendsFieldList, SendsTrailerList
 /// A list that is sent, as a header section or as a trailer, leaves an endpoint with its bounds, and so does a call that changes nothing.
 /// So each call of an endpoint does, by its contract alone, whether it was answered, refused, or out of memory (`endpoints_stay_bounded`).
 pub fn lists_leave_endpoints_bounded()
-    ensures fields { (old new : EndpointState) (id : ℕ) (fields : List Field) (result : Result Unit Refusal)
-        → SendsFieldList old new id fields result → StandsBounded old → StandsBounded new }
-    ensures trailer { (old new : EndpointState) (id : ℕ) (fields : List Field) (result : Result Unit Refusal)
-        → SendsTrailerList old new id fields result → StandsBounded old → StandsBounded new }
+    ensures fields { (old new : EndpointState) (id : ℕ) (fields : List Field) (result : Result Unit Refusal) → SendsFieldList old new id fields result → StandsBounded old → StandsBounded new }
+    ensures trailer { (old new : EndpointState) (id : ℕ) (fields : List Field) (result : Result Unit Refusal) → SendsTrailerList old new id fields result → StandsBounded old → StandsBounded new }
     ensures same { (old new : EndpointState) → IsSame old new → StandsBounded old → StandsBounded new }
 {
     h3_connection::laws::tries_and_waiting_streams_are_bounded();
@@ -173,8 +171,7 @@ ghost use Rattle.h3_session.specs.Strict.{RunsBetween};
 /// Between two sides that are not strict and limit nothing, each step of a run that `run` promises (`front`) happens in the world of a
 /// connection: no send is refused as malformed beside it.
 pub fn plain_sides_refuse_nothing_more()
-    ensures { (setup : Setup) (events : List Event) (answers : List Answer) → JudgesPlainly setup → RunsBetween setup events answers
-        → (w : World) × Run (Happens setup) (empty_world setup) events answers w }
+    ensures { (setup : Setup) (events : List Event) (answers : List Answer) → JudgesPlainly setup → RunsBetween setup events answers → (w : World) × Run (Happens setup) (empty_world setup) events answers w }
 {}
 
 ghost use Rattle.std.specs.Prelude.{is_some, true, Some, None};
@@ -188,6 +185,5 @@ pub fn events_are_reported_once()
     ensures ends { (e : EndpointHistory) (seen : EventsSeen) → next_event e (asked_once e (asked_once e seen)) ≡ None }
     ensures all { (e : EndpointHistory) (seen : EventsSeen) → next_event e seen ≡ None → IsAllReported e seen }
     ensures settings { (e : EndpointHistory) (seen : EventsSeen) → next_event e seen ≡ Some Settings → is_some e.peer.settings ≡ true }
-    ensures goaway { (e : EndpointHistory) (seen : EventsSeen) (id : ℕ) → next_event e seen ≡ Some (Goaway id)
-        → last_id e.peer.goaways ≡ Some id }
+    ensures goaway { (e : EndpointHistory) (seen : EventsSeen) (id : ℕ) → next_event e seen ≡ Some (Goaway id) → last_id e.peer.goaways ≡ Some id }
 {}

@@ -134,11 +134,8 @@ pub fn run(alloc: Global, setup: Setup, events: &[Event]) -> Result<Outcome, All
     requires { IsMadeSetup setup }
     ensures calls { IfOk result (λ out. RunsByCalls (new_ends setup) events.now out.answers.items out.client out.server) }
     ensures each { IfOk result (λ out. AnswersEach (new_ends setup) events.now out.answers.items) }
-    ensures messages { IfOk result
-        (λ out. AreFew setup events.now → JudgesPlainly setup → HandsOutAlways setup events.now out.answers.items) }
-    ensures memory { IfOk result
-        (λ out. AreFew setup events.now → JudgesPlainly setup
-        → RunsInKeepingWorld setup events.now out.answers.items out.client out.server) }
+    ensures messages { IfOk result (λ out. AreFew setup events.now → JudgesPlainly setup → HandsOutAlways setup events.now out.answers.items) }
+    ensures memory { IfOk result (λ out. AreFew setup events.now → JudgesPlainly setup → RunsInKeepingWorld setup events.now out.answers.items out.client out.server) }
     ensures faithful { IfOk result (λ out. AreFew setup events.now → Faithful setup events.now out.answers.items) }
     ensures front { IfOk result (λ out. AreFew setup events.now → RunsUntilMemory setup events.now out.answers.items) }
     ensures runs { IfOk result (λ out. list_any is_out_of_memory out.answers.items ≡ false →

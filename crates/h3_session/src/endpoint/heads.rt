@@ -130,12 +130,8 @@ impl Endpoint {
     ) -> Result<SectionRoom, Refusal>
         ensures room { IfOk result (λ room. room ≡ id) }
         ensures rest { self.new ≡ record self.old { requests = self.new.requests } }
-        ensures taken { OnOk result
-            (or_later (body_refused_at (kept_at self.old.requests id))
-            (or_later later (early_trailer_at (kept_at self.old.requests id))) ≡ None) }
-        ensures why { IfErr result
-            (λ r. r ≡ unwrap_or (or_later (body_refused_at (kept_at self.old.requests id))
-            (or_later later (early_trailer_at (kept_at self.old.requests id)))) OutOfMemory) }
+        ensures taken { OnOk result (or_later (body_refused_at (kept_at self.old.requests id)) (or_later later (early_trailer_at (kept_at self.old.requests id))) ≡ None) }
+        ensures why { IfErr result (λ r. r ≡ unwrap_or (or_later (body_refused_at (kept_at self.old.requests id)) (or_later later (early_trailer_at (kept_at self.old.requests id)))) OutOfMemory) }
         ensures same { AllSame self.old.requests self.new.requests }
     {
         self.requests.reserve_trailer(id, later)
@@ -242,8 +238,7 @@ impl Endpoint {
     #[tactic(auto, using(crate::proofs::Costs::cost_is, crate::proofs::Costs::many_fields))]
     fn judge_size(&self, fields: &[HeaderField]) -> Result<u64, Refusal>
         ensures ok { IfOk result (λ sum. IsJudged self.now fields.now sum) }
-        ensures err { IfErr result
-            (λ refusal. refusal ≢ Refusal.OutOfMemory → size_refused self.now.peer.settings fields.now ≡ Some refusal) }
+        ensures err { IfErr result (λ refusal. refusal ≢ Refusal.OutOfMemory → size_refused self.now.peer.settings fields.now ≡ Some refusal) }
         ensures memory { IfErr result (λ refusal. refusal ≡ Refusal.OutOfMemory → 2 ^ 56 ≤ self.now.sent + fields_cost fields.now + 64) }
     {
         let Some(size) = size_of(fields) else {
@@ -307,12 +302,8 @@ fn encode(
     fields: &[HeaderField],
 ) -> Result<(EncodedSection, usize), AllocError>
     requires { section_size fields.now < 2 ^ 62 }
-    ensures ok { IfOk result
-        (λ r. (s : EncoderHistory) → streams.old.encoding.encoder ≡ encoder_state s
-        → Encodes s room.now fields.now r.0 r.1 streams.old streams.new) }
-    ensures err { OnErr result
-        ((s : EncoderHistory) → streams.old.encoding.encoder ≡ encoder_state s
-        → StopsEncoding s room.now fields.now streams.old streams.new) }
+    ensures ok { IfOk result (λ r. (s : EncoderHistory) → streams.old.encoding.encoder ≡ encoder_state s → Encodes s room.now fields.now r.0 r.1 streams.old streams.new) }
+    ensures err { OnErr result ((s : EncoderHistory) → streams.old.encoding.encoder ≡ encoder_state s → StopsEncoding s room.now fields.now streams.old streams.new) }
 {
     let id = room.id();
     let Ok(mut block) = block_for(kept, fields) else {
@@ -352,11 +343,8 @@ fn encode_into(
     requires small { section_size fields.now < 2 ^ 62 }
     requires empty { length block.old.items ≡ 9 }
     requires there { id ≡ _room.now }
-    ensures ok { IfOk result
-        (λ count. (s : EncoderHistory) → streams.old.encoding.encoder ≡ encoder_state s
-        → Encodes s id fields.now (drop 9 block.new.items) count streams.old streams.new) }
-    ensures err { OnErr result
-        ((s : EncoderHistory) → streams.old.encoding.encoder ≡ encoder_state s → StopsEncoding s id fields.now streams.old streams.new) }
+    ensures ok { IfOk result (λ count. (s : EncoderHistory) → streams.old.encoding.encoder ≡ encoder_state s → Encodes s id fields.now (drop 9 block.new.items) count streams.old streams.new) }
+    ensures err { OnErr result ((s : EncoderHistory) → streams.old.encoding.encoder ≡ encoder_state s → StopsEncoding s id fields.now streams.old streams.new) }
 {
     streams
         .encoding
@@ -365,8 +353,7 @@ fn encode_into(
 
 /// Takes back the newest section of a stream: it is one then that ended early, after all its fields.
 fn withdraw(streams: &mut ConnectionStreams, id: StreamId, count: usize)
-    ensures { (s : EncoderHistory) (fields : List Field) (section : List ℕ) (before : StreamsState)
-        → Encodes s id fields section count before streams.old → StopsEncoding s id fields before streams.new }
+    ensures { (s : EncoderHistory) (fields : List Field) (section : List ℕ) (before : StreamsState) → Encodes s id fields section count before streams.old → StopsEncoding s id fields before streams.new }
 {
     sections_leave_their_counts();
     streams.encoding.withdraw(id, count);

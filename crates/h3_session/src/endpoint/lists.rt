@@ -84,8 +84,7 @@ impl Endpoint {
     /// may be in no message (RFC 9114, 4.2 and 4.3). If there is none and the endpoint asks for strict messages, it is the first with white
     /// space around its value (RFC 9114, 10.3). After such a refusal there always is one. It takes no memory.
     pub fn invalid_field(&self, fields: &[HeaderField]) -> Option<usize>
-        ensures { result ≡ invalid_field self.now.announced.choices.extensions.any_protocol self.now.announced.choices.strict_messages
-            fields.now }
+        ensures { result ≡ invalid_field self.now.announced.choices.extensions.any_protocol self.now.announced.choices.strict_messages fields.now }
     {
         let choices = &self.announced.choices;
         invalid_field(
@@ -98,12 +97,9 @@ impl Endpoint {
     // The place of the message after a list that is sent as a header section, or why the list is not one of this side. If the endpoint asks
     // for strict messages the walk that tells it tells also what the rules make of it.
     fn judge_head(&self, fields: &[HeaderField]) -> Result<(SendPlace, Option<SentRead>), Refusal>
-        ensures ok { IfOk result
-            (λ judged. IsHeadAt self.now.side (head_by self.now.announced.choices.extensions.any_protocol fields.now) judged.0) }
+        ensures ok { IfOk result (λ judged. IsHeadAt self.now.side (head_by self.now.announced.choices.extensions.any_protocol fields.now) judged.0) }
         ensures read { IfOk result (λ judged. IfSome judged.1 (IsReadOf self.now.side self.now.peer.settings fields.now)) }
-        ensures err { IfErr result
-            (λ e. e ≢ refusal.OutOfMemory
-            → head_list_refusal self.now.side (head_by self.now.announced.choices.extensions.any_protocol fields.now) ≡ Some e) }
+        ensures err { IfErr result (λ e. e ≢ refusal.OutOfMemory → head_list_refusal self.now.side (head_by self.now.announced.choices.extensions.any_protocol fields.now) ≡ Some e) }
         ensures memory { IfErr result (λ e. e ≡ refusal.OutOfMemory → 24576 < length fields.now) }
     {
         if self.announced.choices.strict_messages && fields.len() <= MOST_NAMES {
@@ -119,12 +115,9 @@ impl Endpoint {
     // The same by one walk, of a list of so few fields that a map has room for all their names.
     fn judge_once(&self, fields: &[HeaderField]) -> Result<(SendPlace, Option<SentRead>), Refusal>
         requires { length fields.now ≤ 24576 }
-        ensures ok { IfOk result
-            (λ judged. IsHeadAt self.now.side (head_by self.now.announced.choices.extensions.any_protocol fields.now) judged.0) }
+        ensures ok { IfOk result (λ judged. IsHeadAt self.now.side (head_by self.now.announced.choices.extensions.any_protocol fields.now) judged.0) }
         ensures read { IfOk result (λ judged. IfSome judged.1 (IsReadOf self.now.side self.now.peer.settings fields.now)) }
-        ensures err { IfErr result
-            (λ e. e ≢ refusal.OutOfMemory
-            → head_list_refusal self.now.side (head_by self.now.announced.choices.extensions.any_protocol fields.now) ≡ Some e) }
+        ensures err { IfErr result (λ e. e ≢ refusal.OutOfMemory → head_list_refusal self.now.side (head_by self.now.announced.choices.extensions.any_protocol fields.now) ≡ Some e) }
         ensures memory { IfErr result (λ e. e ≡ refusal.OutOfMemory → 24576 < length fields.now) }
     {
         let any = self.announced.choices.extensions.any_protocol;
@@ -176,11 +169,8 @@ impl Endpoint {
     ) -> Result<(), Refusal>
         requires open { self.old.closed ≡ None }
         requires read { IfSome read (IsReadOf self.old.side self.old.peer.settings fields.now) }
-        ensures sends { (head : Head) → own_head_refused self.old.announced self.old.side head ≡ None
-            → place ≡ (if is_interim head.status then SendPlace.NothingSent else SendPlace.HeadSent)
-            → SendsJudgedHead self.old self.new id head fields.now result }
-        ensures names { (head : Head) → head_by self.old.announced.choices.extensions.any_protocol fields.now ≡ IsHead head
-            → place ≢ SendPlace.TrailerSent → NamesField (call_refused result) self.old.announced.choices fields.now }
+        ensures sends { (head : Head) → own_head_refused self.old.announced self.old.side head ≡ None → place ≡ (if is_interim head.status then SendPlace.NothingSent else SendPlace.HeadSent) → SendsJudgedHead self.old self.new id head fields.now result }
+        ensures names { (head : Head) → head_by self.old.announced.choices.extensions.any_protocol fields.now ≡ IsHead head → place ≢ SendPlace.TrailerSent → NamesField (call_refused result) self.old.announced.choices fields.now }
     {
         let room = match self.reserve_head(id, None) {
             Ok(room) => room,
@@ -192,10 +182,8 @@ impl Endpoint {
     // A list that reads as a trailer goes out.
     fn send_trailer_list(&mut self, id: StreamId, fields: &[HeaderField]) -> Result<(), Refusal>
         requires { self.old.closed ≡ None }
-        ensures sends { (trailer : Head) → own_trailer_refused self.old.announced trailer ≡ None
-            → SendsJudgedTrailer self.old self.new id trailer fields.now result }
-        ensures names { (trailer : Head) → head_by self.old.announced.choices.extensions.any_protocol fields.now ≡ IsHead trailer
-            → NamesField (call_refused result) self.old.announced.choices fields.now }
+        ensures sends { (trailer : Head) → own_trailer_refused self.old.announced trailer ≡ None → SendsJudgedTrailer self.old self.new id trailer fields.now result }
+        ensures names { (trailer : Head) → head_by self.old.announced.choices.extensions.any_protocol fields.now ≡ IsHead trailer → NamesField (call_refused result) self.old.announced.choices fields.now }
     {
         let room = match self.reserve_trailer(id, None) {
             Ok(room) => room,
@@ -254,9 +242,7 @@ fn judge_place(
 
 // The place of the message after a header section, or that it is one of the other side.
 fn place_behind(side: Side, outline: &Outline) -> Result<SendPlace, Refusal>
-    ensures ok { IfOk result
-        (λ place. (is_sent_outline side outline.now ≡ true)
-        × (place ≡ (if is_interim outline.now.status then SendPlace.NothingSent else SendPlace.HeadSent))) }
+    ensures ok { IfOk result (λ place. (is_sent_outline side outline.now ≡ true) × (place ≡ (if is_interim outline.now.status then SendPlace.NothingSent else SendPlace.HeadSent))) }
     ensures err { IfErr result (λ e. (is_sent_outline side outline.now ≡ false) × (e ≡ refusal.WrongSide)) }
 {
     if !outline.is_sent_by(side) {

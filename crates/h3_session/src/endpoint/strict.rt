@@ -93,9 +93,7 @@ impl Endpoint {
     // What a walk told, and the rule that a server's answer breaks by what was asked on its stream (RFC 9110, section 8.6). The stream is
     // looked up only for an answer that may break it.
     fn as_answer(&self, id: StreamId, read: SentRead) -> SentRead
-        ensures violation { (fields : List Field) → IsReadOf self.now.side self.now.peer.settings fields read
-            → result.violation ≡ violation_of_own_head self.now.side self.now.peer.settings
-            (known_in (kept_at self.now.requests id)) fields }
+        ensures violation { (fields : List Field) → IsReadOf self.now.side self.now.peer.settings fields read → result.violation ≡ violation_of_own_head self.now.side self.now.peer.settings (known_in (kept_at self.now.requests id)) fields }
         ensures said { result.said ≡ read.said }
     {
         let is_broken = self.is_wrong_answer(id, read.said);
