@@ -7,7 +7,7 @@ ghost use Rattle.h3_connection.specs.OwnIds.{other};
 ghost use Rattle.h3_world.specs.declared.event.Event.{Event};
 ghost use Rattle.h3_world.specs.declared.setup.Setup.{Setup};
 ghost use Rattle.h3_world.specs.Came.{insertions_came};
-ghost use Rattle.h3_world.specs.Ends.{Ends, answers_of_ends, ends_after, new_ends};
+ghost use Rattle.h3_world.specs.Ends.{answers_of_ends, ends_after, new_ends};
 ghost use Rattle.h3_world.specs.Headline.{Happens};
 ghost use Rattle.h3_world.specs.Order.{next_part};
 ghost use Rattle.h3_world.specs.Run.{Run};
@@ -54,16 +54,6 @@ pub fn endpoints_decode_what_was_sent()
 pub fn two_endpoints_run_in_a_world()
     ensures { (setup : Setup) (events : List Event) → IsMadeSetup setup → JudgesPlainly setup → AllByRecursion (IsSendable setup) events →
         (w : World) × Run (Happens setup) (empty_world setup) events (answers_of_ends (new_ends setup) events) w × Stands setup w (ends_after (new_ends setup) events) }
-{
-    what_is_cited_holds();
-}
-
-ghost use Rattle.h3_headline.specs.Steps.{StandsOn};
-
-/// Each event that may be sent happens in the world in which two endpoints stand, and both stand in the world after it. Neither end asks for
-/// strict messages.
-pub fn every_event_steps_on()
-    ensures { (setup : Setup) (w : World) (ends : Ends) (e : Event) → IsMadeSetup setup → JudgesPlainly setup → IsSendable setup e → Stands setup w ends → StandsOn setup w ends e }
 {
     what_is_cited_holds();
 }

@@ -89,7 +89,7 @@ impl OverStreams {
         ensures value { result ≡ is_some (kept_at self.now id) }
         ensures over { IfSome (kept_at self.now id) IsOver }
     {
-        self.marks.get(id.into_inner()) > 0
+        self.marks.get_if_any(id.into_inner()) > 0
     }
 
     /// The greatest id of a stream that is among them.
@@ -113,7 +113,7 @@ impl OverStreams {
         ensures { AreAlike (option_copied result) (kept_at self.now id) }
     {
         let number = id.into_inner();
-        let way = self.marks.get(number);
+        let way = self.marks.get_if_any(number);
         if way == 0 {
             return None;
         }

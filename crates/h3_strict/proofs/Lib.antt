@@ -31,9 +31,8 @@ mod SendEvents
 mod CallEvents
 mod QuietEvents
 mod PullEvents
-mod PullsAnyhow
+mod PullResults
 mod PullVerdicts
-mod StepsAnyhow
 mod PulledTallies
 mod PullTally
 mod NoneJudges
@@ -54,7 +53,6 @@ mod DeliveriesFit
 mod MadeLimits
 mod LimitCarries
 mod LimitEarly
-mod AnyhowMessages
 mod TunnelParts
 mod TunnelPulls
 mod BehindPulls

@@ -1,4 +1,4 @@
--- Between two ends that ask for no strict messages no event finds a fault of the connection, whatever both limit.
+-- Between two ends that ask for no strict messages no receiver counts a tunnel, and no event changes that.
 use Rattle.std.proofs.Common.{◌≡◌, inl, inr, ℕ, Bool, true, false, List, [], ◌∷◌, length, refl, sym, ap, ◌∙◌, subst, Option, Some, None, if◌then◌else◌}
 use Rattle.std.specs.Prelude.{nat_lt, unwrap_or}
 use Rattle.h3_field.specs.Field.{Field}
@@ -11,7 +11,6 @@ use Rattle.h3_connection.specs.Endpoint.Kind.{OwnUnidirectional, PeerUnidirectio
 use Rattle.h3_connection.specs.Incoming.{Incoming, nothing_came}
 use Rattle.h3_connection.specs.Keeping.{pulls}
 use Rattle.h3_connection.specs.Pulling.{Pulled, pull_stream}
-use Rattle.h3_connection.specs.Sections as section
 use Rattle.h3_connection.specs.Sending as sender
 use Rattle.h3_connection.specs.Sending.{does, if_too_many, pull_at, pull_peer, pull_request, pulled, pulled_unidirectional, sent_bytes, telling_at}
 use Rattle.h3_connection.specs.StreamSets.{Streams, set_stream, stream_at}
@@ -33,7 +32,7 @@ use Rattle.h3_headline.specs.Contents.{KeepsParts}
 use Rattle.h3_strict.proofs.KeepsCounts.{KeepsAt, KeepsBut}
 use Rattle.h3_strict.proofs.PullEvents.{given_up_again}
 use Rattle.h3_strict.proofs.PulledTallies.{answer_streams, pulled_in}
-use Rattle.h3_strict.proofs.PullsAnyhow.{listed_is, pulled_is}
+use Rattle.h3_strict.proofs.PullResults.{listed_is, pulled_is}
 use Rattle.h3_strict.proofs.TunnelFaultless.{PullsSafely}
 use Rattle.h3_strict.proofs.TunnelPull.{pulls_so, safe_where}
 use Rattle.h3_strict.proofs.TunnelPulls.{leaves_loose, pull_stays}

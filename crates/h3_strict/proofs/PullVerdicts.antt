@@ -32,7 +32,7 @@ use Rattle.h3_strict.proofs.PlainPulled.{given_plain, limit_plain, peer_plain, s
 use Rattle.h3_strict.proofs.PlainReading.{all_plain}
 use Rattle.h3_strict.proofs.PlainStreams.{at_each, set_each}
 use Rattle.h3_strict.proofs.PullEvents.{given_up_again, over_again}
-use Rattle.h3_strict.proofs.PullsAnyhow.{gone_end}
+use Rattle.h3_strict.proofs.PullResults.{gone_end}
 use Rattle.h3_strict.proofs.Verdicts.{AtOnce, BehindSection, EndsAll, IsSame, Marks, Verdict, marks_of, pull_told}
 
 -- what is left of a receiver with the same marks

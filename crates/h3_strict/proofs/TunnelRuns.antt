@@ -1,4 +1,4 @@
--- Between two strict ends no event finds a fault of the connection, whatever the server knows.
+-- What stands of tunnels between two strict ends stays so over each event, whatever the server knows.
 use Rattle.std.proofs.Common.{◌≡◌, ◌⊎◌, inl, inr, ℕ, Bool, true, false, [], refl, sym, ap, ◌∙◌, subst, Some, None}
 use Rattle.h3_proto.specs.StreamIds.{is_request_stream}
 use Rattle.h3_proto.specs.declared.stream.Side.{Side}
@@ -21,10 +21,9 @@ use Rattle.h3_world.specs.declared.event.Event.TheVariants as event
 use Rattle.h3_world.specs.declared.setup.Setup.{Setup}
 use Rattle.h3_headline.specs.Contents.{KeepsParts}
 use Rattle.h3_headline.specs.FlowLaws.{same_both}
-use Rattle.h3_connection.specs.Sections as section
 use Rattle.h3_strict.proofs.KeepsCounts.{KeepsBut, no_stream, same_streams, streams_keep}
 use Rattle.h3_strict.proofs.PlainLists.{faults_same}
-use Rattle.h3_strict.proofs.PullsAnyhow.{listed_is, pulled_is}
+use Rattle.h3_strict.proofs.PullResults.{listed_is, pulled_is}
 use Rattle.h3_strict.proofs.TunnelEvents.{body_event, fields_event, finish_event, head_event, trailer_event, trailer_fields_event}
 use Rattle.h3_strict.proofs.TunnelFaultless.{PullsSafely, items_same}
 use Rattle.h3_strict.proofs.TunnelParts.{tunnel_same}

@@ -93,12 +93,6 @@ pub alive_before : (a b : Bool) → (a ≡ true → b ≡ true) → b ≡ false 
 alive_before true b h e = sym (h refl) ∙ e
 alive_before false b h e = refl
 
-pub plain_advances : (setup : Setup) (w new : World) (e : Event) (a : Answer) (writer : Side) (id : ℕ) → IsSoundWorld setup w → Step setup w e a new → AdvancesBy setup w e writer id a new
-plain_advances setup w new e a writer id sound step =
-    advances (reader_of setup writer) (flow w writer id) (flow new writer id) (sent_in writer id e a) (finished_in writer id e a) (pulled_in (other writer) id e a) (ended_in (other writer) id e a)
-    (moved setup w new e a writer id sound step) (quiet_step setup w new e a writer id step)
-    (alive_before (is_some (flow w writer id).fault) (is_some (flow new writer id).fault) (gone_stays setup w new e a step writer id))
-
 -- a message is given up
 module _ (setup : Setup) (w : World) (side : Side) (i : ℕ) (why : Malformation) (sound : IsSoundWorld setup w) (unsettled : settled w side i ≡ None) (writer : Side) (id : ℕ) where
   there : IsThere w i

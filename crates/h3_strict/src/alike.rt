@@ -1,4 +1,4 @@
-//! The law of two endpoints that judge alike. This function does nothing: its contract is the law.
+//! The laws of two endpoints that judge alike. These functions do nothing: their contracts are the laws.
 ghost use Rattle.std.specs.Prelude.{◌≡◌, Bool, None};
 ghost use Rattle.h3_proto.specs.declared.stream.Side.{Side};
 ghost use Rattle.h3_connection.specs.declared.arrival.Arrival.{Arrival};

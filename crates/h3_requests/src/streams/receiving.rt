@@ -1,5 +1,5 @@
 //! What comes on a request stream.
-ghost use Rattle.std.specs.Prelude.{◌≡◌, ◌++◌, true, false, None, OnOk, OnErr, IfOk, IfErr, IfSome, is_some};
+ghost use Rattle.std.specs.Prelude.{◌≡◌, ◌++◌, true, false, [], None, OnOk, OnErr, IfOk, IfErr, IfSome, is_some};
 ghost use Rattle.h3_blocked.specs.Sums.{TakesOut};
 ghost use Rattle.h3_connection.specs.Calls.{Sets, AllSame};
 ghost use Rattle.h3_connection.specs.Delivering.{kept, with_end, given_up_once, cancellation};
@@ -151,6 +151,56 @@ impl RequestStreams {
         let is_over = stream.is_over();
         self.streams.retire_if(id, is_over);
         Ok(())
+    }
+
+    /// The same, but an end is refused that the peer does not send, as `deliver_or_refuse` refuses bytes.
+    pub fn end_or_refuse(
+        &mut self,
+        alloc: Global,
+        side: Side,
+        id: StreamId,
+    ) -> Result<(), DeliverError>
+        ensures ok { OnOk result (Receives self.old self.new id with_end) }
+        ensures taken { OnOk result (receiver_refusal side (kept_at self.old id) ≡ None) }
+        ensures why { IfErr result (λ e. IsRefusedBy (receiver_refusal side (kept_at self.old id)) [] e) }
+        ensures err { OnErr result (AllSame self.old self.new) }
+    {
+        let Some(stream) = self.streams.get_mut(id) else {
+            if !self.streams.is_over(id) {
+                return self.end_new_or_refuse(alloc, side, id);
+            }
+            return Err(DeliverError::Refused(Refusal::AfterEnd));
+        };
+        if stream.has_ended() {
+            return Err(DeliverError::Refused(Refusal::AfterEnd));
+        }
+        stream.incoming.end();
+        let is_over = stream.is_over();
+        self.streams.retire_if(id, is_over);
+        Ok(())
+    }
+
+    // The end of a stream that is not there: a server's peer opens it.
+    #[inline(never)]
+    fn end_new_or_refuse(
+        &mut self,
+        alloc: Global,
+        side: Side,
+        id: StreamId,
+    ) -> Result<(), DeliverError>
+        requires { kept_at self.old id ≡ None }
+        ensures ok { OnOk result (Receives self.old self.new id with_end) }
+        ensures taken { OnOk result (receiver_refusal side None ≡ None) }
+        ensures why { IfErr result (λ e. IsRefusedBy (receiver_refusal side None) [] e) }
+        ensures err { OnErr result (AllSame self.old self.new) }
+    {
+        match side {
+            Side::Client => Err(DeliverError::Refused(Refusal::NotOpen)),
+            Side::Server => match self.end_absent(alloc, id) {
+                Ok(()) => Ok(()),
+                Err(_) => Err(DeliverError::OutOfMemory(Bytes::new())),
+            },
+        }
     }
 
     // The end of a stream that is not under way.

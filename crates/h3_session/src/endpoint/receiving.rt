@@ -4,7 +4,7 @@ ghost use Rattle.std.specs.VecDeque.{deque_len, deque_capacity};
 ghost use Rattle.h3_connection.specs.Arrivals.{stream_of, closes, is_closed_in};
 ghost use Rattle.h3_blocked.specs.Sums.{TakesOut};
 ghost use Rattle.h3_connection.specs.Calls.{AllSame, Sets, fresh_request};
-ghost use Rattle.h3_connection.specs.Delivering.{kept, server_opened_refusal};
+ghost use Rattle.h3_connection.specs.Delivering.{kept, with_end, server_opened_refusal};
 ghost use Rattle.h3_connection.specs.Endpoint.{EndpointHistory, kind_of};
 ghost use Rattle.h3_connection.specs.Endpoint.Kind.{Request};
 ghost use Rattle.h3_connection.specs.Keeping.{arrival_refusal};
@@ -163,9 +163,13 @@ impl Endpoint {
     }
 
     /// The end of a stream came. It is refused as bytes are.
+    #[tactic(auto, using(crate::proofs::ReceivingAtOnce::ends_at_once))]
     pub fn deliver_end(&mut self, id: StreamId) -> Result<(), DeliverError>
         ensures { DeliversEnd self.old self.new id result }
     {
+        if self.takes_at_once(id) {
+            return self.end_at_once(id);
+        }
         self.arrive(Arrival::EndCame(id))
     }
 
@@ -197,6 +201,17 @@ impl Endpoint {
     {
         self.requests
             .deliver_or_refuse(self.alloc, self.side, &self.announced, id, bytes)
+    }
+
+    // The end of a request stream, with one look-up.
+    fn end_at_once(&mut self, id: StreamId) -> Result<(), DeliverError>
+        ensures rest { self.new ≡ record self.old { requests = self.new.requests } }
+        ensures ok { OnOk result (ReceivesHere self.old.requests self.new.requests id with_end) }
+        ensures taken { OnOk result (receiver_refusal self.old.side (kept_at self.old.requests id) ≡ None) }
+        ensures why { IfErr result (λ e. IsRefusedBy (receiver_refusal self.old.side (kept_at self.old.requests id)) [] e) }
+        ensures err { OnErr result (AllSame self.old.requests self.new.requests) }
+    {
+        self.requests.end_or_refuse(self.alloc, self.side, id)
     }
 
     // What comes is read after all that is kept. With nothing kept, what comes on a request stream is its receiver's at once.
