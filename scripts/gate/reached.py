@@ -16,6 +16,7 @@ IMPORT = re.compile(r"^[ \t]*(pub )?(?:ghost )?use ([\w.\-'+]+?)\.\{([^}]*)\};?[
 ALIAS = re.compile(r"^[ \t]*(?:pub )?(?:ghost )?use ([\w.\-'+]+) as ([\w\-]+);?[ \t]*$", re.M)
 NAMED = re.compile(r"^(?:(?:abbrev|unfoldable|pub|record|data|ruleset) )*([^\s:=({\[«]+|«[^»]*»)(?=[ \n(:{\[])")
 WITHIN = re.compile(r"^[ \t]+(?:(?:abbrev|unfoldable|pub|record|data) )*([^\s:=({\[«]+)(?= :)", re.M)
+DATA = re.compile(r"(?:\w+ )*data ")
 HINT = re.compile(r"(crate|\w+)::(specs|proofs)::([\w:]+)::([\w-]+)")
 WORD = re.compile(r"[^\s(){},;.\[\]λ«»\"]+")
 PIECES = re.compile(r"[\w'₀-₉]+")
@@ -75,7 +76,7 @@ class File:
         self.texts = {"": body} if self.is_source else self.parts(body)
         self.holders = {}
         for name, it in self.texts.items():
-            if name.startswith("module "):
+            if name.startswith("module ") or DATA.match(it):
                 self.holders.update((inner, name) for inner in WITHIN.findall(it))
         self.holders.update((name, name) for name in self.texts)
 

@@ -107,3 +107,10 @@ unhuffman_is payload plain e =
       subst (λ l. AllByRecursion IsByte l) c.1 (each_byte _ parts.0),
       sym (bytes_same _ _ parts.1) ∙ ap (λ l. huffman l) c.1,
     )
+
+some_same : (s t : List ℕ) → Some s ≡ Some t → s ≡ t
+some_same s t e = cc
+
+-- no two strings have one encoding
+pub huffman_one : (s t : List ℕ) → AllByRecursion IsByte s → AllByRecursion IsByte t → huffman s ≡ huffman t → s ≡ t
+huffman_one s t p q e = some_same s t (sym (unhuffman_some s p) ∙ ap (λ l. unhuffman l) e ∙ unhuffman_some t q)
