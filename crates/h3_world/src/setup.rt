@@ -2,7 +2,7 @@
 ghost use Rattle.std.specs.Prelude.{◌≡◌, ◌<◌};
 ghost use Rattle.h3_proto.specs.Config.{announced};
 ghost use Rattle.h3_connection.specs.Announcing.{announced_by};
-ghost use Rattle.h3_world.specs.Setup.{both, takes_settings};
+ghost use Rattle.h3_world.specs.Setup.{both, announced_at, takes_settings};
 
 use h3_connection::setup::{Announced, Limits, NewError};
 use h3_proto::config::Config;
@@ -58,5 +58,15 @@ impl Setup {
             || self
                 .server
                 .refuses_settings(Side::Server, &self.client.settings))
+    }
+
+    /// What the side announces.
+    pub fn announced_at(&self, side: Side) -> &Announced
+        ensures { result.now ≡ announced_at self.now side }
+    {
+        match side {
+            Side::Client => &self.client,
+            Side::Server => &self.server,
+        }
     }
 }
