@@ -278,6 +278,8 @@ Program::Program(uint64_t seed) : seed_(seed), is_aimed_(seed % 4 == 1) {
     config.shortest_strings = below(2);
     config.strict_connection = below(2);
     config.priority_updates = below(3);
+    config.other_settings = below(3);
+    config.other_streams = below(2);
     uint64_t least = std::max<uint64_t>(256, 4 * std::max(config.max_field_section_size, config.table));
     config.unfinished_limit = one_in(4) ? UINT64_MAX : least; // the least that is taken
   }

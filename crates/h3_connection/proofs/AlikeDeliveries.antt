@@ -13,8 +13,8 @@ use Rattle.h3_connection.specs.Endpoint.Kind.{Request, ServerOpened, OwnUnidirec
 use Rattle.h3_connection.specs.PullCuts.{HaveBytes, DifferInCuts, DifferInOneStream}
 use Rattle.h3_connection.specs.StreamSets.{stream_at, set_stream}
 use Rattle.h3_connection.specs.StreamSetLaws.{set-set, set-same}
-use Rattle.h3_connection.specs.StrictConnection.{knows_sessions}
-use Rattle.h3_connection.specs.Unidirectional.{Unidirectional, Role, role_after, with_bytes}
+use Rattle.h3_connection.specs.StrictConnection.{known_streams}
+use Rattle.h3_connection.specs.Unidirectional.{StreamKinds, Unidirectional, Role, role_after, with_bytes}
 use Rattle.h3_connection.specs.Unidirectional.Role.{Untold, Control, Encoder, Decoder, Session, Push, Ignored}
 use Rattle.h3_connection.proofs.AlikeCalls.{AlikeAfter, closed_alike, delivers_alike}
 use Rattle.h3_connection.proofs.AlikeEnds.{at_both, set_both, cuts_sym, or_nothing, or_untold, increments_alike, ends_sym}
@@ -59,7 +59,7 @@ one_alike id one two d h =
     }))
 
 -- bytes of a session
-session_cut : (sessions : Bool) (e : EndpointHistory) (id : ℕ) (o : Unidirectional) (n : ℕ) (rest b : List ℕ) → DifferInCutsAlone e e → HaveBytes o.unread
+session_cut : (sessions : StreamKinds) (e : EndpointHistory) (id : ℕ) (o : Unidirectional) (n : ℕ) (rest b : List ℕ) → DifferInCutsAlone e e → HaveBytes o.unread
     → Alike DifferInCutsAlone (read_unidirectional e id o (then_role sessions b (Session n, rest))) (read_unidirectional (read_unidirectional e id o (Session n, rest)).0 id (with_bytes o (Session n, rest)) (role_after sessions (Session n) b))
 session_cut sessions e id o n rest b d have =
     let u : Unidirectional = record o { role = Session n; unread = with_piece o.unread rest } in
@@ -130,22 +130,22 @@ peer_cut e id a b d kind none = by_which (which_role (role_with e id (a ++ b)))
     c = role_cut_of e id a b kind none
 
     AtOnce : Role × List ℕ → Found
-    AtOnce x = read_unidirectional e id o (then_role (knows_sessions e.announced) b x)
+    AtOnce x = read_unidirectional e id o (then_role (known_streams e.announced) b x)
 
     Apart : Role × List ℕ → Found
-    Apart x = read_unidirectional (read_unidirectional e id o x).0 id (with_bytes o x) (role_after (knows_sessions e.announced) x.0 b)
+    Apart x = read_unidirectional (read_unidirectional e id o x).0 id (with_bytes o x) (role_after (known_streams e.announced) x.0 b)
 
     cut_by : (Left : EndpointHistory → EndpointHistory → Type 0) → Alike Left (AtOnce c.heard) (Apart c.heard) → CutAs Left (deliver e id (a ++ b)) (deliver_cut e id a b)
     cut_by Left h = record { first = AtOnce c.heard; second = Apart c.heard; first_is = c.at_once; second_is = c.apart; alike = h }
 
     -- the session was told in the first bytes, or in the second
-    by_heard : (n : ℕ) (role : Role) (rest : List ℕ) → c.heard ≡ (role, rest) → (role_after (knows_sessions e.announced) role b).0 ≡ Session n → AlikeAfter (deliver e id (a ++ b)) (deliver_cut e id a b)
+    by_heard : (n : ℕ) (role : Role) (rest : List ℕ) → c.heard ≡ (role, rest) → (role_after (known_streams e.announced) role b).0 ≡ Session n → AlikeAfter (deliver e id (a ++ b)) (deliver_cut e id a b)
     by_heard n (Session m) rest at is =
-        from_alike DifferInCutsAlone _ _ (λ x y same h. h) (cut_by DifferInCutsAlone (subst (λ x. Alike DifferInCutsAlone (AtOnce x) (Apart x)) (sym at) (session_cut (knows_sessions e.announced) e id o m rest b d have)))
+        from_alike DifferInCutsAlone _ _ (λ x y same h. h) (cut_by DifferInCutsAlone (subst (λ x. Alike DifferInCutsAlone (AtOnce x) (Apart x)) (sym at) (session_cut (known_streams e.announced) e id o m rest b d have)))
     by_heard n (Untold front) rest at is =
         let none_left : rest ≡ [] = sym (ap (λ x. x.1) at) ∙ c.untold front (ap (λ x. x.0) at) in
         let same : Alike (λ x y. x ≡ y) (AtOnce (Untold front, rest)) (Apart (Untold front, rest)) =
-        subst (λ role. Alike (LeftAs role e.own.replies) (AtOnce (Untold front, rest)) (Apart (Untold front, rest))) is (untold_cut (knows_sessions e.announced) e id o front rest b none_left) in
+        subst (λ role. Alike (LeftAs role e.own.replies) (AtOnce (Untold front, rest)) (Apart (Untold front, rest))) is (untold_cut (known_streams e.announced) e id o front rest b none_left) in
         from_alike (λ x y. x ≡ y) _ _ (λ x y at_once h. subst (DifferInCutsAlone x) h (itself x at_once)) (cut_by (λ x y. x ≡ y) (subst (λ z. Alike (λ x y. x ≡ y) (AtOnce z) (Apart z)) (sym at) same))
     by_heard n Control rest at is = absurd (cc)
     by_heard n Encoder rest at is = absurd (cc)

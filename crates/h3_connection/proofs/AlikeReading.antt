@@ -23,7 +23,7 @@ use Rattle.h3_connection.proofs.AlikeEnds.{OfBoth, at_both, set_both, or_nothing
 use Rattle.h3_connection.proofs.PullCuts.{piece_bytes, have_piece}
 use Rattle.h3_connection.proofs.ReadingCuts.{Alike, read_if}
 use Rattle.h3_connection.proofs.RequestCuts.{some_refusal}
-use Rattle.h3_connection.specs.StrictConnection.{knows_sessions, kinds_of, session_fault}
+use Rattle.h3_connection.specs.StrictConnection.{known_streams, kinds_of, session_fault}
 
 -- What an endpoint has beside another that differs from it in cuts alone.
 pub record Beside (e : EndpointHistory) (s : Streams Incoming) (t : Streams Unidirectional) (r : List DecoderInstruction) : Type 0 where
@@ -244,8 +244,8 @@ module _ (e : EndpointHistory) (s : Streams Incoming) (t : Streams Unidirectiona
   bytes_at_alike bytes PeerUnidirectional =
       let d = sessions_here in
       let role : (unidirectional_at two id).role ≡ (unidirectional_at e id).role = ap (λ (o : Unidirectional). o.role) d.same in
-      subst (λ x. Alike DifferInCutsAlone (bytes_at e id bytes PeerUnidirectional) (read_unidirectional two id (unidirectional_at two id) (role_after (knows_sessions e.announced) x bytes))) (sym role)
-      (unidirectional_alike (unidirectional_at e id) (unidirectional_at two id) (role_after (knows_sessions e.announced) (unidirectional_at e id).role bytes) d)
+      subst (λ x. Alike DifferInCutsAlone (bytes_at e id bytes PeerUnidirectional) (read_unidirectional two id (unidirectional_at two id) (role_after (known_streams e.announced) x bytes))) (sym role)
+      (unidirectional_alike (unidirectional_at e id) (unidirectional_at two id) (role_after (known_streams e.announced) (unidirectional_at e id).role bytes) d)
 
   pub end_at_alike : (k : Kind) → Alike DifferInCutsAlone (end_at e id k) (end_at two id k)
   end_at_alike Request =

@@ -49,7 +49,7 @@ use Rattle.h3_connection.proofs.Quiet.{Quiet, quiet_control, quiet_decoder}
 use Rattle.h3_connection.proofs.ReadingStays.{all_stays}
 use Rattle.h3_connection.proofs.Seen.{opened_here}
 use Rattle.h3_connection.proofs.WaitingCounts.{waits_at, count_set, count_inserted}
-use Rattle.h3_connection.specs.StrictConnection.{knows_sessions}
+use Rattle.h3_connection.specs.StrictConnection.{known_streams}
 
 -- the bounds rest on these alone, and nothing is open that was closed
 pub record Rests (e f : EndpointHistory) : Type 0 where
@@ -216,7 +216,7 @@ bytes_on : (e : EndpointHistory) (id : ℕ) (bytes : List ℕ) (k : Kind) → Is
 bytes_on e id bytes Request h = changes e id (kept (incoming_at e id) bytes) h (record { tries = refl; waits = omega arith })
 bytes_on e id bytes ServerOpened h = h
 bytes_on e id bytes OwnUnidirectional h = h
-bytes_on e id bytes PeerUnidirectional h = unidirectional e id (unidirectional_at e id) (role_after (knows_sessions e.announced) (unidirectional_at e id).role bytes) h
+bytes_on e id bytes PeerUnidirectional h = unidirectional e id (unidirectional_at e id) (role_after (known_streams e.announced) (unidirectional_at e id).role bytes) h
 
 end_on : (e : EndpointHistory) (id : ℕ) (k : Kind) → IsBounded e → IsBounded (end_at e id k).0
 end_on e id Request h = changes e id (with_end (incoming_at e id)) h (record { tries = refl; waits = omega arith })

@@ -58,7 +58,7 @@ use Rattle.h3_connection.proofs.SameSetups.{same_setup}
 use Rattle.h3_connection.proofs.SentOff.{sent_in, stop_refused, body_refused, trailer_refused, finish_refused, reset_refused}
 use Rattle.h3_connection.proofs.LeavesDone.{Over, Leaves, Rests, written, settled_in, itself, at_rest, rests, leaves_then, receives, does_leave, taken_leaves, open_leaves, head_leaves, set_leaves, body_does, advance_leaves, end_leaves, goaway_leaves}
 use Rattle.h3_wire.specs.declared.frame.kinds.FrameKinds.{FrameKinds}
-use Rattle.h3_connection.specs.StrictConnection.{knows_sessions, kinds_of}
+use Rattle.h3_connection.specs.StrictConnection.{known_streams, kinds_of}
 
 -- The peer's GOAWAY frames stay, whatever its control stream says.
 abbrev HasGoaway : Peer → Type 0
@@ -277,7 +277,7 @@ module _ (e : EndpointHistory) (q : ℕ) (over : Over e) (asked : e.side ≡ Ser
   arrives_at bytes Request kind opens none = request_leaves (bytes_at e q bytes Request).0 (kept (incoming_at e q) bytes) refl refl refl refl refl (λ h. h) opens kind none
   arrives_at bytes ServerOpened kind opens none = itself e
   arrives_at bytes OwnUnidirectional kind opens none = itself e
-  arrives_at bytes PeerUnidirectional kind opens none = rests e _ (heard_rests e q (unidirectional_at e q) (role_after (knows_sessions e.announced) (unidirectional_at e q).role bytes))
+  arrives_at bytes PeerUnidirectional kind opens none = rests e _ (heard_rests e q (unidirectional_at e q) (role_after (known_streams e.announced) (unidirectional_at e q).role bytes))
 
   ends_at : (k : Kind) → kind_of e.side q ≡ k → e.closed ≡ None → refusal_at e q k ≡ None → Leaves e (end_at e q k).0
   ends_at Request kind opens none = request_leaves (end_at e q Request).0 (with_end (incoming_at e q)) refl refl refl refl refl (λ h. h) opens kind none

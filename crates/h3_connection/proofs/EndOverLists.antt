@@ -21,7 +21,7 @@ use Rattle.h3_connection.specs.Isolation.{FindsNoFault}
 use Rattle.h3_connection.specs.Pulling.{is_client}
 use Rattle.h3_connection.specs.Sending.{pull, pull_at, pull_unless, pull_request, pull_peer, pulled_unidirectional}
 use Rattle.h3_connection.specs.StreamSets.{stream_at}
-use Rattle.h3_connection.specs.StrictConnection.{knows_sessions}
+use Rattle.h3_connection.specs.StrictConnection.{known_streams}
 use Rattle.h3_connection.specs.Unidirectional.{Unidirectional, Role, untold, role_after, with_bytes, raw, pull_session, if_over, pull_unidirectional}
 use Rattle.h3_connection.specs.Unidirectional.Role.{Untold, Control, Encoder, Decoder, Session, Push, Ignored}
 use Rattle.h3_connection.specs.UnknownStreams.{is_on}
@@ -136,8 +136,8 @@ module _ (id : ℕ) (e : EndpointHistory) (kind : kind_of e.side id ≡ PeerUnid
   bytes_over : (bytes : List ℕ) → SessionOver id (bytes_at e id bytes (kind_of e.side id)).0
   bytes_over bytes =
       subst (λ k. SessionOver id (bytes_at e id bytes k).0) (sym kind)
-      (subst (λ x. SessionOver id (read_unidirectional e id x (role_after (knows_sessions e.announced) x.role bytes)).0) (sym there)
-      (subst (λ role. SessionOver id (read_unidirectional e id h.stream (role_after (knows_sessions e.announced) role bytes)).0) (sym h.session) (set_over id e (with_bytes h.stream (Session h.n, bytes)) h.n refl h.over)))
+      (subst (λ x. SessionOver id (read_unidirectional e id x (role_after (known_streams e.announced) x.role bytes)).0) (sym there)
+      (subst (λ role. SessionOver id (read_unidirectional e id h.stream (role_after (known_streams e.announced) role bytes)).0) (sym h.session) (set_over id e (with_bytes h.stream (Session h.n, bytes)) h.n refl h.over)))
 
   end_over : SessionOver id (end_at e id (kind_of e.side id)).0
   end_over =

@@ -12,7 +12,7 @@ use Rattle.h3_connection.specs.StreamSets.{stream_at}
 use Rattle.h3_connection.specs.Unidirectional.{Unidirectional, Role, with_bytes, role_after}
 use Rattle.h3_connection.specs.Unidirectional.Role.{Untold, Control, Encoder, Decoder, Session, Push, Ignored}
 use Rattle.h3_connection.proofs.Quiet.{Quiet, quiet_control, quiet_decoder}
-use Rattle.h3_connection.specs.StrictConnection.{knows_sessions}
+use Rattle.h3_connection.specs.StrictConnection.{known_streams}
 
 pub record Stays (e f : EndpointHistory) : Type 0 where
   pub closed : f.closed ≡ e.closed
@@ -52,7 +52,7 @@ pub bytes_stay : (e : EndpointHistory) (id : ℕ) (bytes : List ℕ) (k : Kind) 
 bytes_stay e id bytes Request = opened_stays e _ id (stream_at e.incoming id) refl refl
 bytes_stay e id bytes ServerOpened = same e
 bytes_stay e id bytes OwnUnidirectional = same e
-bytes_stay e id bytes PeerUnidirectional = peer_stays e id (unidirectional_at e id) (role_after (knows_sessions e.announced) (unidirectional_at e id).role bytes)
+bytes_stay e id bytes PeerUnidirectional = peer_stays e id (unidirectional_at e id) (role_after (known_streams e.announced) (unidirectional_at e id).role bytes)
 
 pub end_stays : (e : EndpointHistory) (id : ℕ) (k : Kind) → Stays e (end_at e id k).0
 end_stays e id Request = opened_stays e _ id (stream_at e.incoming id) refl refl

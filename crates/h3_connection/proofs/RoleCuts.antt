@@ -3,7 +3,7 @@ use Rattle.std.proofs.Common.{◌≡◌, ℕ, Bool, true, false, if◌then◌els
 use Rattle.std.specs.Prelude.{◌==◌}
 use Rattle.h3_coding.specs.Varint.{varint_at}
 use Rattle.h3_coding.specs.VarintLaws.{cases_number, reads_more}
-use Rattle.h3_connection.specs.Unidirectional.{Role, session_role, with_id, of_kind, role_after}
+use Rattle.h3_connection.specs.Unidirectional.{StreamKinds, Role, session_role, with_id, of_kind, role_after}
 use Rattle.h3_connection.specs.Unidirectional.Role.{Untold, Control, Encoder, Decoder, Session, Push, Ignored}
 
 -- what more bytes do behind a role and its bytes
@@ -24,7 +24,7 @@ by_test : (bytes more : List ℕ) (b : Bool) (x y z w : Role × List ℕ) → Co
 by_test bytes more true x y z w p q = p
 by_test bytes more false x y z w p q = q
 
-session_id : (sessions : Bool) (bytes more rest : List ℕ) → Continues bytes more (with_id (session_role sessions) bytes (varint_at rest)) (with_id (session_role sessions) (bytes ++ more) (varint_at (rest ++ more)))
+session_id : (sessions : StreamKinds) (bytes more rest : List ℕ) → Continues bytes more (with_id (session_role sessions) bytes (varint_at rest)) (with_id (session_role sessions) (bytes ++ more) (varint_at (rest ++ more)))
 session_id sessions bytes more rest = elim (cases_number rest) [
   | inl none ↦ rw none (refl, refl)
   | inr k ↦ rw (k.2, reads_more k.0 rest k.1 more k.2) (by_choice sessions k.0 k.1)
@@ -40,7 +40,7 @@ push_id bytes more rest = elim (cases_number rest) [
   | inr k ↦ rw (k.2, reads_more k.0 rest k.1 more k.2) refl
 ]
 
-kind_more : (sessions : Bool) (bytes more : List ℕ) (kind : ℕ) (rest : List ℕ) → Continues bytes more (of_kind sessions bytes (Some (kind, rest))) (of_kind sessions (bytes ++ more) (Some (kind, rest ++ more)))
+kind_more : (sessions : StreamKinds) (bytes more : List ℕ) (kind : ℕ) (rest : List ℕ) → Continues bytes more (of_kind sessions bytes (Some (kind, rest))) (of_kind sessions (bytes ++ more) (Some (kind, rest ++ more)))
 kind_more sessions bytes more kind rest =
     by_test bytes more (kind == 0) _ _ _ _ refl
     (by_test bytes more (kind == 1) _ _ _ _ (push_id bytes more rest)
@@ -48,13 +48,13 @@ kind_more sessions bytes more kind rest =
     (by_test bytes more (kind == 3) _ _ _ _ refl
     (by_test bytes more (kind == 0x54) _ _ _ _ (session_id sessions bytes more rest) refl))))
 
-continues : (sessions : Bool) (bytes more : List ℕ) → Continues bytes more (of_kind sessions bytes (varint_at bytes)) (of_kind sessions (bytes ++ more) (varint_at (bytes ++ more)))
+continues : (sessions : StreamKinds) (bytes more : List ℕ) → Continues bytes more (of_kind sessions bytes (varint_at bytes)) (of_kind sessions (bytes ++ more) (varint_at (bytes ++ more)))
 continues sessions bytes more = elim (cases_number bytes) [
   | inl none ↦ rw none (refl, refl)
   | inr k ↦ rw (k.2, reads_more k.0 bytes k.1 more k.2) (kind_more sessions bytes more k.0 k.1)
 ]
 
-told : (sessions : Bool) (bytes more : List ℕ) (x : Role × List ℕ) → Continues bytes more x (of_kind sessions (bytes ++ more) (varint_at (bytes ++ more))) → of_kind sessions (bytes ++ more) (varint_at (bytes ++ more)) ≡ then_role sessions more x
+told : (sessions : StreamKinds) (bytes more : List ℕ) (x : Role × List ℕ) → Continues bytes more x (of_kind sessions (bytes ++ more) (varint_at (bytes ++ more))) → of_kind sessions (bytes ++ more) (varint_at (bytes ++ more)) ≡ then_role sessions more x
 told sessions bytes more (Untold front, rest) h =
     sym (ap (λ l. ((role_after sessions (Untold front) more).0, l ++ (role_after sessions (Untold front) more).1)) h.1 ∙ ap (λ f. role_after sessions (Untold f) more) h.0)
 told sessions bytes more (Control, rest) h = h
@@ -64,7 +64,7 @@ told sessions bytes more (Session id, rest) h = h
 told sessions bytes more (Push id, rest) h = h
 told sessions bytes more (Ignored, rest) h = h
 
-pub role_cut : (sessions : Bool) (role : Role) (bytes more : List ℕ) → role_after sessions role (bytes ++ more) ≡ then_role sessions more (role_after sessions role bytes)
+pub role_cut : (sessions : StreamKinds) (role : Role) (bytes more : List ℕ) → role_after sessions role (bytes ++ more) ≡ then_role sessions more (role_after sessions role bytes)
 role_cut sessions (Untold front) bytes more =
     ap (λ l. of_kind sessions l (varint_at l)) (sym (append_assoc front bytes more))
     ∙ told sessions (front ++ bytes) more (of_kind sessions (front ++ bytes) (varint_at (front ++ bytes))) (continues sessions (front ++ bytes) more)
@@ -89,7 +89,7 @@ none_of bytes more (Session id, rest) y h = tt
 none_of bytes more (Push id, rest) y h = tt
 none_of bytes more (Ignored, rest) y h = tt
 
-leaves_none : (sessions : Bool) (role : Role) (bytes : List ℕ) → LeavesNone (role_after sessions role bytes)
+leaves_none : (sessions : StreamKinds) (role : Role) (bytes : List ℕ) → LeavesNone (role_after sessions role bytes)
 leaves_none sessions (Untold front) bytes = none_of (front ++ bytes) [] _ _ (continues sessions (front ++ bytes) [])
 leaves_none sessions Control bytes = tt
 leaves_none sessions Encoder bytes = tt
@@ -107,5 +107,5 @@ none_left (Session id, rest) front e h = absurd (cc)
 none_left (Push id, rest) front e h = absurd (cc)
 none_left (Ignored, rest) front e h = absurd (cc)
 
-pub untold_leaves_none : (sessions : Bool) (role : Role) (bytes front : List ℕ) → (role_after sessions role bytes).0 ≡ Untold front → (role_after sessions role bytes).1 ≡ []
+pub untold_leaves_none : (sessions : StreamKinds) (role : Role) (bytes front : List ℕ) → (role_after sessions role bytes).0 ≡ Untold front → (role_after sessions role bytes).1 ≡ []
 untold_leaves_none sessions role bytes front e = none_left (role_after sessions role bytes) front e (leaves_none sessions role bytes)

@@ -19,7 +19,7 @@ use Rattle.h3_connection.specs.CallLists.{Call, Result, called, done, was_pulled
 use Rattle.h3_connection.specs.EndsWaiting.{end_taken_at, end_taken_if}
 use Rattle.h3_connection.specs.CallLists.Call.{OpenRequest, SendHead, SendBody, SendTrailer, Finish, Reset, Goaway, Advance, TakeEnd, Outgoing, Deliver, DeliverEnd, DeliverReset, PullStream, Cancel, Show}
 use Rattle.h3_connection.proofs.Quiet.{Quiet, quiet_control, quiet_decoder}
-use Rattle.h3_connection.specs.StrictConnection.{knows_sessions}
+use Rattle.h3_connection.specs.StrictConnection.{known_streams}
 
 pub record SameSetup (e f : EndpointHistory) : Type 0 where
   pub side : f.side ≡ e.side
@@ -72,7 +72,7 @@ bytes_on : (e : EndpointHistory) (q : ℕ) (bytes : List ℕ) (k : Kind) → Sam
 bytes_on e q bytes Request = came_on e _ q refl refl
 bytes_on e q bytes ServerOpened = itself e
 bytes_on e q bytes OwnUnidirectional = itself e
-bytes_on e q bytes PeerUnidirectional = unidirectional e q (unidirectional_at e q) (role_after (knows_sessions e.announced) (unidirectional_at e q).role bytes)
+bytes_on e q bytes PeerUnidirectional = unidirectional e q (unidirectional_at e q) (role_after (known_streams e.announced) (unidirectional_at e q).role bytes)
 
 end_on : (e : EndpointHistory) (q : ℕ) (k : Kind) → SameSetup e (end_at e q k).0
 end_on e q Request = came_on e _ q refl refl

@@ -12,7 +12,7 @@ use Rattle.h3_connection.specs.CallLists.{done}
 use Rattle.h3_connection.specs.CallLists.Result.{Done}
 use Rattle.h3_connection.specs.Isolation.{Front, Sight, IsSight, AreEncoders, front_of, unless_refused, hears, with_front, seen_encoder_bytes, seen_encoder_closing}
 use Rattle.h3_connection.proofs.Seen.{at_same, at_other, HeardAs, heard_as_role, role_of_bytes}
-use Rattle.h3_connection.specs.StrictConnection.{knows_sessions}
+use Rattle.h3_connection.specs.StrictConnection.{known_streams}
 
 pub to_eq : (a b : ℕ) → (a == b) ≡ true → a ≡ b
 to_eq a b h = grind (arith, common_steps)
@@ -49,7 +49,7 @@ fronts_kept T id e f s q o h w blind p t =
 
 -- the end after bytes of a peer's unidirectional stream
 abbrev After : EndpointHistory → ℕ → List ℕ → Found
-After e q bytes = read_unidirectional e q (unidirectional_at e q) (role_after (knows_sessions e.announced) (unidirectional_at e q).role bytes)
+After e q bytes = read_unidirectional e q (unidirectional_at e q) (role_after (known_streams e.announced) (unidirectional_at e q).role bytes)
 
 pub heard_bytes : (e : EndpointHistory) (q : ℕ) (o : Unidirectional) (heard : Role × List ℕ) → (read_unidirectional e q o heard).1 ≡ None
     → HeardAs (with_unidirectional e q (with_bytes o heard)) (read_unidirectional e q o heard).0 q heard
@@ -58,17 +58,17 @@ heard_bytes e q o (role, bytes) p = heard_as_role (with_unidirectional e q (with
 -- a stream that is seen
 pub encoder_bytes_seen : (T : ℕ → Bool) (id : ℕ) (e : EndpointHistory) (s : Sight) (q : ℕ) (bytes : List ℕ) → IsSight T id e s → T q ≡ true
     → let r = done Done (taken None (closed_refusal (is_closed (unidirectional_at e q))) e (After e q bytes)) in
-    r.1.closed ≡ None → (r.0 ≡ (seen_encoder_bytes (knows_sessions e.announced) (limit_of e) s q bytes).0) × IsSight T id r.1 (seen_encoder_bytes (knows_sessions e.announced) (limit_of e) s q bytes).1
+    r.1.closed ≡ None → (r.0 ≡ (seen_encoder_bytes (known_streams e.announced) (limit_of e) s q bytes).0) × IsSight T id r.1 (seen_encoder_bytes (known_streams e.announced) (limit_of e) s q bytes).1
 encoder_bytes_seen T id e s q bytes h t = subst (λ g. let r = done Done (taken None (closed_refusal (is_closed (unidirectional_at e q))) e (After e q bytes)) in
     r.1.closed ≡ None → let sg = unless_refused (closed_refusal g.closed) s
-    (with_front (record s { decoding = hears (limit_of e) s.decoding (role_after (knows_sessions e.announced) g.role bytes) }) q (record g { role = (role_after (knows_sessions e.announced) g.role bytes).0 })) in
+    (with_front (record s { decoding = hears (limit_of e) s.decoding (role_after (known_streams e.announced) g.role bytes) }) q (record g { role = (role_after (known_streams e.announced) g.role bytes).0 })) in
     (r.0 ≡ sg.0) × IsSight T id r.1 sg.1) (h.fronts q t) (go (is_closed (unidirectional_at e q)) (After e q bytes) refl)
   where
     o : Unidirectional
     o = unidirectional_at e q
 
     heard : Role × List ℕ
-    heard = role_after (knows_sessions e.announced) o.role bytes
+    heard = role_after (known_streams e.announced) o.role bytes
 
     new : Sight
     new = with_front (record s { decoding = hears (limit_of e) s.decoding heard }) q (record (front_of o) { role = heard.0 })
@@ -112,7 +112,7 @@ one_way_bytes_unseen T id e s q bytes h blind = go (is_closed (unidirectional_at
     o = unidirectional_at e q
 
     heard : Role × List ℕ
-    heard = role_after (knows_sessions e.announced) o.role bytes
+    heard = role_after (known_streams e.announced) o.role bytes
 
     go : (closed : Bool) (found : Found) → found ≡ After e q bytes
         → let r = done Done (taken None (closed_refusal closed) e found) in r.1.closed ≡ None → AreEncoders T r.1 → IsSight T id r.1 s

@@ -9,7 +9,7 @@ use Rattle.h3_qpack.specs.Exchange as exchange
 use Rattle.h3_proto.specs.Pairs.{payload_of}
 use Rattle.h3_proto.specs.Settings.{value_of, settings_of}
 use Rattle.h3_world.specs.Following.{opening}
-use Rattle.h3_connection.specs.Unidirectional.{Role, Unidirectional, role_after, with_bytes, untold}
+use Rattle.h3_connection.specs.Unidirectional.{StreamKinds, Role, Unidirectional, role_after, with_bytes, untold}
 use Rattle.h3_connection.specs.Unidirectional.Role.{Untold}
 use Rattle.h3_wire.specs.Encoded.{frame_encoding}
 use Rattle.h3_qpack.specs.WholeInstructions.{whole_in, rest_in, decoder_instructions_in}
@@ -69,8 +69,8 @@ behind_type came count units = take (came + count - 1 - (came - 1)) (drop (came 
 
 -- The byte tells the role, which then stays.
 pub record IsTyped (kind : ℕ) (role : Role) : Type 0 where
-  pub first : (sessions : Bool) (rest : List ℕ) → role_after sessions (Untold []) (kind ∷ rest) ≡ (role, rest)
-  pub stays : (sessions : Bool) (bytes : List ℕ) → role_after sessions role bytes ≡ (role, bytes)
+  pub first : (known : StreamKinds) (rest : List ℕ) → role_after known (Untold []) (kind ∷ rest) ≡ (role, rest)
+  pub stays : (known : StreamKinds) (bytes : List ℕ) → role_after known role bytes ≡ (role, bytes)
   pub keeps : (o : Unidirectional) (bytes : List ℕ) → with_bytes o (role, bytes) ≡ record o { role = role }
 
 abbrev pub roled : Role → List ℕ → Role × List ℕ

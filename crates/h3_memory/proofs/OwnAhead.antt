@@ -32,7 +32,7 @@ use Rattle.h3_memory.specs.Kept.{Delivery}
 use Rattle.h3_memory.specs.Keeping.{Held, ahead, came_of, held_of, text_of}
 use Rattle.h3_memory.proofs.AheadOwn.{IsOwnStream, control_comes, encoder_comes, decoder_comes}
 use Rattle.h3_memory.proofs.KeptAlike.{held_without}
-use Rattle.h3_connection.specs.StrictConnection.{kinds_of, knows_sessions}
+use Rattle.h3_connection.specs.StrictConnection.{kinds_of, known_streams}
 
 -- What the one behind has of each.
 control_is : (setup : Setup) (w : World) (side : Side) (e : EndpointHistory) → StandsAt setup w side e → IsOwnStream e (control_id (other side)) (party w (other side)).own.control_taken Control e.control_on
@@ -163,7 +163,7 @@ heard_leaves e id (Session session) bytes = refl
 heard_leaves e id Ignored bytes = refl
 
 pub unidirectional_leaves : (e : EndpointHistory) (id : ℕ) (bytes : List ℕ) → kind_of e.side id ≡ PeerUnidirectional → streams_of (read_arrival e (BytesCame id bytes)).0 ≡ streams_of e
-unidirectional_leaves e id bytes kind = ap (λ k. streams_of (bytes_at e id bytes k).0) kind ∙ by_role (role_after (knows_sessions e.announced) (unidirectional_at e id).role bytes)
+unidirectional_leaves e id bytes kind = ap (λ k. streams_of (bytes_at e id bytes k).0) kind ∙ by_role (role_after (known_streams e.announced) (unidirectional_at e id).role bytes)
   where
     by_role : (x : Role × List ℕ) → streams_of (read_unidirectional e id (unidirectional_at e id) x).0 ≡ streams_of e
     by_role (role, rest) = heard_leaves (with_unidirectional e id (with_bytes (unidirectional_at e id) (role, rest))) id role rest

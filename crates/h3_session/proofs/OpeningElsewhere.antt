@@ -18,7 +18,7 @@ use Rattle.h3_connection.specs.Unidirectional.Role.{Untold, Control, Encoder, De
 use Rattle.h3_connection.specs.declared.arrival.Arrival.{Arrival}
 use Rattle.h3_connection.specs.declared.arrival.Arrival.TheVariants.{BytesCame, EndCame, ResetCame}
 use Rattle.h3_session.specs.Reading.{read_at}
-use Rattle.h3_connection.specs.StrictConnection.{kinds_of, knows_sessions}
+use Rattle.h3_connection.specs.StrictConnection.{kinds_of, known_streams}
 
 -- with these request streams
 abbrev pub with_requests : EndpointHistory → Streams Incoming → Streams Outgoing → EndpointHistory
@@ -138,7 +138,7 @@ read_elsewhere e (ResetCame id code) ServerOpened none = nothing_found e _
 read_elsewhere e (BytesCame id bytes) OwnUnidirectional none = nothing_found e _
 read_elsewhere e (EndCame id) OwnUnidirectional none = nothing_found e _
 read_elsewhere e (ResetCame id code) OwnUnidirectional none = nothing_found e _
-read_elsewhere e (BytesCame id bytes) PeerUnidirectional none = unidirectional_elsewhere e id (unidirectional_at e id) (role_after (knows_sessions e.announced) (unidirectional_at e id).role bytes)
+read_elsewhere e (BytesCame id bytes) PeerUnidirectional none = unidirectional_elsewhere e id (unidirectional_at e id) (role_after (known_streams e.announced) (unidirectional_at e id).role bytes)
 read_elsewhere e (EndCame id) PeerUnidirectional none = record { apart = λ ins outs. refl; side = refl; kept = refl }
 read_elsewhere e (ResetCame id code) PeerUnidirectional none = record { apart = λ ins outs. refl; side = refl; kept = refl }
 

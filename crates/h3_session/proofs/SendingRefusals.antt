@@ -10,6 +10,7 @@ use Rattle.h3_outgoing.specs.HistoryLaws.{head_taken, body_taken, end_taken, sen
 use Rattle.h3_outgoing.specs.Sent as sent
 use Rattle.h3_streams.specs.PlacedLaws.{critical_stands}
 use Rattle.h3_connection.specs.Endpoint.{EndpointHistory, is_critical_id}
+use Rattle.h3_connection.specs.Remembering.{settings_known}
 use Rattle.h3_connection.specs.KeptGoaways.{keeps_last}
 use Rattle.h3_connection.specs.KeptGoawayLaws.{last_kept}
 use Rattle.h3_connection.specs.Lasts.{last_id}
@@ -84,10 +85,10 @@ over_at (Some o) None h = absurd h.same
 -- the rule that a list breaks
 broken_same : (s : EndpointState) (e : EndpointHistory) (id : ℕ) (fields : List Field) → StandsFor s e → broken_head_in s id fields ≡ broken_head_at e id fields
 broken_same s e id fields h =
-    ap (λ side. broken_head side s.announced s.peer.settings (known_in (kept_at s.requests id)) fields) h.side
-    ∙ ap (λ own. broken_head e.side own s.peer.settings (known_in (kept_at s.requests id)) fields) h.announced
+    ap (λ side. broken_head side s.announced (settings_known s.announced s.peer.settings) (known_in (kept_at s.requests id)) fields) h.side
+    ∙ ap (λ own. broken_head e.side own (settings_known s.announced s.peer.settings) (known_in (kept_at s.requests id)) fields) h.announced
     ∙ ap (λ p. broken_head e.side e.announced p.settings (known_in (kept_at s.requests id)) fields) h.peer
-    ∙ ap (λ i. broken_head e.side e.announced e.peer.settings (known_of i) fields) (h.incoming id)
+    ∙ ap (λ i. broken_head e.side e.announced (settings_known e.announced e.peer.settings) (known_of i) fields) (h.incoming id)
 
 -- Opening a request stream.
 pub open_refusal_is : (s : EndpointState) (e : EndpointHistory) → StandsFor s e → open_refused s ≡ open_refusal e
@@ -159,7 +160,7 @@ in_more_parts None false false false p q r None (Some why) list = refl
 
 -- Sending a head, as a list.
 pub head_refusal_is : (s : EndpointState) (e : EndpointHistory) (id : ℕ) (head : Head) (fields : List Field) → StandsFor s e
-    → or_later (head_refused s id head) (list_refused (broken_head_in s id fields) s.peer.settings fields) ≡ listed_head_refusal e id head fields
+    → or_later (head_refused s id head) (list_refused (broken_head_in s id fields) (settings_known s.announced s.peer.settings) fields) ≡ listed_head_refusal e id head fields
 head_refusal_is s e id head fields h =
     let v = seen_in (kept_at s.requests id) in
     let broken = broken_head_in s id fields in
@@ -171,7 +172,7 @@ head_refusal_is s e id head fields h =
 
 -- Sending a trailer, as a list.
 pub trailer_refusal_is : (s : EndpointState) (e : EndpointHistory) (id : ℕ) (head : Head) (fields : List Field) → StandsFor s e
-    → or_later (trailer_refused s id head) (list_refused (broken_trailer s.announced fields) s.peer.settings fields) ≡ listed_trailer_refusal e id head fields
+    → or_later (trailer_refused s id head) (list_refused (broken_trailer s.announced fields) (settings_known s.announced s.peer.settings) fields) ≡ listed_trailer_refusal e id head fields
 trailer_refusal_is s e id head fields h =
     let v = seen_in (kept_at s.requests id) in
     let broken = broken_trailer s.announced fields in

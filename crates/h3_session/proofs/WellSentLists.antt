@@ -5,6 +5,7 @@ use Rattle.h3_field.specs.Field.{Field, section_size}
 use Rattle.h3_header.specs.Head.{has_pseudo}
 use Rattle.h3_header.specs.HeadRead.{HeadRead, IsHead, IsNone, head_by}
 use Rattle.h3_connection.specs.Endpoint.{EndpointHistory}
+use Rattle.h3_connection.specs.Remembering.{settings_known}
 use Rattle.h3_connection.specs.Outgoing.{takes_head, takes_body}
 use Rattle.h3_connection.specs.OwnIds.{other}
 use Rattle.h3_connection.specs.Pulling.{is_for}
@@ -29,7 +30,7 @@ head_list (IsHead head) e peer id fields strict sent =
     let after = after_head e id head fields in
     let protocol = broken_protocol e.announced head in
     let broken = broken_head_at e id fields in
-    let size = (is_too_large e.peer.settings fields, refusal.TooLarge (section_size fields)) ∷ [] in
+    let size = (is_too_large (settings_known e.announced e.peer.settings) fields, refusal.TooLarge (section_size fields)) ∷ [] in
     let wrong = (not (is_for (other e.side) head), refusal.WrongSide) ∷ unless_malformed broken size in
     let going = (sender_at e id).going in
     let judged = unless_going going (unless_malformed protocol wrong) in
@@ -46,7 +47,7 @@ trailer_list (IsHead trailer) e peer id fields strict sent =
     let after = after_trailer e id fields in
     let protocol = broken_protocol e.announced trailer in
     let broken = broken_trailer e.announced fields in
-    let size = (is_too_large e.peer.settings fields, refusal.TooLarge (section_size fields)) ∷ [] in
+    let size = (is_too_large (settings_known e.announced e.peer.settings) fields, refusal.TooLarge (section_size fields)) ∷ [] in
     let early = early_trailer (outgoing_at e id).content in
     let behind = unless_malformed broken size in
     let pseudo = (has_pseudo trailer, refusal.PseudoInTrailer) ∷ unless_malformed early behind in

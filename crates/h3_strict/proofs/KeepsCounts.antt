@@ -26,7 +26,7 @@ use Rattle.h3_connection.specs.declared.event.StreamFault.TheVariants as stream_
 use Rattle.h3_headline.specs.MovesLaws.{set_at}
 use Rattle.h3_strict.specs.Plainly.{is_malformation}
 use Rattle.h3_strict.specs.Tallies.{IsFine}
-use Rattle.h3_connection.specs.StrictConnection.{kinds_of, knows_sessions}
+use Rattle.h3_connection.specs.StrictConnection.{kinds_of, known_streams}
 use Rattle.h3_messages.specs.declared.content.Content.{Content}
 use Rattle.h3_messages.specs.declared.content.Content.TheVariants.{Tunnel, Unanswered, Unsaid}
 use Rattle.h3_proto.specs.declared.stream.Side.{Side}
@@ -262,7 +262,7 @@ bytes_keep : (e : EndpointHistory) (id : ℕ) (bytes : List ℕ) (k : Kind) → 
 bytes_keep e id bytes Request = comes_keep no_stream e id (kept (incoming_at e id) bytes) _ refl refl (opened_announced e id) (λ h. record { fault = refl; content = refl; left = refl; response = refl }) (λ h. absurd (cc))
 bytes_keep e id bytes ServerOpened = streams_keep no_stream e e (same_streams e)
 bytes_keep e id bytes OwnUnidirectional = streams_keep no_stream e e (same_streams e)
-bytes_keep e id bytes PeerUnidirectional = streams_keep no_stream e _ (unidirectional_same e id (unidirectional_at e id) (role_after (knows_sessions e.announced) (unidirectional_at e id).role bytes))
+bytes_keep e id bytes PeerUnidirectional = streams_keep no_stream e _ (unidirectional_same e id (unidirectional_at e id) (role_after (known_streams e.announced) (unidirectional_at e id).role bytes))
 
 end_keeps : (e : EndpointHistory) (id : ℕ) (k : Kind) → KeepsBut no_stream e (end_at e id k).0
 end_keeps e id Request = comes_keep no_stream e id (with_end (incoming_at e id)) _ refl refl (opened_announced e id) (λ h. record { fault = refl; content = refl; left = refl; response = refl }) (λ h. absurd (cc))

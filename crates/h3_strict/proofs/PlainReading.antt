@@ -24,7 +24,7 @@ use Rattle.h3_connection.specs.Listeners.{after_hearing, heard_more, hearing_fau
 use Rattle.h3_connection.specs.PeerReading.{Peer, PeerFound, with_unread, read_frame, unless_fault, at_front, read_within, read_peer}
 use Rattle.h3_connection.specs.PeerReadingLaws.{stay_within}
 use Rattle.h3_connection.specs.StreamSets.{Streams, stream_at}
-use Rattle.h3_connection.specs.StrictConnection.{is_strict, kinds_of, knows_sessions}
+use Rattle.h3_connection.specs.StrictConnection.{is_strict, kinds_of, known_streams}
 use Rattle.h3_connection.specs.StrictConnection.{stream_fault as stream_error}
 use Rattle.h3_connection.specs.Unidirectional.{Unidirectional, Role, role_after, with_bytes}
 use Rattle.h3_connection.specs.Unidirectional.Role.{Untold, Control, Encoder, Decoder, Session, Push, Ignored}
@@ -262,7 +262,7 @@ module _ (e : EndpointHistory) (id : ℕ) where
   bytes_plain bytes Request = ReadsAlike (ap (λ f. let x : Found = (f, None) in x) (changes (λ i. kept i bytes) (λ i. refl)))
   bytes_plain bytes ServerOpened = ReadsAlike refl
   bytes_plain bytes OwnUnidirectional = ReadsAlike refl
-  bytes_plain bytes PeerUnidirectional = unidirectional_plain e id (unidirectional_at e id) (role_after (knows_sessions e.announced) (unidirectional_at e id).role bytes)
+  bytes_plain bytes PeerUnidirectional = unidirectional_plain e id (unidirectional_at e id) (role_after (known_streams e.announced) (unidirectional_at e id).role bytes)
 
   end_plain : (k : Kind) → end_at (plainly e) id k ≡ plain_found (end_at e id k)
   end_plain Request = ap (λ f. let x : Found = (f, None) in x) (changes with_end (λ i. refl))

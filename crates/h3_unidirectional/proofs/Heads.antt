@@ -5,14 +5,14 @@ use Rattle.std.proofs.lemmas.Bool.{cases_lt}
 use Rattle.std.proofs.Math.Seq.{take-append-add, drop-append-add}
 use Rattle.h3_coding.specs.Varint.{varint_at}
 use Rattle.h3_coding.specs.VarintLaws.{cases_number, none_at_end}
-use Rattle.h3_connection.specs.Unidirectional.{Role, session_role, with_id, of_kind, role_after}
+use Rattle.h3_connection.specs.Unidirectional.{StreamKinds, Role, session_role, with_id, of_kind, role_after}
 use Rattle.h3_connection.specs.Unidirectional.Role.{Untold, Control, Encoder, Decoder, Session, Push, Ignored}
 use Rattle.h3_unidirectional.specs.Kinds.{role_of, head_of, IsUnfinished, Tells, TellsFirst, is_untold}
 use Rattle.h3_unidirectional.specs.declared.stream.Kind.{Kind}
 use Rattle.h3_unidirectional.specs.declared.stream.Kind.TheVariants as kind
 use Rattle.h3_unidirectional.proofs.FrameFronts.{number_front}
 
-pub nothing_told : (bytes : List ℕ) → bytes ≡ [] → (sessions : Bool) → head_of sessions bytes ≡ (Untold bytes, [])
+pub nothing_told : (bytes : List ℕ) → bytes ≡ [] → (sessions : StreamKinds) → head_of sessions bytes ≡ (Untold bytes, [])
 nothing_told bytes e sessions = ap (λ o. of_kind sessions bytes o) (ap varint_at e ∙ none_at_end)
 
 pub untold_front : (k : Kind) (bytes front : List ℕ) → role_of k bytes ≡ Untold front → bytes ≡ front
@@ -71,12 +71,12 @@ behind sessions false false false false true front mid rest r h told = one_id (s
 behind sessions false false false false false front mid rest r h told = no_id Ignored r mid rest h
 
 -- the bytes that tell a role
-record IsHead (sessions : Bool) (bytes rest : List ℕ) (r : Role) : Type 0 where
+record IsHead (sessions : StreamKinds) (bytes rest : List ℕ) (r : Role) : Type 0 where
   front : List ℕ
   split : bytes ≡ front ++ rest
   alike : (more : List ℕ) → head_of sessions (front ++ more) ≡ (r, more)
 
-head_front : (sessions : Bool) (bytes rest : List ℕ) (r : Role) → head_of sessions bytes ≡ (r, rest) → is_untold r ≡ false → IsHead sessions bytes rest r
+head_front : (sessions : StreamKinds) (bytes rest : List ℕ) (r : Role) → head_of sessions bytes ≡ (r, rest) → is_untold r ≡ false → IsHead sessions bytes rest r
 head_front sessions bytes rest r h told = elim (cases_number bytes) [
   | inl none ↦ absurd (not_told r bytes rest [] told (sym (ap (λ o. of_kind sessions bytes o) none) ∙ h))
   | inr n ↦
@@ -93,7 +93,7 @@ head_front sessions bytes rest r h told = elim (cases_number bytes) [
 ]
 
 -- What is left behind a role that was not told before is an end of the bytes that came.
-ends_within : (sessions : Bool) (before bytes rest : List ℕ) (r : Role) → head_of sessions before ≡ (Untold before, []) → IsHead sessions (before ++ bytes) rest r → is_untold r ≡ false → (length bytes < length rest) ⊎ (length rest ≤ length bytes)
+ends_within : (sessions : StreamKinds) (before bytes rest : List ℕ) (r : Role) → head_of sessions before ≡ (Untold before, []) → IsHead sessions (before ++ bytes) rest r → is_untold r ≡ false → (length bytes < length rest) ⊎ (length rest ≤ length bytes)
     → (length rest ≤ length bytes) × (drop (length bytes - length rest) bytes ≡ rest)
 ends_within sessions before bytes rest r unfinished h told (inl longer) =
     let n = length rest - length bytes in
@@ -108,12 +108,12 @@ ends_within sessions before bytes rest r unfinished h told (inr fits) =
     let size : length before + n ≡ length h.front = omega (arith, sizes, fits) in
     (fits, sym (drop-append-add before bytes n) ∙ ap (λ k. drop k (before ++ bytes)) size ∙ ap (λ l. drop (length h.front) l) h.split ∙ drop_at h.front rest (length h.front) refl)
 
-told_end : (sessions : Bool) (before bytes rest : List ℕ) (r : Role) → head_of sessions before ≡ (Untold before, []) → head_of sessions (before ++ bytes) ≡ (r, rest) → is_untold r ≡ false
+told_end : (sessions : StreamKinds) (before bytes rest : List ℕ) (r : Role) → head_of sessions before ≡ (Untold before, []) → head_of sessions (before ++ bytes) ≡ (r, rest) → is_untold r ≡ false
     → (length rest ≤ length bytes) × (drop (length bytes - length rest) bytes ≡ rest)
 told_end sessions before bytes rest r unfinished h told =
     ends_within sessions before bytes rest r unfinished (head_front sessions (before ++ bytes) rest r h told) told (cases_lt (length bytes) (length rest))
 
-tells_role : (sessions : Bool) (bytes left : List ℕ) (k : Kind) → Tells sessions bytes left (Some k) → (head_of sessions bytes ≡ (role_of k [], left)) × (is_untold (role_of k []) ≡ false)
+tells_role : (sessions : StreamKinds) (bytes left : List ℕ) (k : Kind) → Tells sessions bytes left (Some k) → (head_of sessions bytes ≡ (role_of k [], left)) × (is_untold (role_of k []) ≡ false)
 tells_role sessions bytes left kind.Untold h = absurd h
 tells_role sessions bytes left kind.Control h = (h, refl)
 tells_role sessions bytes left kind.Encoder h = (h, refl)
@@ -123,7 +123,7 @@ tells_role sessions bytes left (kind.Push id) h = (h, refl)
 tells_role sessions bytes left kind.Ignored h = (h, refl)
 
 -- The role that these bytes tell behind those before, and those of them that are for it.
-pub told : (sessions : Bool) (was : Kind) (before bytes left : List ℕ) (k : Kind) → IsUnfinished was before → is_untold (role_of was before) ≡ true → Tells sessions (before ++ bytes) left (Some k)
+pub told : (sessions : StreamKinds) (was : Kind) (before bytes left : List ℕ) (k : Kind) → IsUnfinished was before → is_untold (role_of was before) ≡ true → Tells sessions (before ++ bytes) left (Some k)
     → (length left ≤ length bytes) × (role_after sessions (role_of was before) bytes ≡ (role_of k [], drop (length bytes - length left) bytes))
 told sessions kind.Untold before bytes left k unfinished here tells =
     let t = tells_role sessions (before ++ bytes) left k tells in
@@ -143,7 +143,7 @@ all_taken (suc n) [] h = refl
 all_taken (suc n) (byte ∷ bytes) h = ap (λ l. byte ∷ l) (all_taken n bytes (omega (arith, h)))
 
 -- the same of two runs of bytes that are read one behind the other
-pub told_of_both : (sessions : Bool) (was : Kind) (before bytes left a b : List ℕ) (limit : ℕ) (k : Kind) → a ≡ before → b ≡ bytes → length before + length bytes ≤ limit → IsUnfinished was before
+pub told_of_both : (sessions : StreamKinds) (was : Kind) (before bytes left a b : List ℕ) (limit : ℕ) (k : Kind) → a ≡ before → b ≡ bytes → length before + length bytes ≤ limit → IsUnfinished was before
     → is_untold (role_of was before) ≡ true → Tells sessions (take limit (a ++ b)) left (Some k)
     → (length left ≤ length bytes) × (role_after sessions (role_of was before) bytes ≡ (role_of k [], drop (length bytes - length left) bytes))
 told_of_both sessions was before bytes left a b limit k first second fits unfinished here tells =
@@ -151,7 +151,7 @@ told_of_both sessions was before bytes left a b limit k first second fits unfini
     told sessions was before bytes left k unfinished here (subst (λ l. Tells sessions l left (Some k)) both tells)
 
 -- and where they do not tell it yet
-untold_then : (sessions : Bool) (was : Kind) (before bytes left : List ℕ) → is_untold (role_of was before) ≡ true → Tells sessions (before ++ bytes) left None
+untold_then : (sessions : StreamKinds) (was : Kind) (before bytes left : List ℕ) → is_untold (role_of was before) ≡ true → Tells sessions (before ++ bytes) left None
     → IsUnfinished was (before ++ bytes) × (role_after sessions (role_of was before) bytes ≡ (role_of was (before ++ bytes), []))
 untold_then sessions kind.Untold before bytes left here tells = (tells, tells sessions)
 untold_then sessions kind.Control before bytes left here tells = absurd (cc)
@@ -161,14 +161,14 @@ untold_then sessions (kind.Session id) before bytes left here tells = absurd (cc
 untold_then sessions (kind.Push id) before bytes left here tells = absurd (cc)
 untold_then sessions kind.Ignored before bytes left here tells = absurd (cc)
 
-pub untold_of_both : (sessions : Bool) (was : Kind) (before bytes left a b : List ℕ) (limit : ℕ) → a ≡ before → b ≡ bytes → length before + length bytes ≤ limit → is_untold (role_of was before) ≡ true
+pub untold_of_both : (sessions : StreamKinds) (was : Kind) (before bytes left a b : List ℕ) (limit : ℕ) → a ≡ before → b ≡ bytes → length before + length bytes ≤ limit → is_untold (role_of was before) ≡ true
     → Tells sessions (take limit (a ++ b)) left None → IsUnfinished was (before ++ bytes) × (role_after sessions (role_of was before) bytes ≡ (role_of was (before ++ bytes), []))
 untold_of_both sessions was before bytes left a b limit first second fits here tells =
     let both : take limit (a ++ b) ≡ before ++ bytes = ap₂ (λ x y. take limit (x ++ y)) first second ∙ all_taken limit (before ++ bytes) (omega (arith, fits, length-append before bytes)) in
     untold_then sessions was before bytes left here (subst (λ l. Tells sessions l left None) both tells)
 
 -- The bytes that tell the role are a front of those that came.
-head_before : (sessions : Bool) (before bytes rest : List ℕ) (r : Role) → (h : IsHead sessions (before ++ bytes) rest r) → (length rest ≤ length bytes) × (drop (length bytes - length rest) bytes ≡ rest)
+head_before : (sessions : StreamKinds) (before bytes rest : List ℕ) (r : Role) → (h : IsHead sessions (before ++ bytes) rest r) → (length rest ≤ length bytes) × (drop (length bytes - length rest) bytes ≡ rest)
     → TellsFirst sessions (Untold before) bytes r rest
 head_before sessions before bytes rest r h (fits, end) =
     let n = length bytes - length rest in
@@ -178,12 +178,12 @@ head_before sessions before bytes rest r h (fits, end) =
     record { front = take n bytes; cut = cut; tells = ap (head_of sessions) (same ∙ sym (append-nil h.front)) ∙ h.alike [] }
 
 -- a role that was told stays
-told_before : (sessions : Bool) (role : Role) (bytes rest : List ℕ) (r : Role) → ((l : List ℕ) → role_after sessions role l ≡ (role, l)) → role_after sessions role bytes ≡ (r, rest) → TellsFirst sessions role bytes r rest
+told_before : (sessions : StreamKinds) (role : Role) (bytes rest : List ℕ) (r : Role) → ((l : List ℕ) → role_after sessions role l ≡ (role, l)) → role_after sessions role bytes ≡ (r, rest) → TellsFirst sessions role bytes r rest
 told_before sessions role bytes rest r stays h =
     let e : ◌≡◌ {A = Role × List ℕ} (role, bytes) (r, rest) = sym (stays bytes) ∙ h in
     record { front = []; cut = ap (λ (p : Role × List ℕ). p.1) e; tells = stays [] ∙ ap (λ (p : Role × List ℕ). (p.0, [])) e }
 
-pub tells_first : (sessions : Bool) (was : Kind) (before bytes : List ℕ) → IsUnfinished was before → (r : Role) (rest : List ℕ) → is_untold r ≡ false → role_after sessions (role_of was before) bytes ≡ (r, rest)
+pub tells_first : (sessions : StreamKinds) (was : Kind) (before bytes : List ℕ) → IsUnfinished was before → (r : Role) (rest : List ℕ) → is_untold r ≡ false → role_after sessions (role_of was before) bytes ≡ (r, rest)
     → TellsFirst sessions (role_of was before) bytes r rest
 tells_first sessions kind.Untold before bytes unfinished r rest told h = head_before sessions before bytes rest r (head_front sessions (before ++ bytes) rest r h told) (told_end sessions before bytes rest r (unfinished sessions) h told)
 tells_first sessions kind.Control before bytes unfinished r rest told h = told_before sessions Control bytes rest r (λ l. refl) h
@@ -194,8 +194,8 @@ tells_first sessions (kind.Push id) before bytes unfinished r rest told h = told
 tells_first sessions kind.Ignored before bytes unfinished r rest told h = told_before sessions Ignored bytes rest r (λ l. refl) h
 
 -- the same of the first bytes
-pub first_told : (sessions : Bool) (bytes left : List ℕ) (k : Kind) → Tells sessions bytes left (Some k) → (length left ≤ length bytes) × (role_after sessions (Untold []) bytes ≡ (role_of k [], drop (length bytes - length left) bytes))
+pub first_told : (sessions : StreamKinds) (bytes left : List ℕ) (k : Kind) → Tells sessions bytes left (Some k) → (length left ≤ length bytes) × (role_after sessions (Untold []) bytes ≡ (role_of k [], drop (length bytes - length left) bytes))
 first_told sessions bytes left k tells = told sessions kind.Untold [] bytes left k (nothing_told [] refl) refl tells
 
-pub first_front : (sessions : Bool) (bytes : List ℕ) (r : Role) (rest : List ℕ) → is_untold r ≡ false → role_after sessions (Untold []) bytes ≡ (r, rest) → TellsFirst sessions (Untold []) bytes r rest
+pub first_front : (sessions : StreamKinds) (bytes : List ℕ) (r : Role) (rest : List ℕ) → is_untold r ≡ false → role_after sessions (Untold []) bytes ≡ (r, rest) → TellsFirst sessions (Untold []) bytes r rest
 first_front sessions bytes r rest = tells_first sessions kind.Untold [] bytes (nothing_told [] refl) r rest

@@ -12,7 +12,7 @@ use Rattle.h3_unidirectional.specs.declared.control.Progress.TheVariants.{GoesOn
 
 -- a frame of a stream whose settings are due: they came, and nothing else changes; or they did not
 abbrev pub KeepsEarlier : Peer → Peer → Progress → Type 0
-KeepsEarlier old new GoesOn = (new ≡ record old { unread = new.unread; settings = new.settings }) × (is_some new.settings ≡ true)
+KeepsEarlier old new GoesOn = (new ≡ record old { unread = new.unread; settings = new.settings; others = new.others }) × (is_some new.settings ≡ true)
 KeepsEarlier old new (Ends fault) = new.settings ≡ None
 
 abbrev pub done : Peer → Judged → PeerFound

@@ -1,7 +1,7 @@
 //! What the peer's unidirectional streams are.
 ghost use Rattle.std.specs.Prelude.{◌≡◌, ◌≤◌, ◌^◌};
 ghost use Rattle.h3_c.specs.Exported.{OnStream};
-ghost use Rattle.h3_c.specs.Kinds.{ShowsKind, kind_number};
+ghost use Rattle.h3_c.specs.Kinds.{ShowsKind, ShowsType, kind_number};
 
 use super::Connection;
 use crate::numbers::{ARGUMENT, NONE, OK, Told};
@@ -27,6 +27,25 @@ impl Connection {
     }
 }
 
+impl Connection {
+    /// The type of a unidirectional stream of the peer that is delivered though its type has no meaning.
+    pub(crate) fn other_type(&self, id: u64, number: &mut u64) -> Told
+        ensures shows { OnStream id result self.now self.now (ShowsType self.now id result number.old number.new) }
+        ensures unwritten { 2 ^ 62 ≤ id → number.new ≡ number.old }
+    {
+        let Ok(id) = StreamId::try_from(id) else {
+            return ARGUMENT;
+        };
+        match self.endpoint.stream_kind(id) {
+            Some(Kind::Other(found)) => {
+                *number = found;
+                OK
+            }
+            _ => NONE,
+        }
+    }
+}
+
 /// Its number in `enum h3_stream_type`.
 fn kind_number(kind: Kind) -> u32
     ensures { result ≡ kind_number kind }
@@ -39,5 +58,6 @@ fn kind_number(kind: Kind) -> u32
         Kind::Push(_) => 4,
         Kind::Session(_) => 5,
         Kind::Ignored => 6,
+        Kind::Other(_) => 7,
     }
 }
