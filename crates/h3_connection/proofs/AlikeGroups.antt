@@ -17,7 +17,7 @@ use Rattle.h3_connection.specs.Endpoint.Kind.{Request, ServerOpened, OwnUnidirec
 use Rattle.h3_connection.specs.Incoming.{Incoming}
 use Rattle.h3_connection.specs.StreamSets.{Streams}
 use Rattle.h3_connection.specs.Unidirectional.{Unidirectional, Role, role_after}
-use Rattle.h3_connection.specs.Unidirectional.Role.{Untold, Control, Encoder, Decoder, Session, Push, Ignored}
+use Rattle.h3_connection.specs.Unidirectional.Role.{Untold, Control, Encoder, Decoder, Session, Push, Ignored, Other}
 use Rattle.h3_connection.proofs.AlikeCalls.{AlikeAfter, delivers_alike}
 use Rattle.h3_connection.proofs.AlikeDeliveries.{delivered_itself, goes_open, cut_any}
 use Rattle.h3_connection.proofs.AlikeEnds.{ends_sym, ends_trans, ends_first}
@@ -116,6 +116,7 @@ peer_fails e id a b code kind is =
     by_role (Session n) rest at none some = early (λ control. let wrong : Session n ≡ Control = sym (ap (λ y. y.0) at) ∙ control in absurd (cc))
     by_role (Push n) rest at none some = early (λ control. let wrong : Push n ≡ Control = sym (ap (λ y. y.0) at) ∙ control in absurd (cc))
     by_role Ignored rest at none some = early (λ control. let wrong : Ignored ≡ Control = sym (ap (λ y. y.0) at) ∙ control in absurd (cc))
+    by_role (Other kind) rest at none some = early (λ control. let wrong : Other kind ≡ Control = sym (ap (λ y. y.0) at) ∙ control in absurd (cc))
 
     by_settings : (settings : Option (List (ℕ × ℕ))) (unread : List ℕ) → e.peer.settings ≡ settings → e.decoder_unread ≡ unread → FailsToo e id (a ++ b) code (read_unidirectional e id o (then_role (known_streams e.announced) b x)).1
     by_settings (Some pairs) unread came waits = early (λ control none. let wrong : Some pairs ≡ None = sym came ∙ none in absurd (cc))
@@ -238,6 +239,7 @@ still_waits e id first rest kind none = record {
     by_heard (Session n) heard at control waits = absurd (cc)
     by_heard (Push n) heard at control waits = absurd (cc)
     by_heard Ignored heard at control waits = absurd (cc)
+    by_heard (Other kind) heard at control waits = absurd (cc)
 
 -- the answers to several deliveries, and then those of a middle endpoint to all but the first
 refused_through : (e : EndpointHistory) (id : ℕ) (first rest : List ℕ) (one middle last : Option Refusal) → (deliver e id first).0 ≡ None → kind_of e.side id ≡ kind_of (deliver e id first).1.side id → one ≡ middle

@@ -12,7 +12,7 @@ use Rattle.h3_connection.specs.Control.{Found, increment, read_encoder, read_dec
 use Rattle.h3_connection.specs.declared.setup.Announced.{Announced}
 use Rattle.h3_connection.specs.StrictConnection.{known_streams}
 use Rattle.h3_connection.specs.Unidirectional.{StreamKinds, Unidirectional, Role, untold, is_closed, role_after, with_bytes}
-use Rattle.h3_connection.specs.Unidirectional.Role.{Untold, Control, Encoder, Decoder, Session, Push, Ignored}
+use Rattle.h3_connection.specs.Unidirectional.Role.{Untold, Control, Encoder, Decoder, Session, Push, Ignored, Other}
 use Rattle.h3_connection.specs.Delivering.{closed_refusal, refusal_at, delivery_refusal, unidirectional_at, with_unidirectional, taken, closed_by, only_one, unless_second, heard_as, read_unidirectional, bytes_at, deliver}
 use Rattle.h3_connection.specs.DeliveryCuts.{SameAnswers, IsSame, DiffersInIncrements, LeftAs, role_with, IsNoSession, deliver_cut}
 use Rattle.h3_connection.proofs.Quiet.{quiet_control, quiet_decoder}
@@ -91,6 +91,7 @@ told_now w id Decoder bytes = alike_same _ _ refl
 told_now w id (Session n) bytes = alike_same _ _ refl
 told_now w id (Push n) bytes = alike_same _ _ refl
 told_now w id Ignored bytes = alike_same _ _ refl
+told_now w id (Other kind) bytes = alike_same _ _ refl
 told_now w id Encoder bytes = record {
   answer = refl;
   left = λ none.
@@ -115,6 +116,7 @@ with_bytes_on o role (Decoder, bytes) = refl
 with_bytes_on o role (Session id, bytes) = refl
 with_bytes_on o role (Push id, bytes) = refl
 with_bytes_on o role (Ignored, bytes) = refl
+with_bytes_on o role (Other kind, bytes) = refl
 
 set_again : (e : EndpointHistory) (id : ℕ) (u v : Unidirectional) → with_unidirectional (with_unidirectional e id u) id v ≡ with_unidirectional e id v
 set_again e id u v = ap (λ s. record e { unidirectional = s }) (set-set e.unidirectional id u v)
@@ -143,6 +145,7 @@ by_role sessions e id o Decoder rest b good none plain =
     let u : Unidirectional = record o { role = Decoder } in decoder_heard (with_unidirectional e id u) id u rest b (at_same e.unidirectional id u) good
 by_role sessions e id o (Session n) rest b good none plain = absurd plain
 by_role sessions e id o (Push n) rest b good none plain = absurd (cc)
+by_role sessions e id o (Other kind) rest b good none plain = absurd plain
 by_role sessions e id o Ignored rest b good none plain =
     let u : Unidirectional = record o { role = Ignored } in alike_same _ _ (ap (λ w. (w, None)) (sym (set_again e id u u)))
 
@@ -301,6 +304,7 @@ role_fault e id o Decoder rest b code early is =
 role_fault e id o (Session n) rest b code early is = is
 role_fault e id o (Push n) rest b code early is = is
 role_fault e id o Ignored rest b code early is = absurd (cc)
+role_fault e id o (Other kind) rest b code early is = absurd (cc)
 
 bytes_fault : (e : EndpointHistory) (id : ℕ) (a b : List ℕ) (k : Kind) (code : ℕ) → (e.peer.settings ≡ None → e.decoder_unread ≡ []) → (bytes_at e id a k).1 ≡ Some code → (bytes_at e id (a ++ b) k).1 ≡ Some code
 bytes_fault e id a b Request code early is = absurd (cc)

@@ -1,10 +1,11 @@
 -- The reading of a control stream, cut anywhere, and the settings that stay.
 use Rattle.std.proofs.Common.{◌≡◌, ℕ, zero, suc, ◌<◌, ◌≤◌, Bool, true, false, if◌then◌else◌, List, [], ◌++◌, length, Option, Some, None, refl, ap, sym, ◌∙◌, subst, arith, inl, inr}
-use Rattle.std.specs.Prelude.{◌||◌, ◌&&◌, ◌⊎◌, nat_lt}
+use Rattle.std.specs.Prelude.{◌||◌, ◌&&◌, ◌⊎◌, ◌==◌, nat_lt}
 use Rattle.std.proofs.lemmas.Bool.{and_parts}
 use Rattle.h3_coding.specs.Varint.{varint_at}
 use Rattle.h3_coding.specs.VarintLaws.{cases_number, reads_more}
 use Rattle.h3_proto.specs.Config.{is_limit}
+use Rattle.h3_proto.specs.OtherSettings.{others_of}
 use Rattle.h3_proto.specs.declared.stream.Side.{Side}
 use Rattle.h3_proto.specs.declared.stream.Side.TheVariants.{Client, Server}
 use Rattle.h3_wire.specs.ExcessiveFrames.{is_excessive_by, is_kept_whole, is_long_update, is_too_long, says_long_update, says_too_much}
@@ -14,12 +15,14 @@ use Rattle.h3_wire.specs.FrameLaws.{frame_by-more}
 use Rattle.h3_wire.specs.Fronts.{IsFinished, with_more, IsKnown}
 use Rattle.h3_wire.specs.Known.{known_by}
 use Rattle.h3_wire.specs.KnownLaws.{known-other, known-more, known_is}
+use Rattle.h3_wire.specs.OtherSettingsLaws.{settings_more}
 use Rattle.h3_priority.specs.Priority.{PriorityParameters, priority_of}
 use Rattle.h3_wire.specs.Update.{Update}
 use Rattle.h3_wire.specs.declared.proto.frame.PayloadLen.{PayloadLen}
 use Rattle.h3_wire.specs.declared.proto.frame.Frame.{Frame}
 use Rattle.h3_wire.specs.declared.proto.frame.Frame.TheVariants as frame
-use Rattle.h3_connection.specs.PeerReading.{Peer, PeerFound, with_unread, is_no_element, is_no_goaway, is_above, is_below, read_max_push, read_priority, read_update, read_frame, unless_fault, at_front, unless_excessive, read_peer}
+use Rattle.h3_connection.specs.PeerReading.{Peer, PeerFound, with_unread, having_frame, is_no_element, is_no_goaway, is_above, is_below, read_max_push, read_priority, read_update, read_frame, unless_fault, at_front, unless_excessive, read_peer}
+use Rattle.h3_connection.specs.OtherSettings.{OtherSettings, with_others, with_told}
 use Rattle.h3_connection.specs.Lasts.{last_id}
 use Rattle.h3_connection.specs.SkippingLaws.{rest_shorter, skipped_step}
 use Rattle.h3_connection.specs.PeerReadingLaws.{no_length, peer_step, step_excessive, step_within}
@@ -122,6 +125,23 @@ said_more kinds limit bytes more large = elim (cases_number bytes) [
 excessive_behind : (kinds : FrameKinds) (limit : ℕ) (bytes more : List ℕ) → is_excessive_by kinds limit (known_by kinds bytes) ≡ true → is_excessive_by kinds limit (known_by kinds (bytes ++ more)) ≡ true
 excessive_behind kinds limit bytes more large = ap (is_excessive_by kinds limit) (known-more kinds bytes more) ∙ said_more kinds limit (known_by kinds bytes) more large
 
+-- the settings of no meaning that a frame has are the same, whatever comes behind it
+told_more : (kinds : FrameKinds) (o : OtherSettings) (bytes more : List ℕ) → IsFinished (frame_by kinds bytes) → with_told o (bytes ++ more) ≡ with_told o bytes
+told_more kinds o bytes more there = ap (λ l. if o.most == 0 then o else record o { kept = others_of o.most l }) (settings_more kinds bytes more there)
+
+others_more : (kinds : FrameKinds) (settings : Option (List (ℕ × ℕ))) (f : Frame PayloadLen) (o : OtherSettings) (bytes more rest : List ℕ) → frame_by kinds bytes ≡ Whole f rest → with_others settings f o (bytes ++ more) ≡ with_others settings f o bytes
+others_more kinds (Some pairs) f o bytes more rest e = refl
+others_more kinds None (frame.Settings pairs) o bytes more rest e = told_more kinds o bytes more (subst IsFinished (sym e) tt)
+others_more kinds None (frame.Data len) o bytes more rest e = refl
+others_more kinds None (frame.Headers section) o bytes more rest e = refl
+others_more kinds None (frame.CancelPush id) o bytes more rest e = refl
+others_more kinds None (frame.PushPromise promise) o bytes more rest e = refl
+others_more kinds None (frame.PriorityUpdate u) o bytes more rest e = refl
+others_more kinds None (frame.Goaway id) o bytes more rest e = refl
+others_more kinds None (frame.MaxPushId id) o bytes more rest e = refl
+others_more kinds None (frame.WebTransportStream id) o bytes more rest e = refl
+others_more kinds None (frame.Grease kind) o bytes more rest e = refl
+
 -- What more bytes do behind a reading: a fault stays, and these are left then.
 abbrev pub then_peer : FrameKinds → ℕ → Side → List ℕ → List ℕ → PeerFound → PeerFound
 then_peer kinds limit side more left (p, Some code) = (with_unread p left, Some code)
@@ -163,11 +183,14 @@ front_more kinds limit side p bytes more x is small go = by_front x is
 
     by_front : (y : Front) → frame_by kinds (known_by kinds bytes) ≡ y → ReadsMore kinds limit side more (read_peer kinds limit side (with_unread p (bytes ++ more))) (read_peer kinds limit side (with_unread p bytes))
     by_front (Whole f rest) e =
-        let found = found_more kinds limit side more rest (read_frame side p p.settings f) (λ q. go q rest (rest_shorter kinds bytes rest f e)) in (
+        let had : Peer = having_frame p f (known_by kinds bytes) rest in
+        let found = found_more kinds limit side more rest (read_frame side had p.settings f) (λ q. go q rest (rest_shorter kinds bytes rest f e)) in (
           found.0,
-          there (Whole f rest) e tt ∙ ap (λ z. unless_fault z (read_peer kinds limit side)) (frame_with side p (rest ++ more) p.settings f)
+          there (Whole f rest) e tt
+              ∙ ap (λ o. unless_fault (read_frame side (record p { unread = rest ++ more; others = o }) p.settings f) (read_peer kinds limit side)) (others_more kinds p.settings f p.others (known_by kinds bytes) more rest e)
+              ∙ ap (λ z. unless_fault z (read_peer kinds limit side)) (frame_with side had (rest ++ more) p.settings f)
               ∙ found.1
-              ∙ sym (ap (then_peer kinds limit side more found.0) (here (Whole f rest) e ∙ ap (λ z. unless_fault z (read_peer kinds limit side)) (frame_with side p rest p.settings f))),
+              ∙ sym (ap (then_peer kinds limit side more found.0) (here (Whole f rest) e ∙ ap (λ z. unless_fault z (read_peer kinds limit side)) (frame_with side had rest p.settings f))),
         )
     by_front (Refused why) e = (known_by kinds bytes ++ more, there (Refused why) e tt ∙ sym (ap (then_peer kinds limit side more (known_by kinds bytes ++ more)) (here (Refused why) e)))
     by_front (Unknown kind rest) e = waits_more kinds limit side p bytes more (here (Unknown kind rest) e)

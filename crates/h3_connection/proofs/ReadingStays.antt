@@ -10,7 +10,7 @@ use Rattle.h3_connection.specs.Incoming.{Incoming}
 use Rattle.h3_connection.specs.Keeping.{read_arrival, read_all, unless_faulty}
 use Rattle.h3_connection.specs.StreamSets.{stream_at}
 use Rattle.h3_connection.specs.Unidirectional.{Unidirectional, Role, with_bytes, role_after}
-use Rattle.h3_connection.specs.Unidirectional.Role.{Untold, Control, Encoder, Decoder, Session, Push, Ignored}
+use Rattle.h3_connection.specs.Unidirectional.Role.{Untold, Control, Encoder, Decoder, Session, Push, Ignored, Other}
 use Rattle.h3_connection.proofs.Quiet.{Quiet, quiet_control, quiet_decoder}
 use Rattle.h3_connection.specs.StrictConnection.{known_streams}
 
@@ -40,6 +40,7 @@ role_stays e id Decoder bytes =
 role_stays e id (Session n) bytes = same e
 role_stays e id (Push n) bytes = same e
 role_stays e id Ignored bytes = same e
+role_stays e id (Other kind) bytes = same e
 
 peer_stays : (e : EndpointHistory) (id : ℕ) (o : Unidirectional) (read_as : Role × List ℕ) → Stays e (read_unidirectional e id o read_as).0
 peer_stays e id o (role, bytes) = let h = role_stays (with_unidirectional e id (with_bytes o (role, bytes))) id role bytes in record { closed = h.closed; next_id = h.next_id }

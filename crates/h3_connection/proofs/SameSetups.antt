@@ -9,7 +9,7 @@ use Rattle.h3_connection.specs.StreamSets.{stream_at}
 use Rattle.h3_connection.specs.Incoming.{Incoming}
 use Rattle.h3_connection.specs.Outgoing.{Outgoing as Out, is_end_next}
 use Rattle.h3_connection.specs.Unidirectional.{Unidirectional, Role, with_bytes, role_after}
-use Rattle.h3_connection.specs.Unidirectional.Role.{Untold, Control, Encoder, Decoder, Session, Push, Ignored}
+use Rattle.h3_connection.specs.Unidirectional.Role.{Untold, Control, Encoder, Decoder, Session, Push, Ignored, Other}
 use Rattle.h3_connection.specs.Endpoint.{EndpointHistory, Kind, kind_of}
 use Rattle.h3_connection.specs.Endpoint.Kind.{Request, ServerOpened, OwnUnidirectional, PeerUnidirectional}
 use Rattle.h3_connection.specs.Control.{Found, read_control, read_encoder, read_decoder}
@@ -47,6 +47,7 @@ hearing e id Decoder bytes = second e _ (read_decoder (record e { decoder_on = S
 hearing e id (Session n) bytes = itself e
 hearing e id (Push n) bytes = itself e
 hearing e id Ignored bytes = itself e
+hearing e id (Other kind) bytes = itself e
 
 unidirectional : (e : EndpointHistory) (id : ℕ) (o : Unidirectional) (heard : Role × List ℕ) → SameSetup e (read_unidirectional e id o heard).0
 unidirectional e id o (role, bytes) = let h = hearing (with_unidirectional e id (with_bytes o (role, bytes))) id role bytes in record { side = h.side; announced = h.announced }

@@ -3,8 +3,8 @@ use Rattle.std.proofs.Common.{arith, ◌≡◌, ℕ, Bool, true, false, List, []
 use Rattle.std.specs.Prelude.{Option, Some, None, if◌then◌else◌, ◌==◌, unwrap_or}
 use Rattle.std.proofs.lemmas.Grind.{common_steps}
 use Rattle.h3_connection.specs.StreamSets.{stream_at, set_stream}
-use Rattle.h3_connection.specs.Unidirectional.{Unidirectional, Role, untold, is_closed, role_after, with_bytes, pull_unidirectional, raw, pull_session, if_over}
-use Rattle.h3_connection.specs.Unidirectional.Role.{Untold, Control, Encoder, Decoder, Session, Push, Ignored}
+use Rattle.h3_connection.specs.Unidirectional.{Unidirectional, Role, untold, is_closed, role_after, with_bytes, pull_unidirectional, raw, raw_or_reset, pull_other, pull_session, if_over}
+use Rattle.h3_connection.specs.Unidirectional.Role.{Untold, Control, Encoder, Decoder, Session, Push, Ignored, Other}
 use Rattle.h3_connection.specs.Endpoint.{EndpointHistory, limit_of}
 use Rattle.h3_connection.specs.Control.{Found}
 use Rattle.h3_connection.specs.Delivering.{unidirectional_at, with_unidirectional, taken, closed_refusal, closing, read_unidirectional}
@@ -98,6 +98,7 @@ hears_only_encoder e q (Decoder, bytes) f = refl
 hears_only_encoder e q (Session id, bytes) f = refl
 hears_only_encoder e q (Push id, bytes) f = refl
 hears_only_encoder e q (Ignored, bytes) f = refl
+hears_only_encoder e q (Other kind, bytes) f = refl
 
 true_is_not_false : true ≡ false → ⊥
 true_is_not_false x = cc
@@ -199,6 +200,14 @@ over_front : (o : Unidirectional) (id : ℕ) (over : Bool) → front_of (if_over
 over_front o id true = refl
 over_front o id false = session_front o id o.reset_code
 
+code_front : (o : Unidirectional) (code : Option ℕ) → front_of (raw_or_reset o code).1 ≡ front_of o
+code_front o (Some code) = refl
+code_front o None = raw_front o o.unread
+
+other_front : (o : Unidirectional) (over : Bool) → front_of (pull_other over o).1 ≡ front_of o
+other_front o true = refl
+other_front o false = code_front o o.reset_code
+
 pub pull_front : (o : Unidirectional) (role : Role) → front_of (pull_unidirectional o role).1 ≡ front_of o
 pull_front o (Untold front) = refl
 pull_front o Control = refl
@@ -207,6 +216,7 @@ pull_front o Decoder = refl
 pull_front o (Session id) = over_front o id o.is_over
 pull_front o (Push id) = refl
 pull_front o Ignored = refl
+pull_front o (Other kind) = other_front o o.is_over
 
 -- A pull of a unidirectional stream is not seen.
 pub pulled_front : (T : ℕ → Bool) (id : ℕ) (e : EndpointHistory) (s : Sight) (q : ℕ) (o new : Unidirectional) → IsSight T id e s

@@ -25,7 +25,7 @@ use Rattle.h3_connection.specs.Pulling.{pull_stream}
 use Rattle.h3_connection.specs.Sending.{does, open_refusal, head_refusal, body_refusal, trailer_refusal, finish_refusal, reset_refusal, goaway_refusal, cancel_refusal, advance_at, after_answer, within_limit, pull_request, pulled_unidirectional, pull_peer, pull_at, pull_unless}
 use Rattle.h3_connection.specs.StreamSets.{Streams, stream_at, set_stream}
 use Rattle.h3_connection.specs.Unidirectional.{StreamKinds, Unidirectional, Role, untold, is_closed, is_critical, role_after, with_bytes, pull_unidirectional}
-use Rattle.h3_connection.specs.Unidirectional.Role.{Untold, Control, Encoder, Decoder, Session, Push, Ignored}
+use Rattle.h3_connection.specs.Unidirectional.Role.{Untold, Control, Encoder, Decoder, Session, Push, Ignored, Other}
 use Rattle.h3_connection.specs.UnknownStreams.{IsUnread, is_on, without_stream, answers_without}
 use Rattle.h3_connection.proofs.AlikeReading.{control_with, decoder_with}
 use Rattle.h3_connection.proofs.RoleCuts.{role_cut}
@@ -123,6 +123,7 @@ module _ (id : ℕ) (o : Option Unidirectional) where
   heard_both e t q (Session n) bytes h = record { fault = refl; left = but e t h }
   heard_both e t q (Push n) bytes h = record { fault = refl; left = but e t h }
   heard_both e t q Ignored bytes h = record { fault = refl; left = but e t h }
+  heard_both e t q (Other kind) bytes h = record { fault = refl; left = but e t h }
 
   read_both : (e : EndpointHistory) (t : Streams Unidirectional) (q : ℕ) (u : Unidirectional) (x : Role × List ℕ) → (q == id) ≡ false → Fits e.unidirectional t → FoundBoth (read_unidirectional e q u x) (read_unidirectional (with_others e t) q u x)
   read_both e t q u (role, bytes) ne h =
@@ -260,6 +261,7 @@ data Harmless (id : ℕ) (e : EndpointHistory) (rest : List ℕ) : Type 0 where
 unread_before : (sessions : StreamKinds) (role : Role) (rest : List ℕ) → IsUnread (role_after sessions role rest).0 → IsUnread role
 unread_before sessions (Untold front) rest h = tt
 unread_before sessions Ignored rest h = tt
+unread_before sessions (Other kind) rest h = h
 unread_before sessions Control rest h = h
 unread_before sessions Encoder rest h = h
 unread_before sessions Decoder rest h = h
@@ -293,6 +295,7 @@ now_is id e u rest h = record {
 not_critical : (role : Role) → IsUnread role → is_critical role ≡ false
 not_critical (Untold front) h = refl
 not_critical Ignored h = refl
+not_critical (Other kind) h = absurd h
 not_critical Control h = absurd h
 not_critical Encoder h = absurd h
 not_critical Decoder h = absurd h
@@ -330,6 +333,7 @@ module _ (id : ℕ) (e : EndpointHistory) (kind : kind_of e.side id ≡ PeerUnid
       by_role : (x : Role × List ℕ) → IsUnread (role_after (known_streams e.announced) x.0 rest).0 → Goes id e (done Done (closed_by (read_unidirectional e id (unidirectional_at e id) x))).1 rest
       by_role (Untold front, more) k = now_is id e (record (unidirectional_at e id) { role = Untold front }) rest k
       by_role (Ignored, more) k = now_is id e (record (unidirectional_at e id) { role = Ignored }) rest k
+      by_role (Other kind, more) k = absurd k
       by_role (Control, more) k = absurd k
       by_role (Encoder, more) k = absurd k
       by_role (Decoder, more) k = absurd k
@@ -356,6 +360,7 @@ module _ (id : ℕ) (e : EndpointHistory) (kind : kind_of e.side id ≡ PeerUnid
       by_role : (role : Role) → IsUnread role → (pull_unidirectional u role).1 ≡ u
       by_role (Untold front) h = refl
       by_role Ignored h = refl
+      by_role (Other kind) h = absurd h
       by_role Control h = absurd h
       by_role Encoder h = absurd h
       by_role Decoder h = absurd h

@@ -39,4 +39,5 @@ pub mod Codes
 pub mod ExcessiveFrames
 pub mod FirstFrames
 pub mod OtherSettings
+pub mod OtherSettingsLaws
 pub mod ExcessiveLaws

@@ -13,6 +13,11 @@ abbrev pub payload_of_settings : Option (ℕ × List ℕ) → List ℕ
 payload_of_settings None = []
 payload_of_settings (Some p) = if p.0 == 4 then payload_of_length (varint_at p.1) else []
 
+-- behind a head, as far as it came: its type, and its length, or 0 where that is not there
+abbrev pub payload_behind : Option (ℕ × ℕ) → List ℕ → List ℕ
+payload_behind None bytes = []
+payload_behind (Some h) bytes = if h.0 == 4 then payload_of_length (Some (h.1, bytes)) else []
+
 -- of the settings that the bytes begin with, if they begin with such a frame and it is whole, those of no meaning: the first ones, so many at
 -- most
 abbrev pub others_at : ℕ → List ℕ → List (ℕ × ℕ)

@@ -264,7 +264,10 @@ impl FrameBytes {
     ) -> Result<Vec<(u64, u64)>, AllocError>
         ensures { IfOk result (λ kept. kept.items ≡ others_at most (known_by kinds (concat self.now.pieces))) }
     {
-        if self.len() < self.passing || !self.suits(kinds) {
+        if self.len() < self.passing {
+            return Ok(Vec::new(alloc));
+        }
+        if !self.suits(kinds) {
             return Ok(Vec::new(alloc));
         }
         other_settings::other_settings(alloc, &self.kept, self.passing - self.gone, kinds, most)
@@ -420,7 +423,7 @@ fn number_of(pieces: &BufList<Bytes>) -> u64
 }
 
 // Whether a type has a meaning, or is refused.
-pub(super) fn is_known_type(kind: u64, kinds: FrameKinds) -> bool
+fn is_known_type(kind: u64, kinds: FrameKinds) -> bool
     ensures { result ≡ is_known_type kinds kind }
 {
     (kind == 0x41 && kinds.sessions)
