@@ -1,11 +1,10 @@
 -- The reading of a control stream, cut anywhere, and the settings that stay.
 use Rattle.std.proofs.Common.{◌≡◌, ℕ, zero, suc, ◌<◌, ◌≤◌, Bool, true, false, if◌then◌else◌, List, [], ◌++◌, length, Option, Some, None, refl, ap, sym, ◌∙◌, subst, arith, inl, inr}
-use Rattle.std.specs.Prelude.{◌||◌, ◌&&◌, ◌⊎◌, ◌==◌, nat_lt}
+use Rattle.std.specs.Prelude.{◌||◌, ◌&&◌, ◌⊎◌, nat_lt}
 use Rattle.std.proofs.lemmas.Bool.{and_parts}
 use Rattle.h3_coding.specs.Varint.{varint_at}
 use Rattle.h3_coding.specs.VarintLaws.{cases_number, reads_more}
 use Rattle.h3_proto.specs.Config.{is_limit}
-use Rattle.h3_proto.specs.OtherSettings.{others_of}
 use Rattle.h3_proto.specs.declared.stream.Side.{Side}
 use Rattle.h3_proto.specs.declared.stream.Side.TheVariants.{Client, Server}
 use Rattle.h3_wire.specs.ExcessiveFrames.{is_excessive_by, is_kept_whole, is_long_update, is_too_long, says_long_update, says_too_much}
@@ -15,14 +14,13 @@ use Rattle.h3_wire.specs.FrameLaws.{frame_by-more}
 use Rattle.h3_wire.specs.Fronts.{IsFinished, with_more, IsKnown}
 use Rattle.h3_wire.specs.Known.{known_by}
 use Rattle.h3_wire.specs.KnownLaws.{known-other, known-more, known_is}
-use Rattle.h3_wire.specs.OtherSettingsLaws.{settings_more}
 use Rattle.h3_priority.specs.Priority.{PriorityParameters, priority_of}
 use Rattle.h3_wire.specs.Update.{Update}
 use Rattle.h3_wire.specs.declared.proto.frame.PayloadLen.{PayloadLen}
 use Rattle.h3_wire.specs.declared.proto.frame.Frame.{Frame}
 use Rattle.h3_wire.specs.declared.proto.frame.Frame.TheVariants as frame
 use Rattle.h3_connection.specs.PeerReading.{Peer, PeerFound, with_unread, having_frame, is_no_element, is_no_goaway, is_above, is_below, read_max_push, read_priority, read_update, read_frame, unless_fault, at_front, unless_excessive, read_peer}
-use Rattle.h3_connection.specs.OtherSettings.{OtherSettings, with_others, with_told}
+use Rattle.h3_connection.specs.OtherSettingsLaws.{others_more}
 use Rattle.h3_connection.specs.Lasts.{last_id}
 use Rattle.h3_connection.specs.SkippingLaws.{rest_shorter, skipped_step}
 use Rattle.h3_connection.specs.PeerReadingLaws.{no_length, peer_step, step_excessive, step_within}
@@ -124,23 +122,6 @@ said_more kinds limit bytes more large = elim (cases_number bytes) [
 
 excessive_behind : (kinds : FrameKinds) (limit : ℕ) (bytes more : List ℕ) → is_excessive_by kinds limit (known_by kinds bytes) ≡ true → is_excessive_by kinds limit (known_by kinds (bytes ++ more)) ≡ true
 excessive_behind kinds limit bytes more large = ap (is_excessive_by kinds limit) (known-more kinds bytes more) ∙ said_more kinds limit (known_by kinds bytes) more large
-
--- the settings of no meaning that a frame has are the same, whatever comes behind it
-told_more : (kinds : FrameKinds) (o : OtherSettings) (bytes more : List ℕ) → IsFinished (frame_by kinds bytes) → with_told o (bytes ++ more) ≡ with_told o bytes
-told_more kinds o bytes more there = ap (λ l. if o.most == 0 then o else record o { kept = others_of o.most l }) (settings_more kinds bytes more there)
-
-others_more : (kinds : FrameKinds) (settings : Option (List (ℕ × ℕ))) (f : Frame PayloadLen) (o : OtherSettings) (bytes more rest : List ℕ) → frame_by kinds bytes ≡ Whole f rest → with_others settings f o (bytes ++ more) ≡ with_others settings f o bytes
-others_more kinds (Some pairs) f o bytes more rest e = refl
-others_more kinds None (frame.Settings pairs) o bytes more rest e = told_more kinds o bytes more (subst IsFinished (sym e) tt)
-others_more kinds None (frame.Data len) o bytes more rest e = refl
-others_more kinds None (frame.Headers section) o bytes more rest e = refl
-others_more kinds None (frame.CancelPush id) o bytes more rest e = refl
-others_more kinds None (frame.PushPromise promise) o bytes more rest e = refl
-others_more kinds None (frame.PriorityUpdate u) o bytes more rest e = refl
-others_more kinds None (frame.Goaway id) o bytes more rest e = refl
-others_more kinds None (frame.MaxPushId id) o bytes more rest e = refl
-others_more kinds None (frame.WebTransportStream id) o bytes more rest e = refl
-others_more kinds None (frame.Grease kind) o bytes more rest e = refl
 
 -- What more bytes do behind a reading: a fault stays, and these are left then.
 abbrev pub then_peer : FrameKinds → ℕ → Side → List ℕ → List ℕ → PeerFound → PeerFound

@@ -12,6 +12,7 @@ pub mod OwnIds
 pub mod Order
 pub mod Updates
 pub mod OtherSettings
+pub mod OtherSettingsLaws
 pub mod Remembering
 pub mod OwnUpdates
 pub mod OwnSettings

@@ -5,8 +5,8 @@ use Rattle.std.proofs.lemmas.Bool.{cases_lt}
 use Rattle.std.proofs.Math.Seq.{take-append-add, drop-append-add}
 use Rattle.h3_coding.specs.Varint.{varint_at}
 use Rattle.h3_coding.specs.VarintLaws.{cases_number, none_at_end}
-use Rattle.h3_connection.specs.Unidirectional.{StreamKinds, Role, session_role, with_id, of_kind, role_after}
-use Rattle.h3_connection.specs.Unidirectional.Role.{Untold, Control, Encoder, Decoder, Session, Push, Ignored}
+use Rattle.h3_connection.specs.Unidirectional.{StreamKinds, Role, session_role, other_role, with_id, of_kind, role_after}
+use Rattle.h3_connection.specs.Unidirectional.Role.{Untold, Control, Encoder, Decoder, Session, Push, Ignored, Other}
 use Rattle.h3_unidirectional.specs.Kinds.{role_of, head_of, IsUnfinished, Tells, TellsFirst, is_untold}
 use Rattle.h3_unidirectional.specs.declared.stream.Kind.{Kind}
 use Rattle.h3_unidirectional.specs.declared.stream.Kind.TheVariants as kind
@@ -23,15 +23,16 @@ untold_front kind.Decoder bytes front e = absurd (cc)
 untold_front (kind.Session id) bytes front e = absurd (cc)
 untold_front (kind.Push id) bytes front e = absurd (cc)
 untold_front kind.Ignored bytes front e = absurd (cc)
+untold_front (kind.Other number) bytes front e = absurd (cc)
 
 -- the role by its type, where the tests of the type have values
-abbrev chosen : Bool → Bool → Bool → Bool → Bool → Bool → List ℕ → List ℕ → Role × List ℕ
-chosen sessions a b c d e front rest =
+abbrev chosen : StreamKinds → ℕ → Bool → Bool → Bool → Bool → Bool → List ℕ → List ℕ → Role × List ℕ
+chosen known kind a b c d e front rest =
     if a then (Control, rest) else (
     if b then with_id Push front (varint_at rest) else (
     if c then (Encoder, rest) else (
     if d then (Decoder, rest) else (
-    if e then with_id (session_role sessions) front (varint_at rest) else (Ignored, rest)))))
+    if e then with_id (session_role known.sessions) front (varint_at rest) else (other_role known.others kind, rest)))))
 
 -- what stands behind the type: the id, and the bytes behind that
 record IsBehind (read : List ℕ → List ℕ → Role × List ℕ) (mid rest : List ℕ) (r : Role) : Type 0 where
@@ -62,13 +63,13 @@ one_id build front mid rest r e told = elim (cases_number mid) [
       }
 ]
 
-behind : (sessions a b c d e : Bool) (front mid rest : List ℕ) (r : Role) → chosen sessions a b c d e front mid ≡ (r, rest) → is_untold r ≡ false → IsBehind (chosen sessions a b c d e) mid rest r
-behind sessions true b c d e front mid rest r h told = no_id Control r mid rest h
-behind sessions false true c d e front mid rest r h told = one_id Push front mid rest r h told
-behind sessions false false true d e front mid rest r h told = no_id Encoder r mid rest h
-behind sessions false false false true e front mid rest r h told = no_id Decoder r mid rest h
-behind sessions false false false false true front mid rest r h told = one_id (session_role sessions) front mid rest r h told
-behind sessions false false false false false front mid rest r h told = no_id Ignored r mid rest h
+behind : (known : StreamKinds) (kind : ℕ) (a b c d e : Bool) (front mid rest : List ℕ) (r : Role) → chosen known kind a b c d e front mid ≡ (r, rest) → is_untold r ≡ false → IsBehind (chosen known kind a b c d e) mid rest r
+behind known kind true b c d e front mid rest r h told = no_id Control r mid rest h
+behind known kind false true c d e front mid rest r h told = one_id Push front mid rest r h told
+behind known kind false false true d e front mid rest r h told = no_id Encoder r mid rest h
+behind known kind false false false true e front mid rest r h told = no_id Decoder r mid rest h
+behind known kind false false false false true front mid rest r h told = one_id (session_role known.sessions) front mid rest r h told
+behind known kind false false false false false front mid rest r h told = no_id (other_role known.others kind) r mid rest h
 
 -- the bytes that tell a role
 record IsHead (sessions : StreamKinds) (bytes rest : List ℕ) (r : Role) : Type 0 where
@@ -82,7 +83,7 @@ head_front sessions bytes rest r h told = elim (cases_number bytes) [
   | inr n ↦
       let f = number_front n.0 bytes n.1 n.2 in
       let k = n.0 in
-      let b = behind sessions (k == 0) (k == 1) (k == 2) (k == 3) (k == 0x54) bytes n.1 rest r (sym (ap (λ o. of_kind sessions bytes o) n.2) ∙ h) told in
+      let b = behind sessions k (k == 0) (k == 1) (k == 2) (k == 3) (k == 0x54) bytes n.1 rest r (sym (ap (λ o. of_kind sessions bytes o) n.2) ∙ h) told in
       record {
         front = f.front ++ b.tail;
         split = f.split ∙ ap (λ l. f.front ++ l) b.split ∙ sym (append_assoc f.front b.tail rest);
@@ -121,6 +122,7 @@ tells_role sessions bytes left kind.Decoder h = (h, refl)
 tells_role sessions bytes left (kind.Session id) h = (h, refl)
 tells_role sessions bytes left (kind.Push id) h = (h, refl)
 tells_role sessions bytes left kind.Ignored h = (h, refl)
+tells_role sessions bytes left (kind.Other number) h = (h, refl)
 
 -- The role that these bytes tell behind those before, and those of them that are for it.
 pub told : (sessions : StreamKinds) (was : Kind) (before bytes left : List ℕ) (k : Kind) → IsUnfinished was before → is_untold (role_of was before) ≡ true → Tells sessions (before ++ bytes) left (Some k)
@@ -135,6 +137,7 @@ told sessions kind.Decoder before bytes left k unfinished here tells = absurd (c
 told sessions (kind.Session id) before bytes left k unfinished here tells = absurd (cc)
 told sessions (kind.Push id) before bytes left k unfinished here tells = absurd (cc)
 told sessions kind.Ignored before bytes left k unfinished here tells = absurd (cc)
+told sessions (kind.Other number) before bytes left k unfinished here tells = absurd (cc)
 
 all_taken : (n : ℕ) (bytes : List ℕ) → length bytes ≤ n → take n bytes ≡ bytes
 all_taken zero [] h = refl
@@ -160,6 +163,7 @@ untold_then sessions kind.Decoder before bytes left here tells = absurd (cc)
 untold_then sessions (kind.Session id) before bytes left here tells = absurd (cc)
 untold_then sessions (kind.Push id) before bytes left here tells = absurd (cc)
 untold_then sessions kind.Ignored before bytes left here tells = absurd (cc)
+untold_then sessions (kind.Other number) before bytes left here tells = absurd (cc)
 
 pub untold_of_both : (sessions : StreamKinds) (was : Kind) (before bytes left a b : List ℕ) (limit : ℕ) → a ≡ before → b ≡ bytes → length before + length bytes ≤ limit → is_untold (role_of was before) ≡ true
     → Tells sessions (take limit (a ++ b)) left None → IsUnfinished was (before ++ bytes) × (role_after sessions (role_of was before) bytes ≡ (role_of was (before ++ bytes), []))
@@ -192,6 +196,7 @@ tells_first sessions kind.Decoder before bytes unfinished r rest told h = told_b
 tells_first sessions (kind.Session id) before bytes unfinished r rest told h = told_before sessions (Session id) bytes rest r (λ l. refl) h
 tells_first sessions (kind.Push id) before bytes unfinished r rest told h = told_before sessions (Push id) bytes rest r (λ l. refl) h
 tells_first sessions kind.Ignored before bytes unfinished r rest told h = told_before sessions Ignored bytes rest r (λ l. refl) h
+tells_first sessions (kind.Other number) before bytes unfinished r rest told h = told_before sessions (Other number) bytes rest r (λ l. refl) h
 
 -- the same of the first bytes
 pub first_told : (sessions : StreamKinds) (bytes left : List ℕ) (k : Kind) → Tells sessions bytes left (Some k) → (length left ≤ length bytes) × (role_after sessions (Untold []) bytes ≡ (role_of k [], drop (length bytes - length left) bytes))

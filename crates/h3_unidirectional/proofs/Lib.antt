@@ -15,3 +15,5 @@ mod OwnLaws
 mod PeerLaws
 mod UpdatePlaces
 mod UpdateTexts
+mod OthersTold
+mod BothStarts

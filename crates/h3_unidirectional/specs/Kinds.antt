@@ -60,12 +60,6 @@ abbrev pub is_told_kind : Kind → Bool
 is_told_kind kind.Untold = false
 is_told_kind _ = true
 
--- what comes on it is handed out
-abbrev pub is_handed_out : Kind → Bool
-is_handed_out (kind.Session id) = true
-is_handed_out (kind.Other number) = true
-is_handed_out _ = false
-
 abbrev pub is_untold : Role → Bool
 is_untold (Untold front) = true
 is_untold _ = false

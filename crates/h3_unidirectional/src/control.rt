@@ -1,19 +1,19 @@
 //! The peer's control stream (RFC 9114, section 6.2.1).
-ghost use Rattle.std.specs.Prelude.{◌≡◌, ◌+◌, ◌^◌, ◌<◌, ◌++◌, ℕ, List, [], length, false, remove, slice_get, Some, None, is_some, IfOk, IfErr, IfSome, IfNone, OnOk, OnErr, option_copied};
+ghost use Rattle.std.specs.Prelude.{◌≡◌, ◌+◌, ◌^◌, ◌<◌, ◌++◌, ℕ, List, [], length, false, remove, slice_get, Some, None, is_some, IfOk, IfErr, OnOk, OnErr, option_copied};
 ghost use Rattle.std.specs.List.{concat};
 ghost use Rattle.h3_proto.specs.declared.stream.Side.{Side};
 ghost use Rattle.h3_wire.specs.FirstFrames.{begins_other};
-ghost use Rattle.h3_wire.specs.Known.{known_by, refusal};
+ghost use Rattle.h3_wire.specs.Known.{refusal};
 ghost use Rattle.h3_wire.specs.UnknownSize.{held_length};
 ghost use Rattle.h3_connection.specs.Codes.{settings_code, refusal_code};
 ghost use Rattle.h3_connection.specs.KeptGoaways.{keeps_last, kept_found, kept_peer};
 ghost use Rattle.h3_connection.specs.Lasts.{last_id};
-ghost use Rattle.h3_connection.specs.OtherSettings.{setting_in, with_told};
+ghost use Rattle.h3_connection.specs.OtherSettings.{no_others, setting_in};
 ghost use Rattle.h3_connection.specs.PeerReading.{Peer, none_read, with_unread, is_no_goaway, read_goaway, read_max_push, read_update, read_frame, refused_code, read_peer};
 ghost use Rattle.h3_connection.specs.StreamSets.{stream_at};
 ghost use Rattle.h3_connection.specs.StrictConnection.{settings_refused};
 ghost use Rattle.h3_unidirectional.specs.Fronts.{KeepsOn, KeepsPart, ReadsFront, StopsReading, found_first};
-ghost use Rattle.h3_unidirectional.specs.Judged.{KeepsEarlier, done, ReadsOne};
+ghost use Rattle.h3_unidirectional.specs.Judged.{KeepsEarlier, TellsOthers, done, items_of, others_by, ReadsOne};
 
 use crate::limits::keeps_last;
 use crate::other_settings::OtherSettings;
@@ -328,19 +328,32 @@ impl PeerControl {
     }
 
     // The settings of no meaning in the SETTINGS frame that comes first, if the settings have not come and such ones are kept.
+    #[tactic(auto, using(crate::proofs::OthersTold::none_due, crate::proofs::OthersTold::none_wanted))]
     fn others_told(
         &self,
         alloc: Global,
         kinds: FrameKinds,
     ) -> Result<Option<Vec<(u64, u64)>>, AllocError>
-        ensures some { IfOk result (λ told. IfSome told (λ kept. record self.now.others { kept = kept.items } ≡ with_told self.now.others (known_by kinds self.now.unread))) }
-        ensures none { IfOk result (λ told. IfNone told (self.now.settings ≡ None → with_told self.now.others (known_by kinds self.now.unread) ≡ self.now.others)) }
+        ensures { IfOk result (λ told. TellsOthers kinds self.now (items_of told)) }
     {
-        if self.settings.is_some() || self.others.most == 0 {
+        if self.settings.is_some() {
+            return Ok(None);
+        }
+        if self.others.most == 0 {
             return Ok(None);
         }
         let kept = self.unread.other_settings(alloc, kinds, self.others.most)?;
         Ok(Some(kept))
+    }
+
+    // The settings came, and beside them those of no meaning, if such ones are kept.
+    fn take_settings(&mut self, settings: Settings, told: Option<Vec<(u64, u64)>>)
+        ensures { self.new ≡ record self.old { settings = Some settings; others = others_by (items_of told) self.old.others } }
+    {
+        self.settings = Some(settings);
+        if let Some(kept) = told {
+            self.others.kept = kept;
+        }
     }
 
     /// Reads the next frame, unless it says a length above `most`: then it frees what came. If an allocation fails, it skips only unknown
@@ -373,10 +386,7 @@ impl PeerControl {
             Ok(None) => Ok(Progress::Ends(None)),
             Ok(Some(frame)) => match self.judge(side, frame) {
                 Judged::Settings(settings) => {
-                    self.settings = Some(settings);
-                    if let Some(kept) = told {
-                        self.others.kept = kept;
-                    }
+                    self.take_settings(settings, told);
                     Ok(Progress::GoesOn)
                 }
                 Judged::Goaway(id) => {
@@ -451,6 +461,21 @@ impl PeerControl {
         }
     }
 
+    /// How many settings of no meaning are kept at most. None is, while the settings have not come.
+    fn most_others(&self) -> usize
+        ensures { self.now.settings ≡ None → self.now.others ≡ no_others result }
+    {
+        self.others.most
+    }
+
+    /// What came is freed, and the settings of no meaning.
+    fn let_go(&mut self, alloc: Global, most_others: usize)
+        ensures { self.new ≡ record self.old { unread = []; others = no_others most_others } }
+    {
+        self.unread = FrameBuffer::new(alloc);
+        self.others = OtherSettings::new(alloc, most_others);
+    }
+
     /// The same while the settings have not come. If the endpoint does not take those that come, that is the fault, whatever follows them:
     /// what came after them is freed.
     pub fn read_first(
@@ -465,6 +490,7 @@ impl PeerControl {
         ensures refused { OnErr result (KeepsPart kinds (keeps_last own.now.choices) own.now.choices.unfinished_limit side self.old self.new) }
         ensures taken { OnErr result (settings_refused side own.now self.new.settings ≡ false) }
     {
+        let most_others = self.most_others();
         let progress = self.read_one(alloc, side, own.choices.unfinished_limit, kinds);
         self.keep_goaways(keeps_last(own.choices));
         match progress {
@@ -473,8 +499,7 @@ impl PeerControl {
             Err(e) => return Err(e),
         }
         if self.are_refused(side, own) {
-            self.unread = FrameBuffer::new(alloc);
-            self.others.kept = Vec::new(alloc);
+            self.let_go(alloc, most_others);
             return Ok(Some(Code::H3_SETTINGS_ERROR));
         }
         self.read(alloc, side, own.choices, kinds)

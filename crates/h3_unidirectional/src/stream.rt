@@ -4,9 +4,9 @@ ghost use Rattle.std.specs.List.{concat};
 ghost use Rattle.h3_coding.specs.Varint.{varint_at};
 ghost use Rattle.h3_connection.specs.Keeping.{is_settled_session};
 ghost use Rattle.h3_connection.specs.StrictConnection.{known_streams};
-ghost use Rattle.h3_connection.specs.Unidirectional.{Role, untold, is_closed, is_critical, role_after, with_bytes, may_be_session, untold_pull, raw, if_over, other_role, pull_other, pull_unidirectional};
-ghost use Rattle.h3_connection.specs.Unidirectional.Role.{Untold};
-ghost use Rattle.h3_unidirectional.specs.Kinds.{role_of, is_handed_out, is_told_kind, is_untold, Tells, TellsFirst, received_by};
+ghost use Rattle.h3_connection.specs.Unidirectional.{Role, untold, is_closed, is_critical, role_after, with_bytes, may_be_session, untold_pull, raw, if_over, pull_other, pull_unidirectional};
+ghost use Rattle.h3_connection.specs.Unidirectional.Role.{Untold, Session, Other};
+ghost use Rattle.h3_unidirectional.specs.Kinds.{role_of, is_told_kind, is_untold, Tells, TellsFirst, received_by};
 ghost use Rattle.h3_unidirectional.specs.Told.{kind_in};
 
 use bytes::{Buf, Bytes};
@@ -118,18 +118,13 @@ pub(crate) fn read_kind<B: Buf>(buf: &mut B, own: &Announced) -> Option<Kind>
             }
             Some(Kind::Session(session))
         }
-        _ => Some(unknown_kind(number, own)),
+        _ => {
+            if own.hands_out(number) {
+                return Some(Kind::Other(number));
+            }
+            Some(Kind::Ignored)
+        }
     }
-}
-
-/// What a stream of this type is, which has no meaning.
-fn unknown_kind(number: u64, own: &Announced) -> Kind
-    ensures { role_of result [] ≡ other_role own.now.choices.extensions.other_streams number }
-{
-    if own.hands_out(number) {
-        return Kind::Other(number);
-    }
-    Kind::Ignored
 }
 
 /// Whether the type of a WebTransport stream is there, or no whole type.
@@ -230,12 +225,11 @@ impl UnidirectionalStream {
         self.is_reset = true;
     }
 
-    /// Stores the bytes of a stream that is delivered, without those that were passed.
-    fn keep(&mut self, kind: Kind, mut bytes: Bytes, passed: usize) -> Result<(), Bytes>
-        requires handed_out { is_handed_out kind ≡ true }
+    /// Stores the bytes of a session without those that were passed.
+    fn keep(&mut self, session: SessionId, mut bytes: Bytes, passed: usize) -> Result<(), Bytes>
         requires inside { passed ≤ length bytes }
         requires fits { length (concat self.old.unread) + length bytes < 2 ^ 64 }
-        ensures ok { OnOk result (self.new ≡ with_bytes self.old (role_of kind [], drop passed bytes)) }
+        ensures ok { OnOk result (self.new ≡ with_bytes self.old (Session session, drop passed bytes)) }
         ensures err { IfErr result (λ back. (back ≡ bytes) × (self.new ≡ self.old)) }
     {
         if self.unread.reserve().is_err() {
@@ -243,7 +237,23 @@ impl UnidirectionalStream {
         }
         bytes.advance(passed);
         self.unread.keep_reserved(bytes);
-        self.kind = kind;
+        self.kind = Kind::Session(session);
+        Ok(())
+    }
+
+    /// The same of a stream of another type that is delivered.
+    fn keep_other(&mut self, number: u64, mut bytes: Bytes, passed: usize) -> Result<(), Bytes>
+        requires inside { passed ≤ length bytes }
+        requires fits { length (concat self.old.unread) + length bytes < 2 ^ 64 }
+        ensures ok { OnOk result (self.new ≡ with_bytes self.old (Other number, drop passed bytes)) }
+        ensures err { IfErr result (λ back. (back ≡ bytes) × (self.new ≡ self.old)) }
+    {
+        if self.unread.reserve().is_err() {
+            return Err(bytes);
+        }
+        bytes.advance(passed);
+        self.unread.keep_reserved(bytes);
+        self.kind = Kind::Other(number);
         Ok(())
     }
 
@@ -256,11 +266,11 @@ impl UnidirectionalStream {
         ensures err { IfErr result (λ back. (back ≡ bytes) × (self.new ≡ self.old)) }
     {
         match kind {
-            Kind::Session(session) => match self.keep(kind, bytes, passed) {
+            Kind::Session(session) => match self.keep(session, bytes, passed) {
                 Ok(()) => Ok(Received::Session(session.into_inner())),
                 Err(back) => Err(back),
             },
-            Kind::Other(_) => match self.keep(kind, bytes, passed) {
+            Kind::Other(number) => match self.keep_other(number, bytes, passed) {
                 Ok(()) => Ok(Received::Nothing),
                 Err(back) => Err(back),
             },
