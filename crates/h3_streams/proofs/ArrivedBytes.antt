@@ -13,7 +13,7 @@ use Rattle.h3_connection.specs.StandsLaws.{stands_unidirectional}
 use Rattle.h3_connection.specs.State.{EndpointState, StandsFor}
 use Rattle.h3_connection.specs.StreamSets.{Streams}
 use Rattle.h3_connection.specs.Unidirectional.{Unidirectional, Role, is_critical, role_after, with_bytes}
-use Rattle.h3_connection.specs.Unidirectional.Role.{Untold, Control, Encoder, Decoder, Session, Push, Ignored}
+use Rattle.h3_connection.specs.Unidirectional.Role.{Untold, Control, Encoder, Decoder, Session, Push, Ignored, Other}
 use Rattle.h3_unidirectional.specs.Kinds.{is_untold, received_by, TellsFirst}
 use Rattle.h3_unidirectional.specs.declared.stream.Received.{Received}
 use Rattle.h3_unidirectional.specs.declared.stream.Received.TheVariants as received
@@ -61,6 +61,7 @@ quiet (Decoder, bytes) e id o h = absurd (cc)
 quiet (Session n, bytes) e id o h = absurd (cc)
 quiet (Push n, bytes) e id o h = absurd (cc)
 quiet (Ignored, bytes) e id o h = refl
+quiet (Other kind, bytes) e id o h = refl
 
 pub nothing_read : (x : StreamsState) (new : Streams Unidirectional) (side : Side) (own : Announced) (id : ℕ) (bytes : List ℕ) → Receives (known_streams own) x.unidirectional new id bytes received.Nothing
     → (s : EndpointState) (e : EndpointHistory) → IsDue s x e side own id → Reads s None (record x { unidirectional = new }) (bytes_at e id bytes PeerUnidirectional)
@@ -79,6 +80,7 @@ pushed (Decoder, bytes) e id o h = absurd (cc)
 pushed (Session n, bytes) e id o h = absurd (cc)
 pushed (Push n, bytes) e id o h = refl
 pushed (Ignored, bytes) e id o h = absurd (cc)
+pushed (Other kind, bytes) e id o h = absurd (cc)
 
 pub push_read : (x : StreamsState) (new : Streams Unidirectional) (side : Side) (own : Announced) (id : ℕ) (bytes : List ℕ) (code : ℕ) → code ≡ push_code side → Receives (known_streams own) x.unidirectional new id bytes received.Push
     → (s : EndpointState) (e : EndpointHistory) → IsDue s x e side own id → Reads s (Some code) (record x { unidirectional = new }) (bytes_at e id bytes PeerUnidirectional)
@@ -100,6 +102,7 @@ sessioned (Session n, bytes) e id o session h =
     ap (λ k. (with_unidirectional e id (with_bytes o (Session n, bytes)), session_fault e.announced k)) same
 sessioned (Push n, bytes) e id o session h = absurd (cc)
 sessioned (Ignored, bytes) e id o session h = absurd (cc)
+sessioned (Other kind, bytes) e id o session h = absurd (cc)
 
 pub session_read : (x : StreamsState) (new : Streams Unidirectional) (side : Side) (own : Announced) (id : ℕ) (bytes : List ℕ) (session : ℕ) (fault : Option ℕ) → fault ≡ session_fault own session
     → Receives (known_streams own) x.unidirectional new id bytes (received.Session session)
@@ -129,22 +132,26 @@ told_by Control rest (Decoder, bytes) c h = absurd (cc)
 told_by Control rest (Session n, bytes) c h = absurd (cc)
 told_by Control rest (Push n, bytes) c h = absurd (cc)
 told_by Control rest (Ignored, bytes) c h = absurd (cc)
+told_by Control rest (Other kind, bytes) c h = absurd (cc)
 told_by Encoder rest (Untold front, bytes) c h = absurd (cc)
 told_by Encoder rest (Control, bytes) c h = absurd (cc)
 told_by Encoder rest (Decoder, bytes) c h = absurd (cc)
 told_by Encoder rest (Session n, bytes) c h = absurd (cc)
 told_by Encoder rest (Push n, bytes) c h = absurd (cc)
 told_by Encoder rest (Ignored, bytes) c h = absurd (cc)
+told_by Encoder rest (Other kind, bytes) c h = absurd (cc)
 told_by Decoder rest (Untold front, bytes) c h = absurd (cc)
 told_by Decoder rest (Control, bytes) c h = absurd (cc)
 told_by Decoder rest (Encoder, bytes) c h = absurd (cc)
 told_by Decoder rest (Session n, bytes) c h = absurd (cc)
 told_by Decoder rest (Push n, bytes) c h = absurd (cc)
 told_by Decoder rest (Ignored, bytes) c h = absurd (cc)
+told_by Decoder rest (Other kind, bytes) c h = absurd (cc)
 told_by (Untold front) rest read_as c h = absurd (cc)
 told_by (Session n) rest read_as c h = absurd (cc)
 told_by (Push n) rest read_as c h = absurd (cc)
 told_by Ignored rest read_as c h = absurd (cc)
+told_by (Other kind) rest read_as c h = absurd (cc)
 
 critical_told : (r : Role) → is_critical r ≡ true → is_untold r ≡ false
 critical_told (Untold front) c = absurd (cc)
@@ -154,6 +161,7 @@ critical_told Decoder c = refl
 critical_told (Session n) c = refl
 critical_told (Push n) c = refl
 critical_told Ignored c = refl
+critical_told (Other kind) c = refl
 
 is_told : (r : Role) (s : EndpointState) (x : StreamsState) (new : Streams Unidirectional) (e : EndpointHistory) (id : ℕ) (bytes rest : List ℕ) → is_critical r ≡ true → StandsFor (placed s x) e
     → Receives (known_streams e.announced) x.unidirectional new id bytes (for_reader r rest) → IsTold x new e id bytes r rest

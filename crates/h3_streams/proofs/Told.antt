@@ -18,7 +18,7 @@ use Rattle.h3_connection.specs.State.{EndpointState, StandsFor, IsReached, IsTol
 use Rattle.h3_connection.specs.StreamSets.{Streams, stream_at}
 use Rattle.h3_connection.specs.StreamSetLaws.{set-here}
 use Rattle.h3_connection.specs.Unidirectional.{StreamKinds, Unidirectional, Role, untold, is_critical, role_after, with_bytes}
-use Rattle.h3_connection.specs.Unidirectional.Role.{Untold, Control, Encoder, Decoder, Session, Push, Ignored}
+use Rattle.h3_connection.specs.Unidirectional.Role.{Untold, Control, Encoder, Decoder, Session, Push, Ignored, Other}
 use Rattle.h3_unidirectional.specs.Kinds.{TellsFirst}
 use Rattle.h3_streams.proofs.PlacedLaws.{stands_map}
 use Rattle.h3_streams.specs.Placed.{StreamsState, placed, Reads}
@@ -41,6 +41,7 @@ told_bytes Decoder o l c = refl
 told_bytes (Session id) o l c = absurd (cc)
 told_bytes (Push id) o l c = absurd (cc)
 told_bytes Ignored o l c = absurd (cc)
+told_bytes (Other kind) o l c = absurd (cc)
 
 told_after : (sessions : StreamKinds) (r : Role) (l : List ℕ) → is_critical r ≡ true → role_after sessions r l ≡ (r, l)
 told_after sessions (Untold front) l c = absurd (cc)
@@ -50,6 +51,7 @@ told_after sessions Decoder l c = refl
 told_after sessions (Session id) l c = absurd (cc)
 told_after sessions (Push id) l c = absurd (cc)
 told_after sessions Ignored l c = absurd (cc)
+told_after sessions (Other kind) l c = absurd (cc)
 
 -- a stream that told to be the connection's stays so
 pub told_kept : (sessions : StreamKinds) (o : Unidirectional) (bytes : List ℕ) → is_critical o.role ≡ true → is_critical (with_bytes o (role_after sessions o.role bytes)).role ≡ true
@@ -63,6 +65,7 @@ not_untold Decoder c e = cc
 not_untold (Session id) c e = cc
 not_untold (Push id) c e = cc
 not_untold Ignored c e = cc
+not_untold (Other kind) c e = cc
 
 reader_is : (e : EndpointHistory) (id : ℕ) (r : Role) → is_critical r ≡ true → is_reader e id r ≡ not (is_second (reader_on r e) id)
 reader_is e id (Untold front) c = absurd (cc)
@@ -72,6 +75,7 @@ reader_is e id Decoder c = refl
 reader_is e id (Session n) c = absurd (cc)
 reader_is e id (Push n) c = absurd (cc)
 reader_is e id Ignored c = absurd (cc)
+reader_is e id (Other kind) c = absurd (cc)
 
 -- its reader begins with no bytes
 begins_first : (s : EndpointState) (x : StreamsState) (e : EndpointHistory) (id : ℕ) (on : Option ℕ) (found : Found) → on ≡ None → Begins s x found → Begins s x (only_one on id e found)
@@ -85,6 +89,7 @@ begins_as Decoder s x e id c h told none = begins_first s (record x { decoder_on
 begins_as (Session n) s x e id c h told none = absurd (cc)
 begins_as (Push n) s x e id c h told none = absurd (cc)
 begins_as Ignored s x e id c h told none = absurd (cc)
+begins_as (Other kind) s x e id c h told none = absurd (cc)
 
 -- What is known of the bytes of such a stream: its role, the bytes for it, and the map of streams after them.
 pub record IsTold (x : StreamsState) (new : Streams Unidirectional) (e : EndpointHistory) (id : ℕ) (bytes : List ℕ) (r : Role) (rest : List ℕ) : Type 0 where
@@ -152,6 +157,7 @@ held_side e id Decoder rest = refl
 held_side e id (Session n) rest = refl
 held_side e id (Push n) rest = refl
 held_side e id Ignored rest = refl
+held_side e id (Other kind) rest = refl
 
 told_reader : (r : Role) (e : EndpointHistory) (id : ℕ) (r2 : Role) → reader_on r (told_as e id r2) ≡ reader_on r e
 told_reader (Untold front) e id r2 = refl
@@ -161,6 +167,7 @@ told_reader Decoder e id r2 = refl
 told_reader (Session n) e id r2 = refl
 told_reader (Push n) e id r2 = refl
 told_reader Ignored e id r2 = refl
+told_reader (Other kind) e id r2 = refl
 
 -- nothing of them was taken: the stream's role was told before
 stopped_before : (s : EndpointState) (x : StreamsState) (new : Streams Unidirectional) (e : EndpointHistory) (id : ℕ) (bytes : List ℕ) (r : Role) (rest : List ℕ) (left : List Arrival) → StandsFor (placed s x) e
@@ -213,6 +220,7 @@ reader_told Decoder e id c h is = told_by e.side e.unidirectional e.decoder_on i
 reader_told (Session n) e id c h is = absurd (cc)
 reader_told (Push n) e id c h is = absurd (cc)
 reader_told Ignored e id c h is = absurd (cc)
+reader_told (Other kind) e id c h is = absurd (cc)
 
 same_reading : (r : Role) (s : EndpointState) (x : StreamsState) (e : EndpointHistory) (id : ℕ) → is_critical r ≡ true → StandsFor (placed s x) e → reader_on r e ≡ Some id → x ≡ with_reader r x id
 same_reading (Untold front) s x e id c h is = absurd (cc)
@@ -222,6 +230,7 @@ same_reading Decoder s x e id c h is = ap (λ o. record x { decoder_on = o }) (h
 same_reading (Session n) s x e id c h is = absurd (cc)
 same_reading (Push n) s x e id c h is = absurd (cc)
 same_reading Ignored s x e id c h is = absurd (cc)
+same_reading (Other kind) s x e id c h is = absurd (cc)
 
 -- nothing of them was taken, by whether the stream was read as such before
 stopped_unheld : (s : EndpointState) (x : StreamsState) (new : Streams Unidirectional) (e : EndpointHistory) (id : ℕ) (bytes : List ℕ) (r : Role) (rest : List ℕ) (left : List Arrival) (on : Option ℕ) → StandsFor (placed s x) e
