@@ -140,7 +140,7 @@ pub fn drained_stays()
 
 ghost use Rattle.h3_connection.specs.Delivering.{delivery_refusal, unidirectional_at, with_unidirectional};
 ghost use Rattle.h3_connection.specs.Endpoint.Kind.{PeerUnidirectional};
-ghost use Rattle.h3_connection.specs.StrictConnection.{kinds_of, known_streams, known_streams};
+ghost use Rattle.h3_connection.specs.StrictConnection.{kinds_of, knows_sessions, known_streams};
 ghost use Rattle.h3_connection.specs.Unidirectional.{role_after};
 ghost use Rattle.h3_connection.specs.Unidirectional.Role.{Untold, Ignored};
 ghost use Rattle.h3_connection.specs.CallLists.{answers};

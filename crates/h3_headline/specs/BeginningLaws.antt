@@ -11,6 +11,7 @@ use Rattle.h3_proto.specs.declared.stream.Side.{Side}
 use Rattle.h3_world.specs.Setup.{JudgesPlainly, TakesAnyLength, announced_at}
 use Rattle.h3_connection.specs.OwnIds.{other}
 use Rattle.h3_connection.specs.PeerReading.{none_read}
+use Rattle.h3_connection.specs.OtherSettings.{most_others}
 use Rattle.h3_connection.specs.Updates.{most_updates}
 use Rattle.h3_connection.specs.Endpoint.{new_endpoint}
 use Rattle.std.specs.List.{AllByRecursion}
@@ -42,7 +43,7 @@ above_none n = grind (arith, common_steps)
 no_settings : (setup : Setup) (side : Side) → are_settings_there setup side 0 ≡ false
 no_settings setup side = ap (λ n. nat_le n 0) (length_settings (announced_at setup side)) ∙ above_none (length (settings_frame_of (announced_at setup side)))
 
-control_at : (setup : Setup) (side : Side) → HasControl setup side 0 [] None None (none_read (most_updates (announced_at setup side)))
+control_at : (setup : Setup) (side : Side) → HasControl setup side 0 [] None None (none_read (most_updates (announced_at setup side)) (most_others (announced_at setup side)))
 control_at setup side =
     let none = no_settings setup (other side) in
     record {
@@ -52,6 +53,7 @@ control_at setup side =
       goaways_are = refl;
       most_pushes = refl;
       updates = refl;
+      others = rw none refl;
       unread = rw none refl;
     }
 

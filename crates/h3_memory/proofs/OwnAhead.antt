@@ -19,7 +19,7 @@ use Rattle.h3_connection.specs.OwnIds.{other, is_own, control_id, encoder_id, de
 use Rattle.h3_connection.specs.PeerReading.{PeerFound, read_peer}
 use Rattle.h3_connection.specs.StreamSets.{Streams, stream_at}
 use Rattle.h3_connection.specs.Unidirectional.{Role, role_after, with_bytes}
-use Rattle.h3_connection.specs.Unidirectional.Role.{Untold, Control, Encoder, Decoder, Push, Session, Ignored}
+use Rattle.h3_connection.specs.Unidirectional.Role.{Untold, Control, Encoder, Decoder, Push, Session, Ignored, Other}
 use Rattle.h3_world.specs.declared.setup.Setup.{Setup}
 use Rattle.h3_world.specs.Setup.{announced_at}
 use Rattle.h3_world.specs.World.{World, party}
@@ -161,6 +161,7 @@ heard_leaves e id Decoder bytes = by_test (is_second e.decoder_on id)
 heard_leaves e id (Push push) bytes = refl
 heard_leaves e id (Session session) bytes = refl
 heard_leaves e id Ignored bytes = refl
+heard_leaves e id (Other kind) bytes = refl
 
 pub unidirectional_leaves : (e : EndpointHistory) (id : ℕ) (bytes : List ℕ) → kind_of e.side id ≡ PeerUnidirectional → streams_of (read_arrival e (BytesCame id bytes)).0 ≡ streams_of e
 unidirectional_leaves e id bytes kind = ap (λ k. streams_of (bytes_at e id bytes k).0) kind ∙ by_role (role_after (known_streams e.announced) (unidirectional_at e id).role bytes)

@@ -24,7 +24,7 @@ use Rattle.h3_connection.specs.StreamSets.{stream_at}
 use Rattle.h3_connection.specs.StrictConnection.{is_no_session, is_strict, kinds_of, known_streams}
 use Rattle.h3_connection.specs.StrictConnectionLaws.{fault_as_found}
 use Rattle.h3_connection.specs.Unidirectional.{Role, is_critical, role_after}
-use Rattle.h3_connection.specs.Unidirectional.Role.{Control, Decoder, Encoder, Ignored, Push, Session, Untold}
+use Rattle.h3_connection.specs.Unidirectional.Role.{Control, Decoder, Encoder, Ignored, Push, Session, Untold, Other}
 use Rattle.h3_connection.specs.declared.arrival.Arrival.{Arrival}
 use Rattle.h3_connection.specs.declared.arrival.Arrival.TheVariants.{BytesCame, EndCame, ResetCame}
 use Rattle.h3_connection.specs.declared.event.Refusal.{Refusal}
@@ -109,6 +109,7 @@ heard_fits e id Decoder bytes h = second_fits (is_second e.decoder_on id) (loose
 heard_fits e id (Session n) bytes h = session_fits (is_no_session (loose e).announced n)
 heard_fits e id (Push n) bytes h = push_fits e.side
 heard_fits e id Ignored bytes h = refl
+heard_fits e id (Other kind) bytes h = refl
 
 -- an end or a reset is no frame
 critical_fits : (b : Bool) → is_excess false (if b then Some closed_critical_stream else None) ≡ false

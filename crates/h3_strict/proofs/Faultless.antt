@@ -16,7 +16,7 @@ use Rattle.h3_connection.specs.Sending.{after_answer, if_too_many, pulled, pull_
 use Rattle.h3_connection.specs.Shown.{has_outgoing, is_finished, is_reset, waiting}
 use Rattle.h3_connection.specs.StreamSets.{stream_at}
 use Rattle.h3_connection.specs.Unidirectional.{Unidirectional, Role, if_over, is_closed, may_be_session, pull_session, pull_unidirectional, raw}
-use Rattle.h3_connection.specs.Unidirectional.Role.{Untold, Control, Encoder, Decoder, Session, Push, Ignored}
+use Rattle.h3_connection.specs.Unidirectional.Role.{Untold, Control, Encoder, Decoder, Session, Push, Ignored, Other}
 use Rattle.h3_coding.specs.Varint.{varint_at}
 use Rattle.h3_connection.specs.declared.arrival.Arrival.TheVariants.{BytesCame, EndCame, ResetCame}
 use Rattle.h3_connection.specs.declared.event.Fault.TheVariants as fault
@@ -94,6 +94,7 @@ module _ (strict : Bool) where
   role_finds o Decoder = refl
   role_finds o (Push id) = refl
   role_finds o Ignored = refl
+  role_finds o (Other kind) = refl
 
   told_finds : (e : EndpointHistory) (id : ℕ) (x : Pull × Unidirectional) → tells_malformed strict x.0 ≡ false → tells_malformed strict (pulled_unidirectional e id x).0 ≡ false
   told_finds e id (a, o) h = h

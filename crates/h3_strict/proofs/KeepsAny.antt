@@ -13,7 +13,7 @@ use Rattle.h3_connection.specs.Keeping.{arrival_refusal, arrives, arrives_behind
 use Rattle.h3_connection.specs.PartReading.{Goes, Hears, Holds, Listens, ReadsFrames, ReadsFront, ReadsOn, ReadsPart, ReadsWhole, Stops, held, held_as}
 use Rattle.h3_connection.specs.StrictConnection.{known_streams}
 use Rattle.h3_connection.specs.Unidirectional.{Role, role_after, with_bytes}
-use Rattle.h3_connection.specs.Unidirectional.Role.{Control, Decoder, Encoder, Ignored, Push, Session, Untold}
+use Rattle.h3_connection.specs.Unidirectional.Role.{Control, Decoder, Encoder, Ignored, Push, Session, Untold, Other}
 use Rattle.h3_strict.proofs.KeepsCounts.{KeepsAt, KeepsBut, SameCounts, SameStreams, arrival_keeps, if_learned_same, lost_by, opened_announced, opened_in, opened_out, same_counts, same_streams, streams_keep, taken_keeps}
 use Rattle.h3_strict.proofs.TunnelSends.{kept_at}
 use Rattle.h3_strict.specs.Tallies.{IsFine}
@@ -70,6 +70,7 @@ held_same e id (Untold front, bytes) = same_streams e
 held_same e id (Push push, bytes) = same_streams e
 held_same e id (Session session, bytes) = same_streams e
 held_same e id (Ignored, bytes) = same_streams e
+held_same e id (Other kind, bytes) = same_streams e
 
 holds_same : (e : EndpointHistory) (id : ℕ) (bytes : List ℕ) → SameStreams e (held e id bytes)
 holds_same e id bytes =

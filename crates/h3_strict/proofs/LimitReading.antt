@@ -17,7 +17,7 @@ use Rattle.h3_connection.specs.StreamSets.{stream_at}
 use Rattle.h3_connection.specs.StrictConnection.{is_strict, kinds_of, known_streams}
 use Rattle.h3_connection.specs.StrictConnection.{stream_fault as stream_error}
 use Rattle.h3_connection.specs.Unidirectional.{Role, Unidirectional, role_after, with_bytes}
-use Rattle.h3_connection.specs.Unidirectional.Role.{Control, Decoder, Encoder, Ignored, Push, Session, Untold}
+use Rattle.h3_connection.specs.Unidirectional.Role.{Control, Decoder, Encoder, Ignored, Push, Session, Untold, Other}
 use Rattle.h3_connection.specs.declared.arrival.Arrival.{Arrival}
 use Rattle.h3_connection.specs.declared.arrival.Arrival.TheVariants.{BytesCame, EndCame, ResetCame}
 use Rattle.h3_connection.specs.declared.event.Refusal.{Refusal}
@@ -204,6 +204,7 @@ heard_within e id Decoder bytes =
 heard_within e id (Session n) bytes = ReadsAlike refl
 heard_within e id (Push n) bytes = ReadsAlike refl
 heard_within e id Ignored bytes = ReadsAlike refl
+heard_within e id (Other kind) bytes = ReadsAlike refl
 
 unidirectional_within : (e : EndpointHistory) (id : ℕ) (o : Unidirectional) (x : Role × List ℕ) → ReadsWithin e.announced (read_unidirectional e id o x) (read_unidirectional (endless e) id o x) (told_role e id o x)
 unidirectional_within e id o (role, bytes) = heard_within (with_unidirectional e id (with_bytes o (role, bytes))) id role bytes

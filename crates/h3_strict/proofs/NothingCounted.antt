@@ -28,7 +28,7 @@ use Rattle.h3_connection.specs.Shown.{has_outgoing, is_finished, is_reset, waiti
 use Rattle.h3_connection.specs.StreamSets.{Streams, set_stream, stream_at}
 use Rattle.h3_connection.specs.StrictConnection.{known_streams}
 use Rattle.h3_connection.specs.Unidirectional.{Role, Unidirectional, role_after}
-use Rattle.h3_connection.specs.Unidirectional.Role.{Control, Decoder, Encoder, Ignored, Push, Session, Untold}
+use Rattle.h3_connection.specs.Unidirectional.Role.{Control, Decoder, Encoder, Ignored, Push, Session, Untold, Other}
 use Rattle.h3_connection.specs.declared.arrival.Arrival.{Arrival}
 use Rattle.h3_connection.specs.declared.arrival.Arrival.TheVariants.{BytesCame, EndCame, ResetCame}
 use Rattle.h3_connection.specs.declared.event.Fault.TheVariants as fault
@@ -135,6 +135,7 @@ held_counts e id (Untold front, bytes) h = h
 held_counts e id (Session n, bytes) h = h
 held_counts e id (Push n, bytes) h = h
 held_counts e id (Ignored, bytes) h = h
+held_counts e id (Other kind, bytes) h = h
 
 step_counts : {e new : EndpointHistory} {arrivals more : List Arrival} → ReadsOn e arrivals new more → CountsNothing e → CountsNothing new
 step_counts {e = e} {new = new} (ReadsWhole {a = a} is) h = subst (λ (x : Found). CountsNothing x.0) is (arrival_counts e a h)

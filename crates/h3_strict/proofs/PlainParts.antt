@@ -19,7 +19,7 @@ use Rattle.h3_connection.specs.StreamSets.{stream_at}
 use Rattle.h3_connection.specs.StrictConnection.{is_strict, kinds_of, known_streams}
 use Rattle.h3_connection.specs.Delivering.{unidirectional_at, with_unidirectional}
 use Rattle.h3_connection.specs.Unidirectional.{Role, role_after, with_bytes}
-use Rattle.h3_connection.specs.Unidirectional.Role.{Control, Decoder, Encoder, Ignored, Push, Session, Untold}
+use Rattle.h3_connection.specs.Unidirectional.Role.{Control, Decoder, Encoder, Ignored, Push, Session, Untold, Other}
 use Rattle.h3_connection.specs.declared.arrival.Arrival.{Arrival}
 use Rattle.h3_connection.specs.declared.arrival.Arrival.TheVariants.{BytesCame}
 use Rattle.h3_connection.specs.declared.event.Refusal.{Refusal}
@@ -51,6 +51,7 @@ held_plain e id (Untold front, bytes) = refl
 held_plain e id (Session n, bytes) = refl
 held_plain e id (Push n, bytes) = refl
 held_plain e id (Ignored, bytes) = refl
+held_plain e id (Other kind, bytes) = refl
 
 hears_part : (most : ℕ) (old new : Decoding) → HearsPart most old new → HearsPart no_limit old new
 hears_part most old new h = by_limit (hears_alike most old.decoder h.front)

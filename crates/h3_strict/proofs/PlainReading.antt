@@ -27,7 +27,7 @@ use Rattle.h3_connection.specs.StreamSets.{Streams, stream_at}
 use Rattle.h3_connection.specs.StrictConnection.{is_strict, kinds_of, known_streams}
 use Rattle.h3_connection.specs.StrictConnection.{stream_fault as stream_error}
 use Rattle.h3_connection.specs.Unidirectional.{Unidirectional, Role, role_after, with_bytes}
-use Rattle.h3_connection.specs.Unidirectional.Role.{Untold, Control, Encoder, Decoder, Session, Push, Ignored}
+use Rattle.h3_connection.specs.Unidirectional.Role.{Untold, Control, Encoder, Decoder, Session, Push, Ignored, Other}
 use Rattle.h3_connection.specs.declared.event.Refusal.{Refusal}
 use Rattle.h3_connection.specs.declared.event.Refusal.TheVariants as refusal
 use Rattle.h3_connection.specs.declared.event.StreamFault.TheVariants as stream_fault
@@ -238,6 +238,7 @@ heard_plain e id Decoder bytes =
 heard_plain e id (Session n) bytes = ReadsAlike refl
 heard_plain e id (Push n) bytes = ReadsAlike refl
 heard_plain e id Ignored bytes = ReadsAlike refl
+heard_plain e id (Other kind) bytes = ReadsAlike refl
 
 unidirectional_plain : (e : EndpointHistory) (id : ℕ) (o : Unidirectional) (x : Role × List ℕ) → ReadsPlainly e.announced (read_unidirectional e id o x) (read_unidirectional (plainly e) id o x)
 unidirectional_plain e id o (role, bytes) = heard_plain (with_unidirectional e id (with_bytes o (role, bytes))) id role bytes
