@@ -17,7 +17,6 @@ use Rattle.h3_headline.specs.BeginningLaws.{begins}
 use Rattle.h3_headline.specs.Cited.{Laws}
 use Rattle.h3_headline.specs.ListEventLaws.{listed_on}
 use Rattle.h3_headline.specs.PullEventLaws.{pull_on}
-use Rattle.h3_headline.specs.HeadLaws.{made_sends}
 use Rattle.h3_headline.specs.SentEventLaws.{body_on, cancel_on, fields_on, finish_on, goaway_on, head_on, opened_on, reset_on, show_on, trailer_fields_on, trailer_on}
 use Rattle.h3_headline.specs.Standing.{Stands}
 use Rattle.h3_headline.specs.Steps.{StandsOn}
@@ -29,11 +28,11 @@ by_test false own other = other refl
 -- A delivery is on a stream of the writer's own, or on a request stream.
 pub every_event : (laws : Laws) (setup : Setup) → IsMadeSetup setup → JudgesPlainly setup → (w : World) (ends : Ends) (e : Event) → IsSendable setup e → Stands setup w ends → StandsOn setup w ends e
 every_event laws setup made plain w ends (event.OpenRequest side) sendable h = opened_on laws setup w ends side sendable h
-every_event laws setup made plain w ends (event.Head side id head) sendable h = head_on laws setup w ends side id head (made_sends setup made plain side) sendable h
-every_event laws setup made plain w ends (event.Fields side id fields) sendable h = fields_on laws setup w ends side id fields (made_sends setup made plain side) sendable h
+every_event laws setup made plain w ends (event.Head side id head) sendable h = head_on laws setup w ends side id head (plain side) sendable h
+every_event laws setup made plain w ends (event.Fields side id fields) sendable h = fields_on laws setup w ends side id fields (plain side) sendable h
 every_event laws setup made plain w ends (event.Body side id bytes) sendable h = body_on laws setup w ends side id bytes sendable h
-every_event laws setup made plain w ends (event.Trailer side id trailer) sendable h = trailer_on laws setup w ends side id trailer (made_sends setup made plain side) sendable h
-every_event laws setup made plain w ends (event.TrailerFields side id fields) sendable h = trailer_fields_on laws setup w ends side id fields (made_sends setup made plain side) sendable h
+every_event laws setup made plain w ends (event.Trailer side id trailer) sendable h = trailer_on laws setup w ends side id trailer (plain side) sendable h
+every_event laws setup made plain w ends (event.TrailerFields side id fields) sendable h = trailer_fields_on laws setup w ends side id fields (plain side) sendable h
 every_event laws setup made plain w ends (event.Finish side id) sendable h = finish_on laws setup w ends side id sendable h
 every_event laws setup made plain w ends (event.Reset side id) sendable h = reset_on laws setup w ends side id sendable h
 every_event laws setup made plain w ends (event.Cancel side id) sendable h = cancel_on laws setup w ends side id sendable h
@@ -51,4 +50,4 @@ every_event laws setup made plain w ends (event.Show side) sendable h = show_on 
 -- **Two new endpoints that judge plainly run in a world over every schedule.**
 pub two_ends_run : (laws : Laws) (setup : Setup) (events : List Event) → IsMadeSetup setup → JudgesPlainly setup → AllByRecursion (IsSendable setup) events → RunsOn setup (empty_world setup) (new_ends setup) events
 two_ends_run laws setup events made plain sendable =
-    runs_on setup (λ w ends e. every_event laws setup made plain w ends e) (empty_world setup) (new_ends setup) events sendable (begins setup plain (laws.worlds.begins setup))
+    runs_on setup (λ w ends e. every_event laws setup made plain w ends e) (empty_world setup) (new_ends setup) events sendable (begins setup made plain (laws.worlds.begins setup))

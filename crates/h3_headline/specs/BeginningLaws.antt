@@ -8,7 +8,7 @@ use Rattle.h3_world.specs.declared.setup.Setup.{Setup}
 use Rattle.h3_world.specs.Streams.{is_open, exchange, flow}
 use Rattle.h3_world.specs.World.{empty_world, no_exchange}
 use Rattle.h3_proto.specs.declared.stream.Side.{Side}
-use Rattle.h3_world.specs.Setup.{JudgesPlainly, TakesAnyLength, announced_at}
+use Rattle.h3_world.specs.Setup.{IsMadeSetup, JudgesPlainly, TakesAnyLength, announced_at}
 use Rattle.h3_connection.specs.OwnIds.{other}
 use Rattle.h3_connection.specs.PeerReading.{none_read}
 use Rattle.h3_connection.specs.OtherSettings.{most_others}
@@ -61,12 +61,13 @@ decoder_at : (setup : Setup) (side : Side) → [] ≡ replies_unread (are_settin
 decoder_at setup side = rw (no_settings setup (other side)) refl
 
 -- One new endpoint.
-pub begins_at : (setup : Setup) (side : Side) → TakesAnyLength (announced_at setup side) → StandsAt setup (empty_world setup) side (new_endpoint side (announced_at setup side))
-begins_at setup Client any =
+pub begins_at : (setup : Setup) (side : Side) → TakesAnyLength (announced_at setup side) → (announced_at setup side).remembered ≡ None → StandsAt setup (empty_world setup) side (new_endpoint side (announced_at setup side))
+begins_at setup Client any none =
     record {
       side_is = refl;
       announced = refl;
       any = any;
+      remembered = none;
       no_fault = refl;
       nothing_kept = refl;
       own = refl;
@@ -79,11 +80,12 @@ begins_at setup Client any =
       incoming = λ id. rw (none_open setup Client id) tt;
       distinct = tt;
     }
-begins_at setup Server any =
+begins_at setup Server any none =
     record {
       side_is = refl;
       announced = refl;
       any = any;
+      remembered = none;
       no_fault = refl;
       nothing_kept = refl;
       own = refl;
@@ -111,11 +113,11 @@ nothing_sent setup Server id = by (is_request_stream id)
     by false = tt
 
 -- Both of them.
-pub begins : (setup : Setup) → JudgesPlainly setup → IsSoundWorld setup (empty_world setup) → Stands setup (empty_world setup) (new_ends setup)
-begins setup plain sound =
+pub begins : (setup : Setup) → IsMadeSetup setup → JudgesPlainly setup → IsSoundWorld setup (empty_world setup) → Stands setup (empty_world setup) (new_ends setup)
+begins setup made plain sound =
     record {
-      at_client = begins_at setup Client (plain Client).1;
-      at_server = begins_at setup Server (plain Server).1;
+      at_client = begins_at setup Client (plain Client).1 (made.sides Client).remembered;
+      at_server = begins_at setup Server (plain Server).1 (made.sides Server).remembered;
       next_id = refl;
       few = omega arith;
       sound = sound;

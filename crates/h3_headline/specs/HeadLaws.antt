@@ -23,7 +23,7 @@ use Rattle.h3_world.specs.Streams.{flow, is_open}
 use Rattle.h3_world.specs.World.{World, party, with_party}
 use Rattle.h3_connection.specs.Remembering as remembering
 use Rattle.h3_world.specs.Came.{settings_known}
-use Rattle.h3_world.specs.Setup.{JudgesPlainly, IsMadeSetup, announced_at, IsPlain, takes_any}
+use Rattle.h3_world.specs.Setup.{announced_at, IsPlain, takes_any}
 use Rattle.std.specs.Prelude.{option_map, not, ◌&&◌, is_some, ◌||◌}
 use Rattle.h3_connection.specs.StrictMessages.{malformation_by}
 use Rattle.h3_connection.specs.StrictSending.{broken_protocol, violation_of_own_head, broken_trailer, unless_malformed, early_trailer}
@@ -114,11 +114,11 @@ section_does setup w ends side id fields kind own h of_section opened unfinished
     (flow_extended setup u side id new.sent g mid f midway (is_open-with_party w side side p id ∙ opened) extends))
 
 -- the peer's section size, as far as it is known
-too_large_agrees : (setup : Setup) (w : World) (side : Side) (e : EndpointHistory) (fields : List Field) → (announced_at setup side).remembered ≡ None → StandsAt setup w side e
+too_large_agrees : (setup : Setup) (w : World) (side : Side) (e : EndpointHistory) (fields : List Field) → StandsAt setup w side e
     → is_too_large (remembering.settings_known e.announced e.peer.settings) fields ≡ is_too_large (settings_known setup w side) fields
-too_large_agrees setup w side e fields none h =
+too_large_agrees setup w side e fields h =
     ap (λ (a : Announced). is_too_large (remembering.settings_known a e.peer.settings) fields) h.announced
-    ∙ ap (λ r. is_too_large (remembering.settings_or r e.peer.settings) fields) none
+    ∙ ap (λ r. is_too_large (remembering.settings_or r e.peer.settings) fields) h.remembered
     ∙ ap (λ o. is_too_large o fields) h.control.settings ∙ by_there (are_settings_there setup (other side) (party w (other side)).own.control_taken)
   where
     by_there : (t : Bool) → is_too_large (if t then Some (with_meaning (announced_at setup (other side)).settings) else None) fields ≡ is_too_large (if t then Some (announced_at setup (other side)).settings else None) fields
@@ -188,19 +188,8 @@ not_malformed : (o : Option Malformation) (rules : List (Bool × Refusal)) → f
 not_malformed None rules e = (refl, e)
 not_malformed (Some why) rules e = cc
 
--- an endpoint that judges plainly, and remembers no settings of an earlier connection
-abbrev pub SendsPlainly : Announced → Type 0
-SendsPlainly a = (a.remembered ≡ None) × IsPlain a
-
--- each side of a setup that is made does
-abbrev pub SendPlainly : Setup → Type 0
-SendPlainly setup = (side : Side) → SendsPlainly (announced_at setup side)
-
-pub made_sends : (setup : Setup) → IsMadeSetup setup → JudgesPlainly setup → SendPlainly setup
-made_sends setup made plain side = ((made.sides side).remembered, plain side)
-
 -- A head goes out as these fields. What is malformed of it is told at the end as in the world; where nothing is, the fields can be sent as this head.
-heads_served : (setup : Setup) (w : World) (ends : Ends) (side : Side) (id : ℕ) (head : Fields) (fields : List Field) (told broken : Option Malformation) → SendsPlainly (announced_at setup side) → Stands setup w ends → told ≡ broken
+heads_served : (setup : Setup) (w : World) (ends : Ends) (side : Side) (id : ℕ) (head : Fields) (fields : List Field) (told broken : Option Malformation) → IsPlain (announced_at setup side) → Stands setup w ends → told ≡ broken
     → (broken ≡ None → IsWritableAs setup w side id head fields)
     → Serves setup
     (ends_of.done ends side answer.Done
@@ -218,16 +207,16 @@ heads_served setup w ends side id head fields told broken plain h same writable 
     let after = with_section (if is_interim head.status then Interim else Head) w side id fields in
     let here = refusal_of_head (sender.sender_at e id) told (broken_head_at e id fields) head fields in
     let there = refusal_of_head (sender_at setup w side id) broken None head fields in
-    subst (λ n. Serves setup (ends_of.done ends side answer.Done (does (sender.unless_closed e here) e n)) (machine.done there w answer.Done after)) (sym (unasked setup w side e new id fields plain.1 b.here refl))
+    subst (λ n. Serves setup (ends_of.done ends side answer.Done (does (sender.unless_closed e here) e n)) (machine.done there w answer.Done after)) (sym (unasked setup w side e new id fields plain b.here refl))
     (call_agrees setup w after ends side answer.Done answer.Done (sender.unless_closed e here) there new h
     (refusal_agrees setup w side id e (λ o. (not (takes_head o), refusal.OutOfOrder) ∷ unless_going going (unless_malformed told ((not (is_for (other e.side) head), refusal.WrongSide) ∷ unless_malformed (broken_head_at e id fields) ((is_too_large (remembering.settings_known e.announced e.peer.settings) fields, size) ∷ [])))) b.here
     ∙ ap (λ g. first_of ((not (is_open w side id), refusal.NotOpen) ∷ (not (takes_head to), refusal.OutOfOrder) ∷ unless_going g (unless_malformed told ((not (is_for (other e.side) head), refusal.WrongSide) ∷ unless_malformed (broken_head_at e id fields) ((is_too_large (remembering.settings_known e.announced e.peer.settings) fields, size) ∷ [])))))
     (going_agrees setup w side e b.here)
     ∙ ap (λ p. first_of ((not (is_open w side id), refusal.NotOpen) ∷ (not (takes_head to), refusal.OutOfOrder) ∷ unless_going none (unless_malformed p ((not (is_for (other e.side) head), refusal.WrongSide) ∷ unless_malformed (broken_head_at e id fields) ((is_too_large (remembering.settings_known e.announced e.peer.settings) fields, size) ∷ []))))) same
     ∙ ap (λ m. first_of ((not (is_open w side id), refusal.NotOpen) ∷ (not (takes_head to), refusal.OutOfOrder) ∷ unless_going none (unless_malformed broken ((not (is_for (other e.side) head), refusal.WrongSide) ∷ unless_malformed m ((is_too_large (remembering.settings_known e.announced e.peer.settings) fields, size) ∷ [])))))
-    (no_broken_head setup w side e id fields plain.1 b.here)
+    (no_broken_head setup w side e id fields plain b.here)
     ∙ ap (λ s. first_of ((not (is_open w side id), refusal.NotOpen) ∷ (not (takes_head to), refusal.OutOfOrder) ∷ unless_going none (unless_malformed broken ((not (is_for (other s) head), refusal.WrongSide) ∷ (is_too_large (remembering.settings_known e.announced e.peer.settings) fields, size) ∷ [])))) b.here.side_is
-    ∙ ap (λ t. first_of ((not (is_open w side id), refusal.NotOpen) ∷ (not (takes_head to), refusal.OutOfOrder) ∷ unless_going none (unless_malformed broken ((not (is_for (other side) head), refusal.WrongSide) ∷ (t, size) ∷ [])))) (too_large_agrees setup w side e fields plain.0 b.here))
+    ∙ ap (λ t. first_of ((not (is_open w side id), refusal.NotOpen) ∷ (not (takes_head to), refusal.OutOfOrder) ∷ unless_going none (unless_malformed broken ((not (is_for (other side) head), refusal.WrongSide) ∷ (t, size) ∷ [])))) (too_large_agrees setup w side e fields b.here))
     (λ goes.
     let last = (is_too_large (settings_known setup w side) fields, size) ∷ [] in
     let behind = (not (is_for (other side) head), refusal.WrongSide) ∷ last in
@@ -253,7 +242,7 @@ heads_served setup w ends side id head fields told broken plain h same writable 
         never false = refl
 
 -- **A head.**
-pub head_served : (setup : Setup) (w : World) (ends : Ends) (side : Side) (id : ℕ) (head : Fields) → SendsPlainly (announced_at setup side) → Stands setup w ends → IsWritableHead setup w side id head
+pub head_served : (setup : Setup) (w : World) (ends : Ends) (side : Side) (id : ℕ) (head : Fields) → IsPlain (announced_at setup side) → Stands setup w ends → IsWritableHead setup w side id head
     → Serves setup (answered ends (event.Head side id head)) (served setup w (event.Head side id head))
 head_served setup w ends side id head plain h writable =
     let e = end_at ends side in
@@ -264,7 +253,7 @@ unreadable_agrees : (setup : Setup) (w : World) (side : Side) (e : EndpointHisto
 unreadable_agrees setup w side e fields h = ap (λ (a : Announced). unreadable (takes_any a) fields) h.announced
 
 -- **A list as a head.**
-pub fields_served : (setup : Setup) (w : World) (ends : Ends) (side : Side) (id : ℕ) (fields : List Field) → SendsPlainly (announced_at setup side) → Stands setup w ends
+pub fields_served : (setup : Setup) (w : World) (ends : Ends) (side : Side) (id : ℕ) (fields : List Field) → IsPlain (announced_at setup side) → Stands setup w ends
     → (unreadable (takes_any (announced_at setup side)) fields ≡ None → IsWritableAs setup w side id (head_of_fields fields) fields)
     → Serves setup (answered ends (event.Fields side id fields)) (served setup w (event.Fields side id fields))
 fields_served setup w ends side id fields plain h writable =
@@ -273,7 +262,7 @@ fields_served setup w ends side id fields plain h writable =
     (unreadable_agrees setup w side e fields (both_of setup w side ends h).here) writable
 
 -- A trailer goes out as these fields.
-trailers_served : (setup : Setup) (w : World) (ends : Ends) (side : Side) (id : ℕ) (head : Fields) (fields : List Field) (told broken : Option Malformation) → SendsPlainly (announced_at setup side) → Stands setup w ends → told ≡ broken
+trailers_served : (setup : Setup) (w : World) (ends : Ends) (side : Side) (id : ℕ) (head : Fields) (fields : List Field) (told broken : Option Malformation) → IsPlain (announced_at setup side) → Stands setup w ends → told ≡ broken
     → (broken ≡ None → IsWritableAs setup w side id head fields)
     → Serves setup
     (ends_of.done ends side answer.Done
@@ -292,8 +281,8 @@ trailers_served setup w ends side id head fields told broken plain h same writab
     (refusal_agrees setup w side id e (λ o. (not (takes_body o), refusal.OutOfOrder) ∷ unless_malformed told ((has_pseudo head, refusal.PseudoInTrailer) ∷ unless_malformed (early_trailer o.content) (unless_malformed (broken_trailer e.announced fields) ((is_too_large (remembering.settings_known e.announced e.peer.settings) fields, size) ∷ [])))) b.here
     ∙ ap (λ p. first_of ((not (is_open w side id), refusal.NotOpen) ∷ (not (takes_body to), refusal.OutOfOrder) ∷ unless_malformed p ((has_pseudo head, refusal.PseudoInTrailer) ∷ unless_malformed (early_trailer to.content) (unless_malformed (broken_trailer e.announced fields) ((is_too_large (remembering.settings_known e.announced e.peer.settings) fields, size) ∷ []))))) same
     ∙ ap (λ m. first_of ((not (is_open w side id), refusal.NotOpen) ∷ (not (takes_body to), refusal.OutOfOrder) ∷ unless_malformed broken ((has_pseudo head, refusal.PseudoInTrailer) ∷ unless_malformed m ((is_too_large (remembering.settings_known e.announced e.peer.settings) fields, size) ∷ []))))
-    (no_broken_trailer setup w side e fields plain.1 b.here)
-    ∙ ap (λ t. first_of ((not (is_open w side id), refusal.NotOpen) ∷ (not (takes_body to), refusal.OutOfOrder) ∷ unless_malformed broken ((has_pseudo head, refusal.PseudoInTrailer) ∷ (t, size) ∷ []))) (too_large_agrees setup w side e fields plain.0 b.here))
+    (no_broken_trailer setup w side e fields plain b.here)
+    ∙ ap (λ t. first_of ((not (is_open w side id), refusal.NotOpen) ∷ (not (takes_body to), refusal.OutOfOrder) ∷ unless_malformed broken ((has_pseudo head, refusal.PseudoInTrailer) ∷ (t, size) ∷ []))) (too_large_agrees setup w side e fields b.here))
     (λ goes.
     let last = (is_too_large (settings_known setup w side) fields, size) ∷ [] in
     let behind = (has_pseudo head, refusal.PseudoInTrailer) ∷ last in
@@ -306,14 +295,14 @@ trailers_served setup w ends side id head fields told broken plain h same writab
     (k.has_pseudo ∙ s.0, k.reads) k.instructions)
 
 -- **A trailer.**
-pub trailer_served : (setup : Setup) (w : World) (ends : Ends) (side : Side) (id : ℕ) (head : Fields) → SendsPlainly (announced_at setup side) → Stands setup w ends → IsWritableHead setup w side id head
+pub trailer_served : (setup : Setup) (w : World) (ends : Ends) (side : Side) (id : ℕ) (head : Fields) → IsPlain (announced_at setup side) → Stands setup w ends → IsWritableHead setup w side id head
     → Serves setup (answered ends (event.Trailer side id head)) (served setup w (event.Trailer side id head))
 trailer_served setup w ends side id head plain h writable =
     let e = end_at ends side in
     trailers_served setup w ends side id head (head_fields head) (broken_protocol e.announced head) None plain h (protocol_taken setup w side e head writable.taken (both_of setup w side ends h).here) (λ none. writable.writable)
 
 -- **A list as a trailer.**
-pub trailer_fields_served : (setup : Setup) (w : World) (ends : Ends) (side : Side) (id : ℕ) (fields : List Field) → SendsPlainly (announced_at setup side) → Stands setup w ends
+pub trailer_fields_served : (setup : Setup) (w : World) (ends : Ends) (side : Side) (id : ℕ) (fields : List Field) → IsPlain (announced_at setup side) → Stands setup w ends
     → (unreadable (takes_any (announced_at setup side)) fields ≡ None → IsWritableAs setup w side id (head_of_fields fields) fields)
     → Serves setup (answered ends (event.TrailerFields side id fields)) (served setup w (event.TrailerFields side id fields))
 trailer_fields_served setup w ends side id fields plain h writable =

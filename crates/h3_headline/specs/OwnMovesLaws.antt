@@ -66,6 +66,7 @@ reader_stands setup w v side e f h same m =
       side_is = ap (λ x. x.side) m.same ∙ h.side_is;
       announced = ap (λ x. x.announced) m.same ∙ h.announced;
       any = h.any;
+      remembered = h.remembered;
       no_fault = ap (λ x. x.closed) m.same ∙ h.no_fault;
       nothing_kept = ap (λ x. x.kept) m.same ∙ h.nothing_kept;
       own = m.own;

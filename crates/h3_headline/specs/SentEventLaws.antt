@@ -19,11 +19,11 @@ use Rattle.h3_header.specs.TakenLaws.{takes_named}
 use Rattle.h3_world.specs.Sendable.{IsSendableHead, IsSendableList, IsSendable}
 use Rattle.h3_world.specs.declared.event.Event.TheVariants as event
 use Rattle.h3_world.specs.Ends.{Ends}
-use Rattle.h3_world.specs.Setup.{IsMadeSetup, announced_at, both_take_any, takes_any}
+use Rattle.h3_world.specs.Setup.{IsMadeSetup, IsPlain, announced_at, both_take_any, takes_any}
 use Rattle.h3_headline.specs.Calls.{IsWritableAs, IsWritableHead}
 use Rattle.h3_headline.specs.CancelLaws.{cancel_served}
 use Rattle.h3_headline.specs.Cited.{Laws, ReadingLaws, StreamLaws}
-use Rattle.h3_headline.specs.HeadLaws.{SendsPlainly, fields_served, for_read, head_served, pseudo_read, trailer_fields_served, trailer_served}
+use Rattle.h3_headline.specs.HeadLaws.{fields_served, for_read, head_served, pseudo_read, trailer_fields_served, trailer_served}
 use Rattle.h3_headline.specs.OpeningLaws.{open_served}
 use Rattle.h3_headline.specs.SenderEventLaws.{served_stands}
 use Rattle.h3_headline.specs.SentLaws.{body_served, finish_served, reset_served}
@@ -106,22 +106,22 @@ writable_list laws setup w side id fields sound sendable none =
 pub opened_on : (laws : Laws) (setup : Setup) (w : World) (ends : Ends) (side : Side) → IsSendable setup (event.OpenRequest side) → Stands setup w ends → StandsOn setup w ends (event.OpenRequest side)
 opened_on laws setup w ends side sendable h = served_stands laws.worlds setup w ends (event.OpenRequest side) sendable h (open_served setup w ends side h)
 
-pub head_on : (laws : Laws) (setup : Setup) (w : World) (ends : Ends) (side : Side) (id : ℕ) (head : Fields) → SendsPlainly (announced_at setup side) → IsSendable setup (event.Head side id head) → Stands setup w ends
+pub head_on : (laws : Laws) (setup : Setup) (w : World) (ends : Ends) (side : Side) (id : ℕ) (head : Fields) → IsPlain (announced_at setup side) → IsSendable setup (event.Head side id head) → Stands setup w ends
     → StandsOn setup w ends (event.Head side id head)
 head_on laws setup w ends side id head plain sendable h =
     served_stands laws.worlds setup w ends (event.Head side id head) sendable h (head_served setup w ends side id head plain h (writable_head laws setup w side id head h.sound sendable))
 
-pub trailer_on : (laws : Laws) (setup : Setup) (w : World) (ends : Ends) (side : Side) (id : ℕ) (trailer : Fields) → SendsPlainly (announced_at setup side) → IsSendable setup (event.Trailer side id trailer) → Stands setup w ends
+pub trailer_on : (laws : Laws) (setup : Setup) (w : World) (ends : Ends) (side : Side) (id : ℕ) (trailer : Fields) → IsPlain (announced_at setup side) → IsSendable setup (event.Trailer side id trailer) → Stands setup w ends
     → StandsOn setup w ends (event.Trailer side id trailer)
 trailer_on laws setup w ends side id trailer plain sendable h =
     served_stands laws.worlds setup w ends (event.Trailer side id trailer) sendable h (trailer_served setup w ends side id trailer plain h (writable_head laws setup w side id trailer h.sound sendable))
 
-pub fields_on : (laws : Laws) (setup : Setup) (w : World) (ends : Ends) (side : Side) (id : ℕ) (fields : List Field) → SendsPlainly (announced_at setup side) → IsSendable setup (event.Fields side id fields) → Stands setup w ends
+pub fields_on : (laws : Laws) (setup : Setup) (w : World) (ends : Ends) (side : Side) (id : ℕ) (fields : List Field) → IsPlain (announced_at setup side) → IsSendable setup (event.Fields side id fields) → Stands setup w ends
     → StandsOn setup w ends (event.Fields side id fields)
 fields_on laws setup w ends side id fields plain sendable h =
     served_stands laws.worlds setup w ends (event.Fields side id fields) sendable h (fields_served setup w ends side id fields plain h (writable_list laws setup w side id fields h.sound sendable))
 
-pub trailer_fields_on : (laws : Laws) (setup : Setup) (w : World) (ends : Ends) (side : Side) (id : ℕ) (fields : List Field) → SendsPlainly (announced_at setup side) → IsSendable setup (event.TrailerFields side id fields) → Stands setup w ends
+pub trailer_fields_on : (laws : Laws) (setup : Setup) (w : World) (ends : Ends) (side : Side) (id : ℕ) (fields : List Field) → IsPlain (announced_at setup side) → IsSendable setup (event.TrailerFields side id fields) → Stands setup w ends
     → StandsOn setup w ends (event.TrailerFields side id fields)
 trailer_fields_on laws setup w ends side id fields plain sendable h =
     served_stands laws.worlds setup w ends (event.TrailerFields side id fields) sendable h (trailer_fields_served setup w ends side id fields plain h (writable_list laws setup w side id fields h.sound sendable))

@@ -183,6 +183,8 @@ pub record StandsAt (setup : Setup) (w : World) (side : Side) (e : EndpointHisto
   pub announced : e.announced ≡ announced_at setup side
   -- it takes what is sent, however long
   pub any : TakesAnyLength (announced_at setup side)
+  -- it remembers no settings of an earlier connection
+  pub remembered : (announced_at setup side).remembered ≡ None
   pub no_fault : e.closed ≡ None
   pub nothing_kept : e.kept ≡ []
   pub own : e.own ≡ (party w side).own

@@ -9,7 +9,6 @@ use Rattle.h3_headline.specs.Cited.{Laws}
 use Rattle.h3_memory.specs.Theorem.{StepsOn}
 use Rattle.h3_memory.proofs.KeptLaws.{KeptLaws}
 use Rattle.h3_memory.proofs.ResetStep.{reset_step}
-use Rattle.h3_headline.specs.HeadLaws.{made_sends}
 use Rattle.h3_memory.proofs.SendersStep.{opened_step, head_step, fields_step, body_step, trailer_step, trailer_fields_step, finish_step, cancel_step, goaway_step, show_step}
 
 -- what goes over, and what is pulled
@@ -22,11 +21,11 @@ pub record ReadersStep (setup : Setup) : Type 0 where
 
 pub every_step : (qpack : KeptLaws) (laws : Laws) (setup : Setup) → IsMadeSetup setup → JudgesPlainly setup → ReadersStep setup → (e : Event) → StepsOn setup e
 every_step qpack laws setup made plain readers (event.OpenRequest side) = opened_step qpack laws setup side
-every_step qpack laws setup made plain readers (event.Head side id head) = head_step qpack laws setup (made_sends setup made plain) side id head
-every_step qpack laws setup made plain readers (event.Fields side id fields) = fields_step qpack laws setup (made_sends setup made plain) side id fields
+every_step qpack laws setup made plain readers (event.Head side id head) = head_step qpack laws setup plain side id head
+every_step qpack laws setup made plain readers (event.Fields side id fields) = fields_step qpack laws setup plain side id fields
 every_step qpack laws setup made plain readers (event.Body side id bytes) = body_step qpack laws setup side id bytes
-every_step qpack laws setup made plain readers (event.Trailer side id trailer) = trailer_step qpack laws setup (made_sends setup made plain) side id trailer
-every_step qpack laws setup made plain readers (event.TrailerFields side id fields) = trailer_fields_step qpack laws setup (made_sends setup made plain) side id fields
+every_step qpack laws setup made plain readers (event.Trailer side id trailer) = trailer_step qpack laws setup plain side id trailer
+every_step qpack laws setup made plain readers (event.TrailerFields side id fields) = trailer_fields_step qpack laws setup plain side id fields
 every_step qpack laws setup made plain readers (event.Finish side id) = finish_step qpack laws setup side id
 every_step qpack laws setup made plain readers (event.Reset side id) = reset_step qpack laws setup side id
 every_step qpack laws setup made plain readers (event.Cancel side id) = cancel_step qpack laws setup side id

@@ -92,6 +92,7 @@ module _ (setup : Setup) (w : World) (side : Side) where
         side_is = h.side_is;
         announced = h.announced;
         any = h.any;
+        remembered = h.remembered;
         no_fault = h.no_fault;
         nothing_kept = h.nothing_kept;
         own = h.own ∙ sym (ap (λ (p : Party). p.own) reader_is);
@@ -118,6 +119,7 @@ module _ (setup : Setup) (w : World) (side : Side) where
         side_is = h.side_is;
         announced = h.announced;
         any = h.any;
+        remembered = h.remembered;
         no_fault = h.no_fault;
         nothing_kept = h.nothing_kept;
         own = ap (λ (o : Own). record o { decoder_taken = min 1 o.decoder_taken }) h.own ∙ sym (ap (λ (p : Party). p.own) writer_is);

@@ -22,11 +22,10 @@ use Rattle.h3_world.specs.Headline.{is_out_of_memory}
 use Rattle.h3_world.specs.Order.{outgoing_of}
 use Rattle.h3_world.specs.Refusals as refusals
 use Rattle.h3_world.specs.Sendable.{IsSendable}
-use Rattle.h3_world.specs.Setup.{IsMadeSetup}
+use Rattle.h3_world.specs.Setup.{IsMadeSetup, JudgesPlainly}
 use Rattle.h3_world.specs.Step.{Does, IsExact}
 use Rattle.h3_world.specs.Streams.{flow, is_open}
 use Rattle.h3_world.specs.World.{World}
-use Rattle.h3_headline.specs.HeadLaws.{SendPlainly}
 use Rattle.h3_headline.specs.Cited.{Laws}
 use Rattle.h3_headline.specs.SentEventLaws.{opened_on, head_on, fields_on, trailer_on, trailer_fields_on, cancel_on, goaway_on}
 use Rattle.h3_memory.specs.Kept.{KeepingWorld, with_world}
@@ -164,7 +163,7 @@ module _ (qpack : KeptLaws) (laws : Laws) (setup : Setup) where
       lacks k ends new a sendable h PullLacks m l = absurd l
       lacks k ends new a sendable h ListLacks m l = absurd l
 
-  pub head_step : SendPlainly setup → (side : Side) (id : ℕ) (head : Fields) → StepsOn setup (event.Head side id head)
+  pub head_step : JudgesPlainly setup → (side : Side) (id : ℕ) (head : Fields) → StepsOn setup (event.Head side id head)
   head_step plain side id head = steps setup (event.Head side id head) (λ b w a. any_exact b) (λ k ends sendable h. head_answered laws setup k ends h side (plain side) id head sendable) lacks
     where
       lacks : (k : KeepingWorld) (ends new : Ends) (a : Answer) → IsSendable setup (event.Head side id head) → StandsKeeping setup k ends → TellsMemory a → is_out_of_memory a ≡ true → refused.LacksMemory ends (event.Head side id head) a new
@@ -180,7 +179,7 @@ module _ (qpack : KeptLaws) (laws : Laws) (setup : Setup) where
       lacks k ends new a sendable h PullLacks m l = absurd l
       lacks k ends new a sendable h ListLacks m l = absurd l
 
-  pub trailer_step : SendPlainly setup → (side : Side) (id : ℕ) (trailer : Fields) → StepsOn setup (event.Trailer side id trailer)
+  pub trailer_step : JudgesPlainly setup → (side : Side) (id : ℕ) (trailer : Fields) → StepsOn setup (event.Trailer side id trailer)
   trailer_step plain side id trailer = steps setup (event.Trailer side id trailer) (λ b w a. any_exact b) (λ k ends sendable h. trailer_answered laws setup k ends h side (plain side) id trailer sendable) lacks
     where
       lacks : (k : KeepingWorld) (ends new : Ends) (a : Answer) → IsSendable setup (event.Trailer side id trailer) → StandsKeeping setup k ends → TellsMemory a → is_out_of_memory a ≡ true → refused.LacksMemory ends (event.Trailer side id trailer) a new
@@ -197,7 +196,7 @@ module _ (qpack : KeptLaws) (laws : Laws) (setup : Setup) where
       lacks k ends new a sendable h ListLacks m l = absurd l
 
   -- of lists
-  pub fields_step : SendPlainly setup → (side : Side) (id : ℕ) (fields : List Field) → StepsOn setup (event.Fields side id fields)
+  pub fields_step : JudgesPlainly setup → (side : Side) (id : ℕ) (fields : List Field) → StepsOn setup (event.Fields side id fields)
   fields_step plain side id fields = steps setup (event.Fields side id fields) (λ b w a. any_exact b) (λ k ends sendable h. fields_answered laws setup k ends h side (plain side) id fields sendable) lacks
     where
       lacks : (k : KeepingWorld) (ends new : Ends) (a : Answer) → IsSendable setup (event.Fields side id fields) → StandsKeeping setup k ends → TellsMemory a → is_out_of_memory a ≡ true → refused.LacksMemory ends (event.Fields side id fields) a new
@@ -212,7 +211,7 @@ module _ (qpack : KeptLaws) (laws : Laws) (setup : Setup) where
       lacks k ends new a sendable h PullLacks m l = absurd l
       lacks k ends new a sendable h ListLacks m l = absurd l
 
-  pub trailer_fields_step : SendPlainly setup → (side : Side) (id : ℕ) (fields : List Field) → StepsOn setup (event.TrailerFields side id fields)
+  pub trailer_fields_step : JudgesPlainly setup → (side : Side) (id : ℕ) (fields : List Field) → StepsOn setup (event.TrailerFields side id fields)
   trailer_fields_step plain side id fields = steps setup (event.TrailerFields side id fields) (λ b w a. any_exact b) (λ k ends sendable h. trailer_fields_answered laws setup k ends h side (plain side) id fields sendable) lacks
     where
       lacks : (k : KeepingWorld) (ends new : Ends) (a : Answer) → IsSendable setup (event.TrailerFields side id fields) → StandsKeeping setup k ends → TellsMemory a → is_out_of_memory a ≡ true → refused.LacksMemory ends (event.TrailerFields side id fields) a new

@@ -27,11 +27,10 @@ use Rattle.h3_world.specs.EndLists.{send_fields, send_trailer_fields}
 use Rattle.h3_world.specs.Ends.{Ends, end_at, answered, done}
 use Rattle.h3_world.specs.Refusals.{next_id}
 use Rattle.h3_world.specs.Sendable.{IsSendable}
-use Rattle.h3_world.specs.Setup.{IsMadeSetup, announced_at}
+use Rattle.h3_world.specs.Setup.{IsMadeSetup, IsPlain, announced_at}
 use Rattle.h3_world.specs.Step.{Step}
 use Rattle.h3_world.specs.Streams.{has_outgoing}
 use Rattle.h3_world.specs.World.{World}
-use Rattle.h3_headline.specs.HeadLaws.{SendsPlainly}
 use Rattle.h3_headline.specs.Cited.{Laws}
 use Rattle.h3_headline.specs.FlowLaws.{same_number}
 use Rattle.h3_headline.specs.SendingLaws.{both_of}
@@ -111,16 +110,16 @@ module _ (laws : Laws) (setup : Setup) (k : KeepingWorld) (ends : Ends) (h : Sta
       (subst (on v) (sym both.alike) step, both.stands)
 
   -- an end that judges plainly says so in what it announced
-  announces_plainly : (side : Side) → SendsPlainly (announced_at setup side) → (end_at h.behind side).announced.choices.strict_messages ≡ false
-  announces_plainly side plain = ap (λ (a : Announced). a.choices.strict_messages) (both_of setup k.world side h.behind h.stands).here.announced ∙ plain.1.0
+  announces_plainly : (side : Side) → IsPlain (announced_at setup side) → (end_at h.behind side).announced.choices.strict_messages ≡ false
+  announces_plainly side plain = ap (λ (a : Announced). a.choices.strict_messages) (both_of setup k.world side h.behind h.stands).here.announced ∙ plain.0
 
   -- **A head.**
-  pub head_calls : (side : Side) → SendsPlainly (announced_at setup side) → (id : ℕ) (head : Fields) → Calls setup k ends h side (λ e. sender.send_head e id head)
+  pub head_calls : (side : Side) → IsPlain (announced_at setup side) → (id : ℕ) (head : Fields) → Calls setup k ends h side (λ e. sender.send_head e id head)
   head_calls side plain id head =
       let c = keeps_at setup k ends side h in
       calls setup k ends h side (λ e. sender.send_head e id head) (head_alike (kept_at k (other side)) c.held c.arrivals side (end_at h.behind side) c.incoming c.resumes (announces_plainly side plain) id head)
 
-  pub head_answered : (side : Side) → SendsPlainly (announced_at setup side) → (id : ℕ) (head : Fields) → IsSendable setup (event.Head side id head) → Answered setup k ends (event.Head side id head)
+  pub head_answered : (side : Side) → IsPlain (announced_at setup side) → (id : ℕ) (head : Fields) → IsSendable setup (event.Head side id head) → Answered setup k ends (event.Head side id head)
   head_answered side plain id head sendable =
       let on = head_on laws setup k.world h.behind side id head plain sendable h.stands in
       let both = happens side answer.Done (λ e. sender.send_head e id head) (λ v a. Step setup k.world (event.Head side id head) a v) on.new (head_calls side plain id head) on.happens.step on.stands
@@ -128,12 +127,12 @@ module _ (laws : Laws) (setup : Setup) (k : KeepingWorld) (ends : Ends) (h : Sta
       record { new = on.new; step = (both.0, refl); stands = both.1 }
 
   -- and as a list
-  pub fields_calls : (side : Side) → SendsPlainly (announced_at setup side) → (id : ℕ) (fields : List Field) → Calls setup k ends h side (λ e. send_fields e id fields)
+  pub fields_calls : (side : Side) → IsPlain (announced_at setup side) → (id : ℕ) (fields : List Field) → Calls setup k ends h side (λ e. send_fields e id fields)
   fields_calls side plain id fields =
       let c = keeps_at setup k ends side h in
       calls setup k ends h side (λ e. send_fields e id fields) (fields_alike (kept_at k (other side)) c.held c.arrivals side (end_at h.behind side) c.incoming c.resumes (announces_plainly side plain) id fields)
 
-  pub fields_answered : (side : Side) → SendsPlainly (announced_at setup side) → (id : ℕ) (fields : List Field) → IsSendable setup (event.Fields side id fields) → Answered setup k ends (event.Fields side id fields)
+  pub fields_answered : (side : Side) → IsPlain (announced_at setup side) → (id : ℕ) (fields : List Field) → IsSendable setup (event.Fields side id fields) → Answered setup k ends (event.Fields side id fields)
   fields_answered side plain id fields sendable =
       let on = fields_on laws setup k.world h.behind side id fields plain sendable h.stands in
       let both = happens side answer.Done (λ e. send_fields e id fields) (λ v a. Step setup k.world (event.Fields side id fields) a v) on.new (fields_calls side plain id fields) on.happens.step on.stands
@@ -159,7 +158,7 @@ module _ (laws : Laws) (setup : Setup) (k : KeepingWorld) (ends : Ends) (h : Sta
       let c = keeps_at setup k ends side h in
       calls setup k ends h side (λ e. sender.send_trailer e id trailer) (trailer_alike (kept_at k (other side)) c.held c.arrivals side (end_at h.behind side) c.incoming c.resumes id trailer)
 
-  pub trailer_answered : (side : Side) → SendsPlainly (announced_at setup side) → (id : ℕ) (trailer : Fields) → IsSendable setup (event.Trailer side id trailer) → Answered setup k ends (event.Trailer side id trailer)
+  pub trailer_answered : (side : Side) → IsPlain (announced_at setup side) → (id : ℕ) (trailer : Fields) → IsSendable setup (event.Trailer side id trailer) → Answered setup k ends (event.Trailer side id trailer)
   trailer_answered side plain id trailer sendable =
       let on = trailer_on laws setup k.world h.behind side id trailer plain sendable h.stands in
       let both = happens side answer.Done (λ e. sender.send_trailer e id trailer) (λ v a. Step setup k.world (event.Trailer side id trailer) a v) on.new (trailer_calls side id trailer) on.happens.step on.stands
@@ -171,7 +170,7 @@ module _ (laws : Laws) (setup : Setup) (k : KeepingWorld) (ends : Ends) (h : Sta
       let c = keeps_at setup k ends side h in
       calls setup k ends h side (λ e. send_trailer_fields e id fields) (trailer_fields_alike (kept_at k (other side)) c.held c.arrivals side (end_at h.behind side) c.incoming c.resumes id fields)
 
-  pub trailer_fields_answered : (side : Side) → SendsPlainly (announced_at setup side) → (id : ℕ) (fields : List Field) → IsSendable setup (event.TrailerFields side id fields) → Answered setup k ends (event.TrailerFields side id fields)
+  pub trailer_fields_answered : (side : Side) → IsPlain (announced_at setup side) → (id : ℕ) (fields : List Field) → IsSendable setup (event.TrailerFields side id fields) → Answered setup k ends (event.TrailerFields side id fields)
   trailer_fields_answered side plain id fields sendable =
       let on = trailer_fields_on laws setup k.world h.behind side id fields plain sendable h.stands in
       let both = happens side answer.Done (λ e. send_trailer_fields e id fields) (λ v a. Step setup k.world (event.TrailerFields side id fields) a v) on.new (trailer_fields_calls side id fields) on.happens.step on.stands

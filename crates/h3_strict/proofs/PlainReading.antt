@@ -21,7 +21,7 @@ use Rattle.h3_connection.specs.ExcessiveInstructions.{listen_up_to}
 use Rattle.h3_connection.specs.Incoming.{Incoming}
 use Rattle.h3_connection.specs.Keeping.{read_arrival, unless_faulty, read_all, unkept, refused_behind, arrival_refusal, arrives_behind, arrives}
 use Rattle.h3_connection.specs.Listeners.{after_hearing, heard_more, hearing_fault, insertions_heard, listening_fault}
-use Rattle.h3_connection.specs.PeerReading.{Peer, PeerFound, with_unread, read_frame, unless_fault, at_front, read_within, read_peer}
+use Rattle.h3_connection.specs.PeerReading.{Peer, PeerFound, having_frame, with_unread, read_frame, unless_fault, at_front, read_within, read_peer}
 use Rattle.h3_connection.specs.PeerReadingLaws.{stay_within}
 use Rattle.h3_connection.specs.StreamSets.{Streams, stream_at}
 use Rattle.h3_connection.specs.StrictConnection.{is_strict, kinds_of, known_streams}
@@ -163,7 +163,7 @@ behind_fault limit (q, Some code) go both h = ReadsSame refl
 behind_fault limit (q, None) go both h = h q
 
 front_plain : (limit : ℕ) (go both : Peer → PeerFound) (side : Side) (p : Peer) (bytes : List ℕ) (x : Front) → ((q : Peer) → PeerPlainly limit (go q) (both q)) → PeerPlainly limit (at_front go side p bytes x) (at_front both side p bytes x)
-front_plain limit go both side p bytes (Whole f rest) h = behind_fault limit (read_frame side (with_unread p rest) p.settings f) go both h
+front_plain limit go both side p bytes (Whole f rest) h = behind_fault limit (read_frame side (having_frame p f bytes rest) p.settings f) go both h
 front_plain limit go both side p bytes (Unknown kind rest) h = ReadsSame refl
 front_plain limit go both side p bytes (Refused e) h = ReadsSame refl
 front_plain limit go both side p bytes (Unfinished least) h = ReadsSame refl

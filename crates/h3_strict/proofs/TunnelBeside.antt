@@ -24,7 +24,7 @@ use Rattle.h3_headline.specs.Contents.{KeepsParts}
 use Rattle.h3_headline.specs.KeepsPartsLaws.{keeps_delivery, keeps_end, keeps_reset, keeps_same}
 use Rattle.h3_headline.specs.Standing.{Stands}
 use Rattle.h3_strict.proofs.PlainStreams.{at_each, out_at}
-use Rattle.h3_strict.proofs.SentTallies.{stands_at}
+use Rattle.h3_strict.proofs.SentTallies.{stands_at, forgets_at}
 use Rattle.h3_strict.proofs.TunnelQuiet.{cancel_parts, goaway_parts, open_parts, reset_parts}
 use Rattle.h3_strict.specs.GivesUp.{AsPlainly, GivesUpSo, HappensAnyhow, RefusesSo}
 use Rattle.h3_strict.specs.PlainEnds.{is_malformed_refusal, plain_ends, plain_setup}
@@ -50,6 +50,7 @@ stands_itself setup w ends h = record {
   stands = h;
   side_is = λ side. (stands_at setup w ends side h).side_is;
   closed = λ side. (stands_at setup w ends side h).no_fault;
+  remembered = λ side. forgets_at setup w ends side h;
   settings = λ side. sym (ap (λ (e : EndpointHistory). e.peer.settings) (end_plainly ends side));
   decoder = λ side. sym (ap (λ (e : EndpointHistory). e.decoding.decoder) (end_plainly ends side));
   next_id = refl;
