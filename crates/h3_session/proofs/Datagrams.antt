@@ -38,8 +38,8 @@ refused_is s e id h =
     let asked = is_request_stream id in
     let sending = option_map is_open (option_map (λ (r : RequestState). r.outgoing) (kept_at s.requests id)) in
     ap (λ closed. refusal_by closed asked (announces s.announced.settings && peer_announces (settings_known s.announced s.peer.settings)) sending) h.closed
-    ∙ ap (λ a. refusal_by e.closed asked (announces a.settings && peer_announces (settings_known s.announced s.peer.settings)) sending) h.announced
-    ∙ ap (λ p. refusal_by e.closed asked (announces e.announced.settings && peer_announces p.settings) sending) h.peer
+    ∙ ap (λ a. refusal_by e.closed asked (announces a.settings && peer_announces (settings_known a s.peer.settings)) sending) h.announced
+    ∙ ap (λ p. refusal_by e.closed asked (announces e.announced.settings && peer_announces (settings_known e.announced p.settings)) sending) h.peer
     ∙ ap (refusal_by e.closed asked (announces e.announced.settings && peer_announces (settings_known e.announced e.peer.settings))) (sending_at (stream_at e.outgoing id) (option_map (λ (r : RequestState). r.outgoing) (kept_at s.requests id)) (h.outgoing id))
 
 pub shows_head : (s : EndpointState) (id : ℕ) (head : List ℕ) → None ≡ datagram_refused s id → head ≡ head_bytes id → ShowsDatagramHead s id (Ok head)

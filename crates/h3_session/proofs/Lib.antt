@@ -72,3 +72,4 @@ pub mod OpeningAt
 pub mod PeerKinds
 pub mod Unblocked
 pub mod Events
+mod BeginningWith

@@ -14,7 +14,7 @@ use Rattle.h3_connection.specs.PeerReading.{Peer, PeerFound, read_peer}
 use Rattle.h3_connection.specs.StreamSets.{Streams}
 use Rattle.h3_connection.specs.StrictConnectionLaws.{refused_alike}
 use Rattle.h3_connection.specs.Unidirectional.{Unidirectional, Role, role_after, with_bytes}
-use Rattle.h3_connection.specs.Unidirectional.Role.{Untold, Control, Encoder, Decoder, Session, Push, Ignored}
+use Rattle.h3_connection.specs.Unidirectional.Role.{Untold, Control, Encoder, Decoder, Session, Push, Ignored, Other}
 use Rattle.h3_connection.specs.declared.arrival.Arrival.{Arrival}
 use Rattle.h3_connection.specs.declared.arrival.Arrival.TheVariants.{BytesCame, EndCame, ResetCame}
 use Rattle.h3_session.specs.Reading.{read_at}
@@ -124,6 +124,7 @@ heard_elsewhere e id Decoder bytes =
 heard_elsewhere e id (Session n) bytes = nothing_found e _
 heard_elsewhere e id (Push n) bytes = nothing_found e _
 heard_elsewhere e id Ignored bytes = nothing_found e None
+heard_elsewhere e id (Other kind) bytes = nothing_found e None
 
 unidirectional_elsewhere : (e : EndpointHistory) (id : ℕ) (o : Unidirectional) (x : Role × List ℕ) → LooksElsewhere e (read_unidirectional e id o x) (λ ins outs. read_unidirectional (with_requests e ins outs) id o x)
 unidirectional_elsewhere e id o (role, bytes) =
@@ -151,6 +152,7 @@ held_elsewhere e id (Decoder, bytes) = record { apart = λ ins outs. refl; side 
 held_elsewhere e id (Session n, bytes) = nothing_found e None
 held_elsewhere e id (Push n, bytes) = nothing_found e None
 held_elsewhere e id (Ignored, bytes) = nothing_found e None
+held_elsewhere e id (Other kind, bytes) = nothing_found e None
 
 pub frames_elsewhere : (e : EndpointHistory) (p : Peer) → LooksElsewhere e (after_frames e p, None) (λ ins outs. (after_frames (with_requests e ins outs) p, None))
 frames_elsewhere e p = let h = learned_elsewhere (record e { peer = p }) e.peer.settings p.settings None in record { apart = h.apart; side = h.side; kept = h.kept }

@@ -312,7 +312,7 @@ head_judged s n id head fields place refused r closed sent at rest same why judg
         (section_judged (λ e. listed_head_refusal e id head fields) (λ e. after_head e id head fields) s id fields (broken_head_in s id fields) n.requests same r
         (head_rule s id head fields (open_rule ∙ is))
         (λ differs. ap (λ b. list_refused b (settings_known s.announced s.peer.settings) fields) rules
-        ∙ ap (λ settings. list_refused (broken_behind place n id fields) settings fields) (ap (λ (v : EndpointState). v.peer.settings) (sym rest)) ∙ judged.list want differs)
+        ∙ ap (λ settings. list_refused (broken_behind place n id fields) settings fields) (ap (λ (v : EndpointState). settings_known v.announced v.peer.settings) (sym rest)) ∙ judged.list want differs)
         (λ memory. rules ∙ judged.unbroken want memory))
 
 -- or it was sent
@@ -430,7 +430,7 @@ trailer_judged s n id trailer fields refused r closed sent rest same why judged 
         (section_judged (λ e. listed_trailer_refusal e id trailer fields) (λ e. after_trailer e id fields) s id fields (broken_trailer s.announced fields) n.requests same r
         (trailer_rule s id trailer fields (open_rule ∙ is))
         (λ differs. ap (λ b. list_refused b (settings_known s.announced s.peer.settings) fields) rules
-        ∙ ap (λ settings. list_refused (broken_behind TrailerSent n id fields) settings fields) (ap (λ (v : EndpointState). v.peer.settings) (sym rest)) ∙ judged.list want differs)
+        ∙ ap (λ settings. list_refused (broken_behind TrailerSent n id fields) settings fields) (ap (λ (v : EndpointState). settings_known v.announced v.peer.settings) (sym rest)) ∙ judged.list want differs)
         (λ memory. rules ∙ judged.unbroken want memory))
 
 -- or it was sent

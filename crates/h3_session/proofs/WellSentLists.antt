@@ -37,7 +37,7 @@ head_list (IsHead head) e peer id fields strict sent =
     let allowed = not_closed e.closed _ (was_allowed rule e after sent) in
     let there = passed (not (is_open e id)) refusal.NotOpen ((not (takes_head (outgoing_at e id)), refusal.OutOfOrder) ∷ judged) allowed in
     let placed = not_early protocol wrong (not_going going (unless_malformed protocol wrong) (passed (not (takes_head (outgoing_at e id))) refusal.OutOfOrder judged there)) in
-    head_taken e.side e.announced peer e.peer.settings (known_of (stream_at e.incoming id)) fields strict.strict strict.knows
+    head_taken e.side e.announced peer (settings_known e.announced e.peer.settings) (known_of (stream_at e.incoming id)) fields strict.strict strict.knows
     (not_malformed broken size (passed (not (is_for (other e.side) head)) refusal.WrongSide (unless_malformed broken size) placed))
 
 trailer_list : (r : HeadRead) (e : EndpointHistory) (peer : Announced) (id : ℕ) (fields : List Field) → IsStrictTo e peer → (send_read_trailer e id fields r).0 ≡ None → broken_rule (other e.side) peer InBody fields ≡ None
