@@ -156,7 +156,7 @@ one_read kinds limit side p new goaways rest updates f small same kept gives doe
 pub one_fault : (kinds : FrameKinds) (limit : ℕ) (side : Side) (p new : Peer) (goaways rest : List ℕ) (updates : Updates) (f : Frame PayloadLen) (code : ℕ) → is_excessive_by kinds limit (known_by kinds p.unread) ≡ false
     → goaways ≡ p.goaways → updates ≡ p.updates → frame_by kinds (known_by kinds p.unread) ≡ Whole f rest
     → read_frame side (record p { unread = rest; goaways = goaways; updates = updates }) p.settings f ≡ (new, Some code) → read_peer kinds limit side p ≡ (new, Some code)
-one_fault kinds limit side p new goaways rest updates f code small same kept gives does = 
+one_fault kinds limit side p new goaways rest updates f code small same kept gives does =
     peer_fault kinds limit side p new f rest code small gives
     (having_as side p f (known_by kinds p.unread) rest (new, Some code) (same_kept side p goaways rest updates f (new, Some code) same kept does) (λ none. absurd (cc)))
 

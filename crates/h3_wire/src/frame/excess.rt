@@ -83,12 +83,9 @@ fn first_head(src: &BufList<Bytes>, passed: usize, kinds: FrameKinds) -> Option<
     }
 }
 
-// What the frame under the cursor says, as far as its type and length came: the cursor is behind these then. A frame that is unknown and whole
-// says nothing, and is passed.
-pub(super) fn look(
-    cursor: &mut Cursor<'_, Bytes>,
-    kinds: FrameKinds,
-) -> Option<Option<(u64, u64)>>
+// What the frame under the cursor says, as far as its type and length came: the cursor stands after these then. A frame that is unknown and
+// whole says nothing, and is passed.
+pub(super) fn look(cursor: &mut Cursor<'_, Bytes>, kinds: FrameKinds) -> Option<Option<(u64, u64)>>
     ensures some { IfSome result (λ h. h ≡ head_said (varint_at (known_by kinds (left_at cursor.old)))) }
     ensures behind { IfSome result (λ h. payload_of_settings (varint_at (known_by kinds (left_at cursor.old))) ≡ payload_behind h (left_at cursor.new)) }
     ensures same { IsNone result → known_by kinds (left_at cursor.new) ≡ known_by kinds (left_at cursor.old) }

@@ -46,7 +46,7 @@ fn find_settings(cursor: &mut Cursor<'_, Bytes>, kinds: FrameKinds) -> usize
     }
 }
 
-// How long the payload is behind this head, if that is of SETTINGS, and so many bytes are there; else 0.
+// How long the payload is after this type and length, if they are of SETTINGS, and so many bytes are there; else 0.
 fn settings_length(head: Option<(u64, u64)>, left: usize) -> usize
     ensures there { result ≤ left }
     ensures is { (bytes : List ℕ) → left ≡ length bytes → payload_behind head bytes ≡ take result bytes }

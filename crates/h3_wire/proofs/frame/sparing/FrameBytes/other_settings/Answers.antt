@@ -34,5 +34,5 @@ returns c =
     let there : length (concat (i.let_go.pieces ++ i.kept.pieces)) ≡ length (concat c.args.self.now.pieces) = ap (λ (s : Sparing). length (concat s.pieces)) c.self.view_is in
     let whole : i.passing ≤ length (concat (i.let_go.pieces ++ i.kept.pieces)) = omega (arith, there, c.len.ensures, c.if-len-self.false) in
     let same = left_behind c.args.kinds i.known_to i.let_go.pieces i.kept.pieces i.passing i.gone (ap (λ (s : Sparing). suits s.known_to c.args.kinds) c.self.view_is ∙ sym c.suits.ensures ∙ c.if-not-suits.false) c.self.invariant.0 whole
-        ∙ ap (λ (s : Sparing). known_by c.args.kinds (concat s.pieces)) c.self.view_is in
+    ∙ ap (λ (s : Sparing). known_by c.args.kinds (concat s.pieces)) c.self.view_is in
     subst (λ l. IfOk c.other_settings.result (λ kept. kept.items ≡ others_at c.args.most l)) same c.other_settings.ensures
