@@ -1,11 +1,15 @@
 -- A new endpoint that announces further settings stands for the history of one.
 use Rattle.std.proofs.Common.{◌≡◌, ℕ, ◌≤◌, List, [], arith, refl, ap, sym, subst, ◌∙◌, append-nil, Result, Ok, Err}
+use Rattle.h3_proto.specs.Further.{further_from}
+use Rattle.h3_proto.specs.declared.frame.SettingsError.{SettingsError}
 use Rattle.std.specs.Prelude.{OnOk}
 use Rattle.h3_proto.specs.declared.stream.Side.{Side}
 use Rattle.h3_proto.specs.declared.stream.Side.TheVariants.{Client, Server}
 use Rattle.h3_connection.specs.declared.setup.Announced.{Announced}
+use Rattle.h3_connection.specs.declared.setup.NewError.TheVariants as new_error
 use Rattle.h3_connection.specs.Endpoint.{new_endpoint, new_endpoint_with}
 use Rattle.h3_connection.specs.OwnSettings.{control_start}
+use Rattle.h3_connection.specs.SendingContracts.{CreatesFurther, CreatesWith}
 use Rattle.h3_connection.specs.State.{EndpointState, OwnStands, OwnState, StandsFor, TakesWhatIsThere}
 
 -- its own streams
@@ -63,3 +67,13 @@ pub begins_with : {A E : Type 0} (r : Result A E) (s before after : EndpointStat
 begins_with (Ok value) s before after own further same is begun =
     λ side announced h. subst (λ x. StandsFor x (new_endpoint_with side announced further)) (sym is) (begun_with s own side announced further begun (subst (λ x. StandsFor x (new_endpoint side announced)) (sym same) h))
 begins_with (Err e) s before after own further same is begun = tt
+
+-- these settings are refused, or there is no memory for an endpoint, or one is made
+pub further_refused : (side : Side) (a : Announced) (pairs : List (ℕ × ℕ)) (e : SettingsError) → Err e ≡ further_from a.settings [] pairs → CreatesWith side (Ok a) pairs (Err (new_error.Settings e))
+further_refused side a pairs e is = subst (λ f. CreatesFurther side a f (Err (new_error.Settings e))) is refl
+
+pub no_memory_with : (side : Side) (a : Announced) (pairs further : List (ℕ × ℕ)) → Ok further ≡ further_from a.settings [] pairs → CreatesWith side (Ok a) pairs (Err new_error.OutOfMemory)
+no_memory_with side a pairs further is = subst (λ f. CreatesFurther side a f (Err new_error.OutOfMemory)) is refl
+
+pub made_with : (side : Side) (a : Announced) (pairs further : List (ℕ × ℕ)) (s : EndpointState) → Ok further ≡ further_from a.settings [] pairs → StandsFor s (new_endpoint_with side a further) → CreatesWith side (Ok a) pairs (Ok s)
+made_with side a pairs further s is h = subst (λ f. CreatesFurther side a f (Ok s)) is h

@@ -26,12 +26,16 @@ pub(crate) struct GivenPairs {
 
 impl GivenPairs {
     /// Of these numbers, an id and a value in turn. None: one is left over, or there are more than eight pairs.
+    #[tactic(auto, using(crate::proofs::Pairing::left_over, crate::proofs::Pairing::too_many))]
     pub(crate) fn of(numbers: &[u64]) -> Option<GivenPairs>
         ensures some { IfSome result (λ p. pairs_given numbers.now ≡ Some (take p.len p.pairs)) }
         ensures none { IsNone result → pairs_given numbers.now ≡ None }
     {
         let len = numbers.len() / 2;
-        if numbers.len() % 2 != 0 || len > MOST {
+        if numbers.len() % 2 != 0 {
+            return None;
+        }
+        if len > MOST {
             return None;
         }
         let mut pairs = [(0, 0); MOST];
@@ -51,6 +55,7 @@ impl GivenPairs {
 }
 
 /// The connection that is asked for, with these further settings.
+#[tactic(auto, using(crate::proofs::MakingWith::lacks_with, crate::proofs::MakingWith::refused_with))]
 pub(crate) fn made_with(
     alloc: Global,
     given: &GivenConfig,

@@ -18,6 +18,7 @@ use std::alloc::Global;
 
 impl Connection {
     /// Copies the settings of the server that came, to be remembered.
+    #[tactic(auto, using(crate::proofs::Remembering::lacks_memory, crate::proofs::Remembering::none_came, crate::proofs::Remembering::lacks_room, crate::proofs::Remembering::copied))]
     pub(crate) fn remember_settings(
         &self,
         alloc: Global,
@@ -43,6 +44,7 @@ impl Connection {
     }
 
     /// Whether the settings that came keep to those that were remembered.
+    #[tactic(auto, using(crate::proofs::Remembering::malformed, crate::proofs::Remembering::not_come, crate::proofs::Remembering::judged))]
     pub(crate) fn settings_kept(&self, bytes: &[u8], kept: &mut u32) -> Told
         ensures { ShowsKept self.now bytes.now result kept.old kept.new }
     {
@@ -61,6 +63,7 @@ impl Connection {
 }
 
 /// The client that is asked for, with these further settings, that remembers those.
+#[tactic(auto, using(crate::proofs::MakingWith::lacks_resumed, crate::proofs::MakingWith::refused_resumed))]
 pub(crate) fn made_resumed(
     alloc: Global,
     given: &GivenConfig,

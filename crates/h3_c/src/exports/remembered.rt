@@ -1,12 +1,12 @@
 //! What C calls: settings that a client remembers of its server.
-ghost use Rattle.std.specs.Prelude.{IsSome};
+ghost use Rattle.std.specs.Prelude.{◌≡◌, ◌<◌, ◌≤◌, IsSome, take};
 ghost use Rattle.h3_c.specs.Configs.{config_given, side_of};
 ghost use Rattle.h3_c.specs.Does.{Does};
 ghost use Rattle.h3_c.specs.Does.CallOfC.{RememberSettings, SettingsKept};
 ghost use Rattle.h3_c.specs.Exported.{Steps};
 ghost use Rattle.h3_c.specs.Further.{pairs_given};
-ghost use Rattle.h3_c.specs.Numbers.{number};
-ghost use Rattle.h3_c.specs.Remembered.{MakesGivenResumed, MakesOf};
+ghost use Rattle.h3_c.specs.Numbers.{argument, number};
+ghost use Rattle.h3_c.specs.Remembered.{MakesGivenResumed, MakesOf, MakesResumed};
 ghost use Rattle.h3_proto.specs.Settings.{settings_of};
 
 use crate::config::{GivenConfig, side_of};
@@ -57,6 +57,7 @@ pub extern "C" fn h3_raw_settings_kept(
 
 /// Makes a client that remembers settings of its server, and announces further ones: numbers that are an id and a value in turn. The handle is
 /// written if it returns `H3_OK`.
+#[tactic(auto, using(crate::proofs::MakingWith::given_some_resumed, crate::proofs::MakingWith::given_none_resumed))]
 #[unsafe(no_mangle)]
 pub extern "C" fn h3_raw_new_resumed(
     alloc: Global,
@@ -76,6 +77,7 @@ pub extern "C" fn h3_raw_new_resumed(
     told.number
 }
 
+#[tactic(auto, using(crate::proofs::MakingWith::of_server, crate::proofs::MakingWith::of_malformed, crate::proofs::MakingWith::of_no_pairs, crate::proofs::MakingWith::of_client))]
 fn resume(
     alloc: Global,
     given: &GivenConfig,
@@ -92,10 +94,24 @@ fn resume(
     let Ok(remembered) = Settings::read_payload(&mut rest) else {
         return ARGUMENT;
     };
-    let Some(pairs) = GivenPairs::of(further) else {
-        return ARGUMENT;
-    };
-    match made_resumed(alloc, given, &pairs, remembered) {
+    match GivenPairs::of(further) {
+        Some(pairs) => resume_with(alloc, given, &pairs, remembered, out),
+        None => ARGUMENT,
+    }
+}
+
+#[tactic(auto, using(crate::proofs::MakingWith::made_resumed, crate::proofs::MakingWith::unmade_resumed))]
+fn resume_with(
+    alloc: Global,
+    given: &GivenConfig,
+    pairs: &GivenPairs,
+    remembered: Settings,
+    out: &mut Handle,
+) -> Told
+    ensures range { 0x210842108421083 ≤ given.now.grease → (result ≡ argument) × (out.new.value ≡ out.old.value) }
+    ensures made { given.now.grease < 0x210842108421083 → MakesResumed given.now (take pairs.now.len pairs.now.pairs) remembered result out.old.value out.new.value }
+{
+    match made_resumed(alloc, given, pairs, remembered) {
         Ok(connection) => {
             *out = kept(connection);
             OK

@@ -62,6 +62,7 @@ impl Endpoint {
     }
 
     // An endpoint of what is announced, with further settings.
+    #[tactic(auto, using(crate::proofs::BeginningWith::further_refused, crate::proofs::BeginningWith::no_memory_with, crate::proofs::BeginningWith::made_with))]
     fn beginning_with(
         alloc: Global,
         side: Side,
