@@ -65,6 +65,12 @@ class Config:
     priority_updates: int
     """Of how many streams a server keeps what PRIORITY_UPDATE frames said (RFC 9218, section 7.2) until it is used, at most 128. With 0 such a frame is
     one of an unknown type."""
+    other_settings: int
+    """How many of the peer's settings are kept whose ids are not known here, for `peer_setting`: the first ones, at most 64. With 0 all of them are
+    ignored (RFC 9114, section 7.2.4)."""
+    other_streams: bool
+    """Unidirectional streams of the peer whose types are not known here are delivered, as `StreamType.OTHER`. Without it what comes on them is
+    dropped."""
 
     @classmethod
     def client(cls) -> Self:

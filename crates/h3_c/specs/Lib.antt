@@ -1,6 +1,8 @@
 pub mod Bits
 pub mod Closing
 pub mod Configs
+pub mod Further
+pub mod Remembered
 pub mod Datagrams
 pub mod Does
 pub mod Ending
