@@ -44,6 +44,7 @@ static int connection_new(nghttp3_conn **to, bool is_server, const nghttp3_callb
   }
   connection->callbacks = *callbacks, connection->user_data = user_data;
   connection->is_server = is_server, connection->end_id = INT64_MAX;
+  connection->peer_control = connection->peer_encoder = connection->peer_decoder = -1;
   stream_init(&connection->control, -1, h3_control_id(is_server));
   stream_init(&connection->encoder, -1, h3_encoder_id(is_server));
   stream_init(&connection->decoder, -1, h3_decoder_id(is_server));

@@ -120,6 +120,7 @@ struct nghttp3_conn {
   bool is_leaving;    /* nghttp3_conn_shutdown was called */
   int64_t next_id; /* after the last request that was opened, or came */
   int64_t end_id;  /* a server takes no request from here on */
+  int64_t peer_control, peer_encoder, peer_decoder; /* QUIC's ids, or -1 if the stream has not said that it is this one */
   stream control, encoder, decoder;
   struct stream_row ready[NGHTTP3_URGENCY_LEVELS]; /* request streams that may have something to send, by urgency */
   unsigned urgencies;                              /* a bit for each of these rows that has a stream */
@@ -158,11 +159,10 @@ section *section_take(nghttp3_conn *connection, const h3_item *item);
 void section_give(nghttp3_conn *connection, section *all);
 size_t field_list_size(const nghttp3_nv *fields, size_t count);
 field_list field_list_at(void *place, const nghttp3_nv *fields, size_t count);
-
-/* priority_field.c: false where the value is malformed; nothing is written then */
-bool priority_field_parse(priority *to, const uint8_t *value, size_t length);
+bool field_list_lower(const field_list *list);
 
 /* priorities.c */
+int read_priority_fields(nghttp3_conn *connection, stream *s, const section *all, size_t count, size_t first);
 void stream_read_priority(nghttp3_conn *connection, stream *s);
 void read_priorities(nghttp3_conn *connection);
 

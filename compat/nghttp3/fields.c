@@ -40,6 +40,16 @@ inline field_list field_list_at(void *place, const nghttp3_nv *fields, size_t co
   return list;
 }
 
+/* Names without letters in upper case. Were there any? */
+APART bool field_list_lower(const field_list *list) {
+  bool has_upper = false;
+  uint8_t *at = field_list_bytes(list);
+  for (size_t i = 0; i < list->count; at += list->sizes[i++].value)
+    for (const uint8_t *end = at + list->sizes[i].name; at < end; at++)
+      if (*at >= 'A' && *at <= 'Z') *at = (uint8_t)(*at - 'A' + 'a'), has_upper = true;
+  return has_upper;
+}
+
 /* ---- to nghttp3: names and values that the application may hold on to, each with a NUL after it ---- */
 
 enum { STEP = 16 }; /* of copying, in bytes */

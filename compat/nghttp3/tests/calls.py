@@ -1,34 +1,11 @@
 #!/usr/bin/env python3
-"""calls.py: the calls that need no peer, asked the same of both libraries: errors, checks of names and values, the `priority` field, and
-messages that a client submits against a rule for senders."""
+"""calls.py: the calls that need no peer, asked the same of both libraries: errors, checks of names and values, and messages that a
+client submits against a rule for senders."""
 import os
-import random
 import sys
 
 from differences import judge
-from library import END, IS_VERSION_1, NO_END_STREAM, Connection, Settings, Vector, error_name, libraries
-
-PRIORITIES = [
-    b"u=1", b"i", b"u=1, i", b"u=1,i=?0", b"i=?1", b"u=8", b"u=-1", b"u=0;a=1", b'u="1"', b"x=(1 2);q, u=2", b"u=1.5", b"u=1,", b",u=1",
-    b"", b" ", b"u", b"u=1  ,  i", b"u=1\t,\ti", b"x=:YWI=:, i", b'x="a\\"b", u=5', b"A=1", b"u=1 i", b"u=000000000000001",
-    b"u=9999999999999999", b"x=tok/en:a, u=6", b"x=@123, u=1", b'x=%"a", u=1', b"x=:YWI:, u=2", b"x=:YW=:", b"x=:=:", b"x=::, i",
-    b"u=1;a=(1)", b"u=(1)", b"x=1.1234",
-]
-CHANGED = 20000
-
-
-def changed(chance, value):
-    """a value with up to three bytes put in, taken out or replaced"""
-    value = bytearray(value)
-    for _ in range(chance.randint(1, 3)):
-        kind, at = chance.randrange(3), chance.randrange(len(value) + 1)
-        if kind == 0:
-            value[at:at] = bytes([chance.choice(b'ui=?01, ;"()abc*.-:\t9')])
-        elif kind == 1:
-            del value[at : at + 1]
-        elif at < len(value):
-            value[at] = chance.choice(b'ui=?01, ;"()abc*.-:\t9\x80')
-    return bytes(value)
+from library import END, NO_END_STREAM, Connection, Settings, Vector, error_name, libraries
 
 
 def defaults(library):
@@ -63,12 +40,6 @@ def questions():
     for text in texts:
         yield f"check_header_name({text!r})", lambda it, text=text: bool(it.check_header_name(text, len(text)))
         yield f"check_header_value({text!r})", lambda it, text=text: bool(it.check_header_value(text, len(text)))
-    chance = random.Random(1)
-    values = [changed(chance, chance.choice(PRIORITIES)) for _ in range(CHANGED)]
-    if not IS_VERSION_1:  # which reads dates, display strings and byte sequences otherwise: PRIORITIES alone have some for it
-        values = [value for value in values if not set(value) & set(b"@%:")]
-    for value in [*PRIORITIES, *values]:
-        yield f"parse_priority({value!r})", lambda it, value=value: it.parse_priority(value)
     post = [(b":method", b"POST"), (b":scheme", b"https"), (b":authority", b"a.b"), (b":path", b"/")]
     yield "CONNECT", lambda it: submitted(it, [(b":method", b"CONNECT"), (b":authority", b"a.b:1")])
     yield "CONNECT without a port", lambda it: submitted(it, [(b":method", b"CONNECT"), (b":authority", b"a.b")])

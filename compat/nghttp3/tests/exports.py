@@ -4,9 +4,7 @@ import os
 import subprocess
 import sys
 
-from differences import VERSION
-
-LEFT_OUT = {"nghttp3_conn_get_frame_payload_left", *(["nghttp3_conn_is_remote_qpack_encoder_stream"] if VERSION == "0.8" else [])}
+LEFT_OUT = {"nghttp3_conn_get_frame_payload_left"}
 QPACK_CALLS = 22  # of standalone QPACK: all that begin so, and all left out
 PREFIX = "nghttp3_qpack_"
 

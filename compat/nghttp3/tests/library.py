@@ -84,14 +84,14 @@ CALLS = {
     "conn_set_client_stream_priority": (c_int, [*STREAM, c_char_p, c_size_t]),
     "pri_parse_priority_versioned": (c_int, [c_int, POINTER(Priority), c_char_p, c_size_t]),
     "conn_get_stream_priority": (c_int, [c_void_p, POINTER(Priority), c_int64]),
-    "conn_set_stream_priority": (c_int, [*STREAM, POINTER(Priority)]),
+    "conn_set_stream_priority": (c_int, [*STREAM, POINTER(Priority)]), "conn_is_remote_qpack_encoder_stream": (c_int, STREAM),
     "http_parse_priority": (c_int, [POINTER(Priority), c_char_p, c_size_t]),
     "strerror": (c_char_p, [c_int]), "err_infer_quic_app_error_code": (c_uint64, [c_int]), "err_is_fatal": (c_int, [c_int]),
     "check_header_name": (c_int, [c_char_p, c_size_t]), "check_header_value": (c_int, [c_char_p, c_size_t]),
     "vec_len": (c_uint64, [POINTER(Vector), c_size_t]),
     "rcbuf_get_buf": (Vector, [c_void_p]), "rcbuf_incref": (None, [c_void_p]), "rcbuf_decref": (None, [c_void_p]),
 }
-OF_0_8 = {"conn_get_stream_priority", "conn_set_stream_priority", "http_parse_priority"}
+OF_0_8 = {"conn_get_stream_priority", "conn_set_stream_priority", "http_parse_priority", "conn_is_remote_qpack_encoder_stream"}
 OF_1_8 = {"conn_update_ack_offset", "conn_is_drained", "conn_get_stream_priority_versioned", "conn_set_server_stream_priority_versioned",
           "conn_set_client_stream_priority", "pri_parse_priority_versioned"}
 
@@ -130,8 +130,8 @@ class Library:
             return error_name(self.set_server_stream_priority(connection, stream, 1, priority))
         return error_name(self.set_stream_priority(connection, stream, priority))
 
-    def parse_priority(self, value):
-        priority = Priority(3, 0)
+    def parse_priority(self, value, start):
+        priority = Priority(*start)
         arguments = [priority, value, len(value)]
         error = self.pri_parse_priority(1, *arguments) if IS_VERSION_1 else self.http_parse_priority(*arguments)
         return error_name(error) if error else (priority.urgency, priority.incremental)

@@ -3,8 +3,8 @@
 draining, priorities, the order in which bodies go out, wrong calls. The answers that the RFCs fix are asked for by themselves."""
 import sys
 
-from byte_cases import CONTROL_TYPE, ENCODER_TYPE, GET, HEADERS, OK, SETTINGS, frame
-from library import END, IS_VERSION_1, Connection, check, error_name, libraries, pairs
+from byte_cases import CONTROL_TYPE, ENCODER_TYPE, GET, HEADERS, OK, POST, SETTINGS, frame
+from library import END, IS_VERSION_1, NO_END_STREAM, Connection, check, error_name, libraries, pairs
 
 REQUEST_REJECTED, NO_ERROR = 0x10B, 0x100
 PRIORITIES = {4: b"u=5", 8: b"u=1", 12: b"u=5, i", 16: b"u=9", 20: b""}
@@ -59,6 +59,8 @@ class Steps:
                   client.shutdown_stream_read(at, 4), client.is_stream_writable(at, 4))
         self.note("bound twice", error_name(client.bind_control_stream(at, 2)), error_name(client.bind_qpack_streams(at, 6, 10)))
         self.note("priorities", self.priority(0), self.priority(4), self.priority(1))
+        if not IS_VERSION_1:
+            self.note("of the peer's encoder", *(bool(server.is_remote_qpack_encoder_stream(self.server.at, it)) for it in range(-1, 16)))
         if IS_VERSION_1:
             self.note("update", error_name(client.set_client_stream_priority(self.client.at, 4, b"u=1", 3)))
 
@@ -184,6 +186,19 @@ def name_entries(library):
         assert came == wanted, f"{prefix.hex()} and {line.hex()}: {came}"
 
 
+def send_lower_case(client, server):
+    """names in upper case go out in lower case, of a head and of a trailer that waits for the end of the body"""
+    told = []
+    sender = Connection(client, False, lambda *_: None)
+    receiver = Connection(server, True, lambda kind, _, *what: told.append(what[1:3]) if kind in ("header", "trailer") else None)
+    check(sender.request(0, [*POST, (b"X-Head", b"A")], sender.reader(lambda _: ([b"body"], END | NO_END_STREAM))))
+    check(sender.trail(0, [(b"x", b"C"), (b"X-TRAILER", b"D")]))
+    Steps.move(sender, receiver)
+    sender.free()
+    receiver.free()
+    assert told == [*POST, (b"x-head", b"A"), (b"x", b"C"), (b"x-trailer", b"D")], f"names in upper case came as {told}"
+
+
 def main():
     found, wrong, wanted = libraries(), 0, None
     for library in found:
@@ -195,6 +210,7 @@ def main():
             print(f"failed steps: {library.name}: {error}")
     for client, server in pairs(found):
         try:
+            send_lower_case(client, server)
             told = Steps(client, server).go()
         except AssertionError as error:
             wrong += 1
