@@ -9,12 +9,15 @@
 #include <sys/queue.h>
 #include "h3.h"
 
-/* The header decides which library this is: that of nghttp3 0.8 is libnghttp3.so.3, that of 1.8 is libnghttp3.so.9. */
+/* The header decides which library this is: that of nghttp3 0.8 is libnghttp3.so.3, those of 1.8 to 1.17 are libnghttp3.so.9. */
 #if NGHTTP3_VERSION_NUM >= 0x010000
 #define HAS_VERSION_1
 #endif
-#ifdef NGHTTP3_CALLBACKS_V2
-#error "nghttp3 1.9 and later have calls and structs that are not there yet: build against the header of 0.8 or of 1.8"
+#if NGHTTP3_VERSION_NUM >= 0x011100
+#define HAS_VERSION_1_17
+#endif
+#if defined NGHTTP3_CALLBACKS_V4 || defined NGHTTP3_SETTINGS_V5 || defined NGHTTP3_PROTO_SETTINGS_V2 || defined NGHTTP3_PRI_V2
+#error "the structs of this nghttp3 are later than those of 1.17, which are the latest that are known here"
 #endif
 
 #define EXPORT __attribute__((visibility("default")))
@@ -160,6 +163,11 @@ void section_give(nghttp3_conn *connection, section *all);
 size_t field_list_size(const nghttp3_nv *fields, size_t count);
 field_list field_list_at(void *place, const nghttp3_nv *fields, size_t count);
 bool field_list_lower(const field_list *list);
+
+/* library.c: variable-length integers (RFC 9000, section 16). The place after the one that was written is answered. */
+enum { LONGEST_INTEGER = 8 };
+size_t integer_length(uint64_t number);
+uint8_t *write_integer(uint8_t *to, uint64_t number);
 
 /* priorities.c */
 int read_priority_fields(nghttp3_conn *connection, stream *s, const section *all, size_t count, size_t first);

@@ -131,10 +131,9 @@ EXPORT int nghttp3_rcbuf_is_static(const nghttp3_rcbuf *buffer) { return (void)b
 
 /* ---- checks ---- */
 
-/* Version 1 of nghttp3 takes letters in upper case in this call, against its comment. Whatever it says, no message with one is taken
- * or sent. */
+/* nghttp3 1.8 takes letters in upper case in this call, against its comment. Whatever it says, no message with one is taken or sent. */
 static bool is_token_byte(uint8_t byte) {
-#ifdef HAS_VERSION_1
+#if defined HAS_VERSION_1 && !defined HAS_VERSION_1_17
   if (byte >= 'A' && byte <= 'Z') return true;
 #endif
   return (byte >= 'a' && byte <= 'z') || (byte >= '0' && byte <= '9') || (byte && strchr("!#$%&'*+-.^_`|~", byte));

@@ -106,17 +106,9 @@ EXPORT int nghttp3_pri_parse_priority_versioned(int version, nghttp3_pri *to, co
   return (void)version, parse_priority(to, value, length);
 }
 
-/* A variable-length integer (RFC 9000, section 16); answers the place after it. */
-static uint8_t *write_integer(uint8_t *to, uint64_t number) {
-  int log = number < 64 ? 0 : number < 16384 ? 1 : number < (1 << 30) ? 2 : 3;
-  for (int i = (1 << log) - 1; i >= 0; i--, number >>= 8) to[i] = (uint8_t)number;
-  *to |= (uint8_t)(log << 6);
-  return to + (1 << log);
-}
-
 /* A PRIORITY_UPDATE frame (RFC 9218, section 7.2) goes out after what the endpoint wrote on its control stream, which is whole frames. */
 EXPORT int nghttp3_conn_set_client_stream_priority(nghttp3_conn *connection, int64_t id, const uint8_t *value, size_t length) {
-  enum { PRIORITY_UPDATE = 0xf0700, LONGEST_INTEGER = 8 };
+  enum { PRIORITY_UPDATE = 0xf0700 };
   if (!is_request(id)) return NGHTTP3_ERR_INVALID_ARGUMENT;
   if (!stream_find(connection, id)) return NGHTTP3_ERR_STREAM_NOT_FOUND;
   uint8_t id_bytes[LONGEST_INTEGER];

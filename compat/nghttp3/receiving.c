@@ -334,6 +334,13 @@ static int resume_all_waiting(nghttp3_conn *connection) {
   return error;
 }
 
+/* nghttp3 1.8 tells a client nothing of the peer's SETTINGS_ENABLE_CONNECT_PROTOCOL. */
+#ifdef HAS_VERSION_1_17
+enum { TELLS_A_CLIENT = 1 };
+#else
+enum { TELLS_A_CLIENT = 0 };
+#endif
+
 static int tell_settings(nghttp3_conn *connection) {
   h3_state state;
   if (h3_connection(&connection->endpoint, &state) != H3_OK) return 0;
@@ -347,9 +354,14 @@ static int tell_settings(nghttp3_conn *connection) {
       .max_field_section_size = state.peer_section,
       .qpack_max_dtable_capacity = (size_t)state.peer_table,
       .qpack_blocked_streams = (size_t)state.peer_blocked,
-      .enable_connect_protocol = connection->is_server && connect == 1, /* as nghttp3 has it */
+      .enable_connect_protocol = connect == 1 && (connection->is_server || TELLS_A_CLIENT),
       .h3_datagram = datagram == 1,
   };
+#ifdef NGHTTP3_PROTO_SETTINGS_V1
+  nghttp3_proto_settings same = {peer.max_field_section_size, peer.qpack_max_dtable_capacity, peer.qpack_blocked_streams,
+                                 peer.enable_connect_protocol, peer.h3_datagram};
+  if (connection->callbacks.recv_settings2) return CALLBACK(connection, recv_settings2, &same, connection->user_data);
+#endif
   return CALLBACK(connection, recv_settings, &peer, connection->user_data);
 #else
   return 0;

@@ -1,17 +1,20 @@
 #!/usr/bin/env python3
 """calls.py: the calls that need no peer, asked the same of both libraries: errors, checks of names and values, and messages that a
 client submits against a rule for senders."""
+import ctypes
 import os
 import sys
 
 from differences import judge
-from library import END, NO_END_STREAM, Connection, Settings, Vector, error_name, libraries
+from library import END, NO_END_STREAM, SETTINGS_VERSION, Connection, Settings, Vector, error_name, libraries
 
 
-def defaults(library):
+def defaults(library, version):
+    """what is written to the struct of such a version, and that nothing is written behind it"""
     settings = Settings()
-    library.settings_default(1, settings)
-    return [getattr(settings, name) for name, _ in Settings._fields_]
+    ctypes.memset(ctypes.byref(settings), 0xAA, ctypes.sizeof(settings))
+    library.settings_default(version, settings)
+    return ctypes.string_at(ctypes.byref(settings), ctypes.sizeof(settings)).hex()
 
 
 def submitted(library, fields, trailer=()):
@@ -29,7 +32,8 @@ def submitted(library, fields, trailer=()):
 def questions():
     """(name, what is asked of a library)"""
     yield "version", lambda it: (it.version(0)[0].age, it.version(0)[0].number, bool(it.version(1 << 24)))
-    yield "settings_default", defaults
+    for version in range(1, SETTINGS_VERSION + 1):
+        yield f"settings_default of version {version}", lambda it, version=version: defaults(it, version)
     yield "vec_len", lambda it: it.vec_len((Vector * 3)(Vector(None, 5), Vector(None, 0), Vector(None, 1 << 40)), 3)
     for number in range(-1000, 1):
         yield f"strerror({number})", lambda it, number=number: it.strerror(number)

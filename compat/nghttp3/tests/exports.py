@@ -4,8 +4,10 @@ import os
 import subprocess
 import sys
 
-LEFT_OUT = {"nghttp3_conn_get_frame_payload_left"}
-QPACK_CALLS = 22  # of standalone QPACK: all that begin so, and all left out
+from library import IS_VERSION_1_17
+
+LEFT_OUT = {"nghttp3_conn_get_frame_payload_left", *(["nghttp3_conn_get_frame_payload_left2"] if IS_VERSION_1_17 else [])}
+QPACK_CALLS = 27 if IS_VERSION_1_17 else 22  # of standalone QPACK: all that begin so, and all left out
 PREFIX = "nghttp3_qpack_"
 
 

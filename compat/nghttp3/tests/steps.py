@@ -1,10 +1,11 @@
 #!/usr/bin/env python3
 """steps.py: the same steps over four pairs of libraries, which have to go alike: both steps of GOAWAY, requests that come too late,
 draining, priorities, the order in which bodies go out, wrong calls. The answers that the RFCs fix are asked for by themselves."""
+import ctypes
 import sys
 
 from byte_cases import CONTROL_TYPE, ENCODER_TYPE, GET, HEADERS, OK, POST, SETTINGS, frame
-from library import END, IS_VERSION_1, NO_END_STREAM, Connection, check, error_name, libraries, pairs
+from library import END, IS_VERSION_1, IS_VERSION_1_17, NO_END_STREAM, Connection, Priority, Vector, check, error_name, libraries, pairs
 
 REQUEST_REJECTED, NO_ERROR = 0x10B, 0x100
 PRIORITIES = {4: b"u=5", 8: b"u=1", 12: b"u=5, i", 16: b"u=9", 20: b""}
@@ -199,6 +200,49 @@ def send_lower_case(client, server):
     assert told == [*POST, (b"x-head", b"A"), (b"x", b"C"), (b"x-trailer", b"D")], f"names in upper case came as {told}"
 
 
+def later_calls(client, server):
+    """the calls of 1.17, and its callback for settings, which takes the place of the other one"""
+    told, settings = [], []
+    origins = b"\0\x0bhttps://a.b"
+    list_of_one = Vector(ctypes.cast(ctypes.c_char_p(origins), ctypes.c_void_p), len(origins))
+    left = Connection(client, False, lambda kind, *_: settings.append(kind) if kind == "settings" else None,
+                      {"settings_2": lambda _, what: settings.append(what[1:])})
+    right = Connection(server, True, lambda *_: None, origins=ctypes.pointer(list_of_one), connect=1)
+    count, stream, _, data = right.write()
+    assert stream == 3 and data.endswith(b"\x0c" + bytes([len(origins)]) + origins), f"the control stream of the server: {data.hex()}"
+    server.add_write_offset(right.at, stream, len(data))
+    check(client.read_stream2(left.at, 3, data, len(data), 0, 1))
+    assert settings == [(0, 0, 1, 0)], f"settings: {settings}"
+
+    def note():
+        told.append((client.is_stream_flushed(left.at, 0), client.is_stream_writable2(left.at, 0), client.get_stream_user_data(left.at, 0)))
+
+    note()
+    check(left.request(0, POST, left.reader(lambda _: ([b"body"], END))))
+    note()
+    check(client.set_stream_user_data(left.at, 0, 77))
+    while True:
+        count, stream, is_end, data = left.write()
+        if stream < 0:
+            break
+        note()
+        for part in (data[:2], data[2:]):
+            client.add_write_offset(left.at, stream, len(part))
+            note()
+        check(server.read_stream2(right.at, stream, data, len(data), is_end, 2))
+    priority = Priority()
+    told.append((server.get_stream_priority2(right.at, 1, priority, 0), priority.urgency, server.is_drained2(right.at)))
+    for number in (0, 63, 64, 16383, 16384, (1 << 30) - 1, 1 << 30, (1 << 62) - 1):
+        buffer, number_again, signed = ctypes.create_string_buffer(9), ctypes.c_uint64(), ctypes.c_int64()
+        place = ctypes.addressof(buffer)
+        ends = [client.put_uvarint(buffer, number), client.get_uvarint(number_again, buffer.raw), client.get_varint(signed, buffer.raw)]
+        assert number_again.value == signed.value == number, f"{number} was read as {number_again.value}"
+        told.append((ends[0] - place, buffer.raw, client.put_uvarintlen(number), client.get_uvarintlen(buffer.raw)))
+    left.free()
+    right.free()
+    return told
+
+
 def main():
     found, wrong, wanted = libraries(), 0, None
     for library in found:
@@ -212,6 +256,8 @@ def main():
         try:
             send_lower_case(client, server)
             told = Steps(client, server).go()
+            if IS_VERSION_1_17:
+                told.extend(later_calls(client, server))
         except AssertionError as error:
             wrong += 1
             print(f"failed steps: {client.name} to {server.name}: {error}")
