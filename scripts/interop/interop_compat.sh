@@ -1,7 +1,8 @@
 #!/usr/bin/env bash
 # Programs of Debian that have their HTTP/3 from nghttp3, run over the drop-in (compat/nghttp3) in its place, over QUIC: gtlsclient and
 # gtlsserver of the system, where it is Debian 12, and curl, gtlsclient and gtlsserver in the root of Debian 13 that `make upstream-root`
-# leaves (build/trixie). The other end is our server and client in C, nginx, or such a program over nghttp3 itself. Only loopback
+# leaves (build/trixie). The other end is our server and client in C, nginx, Caddy, aioquic, Chromium, or such a program over nghttp3 itself, as far
+# as they are there. Only loopback
 # addresses, each command within a time, each server ended at the end. Prints 'ok NAME', 'failed NAME' or 'skipped NAME' for each check or
 # group of checks. The library is that of the folder LIB. With OVER=nghttp3 the same programs run over Debian's nghttp3, to compare.
 set -uo pipefail
@@ -21,8 +22,10 @@ export PKG_CONFIG_PATH=$lib
 build make -s -C examples/c LIB="$lib" OUT="$work/plain"
 build bash scripts/compat/build.sh "$lib"
 make_served
+: > "$folder/empty"
+for _ in $(seq 20); do cat "$work/posted"; done > "$work/twenty"
 ours=("$work/plain/fetch" --address 127.0.0.1 --trust "$cert")
-mapfile -t ports < <(python3 scripts/interop/ports.py 7)
+mapfile -t ports < <(python3 scripts/interop/ports.py 9)
 start "${ports[0]}" serve.log "$work/plain/serve" 127.0.0.1 "${ports[0]}" "$cert" "$key" "$folder"
 
 # ---- where programs run ----
@@ -117,9 +120,15 @@ curl_fields() { # PORT: 100 fields, and one of 6,000 bytes
 curl_pipe() { # PORT: of an unknown length
   within 60 "${curl[@]}" -X POST -T - "$(url "$1" /answer)" < <(cat "$big") > "$work/got" && cmp -s "$work/got" "$work/posted"
 }
+curl_posts() { # PORT: 20 of 10 MB, at once
+  local urls=()
+  for _ in $(seq 20); do urls+=("$(url "$1" /answer)"); done
+  gives "$work/twenty" "${curl[@]}" -Z --parallel-max 20 --data-binary "@$there/folder/big.bin" "${urls[@]}"
+}
 curl_client() { # the server's name, PORT, whether it counts what is posted
   check "curl over $it, $1: 10 MB" gives "$big" "${curl[@]}" "$(url "$2" /big.bin)"
   check "curl over $it, $1: HEAD" curl_head "$2"
+  check "curl over $it, $1: an empty file" curl_says "200 0" "$(url "$2" /empty)"
   check "curl over $it, $1: no such file" curl_status 404 "$(url "$2" /none)"
   check "curl over $it, $1: 100 requests in turn" curl_many "$2"
   check "curl over $it, $1: 100 requests, 50 at once" curl_many "$2" -Z --parallel-max 50
@@ -129,6 +138,10 @@ curl_client() { # the server's name, PORT, whether it counts what is posted
   check "curl over $it, $1: POST of 10 MB" gives "$work/posted" "${curl[@]}" --data-binary "@$there/folder/big.bin" "$(url "$2" /answer)"
   check "curl over $it, $1: an upload from a pipe" curl_pipe "$2"
   check "curl over $it, $1: POST of nothing" curl_says "200 67" --data-binary "" "$(url "$2" /answer)"
+  check "curl over $it, $1: an upload" gives "$work/posted" "${curl[@]}" -X POST -T "$there/folder/big.bin" "$(url "$2" /answer)"
+  check "curl over $it, $1: POST with Expect" gives "$work/posted" "${curl[@]}" -H "Expect: 100-continue" --data-binary "@$there/folder/big.bin" \
+    "$(url "$2" /answer)"
+  check "curl over $it, $1: 20 times POST of 10 MB, at once" curl_posts "$2"
 }
 
 # ---- the system ----
@@ -178,6 +191,37 @@ http {
 NGINX
 }
 
+caddy_conf() {
+  cat << CADDY
+{
+	admin off
+	auto_https off
+	default_bind 127.0.0.1
+}
+https://localhost:${ports[7]} {
+	tls $cert $key
+	root * $folder
+	file_server
+}
+CADDY
+}
+
+# servers13: those that are there, each with its port and whether it counts what is posted
+servers13() {
+  echo "${ports[0]} yes serve"
+  echo "${ports[3]} no gtlsserver 1.11"
+  echo "${ports[4]} no gtlsserver 1.11 over $it"
+  echo "${ports[5]} no nginx"
+  [ "$has_caddy" = no ] || echo "${ports[7]} no Caddy"
+  [ "$has_aioquic" = no ] || echo "${ports[8]} yes aioquic"
+}
+has_caddy=no
+! command -v caddy > /dev/null || has_caddy=yes
+has_aioquic=no
+[ ! -e build/trixie/usr/lib/python3/dist-packages/aioquic ] || has_aioquic=yes
+
+browses() { chromium_sees "$1" / && grep -q "image 64 x 48" "$work/seen" && grep -q "^small 100$" "$work/seen" && grep -q "^protocols h3 of " "$work/seen"; }
+
 debian13() {
   local root=$top/build/trixie
   runs_in "$root" /tmp/interop_compat
@@ -193,18 +237,30 @@ debian13() {
   start "${ports[3]}" native13.log "${plain[@]}" "${server[@]}" "${ports[3]}" "${pair[@]}"
   start "${ports[4]}" drop_in13.log "${over[@]}" "${server[@]}" "${ports[4]}" "${pair[@]}"
   start "${ports[5]}" nginx.log "${plain[@]}" nginx -c "$there/nginx.conf"
+  if [ "$has_caddy" = yes ]; then
+    caddy_conf > "$work/Caddyfile"
+    start "${ports[7]}" caddy.log env HOME="$work" caddy run --config "$work/Caddyfile" --adapter caddyfile
+  else
+    echo "skipped Caddy over libnghttp3.so.9: there is none"
+  fi
+  if [ "$has_aioquic" = yes ]; then
+    cp scripts/interop/aio.py "$inside"
+    start "${ports[8]}" aioquic.log "${plain[@]}" python3 "$there/aio.py" serve "${ports[8]}" "$there/cert.pem" "$there/key.pem" "$there/folder"
+  else
+    echo "skipped aioquic over libnghttp3.so.9: build/trixie has no python3-aioquic"
+  fi
   client=("${over[@]}" gtlsclient)
   local name port counts
   while read -r port counts name; do
     curl_client "$name" "$port" "$counts"
     gtls_client "gtlsclient 1.11 over $it" "$name" "$port" "$counts"
-  done << SERVERS
-${ports[0]} yes serve
-${ports[3]} no gtlsserver 1.11
-${ports[4]} no gtlsserver 1.11 over $it
-${ports[5]} no nginx
-SERVERS
+  done < <(servers13)
   our_client "gtlsserver 1.11 over $it" "${ports[4]}"
+  if command -v chromium > /dev/null; then
+    check "Chromium, gtlsserver 1.11 over $it: a page, an image and 100 requests at once" browses "${ports[4]}"
+  else
+    echo "skipped Chromium over libnghttp3.so.9: there is none"
+  fi
   rm -rf "${root:?}$there"
 }
 
