@@ -1,10 +1,10 @@
 #!/usr/bin/env bash
 # Programs of Debian that have their HTTP/3 from nghttp3, run over the drop-in (compat/nghttp3) in its place, over QUIC: gtlsclient and
 # gtlsserver of the system, where it is Debian 12, and curl, gtlsclient and gtlsserver in the root of Debian 13 that `make upstream-root`
-# leaves (build/trixie). The other end is our server and client in C, nginx, Caddy, aioquic, Chromium, or such a program over nghttp3 itself, as far
-# as they are there. Only loopback
-# addresses, each command within a time, each server ended at the end. Prints 'ok NAME', 'failed NAME' or 'skipped NAME' for each check or
-# group of checks. The library is that of the folder LIB. With OVER=nghttp3 the same programs run over Debian's nghttp3, to compare.
+# leaves (build/trixie). The other end is our server and client in C, nginx, Caddy, aioquic, Chromium, or such a program over nghttp3
+# itself, as far as they are there. Only loopback addresses, each command within a time, each server ended at the end. Prints 'ok NAME',
+# 'failed NAME' or 'skipped NAME' for each check or group of checks. The library is that of the folder LIB. With OVER=nghttp3 the same
+# programs run over Debian's nghttp3, to compare.
 set -uo pipefail
 cd "$(dirname "$0")/../.."
 top=$PWD
@@ -23,7 +23,7 @@ build make -s -C examples/c LIB="$lib" OUT="$work/plain"
 build bash scripts/compat/build.sh "$lib"
 make_served
 : > "$folder/empty"
-for _ in $(seq 20); do cat "$work/posted"; done > "$work/twenty"
+for _ in $(seq 20); do echo "1000000 $(hash_of "$folder/letters.txt")"; done > "$work/twenty"
 ours=("$work/plain/fetch" --address 127.0.0.1 --trust "$cert")
 mapfile -t ports < <(python3 scripts/interop/ports.py 9)
 start "${ports[0]}" serve.log "$work/plain/serve" 127.0.0.1 "${ports[0]}" "$cert" "$key" "$folder"
@@ -120,10 +120,10 @@ curl_fields() { # PORT: 100 fields, and one of 6,000 bytes
 curl_pipe() { # PORT: of an unknown length
   within 60 "${curl[@]}" -X POST -T - "$(url "$1" /answer)" < <(cat "$big") > "$work/got" && cmp -s "$work/got" "$work/posted"
 }
-curl_posts() { # PORT: 20 of 10 MB, at once
+curl_posts() { # PORT: 20 of 1 MB, at once
   local urls=()
   for _ in $(seq 20); do urls+=("$(url "$1" /answer)"); done
-  gives "$work/twenty" "${curl[@]}" -Z --parallel-max 20 --data-binary "@$there/folder/big.bin" "${urls[@]}"
+  gives "$work/twenty" "${curl[@]}" -Z --parallel-max 20 --data-binary "@$there/folder/letters.txt" "${urls[@]}"
 }
 curl_client() { # the server's name, PORT, whether it counts what is posted
   check "curl over $it, $1: 10 MB" gives "$big" "${curl[@]}" "$(url "$2" /big.bin)"
@@ -141,7 +141,7 @@ curl_client() { # the server's name, PORT, whether it counts what is posted
   check "curl over $it, $1: an upload" gives "$work/posted" "${curl[@]}" -X POST -T "$there/folder/big.bin" "$(url "$2" /answer)"
   check "curl over $it, $1: POST with Expect" gives "$work/posted" "${curl[@]}" -H "Expect: 100-continue" --data-binary "@$there/folder/big.bin" \
     "$(url "$2" /answer)"
-  check "curl over $it, $1: 20 times POST of 10 MB, at once" curl_posts "$2"
+  check "curl over $it, $1: 20 times POST of 1 MB, at once" curl_posts "$2"
 }
 
 # ---- the system ----
