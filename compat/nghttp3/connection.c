@@ -110,8 +110,8 @@ static int send_origins(nghttp3_conn *connection, const nghttp3_vec *origins) {
 }
 #endif
 
-/* A program that was compiled with the header of a later version of nghttp3 than this library has longer structs: what follows is not read. The
- * allocator of the application is not used (README.md). */
+/* A program that was compiled with the header of a later version of nghttp3 than this library has longer structs: what follows is not
+ * read. The allocator of the application is not used (README.md). */
 static int connection_new_versioned(nghttp3_conn **to, bool is_server, int callbacks_version, const nghttp3_callbacks *callbacks,
                                     int settings_version, const nghttp3_settings *given, void *user_data) {
   nghttp3_settings settings = default_settings();

@@ -394,8 +394,8 @@ enum { REFUSES_AGAIN = 0 };
 enum { REFUSES_AGAIN = 1 };
 #endif
 
-/* So many bytes came on a stream that was of the kind `before`. One of an unknown type is refused (RFC 9114, section 6.2): once, and by version
- * 0.8 with all bytes that come. */
+/* So many bytes came on a stream that was of the kind `before`. One of an unknown type is refused (RFC 9114, section 6.2): once, and by
+ * version 0.8 with all bytes that come. */
 static int tell_kind(nghttp3_conn *connection, int64_t id, uint32_t before, size_t length) {
   if (before == H3_STREAM_UNKNOWN && (!REFUSES_AGAIN || length == 0)) return 0;
   switch (kind_of(connection, id)) {

@@ -1,8 +1,7 @@
 #!/usr/bin/env bash
-# debian13.sh [SUITE]: fetches libnghttp3-dev and libnghttp3-9 of Debian 13 into build/nghttp3, where the system is another Debian, or those of
-# another suite, as sid:
-# libnghttp3.so.9 is built and tested over them. apt does it, with lists and settings of its own below that folder: nothing is installed,
-# and the system's lists stay as they are.
+# debian13.sh [SUITE]: fetches libnghttp3-dev and libnghttp3-9 of Debian 13 into build/nghttp3, where the system is another Debian, or
+# those of another suite, as sid: libnghttp3.so.9 is built and tested over them. apt does it, with lists and settings of its own below
+# that folder: nothing is installed, and the system's lists stay as they are.
 set -euo pipefail
 cd "$(dirname "$0")/../.."
 suite=${1:-trixie}

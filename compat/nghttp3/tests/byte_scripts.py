@@ -88,7 +88,8 @@ def answer(library, case):
 
 def difference(name, answers):
     """one case for all header sections after which nghttp3 1.17 closes the connection, and 1.8 and ours end the stream"""
-    begins = [re.fullmatch("(.*?) ?" + end, it) for end, it in zip(("error:MALFORMED_HTTP_HEADER:0x10e", r"stop:0x10e reset:0x10e consumed:\d+"), answers)]
+    ends = "error:MALFORMED_HTTP_HEADER:0x10e", r"stop:0x10e reset:0x10e consumed:\d+"
+    begins = [re.fullmatch("(.*?) ?" + end, it) for end, it in zip(ends, answers)]
     if all(begins) and begins[0].group(1) == begins[1].group(1):
         return "a malformed header section", ("the connection is closed", "the stream ends")
     return name, answers

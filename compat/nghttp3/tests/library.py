@@ -64,7 +64,8 @@ class Callbacks(ctypes.Structure):
                 ("header", FIELD), ("end_headers", WITH_END), ("begin_trailers", ONE), ("trailer", FIELD), ("end_trailers", WITH_END),
                 ("stop", WITH_CODE), ("end_stream", ONE), ("reset", WITH_CODE), ("shutdown", SHUTDOWN),
                 *([("settings", SETTINGS)] if IS_VERSION_1 else []),
-                *([("origin", c_void_p), ("end_origin", c_void_p), ("rand", c_void_p), ("settings_2", SETTINGS_2)] if IS_VERSION_1_17 else [])]
+                *([("origin", c_void_p), ("end_origin", c_void_p), ("rand", c_void_p)] if IS_VERSION_1_17 else []),
+                *([("settings_2", SETTINGS_2)] if IS_VERSION_1_17 else [])]
 
 
 class Reader(ctypes.Structure):
