@@ -220,7 +220,10 @@ has_caddy=no
 has_aioquic=no
 [ ! -e build/trixie/usr/lib/python3/dist-packages/aioquic ] || has_aioquic=yes
 
-browses() { chromium_sees "$1" / && grep -q "image 64 x 48" "$work/seen" && grep -q "^small 100$" "$work/seen" && grep -q "^protocols h3 of " "$work/seen"; }
+browses() { # PORT
+  chromium_sees "$1" / && grep -q "image 64 x 48" "$work/seen" && grep -q "^small 100$" "$work/seen" &&
+    grep -q "^protocols h3 of " "$work/seen"
+}
 
 debian13() {
   local root=$top/build/trixie
@@ -245,7 +248,8 @@ debian13() {
   fi
   if [ "$has_aioquic" = yes ]; then
     cp scripts/interop/aio.py "$inside"
-    start "${ports[8]}" aioquic.log "${plain[@]}" python3 "$there/aio.py" serve "${ports[8]}" "$there/cert.pem" "$there/key.pem" "$there/folder"
+    start "${ports[8]}" aioquic.log "${plain[@]}" python3 "$there/aio.py" serve "${ports[8]}" "$there/cert.pem" "$there/key.pem" \
+      "$there/folder"
   else
     echo "skipped aioquic over libnghttp3.so.9: build/trixie has no python3-aioquic"
   fi
