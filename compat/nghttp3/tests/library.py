@@ -176,17 +176,20 @@ def field_array(fields):
 class Connection:
     """One connection. Each callback is told by say(kind, stream, ..), and then by on[kind](connection, stream), where `on` has its kind"""
 
-    def __init__(self, library, is_server, say, on=None, **settings):
+    def __init__(self, library, is_server, say, on=None, versions=(CALLBACKS_VERSION, SETTINGS_VERSION), **settings):
         self.library, self.is_server, self.say, self.on = library, is_server, say, on or {}
         self.readers, self.kept = [], []
         self.callbacks = self.make_callbacks()
         limits = Settings()
-        library.settings_default(SETTINGS_VERSION, limits)
+        library.settings_default(versions[1], limits)
         for name, value in settings.items():
             setattr(limits, name, value)
+        if IS_VERSION_1_17 and versions == (1, 1):  # what follows the structs of 1.8 is nothing that may be read
+            for struct, end in ((self.callbacks, Callbacks.origin.offset), (limits, Settings.origins.offset)):
+                ctypes.memset(ctypes.addressof(struct) + end, 0xAA, ctypes.sizeof(struct) - end)
         place = c_void_p()
         new = library.server_new if is_server else library.client_new
-        error = new(ctypes.byref(place), CALLBACKS_VERSION, self.callbacks, SETTINGS_VERSION, limits, None, None)
+        error = new(ctypes.byref(place), versions[0], self.callbacks, versions[1], limits, None, None)
         assert error == 0, error_name(error)
         self.at = place
         control, encoder, decoder = (3, 7, 11) if is_server else (2, 6, 10)

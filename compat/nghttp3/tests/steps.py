@@ -200,6 +200,20 @@ def send_lower_case(client, server):
     assert told == [*POST, (b"x-head", b"A"), (b"x", b"C"), (b"x-trailer", b"D")], f"names in upper case came as {told}"
 
 
+def older_structs(client, server):
+    """programs with the structs of 1.8"""
+    told = []
+    left, right = (Connection(library, is_server, lambda kind, *_: told.append(kind), versions=(1, 1))
+                   for library, is_server in ((client, False), (server, True)))
+    check(left.request(0, GET))
+    Steps.move(left, right)
+    check(right.respond(0, OK))
+    Steps.move(right, left)
+    left.free()
+    right.free()
+    assert told.count("settings") == 2 and told.count("end_stream") == 2, f"with the structs of 1.8: {told}"
+
+
 def later_calls(client, server):
     """the calls of 1.17, and its callback for settings, which takes the place of the other one"""
     told, settings = [], []
@@ -258,6 +272,7 @@ def main():
             told = Steps(client, server).go()
             if IS_VERSION_1_17:
                 told.extend(later_calls(client, server))
+                older_structs(client, server)
         except AssertionError as error:
             wrong += 1
             print(f"failed steps: {client.name} to {server.name}: {error}")
