@@ -1,4 +1,5 @@
 /* connection.c: a connection from its first call to its last, and its shutdown. */
+#include <stddef.h>
 #include <stdlib.h>
 #include <string.h>
 #include "connection.h"
@@ -10,10 +11,50 @@ enum {
   LEAST_UNFINISHED = 1 << 18, /* of frames that are kept until they are whole */
 };
 
-EXPORT void nghttp3_settings_default_versioned(int version, nghttp3_settings *settings) {
-  (void)version;
-  *settings = (nghttp3_settings){.max_field_section_size = NO_LIMIT, .qpack_encoder_max_dtable_capacity = DEFAULT_ENCODER_TABLE};
+/* ---- structs: each version is as the one before, and longer. A program has that of the header which it was compiled with. ---- */
+
+#define END_OF(type, member) (offsetof(type, member) + sizeof((type){0}.member))
+
+static size_t settings_size(int version) {
+#ifdef NGHTTP3_SETTINGS_V2
+  if (version < NGHTTP3_SETTINGS_V2) return END_OF(nghttp3_settings, h3_datagram);
+#endif
+#ifdef NGHTTP3_SETTINGS_V3
+  if (version < NGHTTP3_SETTINGS_V3) return END_OF(nghttp3_settings, origin_list);
+#endif
+#ifdef NGHTTP3_SETTINGS_V4
+  if (version < NGHTTP3_SETTINGS_V4) return END_OF(nghttp3_settings, glitch_ratelim_rate);
+#endif
+  return (void)version, sizeof(nghttp3_settings);
 }
+
+static size_t callbacks_size(int version) {
+#ifdef NGHTTP3_CALLBACKS_V2
+  if (version < NGHTTP3_CALLBACKS_V2) return END_OF(nghttp3_callbacks, recv_settings);
+#endif
+#ifdef NGHTTP3_CALLBACKS_V3
+  if (version < NGHTTP3_CALLBACKS_V3) return END_OF(nghttp3_callbacks, rand);
+#endif
+  return (void)version, sizeof(nghttp3_callbacks);
+}
+
+static nghttp3_settings default_settings(void) {
+  return (nghttp3_settings){
+      .max_field_section_size = NO_LIMIT,
+      .qpack_encoder_max_dtable_capacity = DEFAULT_ENCODER_TABLE,
+#ifdef NGHTTP3_SETTINGS_V3
+      .glitch_ratelim_burst = 1000,
+      .glitch_ratelim_rate = 33,
+#endif
+  };
+}
+
+EXPORT void nghttp3_settings_default_versioned(int version, nghttp3_settings *settings) {
+  nghttp3_settings all = default_settings();
+  memcpy(settings, &all, settings_size(version));
+}
+
+/* ---- a connection ---- */
 
 static h3_config config_of(bool is_server, const nghttp3_settings *settings) {
   h3_config config;
@@ -32,8 +73,7 @@ static h3_config config_of(bool is_server, const nghttp3_settings *settings) {
   return config;
 }
 
-static int connection_new(nghttp3_conn **to, bool is_server, const nghttp3_callbacks *callbacks, const nghttp3_settings *settings,
-                          void *user_data) {
+static int connection_new(nghttp3_conn **to, bool is_server, const nghttp3_settings *settings, void *user_data) {
   h3_config config = config_of(is_server, settings);
   nghttp3_conn *connection = calloc(1, sizeof *connection);
   if (!connection) return NGHTTP3_ERR_NOMEM;
@@ -42,8 +82,9 @@ static int connection_new(nghttp3_conn **to, bool is_server, const nghttp3_callb
     free(connection->table), free(connection);
     return error_of_answer(answer, 0);
   }
-  connection->callbacks = *callbacks, connection->user_data = user_data;
+  connection->user_data = user_data;
   connection->is_server = is_server, connection->end_id = INT64_MAX;
+  connection->peer_control = connection->peer_encoder = connection->peer_decoder = -1;
   stream_init(&connection->control, -1, h3_control_id(is_server));
   stream_init(&connection->encoder, -1, h3_encoder_id(is_server));
   stream_init(&connection->decoder, -1, h3_decoder_id(is_server));
@@ -56,20 +97,45 @@ static int connection_new(nghttp3_conn **to, bool is_server, const nghttp3_callb
   return 0;
 }
 
-/* A program that was compiled with the header of a later version of nghttp3 has structs that begin as these and are longer: what follows
- * is not read. The allocator of the application is not used (README.md). */
+#ifdef NGHTTP3_SETTINGS_V2
+/* An ORIGIN frame (RFC 9412) follows the settings on the control stream: its payload is the application's. */
+static int send_origins(nghttp3_conn *connection, const nghttp3_vec *origins) {
+  enum { ORIGIN = 0x0c };
+  uint8_t head[2 * LONGEST_INTEGER];
+  size_t length = (size_t)(write_integer(write_integer(head, ORIGIN), origins->len) - head);
+  int error = endpoint_take(connection, &connection->control);
+  if (!error) error = append_copy(connection, &connection->control, head, length);
+  if (!error && origins->len > 0) error = append_copy(connection, &connection->control, origins->base, origins->len);
+  return error;
+}
+#endif
+
+/* A program that was compiled with the header of a later version of nghttp3 than this library has longer structs: what follows is not
+ * read. The allocator of the application is not used (README.md). */
+static int connection_new_versioned(nghttp3_conn **to, bool is_server, int callbacks_version, const nghttp3_callbacks *callbacks,
+                                    int settings_version, const nghttp3_settings *given, void *user_data) {
+  nghttp3_settings settings = default_settings();
+  memcpy(&settings, given, settings_size(settings_version));
+  int error = connection_new(to, is_server, &settings, user_data);
+  if (error) return error;
+  memcpy(&(*to)->callbacks, callbacks, callbacks_size(callbacks_version));
+#ifdef NGHTTP3_SETTINGS_V2
+  if (is_server && settings.origin_list) error = send_origins(*to, settings.origin_list);
+  if (error) nghttp3_conn_del(*to);
+#endif
+  return error;
+}
+
 EXPORT int nghttp3_conn_client_new_versioned(nghttp3_conn **to, int callbacks_version, const nghttp3_callbacks *callbacks,
                                              int settings_version, const nghttp3_settings *settings, const nghttp3_mem *memory,
                                              void *user_data) {
-  (void)callbacks_version, (void)settings_version, (void)memory;
-  return connection_new(to, false, callbacks, settings, user_data);
+  return (void)memory, connection_new_versioned(to, false, callbacks_version, callbacks, settings_version, settings, user_data);
 }
 
 EXPORT int nghttp3_conn_server_new_versioned(nghttp3_conn **to, int callbacks_version, const nghttp3_callbacks *callbacks,
                                              int settings_version, const nghttp3_settings *settings, const nghttp3_mem *memory,
                                              void *user_data) {
-  (void)callbacks_version, (void)settings_version, (void)memory;
-  return connection_new(to, true, callbacks, settings, user_data);
+  return (void)memory, connection_new_versioned(to, true, callbacks_version, callbacks, settings_version, settings, user_data);
 }
 
 EXPORT void nghttp3_conn_del(nghttp3_conn *connection) {

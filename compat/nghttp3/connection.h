@@ -9,12 +9,15 @@
 #include <sys/queue.h>
 #include "h3.h"
 
-/* The header decides which library this is: that of nghttp3 0.8 is libnghttp3.so.3, that of 1.8 is libnghttp3.so.9. */
+/* The header decides which library this is: that of nghttp3 0.8 is libnghttp3.so.3, those of 1.8 to 1.17 are libnghttp3.so.9. */
 #if NGHTTP3_VERSION_NUM >= 0x010000
 #define HAS_VERSION_1
 #endif
-#ifdef NGHTTP3_CALLBACKS_V2
-#error "nghttp3 1.9 and later have calls and structs that are not there yet: build against the header of 0.8 or of 1.8"
+#if NGHTTP3_VERSION_NUM >= 0x011100
+#define HAS_VERSION_1_17
+#endif
+#if defined NGHTTP3_CALLBACKS_V4 || defined NGHTTP3_SETTINGS_V5 || defined NGHTTP3_PROTO_SETTINGS_V2 || defined NGHTTP3_PRI_V2
+#error "the structs of this nghttp3 are later than those of 1.17, which are the latest that are known here"
 #endif
 
 #define EXPORT __attribute__((visibility("default")))
@@ -121,6 +124,7 @@ struct nghttp3_conn {
   bool has_control, has_updates; /* bytes of the peer's control stream came; PRIORITY_UPDATE frames may have */
   int64_t next_id; /* after the last request that was opened, or came */
   int64_t end_id;  /* a server takes no request from here on */
+  int64_t peer_control, peer_encoder, peer_decoder; /* QUIC's ids, or -1 if the stream has not said that it is this one */
   stream control, encoder, decoder;
   struct stream_row ready[NGHTTP3_URGENCY_LEVELS]; /* request streams that may have something to send, by urgency */
   unsigned urgencies;                              /* a bit for each of these rows that has a stream */
@@ -159,11 +163,15 @@ section *section_take(nghttp3_conn *connection, const h3_item *item);
 void section_give(nghttp3_conn *connection, section *all);
 size_t field_list_size(const nghttp3_nv *fields, size_t count);
 field_list field_list_at(void *place, const nghttp3_nv *fields, size_t count);
+bool field_list_lower(const field_list *list);
 
-/* priority_field.c: false where the value is malformed; nothing is written then */
-bool priority_field_parse(priority *to, const uint8_t *value, size_t length);
+/* library.c: variable-length integers (RFC 9000, section 16). The place after the one that was written is answered. */
+enum { LONGEST_INTEGER = 8 };
+size_t integer_length(uint64_t number);
+uint8_t *write_integer(uint8_t *to, uint64_t number);
 
 /* priorities.c */
+int read_priority_fields(nghttp3_conn *connection, stream *s, const section *all, size_t count, size_t first);
 void stream_read_priority(nghttp3_conn *connection, stream *s);
 void read_priorities(nghttp3_conn *connection);
 

@@ -40,6 +40,16 @@ inline field_list field_list_at(void *place, const nghttp3_nv *fields, size_t co
   return list;
 }
 
+/* Names without letters in upper case. Were there any? */
+APART bool field_list_lower(const field_list *list) {
+  bool has_upper = false;
+  uint8_t *at = field_list_bytes(list);
+  for (size_t i = 0; i < list->count; at += list->sizes[i++].value)
+    for (const uint8_t *end = at + list->sizes[i].name; at < end; at++)
+      if (*at >= 'A' && *at <= 'Z') *at = (uint8_t)(*at - 'A' + 'a'), has_upper = true;
+  return has_upper;
+}
+
 /* ---- to nghttp3: names and values that the application may hold on to, each with a NUL after it ---- */
 
 enum { STEP = 16 }; /* of copying, in bytes */
@@ -121,10 +131,9 @@ EXPORT int nghttp3_rcbuf_is_static(const nghttp3_rcbuf *buffer) { return (void)b
 
 /* ---- checks ---- */
 
-/* Version 1 of nghttp3 takes letters in upper case in this call, against its comment. Whatever it says, no message with one is taken
- * or sent. */
+/* nghttp3 1.8 takes letters in upper case in this call, against its comment. Whatever it says, no message with one is taken or sent. */
 static bool is_token_byte(uint8_t byte) {
-#ifdef HAS_VERSION_1
+#if defined HAS_VERSION_1 && !defined HAS_VERSION_1_17
   if (byte >= 'A' && byte <= 'Z') return true;
 #endif
   return (byte >= 'a' && byte <= 'z') || (byte >= '0' && byte <= '9') || (byte && strchr("!#$%&'*+-.^_`|~", byte));

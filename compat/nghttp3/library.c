@@ -29,6 +29,15 @@ EXPORT size_t nghttp3_buf_left(const nghttp3_buf *buffer) { return (size_t)(buff
 EXPORT size_t nghttp3_buf_len(const nghttp3_buf *buffer) { return (size_t)(buffer->last - buffer->pos); }
 EXPORT void nghttp3_buf_reset(nghttp3_buf *buffer) { buffer->pos = buffer->last = buffer->begin; }
 
+size_t integer_length(uint64_t number) { return number < 1 << 6 ? 1 : number < 1 << 14 ? 2 : number < 1 << 30 ? 4 : 8; }
+
+uint8_t *write_integer(uint8_t *to, uint64_t number) {
+  size_t length = integer_length(number);
+  for (size_t i = length; i-- > 0; number >>= 8) to[i] = (uint8_t)number;
+  *to |= (uint8_t)(__builtin_ctz((unsigned)length) << 6);
+  return to + length;
+}
+
 EXPORT uint64_t nghttp3_vec_len(const nghttp3_vec *vectors, size_t count) {
   uint64_t sum = 0;
   for (size_t i = 0; i < count; i++) sum += vectors[i].len;

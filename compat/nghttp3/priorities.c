@@ -40,13 +40,50 @@ void read_priorities(nghttp3_conn *connection) {
     for (stream *s = connection->table[i]; s; s = s->next) stream_read_priority(connection, s);
 }
 
-/* Members that the field does not have keep their values. */
-static int parse_priority(nghttp3_pri *to, const uint8_t *value, size_t length) {
-  priority parsed = {to->urgency, to->inc};
-  if (!priority_field_parse(&parsed, value, length)) return NGHTTP3_ERR_INVALID_ARGUMENT;
-  *to = to_struct(parsed);
+/* ---- the `priority` field: the library's parser reads it, which is proved ---- */
+
+/* The fields of a request, from the `priority` field `first` on: several of them are one, with their values joined by ", " (RFC 9110,
+ * section 5.3). What it says counts unless the client or the application says another priority (RFC 9218, section 5). */
+int read_priority_fields(nghttp3_conn *connection, stream *s, const section *all, size_t count, size_t first) {
+  nghttp3_vec value = all->buffers[2 * first + 1].bytes;
+  for (size_t i = first + 1; i < count; i++) {
+    nghttp3_vec name = all->buffers[2 * i].bytes, more = all->buffers[2 * i + 1].bytes;
+    if (token_of(name.base, name.len) != NGHTTP3_QPACK_TOKEN_PRIORITY) continue;
+    size_t length = value.len + 2 + more.len;
+    bool is_joined = value.base == connection->scratch;
+    if (!reserve_scratch(connection, length)) return NGHTTP3_ERR_NOMEM;
+    if (!is_joined) memcpy(connection->scratch, value.base, value.len);
+    memcpy(connection->scratch + value.len, ", ", 2);
+    memcpy(connection->scratch + value.len + 2, more.base, more.len);
+    value = (nghttp3_vec){connection->scratch, length};
+  }
+  uint32_t urgency, incremental;
+  if (h3_priority_read(value.base, value.len, &urgency, &incremental) != H3_OK) return 0;
+  if (h3_set_initial_priority(&connection->endpoint, s->endpoint_id, urgency, incremental, NULL) == H3_MEMORY) return NGHTTP3_ERR_NOMEM;
+  stream_read_priority(connection, s);
   return 0;
 }
+
+/* A member that the value does not have keeps what it is. The library says its default then, 3 and 0; and after other members it says
+ * theirs, since the last member of a key counts (RFC 8941, section 3.2). A blank value has no member. */
+static int parse_priority(nghttp3_pri *to, const uint8_t *value, size_t length) {
+  static const char OTHER[] = {'u', '=', '0', ',', ' ', 'i', ',', ' '};
+  uint32_t urgency, incremental, other_urgency, other_incremental;
+  uint8_t on_stack[256];
+  if (h3_priority_read(value, length, &urgency, &incremental) != H3_OK) return NGHTTP3_ERR_INVALID_ARGUMENT;
+  size_t size = sizeof OTHER + length;
+  uint8_t *joined = size <= sizeof on_stack ? on_stack : malloc(size);
+  if (!joined) return NGHTTP3_ERR_NOMEM;
+  memcpy(joined, OTHER, sizeof OTHER);
+  if (length > 0) memcpy(joined + sizeof OTHER, value, length);
+  bool has_members = h3_priority_read(joined, size, &other_urgency, &other_incremental) == H3_OK;
+  if (has_members && urgency == other_urgency) to->urgency = urgency;
+  if (has_members && incremental == other_incremental) to->inc = incremental != 0;
+  if (joined != on_stack) free(joined);
+  return 0;
+}
+
+/* ---- the calls of each version ---- */
 
 #ifndef HAS_VERSION_1
 EXPORT int nghttp3_conn_get_stream_priority(nghttp3_conn *connection, nghttp3_pri *to, int64_t id) {
@@ -69,17 +106,9 @@ EXPORT int nghttp3_pri_parse_priority_versioned(int version, nghttp3_pri *to, co
   return (void)version, parse_priority(to, value, length);
 }
 
-/* A variable-length integer (RFC 9000, section 16); answers the place after it. */
-static uint8_t *write_integer(uint8_t *to, uint64_t number) {
-  int log = number < 64 ? 0 : number < 16384 ? 1 : number < (1 << 30) ? 2 : 3;
-  for (int i = (1 << log) - 1; i >= 0; i--, number >>= 8) to[i] = (uint8_t)number;
-  *to |= (uint8_t)(log << 6);
-  return to + (1 << log);
-}
-
 /* A PRIORITY_UPDATE frame (RFC 9218, section 7.2) goes out after what the endpoint wrote on its control stream, which is whole frames. */
 EXPORT int nghttp3_conn_set_client_stream_priority(nghttp3_conn *connection, int64_t id, const uint8_t *value, size_t length) {
-  enum { PRIORITY_UPDATE = 0xf0700, LONGEST_INTEGER = 8 };
+  enum { PRIORITY_UPDATE = 0xf0700 };
   if (!is_request(id)) return NGHTTP3_ERR_INVALID_ARGUMENT;
   if (!stream_find(connection, id)) return NGHTTP3_ERR_STREAM_NOT_FOUND;
   uint8_t id_bytes[LONGEST_INTEGER];

@@ -34,24 +34,18 @@ static int refuse_message(nghttp3_conn *connection, stream *s, uint64_t code) {
 
 /* ---- items ---- */
 
-/* A request's `priority` field counts unless its client or the application says another one (RFC 9218, section 5). It is read by the library's parser. */
-static void read_priority(nghttp3_conn *connection, stream *s, nghttp3_vec value) {
-  uint32_t urgency, incremental;
-  if (!connection->is_server || h3_priority_read(value.base, value.len, &urgency, &incremental) != H3_OK) return;
-  h3_set_initial_priority(&connection->endpoint, s->endpoint_id, urgency, incremental, NULL);
-  stream_read_priority(connection, s);
-}
-
 static int tell_each(nghttp3_conn *connection, stream *s, section *all, size_t count, bool is_trailer) {
   nghttp3_recv_header tell = is_trailer ? connection->callbacks.recv_trailer : connection->callbacks.recv_header;
+  size_t first_priority = count;
   for (size_t i = 0; i < count && !s->is_read_shut; i++) {
     nghttp3_rcbuf *name = all->buffers + 2 * i, *value = name + 1;
     uint8_t flags = all->flags[i] & H3_NEVER_INDEX ? NGHTTP3_NV_FLAG_NEVER_INDEX : NGHTTP3_NV_FLAG_NONE;
     int32_t token = token_of(name->bytes.base, name->bytes.len);
-    if (token == NGHTTP3_QPACK_TOKEN_PRIORITY && !is_trailer) read_priority(connection, s, value->bytes);
+    if (token == NGHTTP3_QPACK_TOKEN_PRIORITY && i < first_priority) first_priority = i;
     if (tell && tell(connection, s->id, token, name, value, flags, connection->user_data, s->user_data)) return NGHTTP3_ERR_CALLBACK_FAILURE;
   }
-  return 0;
+  bool has_priority = first_priority < count && connection->is_server && !is_trailer && !s->is_read_shut;
+  return has_priority ? read_priority_fields(connection, s, all, count, first_priority) : 0;
 }
 
 static int tell_fields(nghttp3_conn *connection, stream *s, const h3_item *item) {
@@ -340,6 +334,13 @@ static int resume_all_waiting(nghttp3_conn *connection) {
   return error;
 }
 
+/* nghttp3 1.8 tells a client nothing of the peer's SETTINGS_ENABLE_CONNECT_PROTOCOL. */
+#ifdef HAS_VERSION_1_17
+enum { TELLS_A_CLIENT = 1 };
+#else
+enum { TELLS_A_CLIENT = 0 };
+#endif
+
 static int tell_settings(nghttp3_conn *connection) {
   h3_state state;
   if (h3_connection(&connection->endpoint, &state) != H3_OK) return 0;
@@ -353,9 +354,14 @@ static int tell_settings(nghttp3_conn *connection) {
       .max_field_section_size = state.peer_section,
       .qpack_max_dtable_capacity = (size_t)state.peer_table,
       .qpack_blocked_streams = (size_t)state.peer_blocked,
-      .enable_connect_protocol = connection->is_server && connect == 1, /* as nghttp3 has it */
+      .enable_connect_protocol = connect == 1 && (connection->is_server || TELLS_A_CLIENT),
       .h3_datagram = datagram == 1,
   };
+#ifdef NGHTTP3_PROTO_SETTINGS_V1
+  nghttp3_proto_settings same = {peer.max_field_section_size, peer.qpack_max_dtable_capacity, peer.qpack_blocked_streams,
+                                 peer.enable_connect_protocol, peer.h3_datagram};
+  if (connection->callbacks.recv_settings2) return CALLBACK(connection, recv_settings2, &same, connection->user_data);
+#endif
   return CALLBACK(connection, recv_settings, &peer, connection->user_data);
 #else
   return 0;
@@ -384,18 +390,55 @@ static void look_for_updates(nghttp3_conn *connection, const uint8_t *bytes, siz
   if (connection->has_updates) read_priorities(connection);
 }
 
+/* What a unidirectional stream of the peer is, by what came on it. */
+static uint32_t kind_of(nghttp3_conn *connection, int64_t id) {
+  uint32_t kind;
+  return h3_stream_kind(&connection->endpoint, (uint64_t)id, &kind) == H3_OK ? kind : H3_STREAM_UNTOLD;
+}
+
+static bool is_kind_known(const nghttp3_conn *connection, int64_t id) {
+  return id == connection->peer_control || id == connection->peer_encoder || id == connection->peer_decoder;
+}
+
+#ifdef HAS_VERSION_1
+enum { REFUSES_AGAIN = 0 };
+#else
+enum { REFUSES_AGAIN = 1 };
+#endif
+
+/* So many bytes came on a stream that was of the kind `before`. One of an unknown type is refused (RFC 9114, section 6.2): once, and by
+ * version 0.8 with all bytes that come. */
+static int tell_kind(nghttp3_conn *connection, int64_t id, uint32_t before, size_t length) {
+  if (before == H3_STREAM_UNKNOWN && (!REFUSES_AGAIN || length == 0)) return 0;
+  switch (kind_of(connection, id)) {
+    case H3_STREAM_CONTROL: connection->peer_control = id; return 0;
+    case H3_STREAM_ENCODER: connection->peer_encoder = id; return 0;
+    case H3_STREAM_DECODER: connection->peer_decoder = id; return 0;
+    case H3_STREAM_UNKNOWN:
+      return CALLBACK(connection, stop_sending, id, NGHTTP3_H3_STREAM_CREATION_ERROR, connection->user_data, NULL);
+    default: return 0;
+  }
+}
+
 static nghttp3_ssize read_unidirectional(nghttp3_conn *connection, int64_t id, const uint8_t *bytes, size_t length, int fin) {
+  bool is_known = is_kind_known(connection, id);
+  uint32_t before = is_known ? H3_STREAM_UNTOLD : kind_of(connection, id);
   int fault = endpoint_deliver(connection, id, bytes, length, fin);
   if (fault == NGHTTP3_ERR_H3_SETTINGS_ERROR) return fault; /* settings that are refused are not told */
   may_have_bytes(connection, &connection->encoder), may_have_bytes(connection, &connection->decoder);
   int error = tell_control(connection);
   if (fault || error) return fault ? fault : error;
-  uint32_t type;
-  bool is_control = h3_stream_kind(&connection->endpoint, (uint64_t)id, &type) == H3_OK && type == H3_STREAM_CONTROL;
-  if (connection->is_server && is_control) look_for_updates(connection, bytes, length);
-  error = resume_all_waiting(connection);
+  error = is_known ? 0 : tell_kind(connection, id, before, length);
+  if (connection->is_server && id == connection->peer_control) look_for_updates(connection, bytes, length);
+  if (!error) error = resume_all_waiting(connection);
   return error ? error : (nghttp3_ssize)length;
 }
+
+#ifndef HAS_VERSION_1
+EXPORT int nghttp3_conn_is_remote_qpack_encoder_stream(nghttp3_conn *connection, int64_t id) {
+  return id >= 0 && kind_of(connection, id) == H3_STREAM_ENCODER;
+}
+#endif
 
 /* ---- request streams ---- */
 

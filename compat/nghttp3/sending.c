@@ -14,15 +14,28 @@ enum {
  * each field two lengths (sections 4.1.1 and 4.5.6) and both strings. */
 static size_t most_encoded(const field_list *fields) { return 9 + 20 + fields->length + 12 * fields->count; }
 
+__attribute__((always_inline)) static inline uint32_t send_section(nghttp3_conn *connection, stream *s, const field_list *fields,
+                                                                   bool is_trailer, uint64_t *detail) {
+  const uint8_t *bytes = field_list_bytes(fields), *flags = fields->has_flags ? field_list_flags(fields) : NULL;
+  h3_endpoint *endpoint = &connection->endpoint;
+  return is_trailer ? h3_send_trailer(endpoint, s->endpoint_id, fields->sizes, flags, fields->count, bytes, fields->length, detail)
+                    : h3_send_head(endpoint, s->endpoint_id, fields->sizes, flags, fields->count, bytes, fields->length, detail);
+}
+
+/* Names go out in lower case, as nghttp3 sends them (RFC 9114, section 4.2). Most are so: the others are changed when the endpoint has
+ * refused them. */
+static APART uint32_t send_lower_case(nghttp3_conn *connection, stream *s, const field_list *fields, bool is_trailer, uint32_t refused,
+                                      uint64_t *detail) {
+  return field_list_lower(fields) ? send_section(connection, s, fields, is_trailer, detail) : refused;
+}
+
 inline int send_fields(nghttp3_conn *connection, stream *s, const field_list *fields, bool is_trailer) {
   uint64_t detail = 0;
-  const uint8_t *bytes = field_list_bytes(fields), *flags = fields->has_flags ? field_list_flags(fields) : NULL;
   bool has_unsent = s->is_untaken || s->unsent_length > 0;
   int error = s->announced ? endpoint_take(connection, s) : 0;
   if (error) return error;
-  h3_endpoint *endpoint = &connection->endpoint;
-  uint32_t answer = is_trailer ? h3_send_trailer(endpoint, s->endpoint_id, fields->sizes, flags, fields->count, bytes, fields->length, &detail)
-                               : h3_send_head(endpoint, s->endpoint_id, fields->sizes, flags, fields->count, bytes, fields->length, &detail);
+  uint32_t answer = send_section(connection, s, fields, is_trailer, &detail);
+  if (answer != H3_OK) answer = send_lower_case(connection, s, fields, is_trailer, answer, &detail);
   if (connection->has_peer_table) may_have_bytes(connection, &connection->encoder);
   if (answer != H3_OK) return error_of_answer(answer, detail);
   s->is_untaken = true; /* what follows is taken in the same call, unless this alone fills what is unsent */

@@ -56,6 +56,7 @@ checks() { # SONAME, the folder of the header, Debian's library
   fi
   run exports "${python[@]}" $tests/exports.py
   run calls "${python[@]}" $tests/calls.py
+  run priorities "${python[@]}" $tests/priorities.py
   run "byte scripts" "${python[@]}" $tests/byte_scripts.py
   run cuts "${python[@]}" $tests/cuts.py 0 60
   run steps "${python[@]}" $tests/steps.py

@@ -11,8 +11,8 @@ for root in /usr build/nghttp3/usr build/trixie/usr; do
   [ -e "$header" ] || continue
   case $(sed -nE 's/^#define NGHTTP3_VERSION_NUM 0x([0-9a-f]{4}).*/\1/p' "$header") in
     0008) soname=libnghttp3.so.3 ;;
-    0108) soname=libnghttp3.so.9 ;;
-    *) echo "$header is of a version that compat/nghttp3 is not built for: 0.8 and 1.8 are" >&2; continue ;;
+    0108 | 0111) soname=libnghttp3.so.9 ;;
+    *) echo "$header is of a version that compat/nghttp3 is not built for: 0.8, 1.8 and 1.17 are" >&2; continue ;;
   esac
   [ -z "${seen[$soname]:-}" ] || continue
   seen[$soname]=1

@@ -3,11 +3,14 @@
 checkout FOLDER (this one if left out) and the sources of the crates after --from, which changed here.
 
 `rt check` proves each library below a crate that changed first. This takes a minute in place of an hour, and keeps nothing for the gate:
-end with `rt ci CRATE`. Useful flags are --only PATH and --allow-holes."""
+end with `rt ci CRATE`. Useful flags are --only PATH and --allow-holes. The last line is the verdict, with the first errors in front of it:
+rattle's `holes=0` says nothing of errors."""
 import argparse
 import os
 import re
 import shutil
+import subprocess
+import sys
 
 ROOT = os.path.dirname(os.path.dirname(os.path.dirname(os.path.abspath(__file__))))
 KIT = os.path.dirname(os.path.dirname(os.path.realpath(shutil.which("rt") or "rt")))
@@ -40,6 +43,22 @@ def externs(named, base, crate, changed):
         yield from ("--extern", f"{name}={path}", "-L", f"dependency={folder}")
 
 
+def told(command):
+    """runs the check, prints what it says, and the verdict last: 1 if it found an error"""
+    run = subprocess.Popen(command, stdout=subprocess.PIPE, stderr=subprocess.STDOUT, text=True)
+    errors = []
+    for line in run.stdout:
+        sys.stdout.write(line)
+        sys.stdout.flush()
+        if re.search(r": error: |: not proved\b|: no proof: ", line):
+            errors.append(line[:300].rstrip())
+    code = run.wait()
+    for line in errors[:5]:
+        print(line)
+    print(f"over.py: NOT PROVED: {len(errors)} errors" if code or errors else "over.py: no error")
+    return code or int(bool(errors))
+
+
 def main():
     reader = argparse.ArgumentParser(usage=__doc__)
     reader.add_argument("crate")
@@ -58,7 +77,7 @@ def main():
     kept = f"{ROOT}/crates/{given.crate}/out/over"
     os.makedirs(kept, exist_ok=True)
     command += ["--links", f"{given.crate}=", "--incremental", kept, *flags]
-    os.execv(f"{KIT}/bin/rattle", command)
+    sys.exit(told([f"{KIT}/bin/rattle", *command[1:]]))
 
 
 if __name__ == "__main__":

@@ -74,12 +74,12 @@ browser() { # PORT, its status for a field of 60,000 bytes
     grep -q "^download $(cat "$work/posted")$" "$work/seen" && grep -q "^afterwards: 200$" "$work/seen" && grep -q "^protocols h3<" "$work/seen"
 }
 
-# ---- fetch and the Go client, which write every string in the Huffman code: this path takes 2.7 bytes there for each of its own ----
+# ---- fetch and the Go client, which write a string as it stands if its Huffman code is longer: that of this path takes 2.7 bytes for each ----
 
 path="/hello.txt?$(copies 漢 20000)"
 is_answered() { # TEXT, PORT: fetch says of what came, and that the request took so many bytes
   within 60 "$work/checked/fetch" --address 127.0.0.1 --trust "$cert" --verbose --sizes "$(url "$2" "$path")" > "$work/got"
-  grep -q "^request of 16[0-9]\{4\} bytes$" "$work/log" && grep -q "^$1$" "$work/log"
+  grep -q "^request of 60[0-9]\{3\} bytes$" "$work/log" && grep -q "^$1$" "$work/log"
 }
 go_says() { # TEXT, PORT
   within 60 "$work/h3go" fetch --verbose "$cert" "$(url "$2" "$path")" > "$work/got"
@@ -125,9 +125,9 @@ clients() { # what the server is called, PORT, its status for a path of 60 KB
   if command -v chromium > /dev/null; then
     check "$1, Chromium beside 10 MB: fields of 100,000 and of 540,000 bytes give 431" browser "$2" 200
   fi
-  check "$1, fetch: a path of 60,000 bytes in a frame of some 160,000" is_answered "status $3" "$2"
+  check "$1, fetch: a path of 60,000 bytes, written as it stands" is_answered "status $3" "$2"
   check "$1, fetch: a path of 66,000 bytes is not sent" is_refused "$2"
-  check "$1, Go client: a path of 60,000 bytes in a frame of some 160,000" go_says "$3" "$2"
+  check "$1, Go client: a path of 60,000 bytes" go_says "$3" "$2"
   has_curl || return
   check "$1, curl beside 10 MB: a field of 100,000 bytes gives 431, on one connection" curl_beside 431 100000 "$2"
   check "$1, curl beside 10 MB: a field of 60,000 bytes, on one connection" curl_beside 200 60000 "$2"

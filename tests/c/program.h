@@ -1,9 +1,9 @@
 // Two programs, of a client and of a server, through include/h3.h: each side strict or not, tables of every size, bytes in flight across
 // resets, and every twelfth call with an allocation refused. Header sections and trailers are lists, as all of h3.h has them: their names
-// are repeated in any order, some are malformed, and some fields are never indexed. Bodies are copied or stay with the caller, and what came
-// is delivered and pulled, or read where it lies. Beside these stand the calls of program_beside.h: priorities, GOAWAY, datagrams, streams of
-// sessions, and streams that are given up both ways. Which calls are made is chosen by `below`. At each call the clauses of what the library
-// promises of a whole connection are checked (docs/headline/faithful.md, of the events that send and pull lists):
+// are repeated in any order, some are malformed, and some fields are never indexed. Bodies are copied or stay with the caller, and what
+// came is delivered and pulled, or read where it lies. Beside these stand the calls of program_beside.h: priorities, GOAWAY, datagrams,
+// streams of sessions, and streams that are given up both ways. Which calls are made is chosen by `below`. At each call the clauses of
+// what the library promises of a whole connection are checked (docs/headline/faithful.md, of the events that send and pull lists):
 //
 // - begins: what a side receives of a stream is the beginning of what the other side sent on it, field by field in the order of its lists,
 //   with the flags that the sender gave or its choice adds, and byte by byte;
@@ -12,7 +12,7 @@
 //   a client with a strict connection knows that its server goes away;
 // - comes_out: where a pull pauses with nothing left to deliver, all that was sent has come out of a stream that was not given up;
 // - no_connection_fault: where both sides are strict, or neither is, the connection has no fault;
-// - shows: what h3_stream says is held is at most what came, and on what h3_next_to_send names something waits.
+// - shows: what h3_stream says is held is at most what came, and h3_next_to_send names the streams on which something waits.
 //
 // Linked with --wrap for malloc and realloc.
 #ifndef PROGRAM_H
@@ -58,7 +58,7 @@ struct Flow {
   uint64_t code = 0;                 // of the reset
   uint64_t came = 0;                 // so many bytes were delivered
   bool seen = false, closed = false; // at the other side: something came; its end or reset came
-  bool reset_came = false, was_kept = false; // was_kept: bytes were taken, and memory was refused to read them
+  bool reset_came = false, was_kept = false; // kept: bytes were taken, and memory was refused to read them
   bool end_may_have_come = false;    // h3_read had it, and an item came out first, or memory was refused
   size_t out = 0;                    // so many parts came out there
   bool ended = false, given_up = false;
@@ -80,8 +80,8 @@ struct Side {
 struct Counts {
   unsigned long programs = 0, calls = 0, memory_answers = 0, sends = 0, bytes = 0, lists = 0, too_large = 0, ends = 0, came_out = 0,
                 malformed = 0, too_long = 0, tunnel_faults = 0, violations = 0, pauses = 0, read_in_place = 0, owned = 0, ends_told = 0,
-                priorities = 0, turns = 0, goaways = 0, rejected = 0, late = 0, datagrams = 0, raw = 0, closed_both = 0, unblocked = 0,
-                drained = 0;
+                priorities = 0, updates = 0, turns = 0, goaways = 0, rejected = 0, late = 0, datagrams = 0, raw = 0, closed_both = 0,
+                unblocked = 0, drained = 0;
 } counts;
 
 class Program {
@@ -204,7 +204,7 @@ Program::Program(uint64_t seed)
     config.guard_secrets = below(2);
     config.shortest_strings = below(2);
     config.strict_connection = below(2);
-    config.priority_updates = below(3);
+    config.priority_updates = below(2) ? MANY_REQUESTS : below(3);
     config.reject_requests = !one_in(4);
     config.extended_connect = below(2);
     config.send_grease = below(2);
@@ -348,7 +348,9 @@ void Program::shows(int side, uint64_t id) {
   if (is_open(side, id) && id % 4 == 0 && !own.reset && stream.is_finished != own.finished) violated("shows", id, "is_finished");
   if (is_open(side, id) && id % 4 == 0 && stream.is_reset != own.reset) violated("shows", id, "is_reset");
   uint64_t named = 0;
-  if (h3_next_to_send(end, id, &named) != H3_OK) return;
+  bool ends = id % 4 == 0 && own.finished && !own.reset && !own.end_told, is_named = h3_next_to_send(end, id, &named) == H3_OK;
+  if ((stream.waiting || ends) != (is_named && named == id)) violated("shows", id, "whether it is to be sent");
+  if (!is_named) return;
   uint8_t byte;
   size_t n = 0, past = 0;
   uint32_t fin = 0;
@@ -643,8 +645,10 @@ void Program::step_beside(int side, uint64_t id, uint32_t choice) {
   uint64_t alone = one_of(ALONE[side]);
   switch (choice) {
     case 0: return say_priority(side, id);
-    case 1: return send_priority(id);
-    case 2: return counts_priority(side, id);
+    case 1: send_priority(id); [[fallthrough]];
+    case 2:
+      if (below(2)) deliver_all(0, OWN[0][0]); // the updates come
+      return counts_priority(below(2), id);
     case 3: return hold(side, one_in(4) ? OWN[side][below(3)] : id);
     case 4:
     case 5: return take_by_priority(side);
@@ -665,17 +669,24 @@ void Program::step_beside(int side, uint64_t id, uint32_t choice) {
   return below(3) ? below(2) ? give_notice(side) : shut_down(side) : go_away(side);
 }
 
-// a whole message both ways, as far as it is accepted
+// a whole message both ways, as far as it is accepted, and what its client says of the response
 void Program::exchange(uint64_t id) {
   for (int side = 0; side < 2; side++) {
     send_head(side, id);
     send_content(side, id);
     finish(side, id);
-    deliver_all(side, OWN[side][1]);
+    bool is_blocked = below(2); // the insertions come behind
+    if (!is_blocked) deliver_all(side, OWN[side][1]);
     deliver_all(side, id);
     deliver_end(side, id);
     for (int i = 0; i < 8 && !pull(!side, id); i++) {
     }
+    if (is_blocked) deliver_all(side, OWN[side][1]);
+    pull_unblocked(!side);
+    if (side == 1 || !one_in(3)) continue;
+    send_priority(id);
+    deliver_all(0, OWN[0][0]);
+    counts_priority(1, id);
   }
 }
 

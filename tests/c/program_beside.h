@@ -1,7 +1,8 @@
 // The calls of random programs (program.h) beside those of messages. What they promise by themselves is checked too:
 //
-// - priorities: a stream's is the one that was set, else that of an update, of its request, or the default; the stream that sends next is not
-//   held, comes after the local control, encoder and decoder stream, and none that waits is more urgent;
+// - priorities: a stream's is the one that was set, else that of an update, of its request, or the default; the stream that sends next is
+//   not held, comes after the local control, encoder and decoder stream, none that waits is more urgent, and of those that are not
+//   incremental it is the first;
 // - GOAWAY: of requests from the last one on of which nothing came a server that asks for it takes nothing, and of all others everything;
 // - an event is reported once; a stream that is unblocked does not wait; an end that is drained has nothing left to do.
 #ifndef PROGRAM_BESIDE_H
@@ -151,16 +152,24 @@ bool Program::priority_of(int side, uint64_t id, Priority &priority) {
   return h3_priority(&sides_[side].end, id, &priority.urgency, &priority.incremental) == H3_OK;
 }
 
-// What an update said counts once it came, if a server keeps it: one of those that were sent, or none of them yet.
+// What updates said counts once they came, if their server keeps them: the last one, if it keeps as many as there are streams, and on a
+// stream that is not sent off. Else it is any of them, or none.
 void Program::counts_priority(int side, uint64_t id) {
   Priority counted = {9, 9};
-  const Flow &own = flow(side, id);
+  const Flow &own = flow(side, id), &control = flow(0, OWN[0][0]);
+  if (sides_[side].has_fault) return;
   if (priority_of(side, id, counted) != is_open(side, id)) return violated("priorities", id, "whether there is one");
   if (!is_open(side, id)) return;
   Priority wanted = !own.set.empty() ? own.set.back() : !own.of_field.empty() ? own.of_field.back() : Priority{3, 0};
+  bool is_updated = side == 1 && sides_[1].config.priority_updates && own.set.empty() && !own.updates.empty();
+  bool is_known = control.flight.empty() && !control.was_kept && !waiting(0, OWN[0][0]) && !own.finished && !own.reset;
+  if (is_updated && is_known && sides_[1].config.priority_updates == MANY_REQUESTS) {
+    counts.updates++;
+    wanted = own.updates.back();
+    is_updated = false;
+  }
   if (counted == wanted) return;
-  bool may_be_updated = side == 1 && sides_[1].config.priority_updates && own.set.empty();
-  if (!may_be_updated || std::find(own.updates.begin(), own.updates.end(), counted) == own.updates.end())
+  if (!is_updated || std::find(own.updates.begin(), own.updates.end(), counted) == own.updates.end())
     violated("priorities", id, "another one counts");
 }
 
@@ -183,8 +192,9 @@ void Program::is_next(int side, bool is_there, uint64_t id) {
     if (is_there && next == id) waits = true;
     if (flow(side, next).is_held || (is_there && next == id)) continue;
     if (!is_there) return violated("priorities", next, "it waits, and none sends next");
-    if (next % 4 != 0 ? !is_own || next < id : !is_own && priority_of(side, next, other) && other.urgency < counted.urgency)
-      return violated("priorities", id, "another stream goes before the one that sends next");
+    bool goes_before = next % 4 != 0 ? !is_own || next < id : !is_own && priority_of(side, next, other) && other.urgency < counted.urgency;
+    bool is_first = next % 4 == 0 && other.urgency == counted.urgency && !other.incremental && !counted.incremental && next < id;
+    if (goes_before || (!is_own && is_first)) return violated("priorities", id, "another stream goes before the one that sends next");
   }
   if (is_there && (!waits || flow(side, id).is_held)) violated("priorities", id, "it sends next, and does not wait or is held");
 }
@@ -252,7 +262,7 @@ void Program::shows_kind(int side, uint64_t id) {
     if (id == OWN[side][i] && sent.came) wanted = H3_STREAM_CONTROL + i;
   if (id == ALONE[side][1] && sent.came) wanted = H3_STREAM_UNKNOWN;
   bool knows_sessions = reader.webtransport || !reader.strict_connection;
-  if (id == ALONE[side][0] && sent.came > 2) wanted = knows_sessions ? H3_STREAM_SESSION : H3_STREAM_UNKNOWN; // with the session's id
+  if (id == ALONE[side][0] && sent.came > 2) wanted = knows_sessions ? H3_STREAM_SESSION : H3_STREAM_UNKNOWN; // the session's id too
   if (type != wanted && !(type == H3_STREAM_UNTOLD && sent.was_kept)) violated("shows", id, "a stream of another type");
 }
 
@@ -277,7 +287,8 @@ void Program::shows_events(int side) {
     if (!is_first && std::find(peer.goaways.begin(), peer.goaways.end(), number) == peer.goaways.end())
       violated("shows", number, "a GOAWAY that was not sent");
   }
-  if (h3_connection(&own.end, &state) != H3_OK || state.has_settings != own.settings_told) violated("shows", 0, "settings without an event");
+  if (h3_connection(&own.end, &state) != H3_OK || state.has_settings != own.settings_told)
+    violated("shows", 0, "settings without an event");
   if (state.has_goaway ? own.goaways_told.empty() || state.goaway != own.goaways_told.back() : !own.goaways_told.empty())
     violated("shows", state.goaway, "GOAWAY without an event");
 }

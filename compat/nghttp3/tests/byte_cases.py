@@ -266,6 +266,8 @@ def other_streams():
     at("server", "a push stream at a server", (2, PUSH_TYPE + b"\0"))
     at("client", "a push stream that was not allowed", (3, PUSH_TYPE + b"\0"))
     at("server", "an unknown unidirectional stream", (2, integer(0x21) + b"abc"), (2, b"def", True))
+    at("server", "an unknown unidirectional stream, byte by byte", (2, b"\x40"), (2, b"\x21"), (2, b"a"), (2, b"", True))
+    at("client", "two unknown unidirectional streams", (3, integer(0x21)), (7, integer(1 << 40) + b"a"), (3, b"b"), (7, b"", True))
     at("server", "the end of the encoder stream", (2, ENCODER_TYPE, True))
     at("server", "the end of the decoder stream", (2, DECODER_TYPE, True))
     at("server", "two encoder streams", (2, ENCODER_TYPE), (6, ENCODER_TYPE))

@@ -2,6 +2,7 @@
 """byte_scripts.py: the cases of byte_cases.py, each given to a connection of Debian's library and to one of ours: callbacks, errors and
 consumed bytes are compared. Of a head that is refused nghttp3 tells some fields before it sees why, and ours none: such callbacks are
 left out."""
+import re
 import sys
 
 from byte_cases import CASES, GET
@@ -85,13 +86,23 @@ def answer(library, case):
     return f"{told} consumed:{consumed + sum(it[2] for it in events if it[0] == 'consume')}".strip()
 
 
+def difference(name, answers):
+    """one case for all header sections after which nghttp3 1.17 closes the connection, and 1.8 and ours end the stream"""
+    ends = "error:MALFORMED_HTTP_HEADER:0x10e", r"stop:0x10e reset:0x10e consumed:\d+"
+    begins = [re.fullmatch("(.*?) ?" + end, it) for end, it in zip(ends, answers)]
+    if all(begins) and begins[0].group(1) == begins[1].group(1):
+        return "a malformed header section", ("the connection is closed", "the stream ends")
+    return name, answers
+
+
 def main():
     native, ours = libraries()
     found = {}
     for case in CASES:
         answers = answer(native, case), answer(ours, case)
         if answers[0] != answers[1]:
-            found[case.name] = answers
+            name, answers = difference(case.name, answers)
+            found[name] = answers
     sys.exit(not judge("byte scripts", found, len(CASES)))
 
 

@@ -1,40 +1,20 @@
 #!/usr/bin/env python3
-"""calls.py: the calls that need no peer, asked the same of both libraries: errors, checks of names and values, the `priority` field, and
-messages that a client submits against a rule for senders."""
+"""calls.py: the calls that need no peer, asked the same of both libraries: errors, checks of names and values, and messages that a
+client submits against a rule for senders."""
+import ctypes
 import os
-import random
 import sys
 
 from differences import judge
-from library import END, IS_VERSION_1, NO_END_STREAM, Connection, Settings, Vector, error_name, libraries
-
-PRIORITIES = [
-    b"u=1", b"i", b"u=1, i", b"u=1,i=?0", b"i=?1", b"u=8", b"u=-1", b"u=0;a=1", b'u="1"', b"x=(1 2);q, u=2", b"u=1.5", b"u=1,", b",u=1",
-    b"", b" ", b"u", b"u=1  ,  i", b"u=1\t,\ti", b"x=:YWI=:, i", b'x="a\\"b", u=5', b"A=1", b"u=1 i", b"u=000000000000001",
-    b"u=9999999999999999", b"x=tok/en:a, u=6", b"x=@123, u=1", b'x=%"a", u=1', b"x=:YWI:, u=2", b"x=:YW=:", b"x=:=:", b"x=::, i",
-    b"u=1;a=(1)", b"u=(1)", b"x=1.1234",
-]
-CHANGED = 20000
+from library import END, NO_END_STREAM, SETTINGS_VERSION, Connection, Settings, Vector, error_name, libraries
 
 
-def changed(chance, value):
-    """a value with up to three bytes put in, taken out or replaced"""
-    value = bytearray(value)
-    for _ in range(chance.randint(1, 3)):
-        kind, at = chance.randrange(3), chance.randrange(len(value) + 1)
-        if kind == 0:
-            value[at:at] = bytes([chance.choice(b'ui=?01, ;"()abc*.-:\t9')])
-        elif kind == 1:
-            del value[at : at + 1]
-        elif at < len(value):
-            value[at] = chance.choice(b'ui=?01, ;"()abc*.-:\t9\x80')
-    return bytes(value)
-
-
-def defaults(library):
+def defaults(library, version):
+    """what is written to the struct of such a version, and that nothing is written behind it"""
     settings = Settings()
-    library.settings_default(1, settings)
-    return [getattr(settings, name) for name, _ in Settings._fields_]
+    ctypes.memset(ctypes.byref(settings), 0xAA, ctypes.sizeof(settings))
+    library.settings_default(version, settings)
+    return ctypes.string_at(ctypes.byref(settings), ctypes.sizeof(settings)).hex()
 
 
 def submitted(library, fields, trailer=()):
@@ -52,7 +32,8 @@ def submitted(library, fields, trailer=()):
 def questions():
     """(name, what is asked of a library)"""
     yield "version", lambda it: (it.version(0)[0].age, it.version(0)[0].number, bool(it.version(1 << 24)))
-    yield "settings_default", defaults
+    for version in range(1, SETTINGS_VERSION + 1):
+        yield f"settings_default of version {version}", lambda it, version=version: defaults(it, version)
     yield "vec_len", lambda it: it.vec_len((Vector * 3)(Vector(None, 5), Vector(None, 0), Vector(None, 1 << 40)), 3)
     for number in range(-1000, 1):
         yield f"strerror({number})", lambda it, number=number: it.strerror(number)
@@ -63,12 +44,6 @@ def questions():
     for text in texts:
         yield f"check_header_name({text!r})", lambda it, text=text: bool(it.check_header_name(text, len(text)))
         yield f"check_header_value({text!r})", lambda it, text=text: bool(it.check_header_value(text, len(text)))
-    chance = random.Random(1)
-    values = [changed(chance, chance.choice(PRIORITIES)) for _ in range(CHANGED)]
-    if not IS_VERSION_1:  # which reads dates, display strings and byte sequences otherwise: PRIORITIES alone have some for it
-        values = [value for value in values if not set(value) & set(b"@%:")]
-    for value in [*PRIORITIES, *values]:
-        yield f"parse_priority({value!r})", lambda it, value=value: it.parse_priority(value)
     post = [(b":method", b"POST"), (b":scheme", b"https"), (b":authority", b"a.b"), (b":path", b"/")]
     yield "CONNECT", lambda it: submitted(it, [(b":method", b"CONNECT"), (b":authority", b"a.b:1")])
     yield "CONNECT without a port", lambda it: submitted(it, [(b":method", b"CONNECT"), (b":authority", b"a.b")])

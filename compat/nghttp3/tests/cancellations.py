@@ -5,7 +5,7 @@ that was given up, and each stream that nobody gave up comes whole."""
 import sys
 
 import exchanges
-from library import NOT_FOUND, check, libraries, pairs
+from library import IS_VERSION_1_17, NOT_FOUND, check, libraries, pairs
 
 STEPS = 900
 NO_ERROR, REQUEST_CANCELLED = 0x100, 0x10C
@@ -94,9 +94,12 @@ class Run(exchanges.Run):
                 continue
             whole += 1
             for which, message in ((0, exchange.request), (1, exchange.response)):
-                told = self.sides[1 - which].messages(stream)
+                receiver = self.sides[1 - which]
+                told = receiver.messages(stream)
                 wanted = message.told(self.sides[which].library)
-                assert told == wanted, f"stream {stream}: {told}\nwanted {wanted}"
+                # nghttp3 1.17 closes a stream at once whose header section waits: nothing more is told of it
+                is_cut = IS_VERSION_1_17 and receiver.library.name == "nghttp3" and told == wanted[:1] and stream in self.closed[1 - which]
+                assert told == wanted or is_cut, f"stream {stream}: {told}\nwanted {wanted}"
         for side in self.sides:
             side.connection.free()
         return len(self.given_up), whole

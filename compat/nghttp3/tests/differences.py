@@ -3,9 +3,8 @@ is meant, and all else is a failure; so is an entry that no longer occurs."""
 import os
 import re
 
-from library import IS_VERSION_1
+from library import IS_VERSION_1, VERSION
 
-VERSION = "1.8" if IS_VERSION_1 else "0.8"
 LIST = os.path.join(os.path.dirname(os.path.realpath(__file__)), "differences.txt")
 KEYS = ("test", "case", "of", "nghttp3", "ours", "why")
 

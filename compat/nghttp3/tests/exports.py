@@ -4,10 +4,10 @@ import os
 import subprocess
 import sys
 
-from differences import VERSION
+from library import IS_VERSION_1_17
 
-LEFT_OUT = {"nghttp3_conn_get_frame_payload_left", *(["nghttp3_conn_is_remote_qpack_encoder_stream"] if VERSION == "0.8" else [])}
-QPACK_CALLS = 22  # of standalone QPACK: all that begin so, and all left out
+LEFT_OUT = {"nghttp3_conn_get_frame_payload_left", *(["nghttp3_conn_get_frame_payload_left2"] if IS_VERSION_1_17 else [])}
+QPACK_CALLS = 27 if IS_VERSION_1_17 else 22  # of standalone QPACK: all that begin so, and all left out
 PREFIX = "nghttp3_qpack_"
 
 

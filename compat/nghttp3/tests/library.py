@@ -9,6 +9,9 @@ with open(os.environ["HEADER"], encoding="utf-8") as header:
     NUMBERS = {name: int(number, 0) for name, number in re.findall(r"^#define NGHTTP3_(\w+) (-?(?:0x)?[0-9a-f]+)$", header.read(), re.M)}
 ERRORS = {number: name[4:] for name, number in NUMBERS.items() if name.startswith("ERR_")}
 IS_VERSION_1 = "PRI_V1" in NUMBERS
+IS_VERSION_1_17 = "CALLBACKS_V3" in NUMBERS
+VERSION = "1.17" if IS_VERSION_1_17 else "1.8" if IS_VERSION_1 else "0.8"
+SETTINGS_VERSION, CALLBACKS_VERSION = (4, 3) if IS_VERSION_1_17 else (1, 1)
 WOULDBLOCK, END, NO_END_STREAM = NUMBERS["ERR_WOULDBLOCK"], 1, 2
 NEVER_INDEX = 1  # NGHTTP3_NV_FLAG_NEVER_INDEX
 NOT_FOUND, INVALID_ARGUMENT = NUMBERS["ERR_STREAM_NOT_FOUND"], NUMBERS["ERR_INVALID_ARGUMENT"]
@@ -24,7 +27,12 @@ class Field(ctypes.Structure):
 
 class Settings(ctypes.Structure):
     _fields_ = [("section", c_uint64), ("table", c_size_t), ("encoder_table", c_size_t), ("blocked", c_size_t),
-                *([("connect", c_uint8), ("datagram", c_uint8)] if IS_VERSION_1 else [("connect", c_int)])]
+                *([("connect", c_uint8), ("datagram", c_uint8)] if IS_VERSION_1 else [("connect", c_int)]),
+                *([("origins", POINTER(Vector)), ("burst", c_uint64), ("rate", c_uint64), ("strategy", c_int)] if IS_VERSION_1_17 else [])]
+
+
+class ProtocolSettings(ctypes.Structure):
+    _fields_ = [("section", c_uint64), ("table", c_size_t), ("blocked", c_size_t), ("connect", c_uint8), ("datagram", c_uint8)]
 
 
 class Priority(ctypes.Structure):
@@ -47,6 +55,7 @@ DATA = callback(c_int64, c_void_p, c_size_t, c_void_p, c_void_p)
 FIELD = callback(c_int64, c_int32, c_void_p, c_void_p, c_uint8, c_void_p, c_void_p)
 SHUTDOWN = callback(c_int64, c_void_p)
 SETTINGS = callback(POINTER(Settings), c_void_p)
+SETTINGS_2 = callback(POINTER(ProtocolSettings), c_void_p)
 READ = ctypes.CFUNCTYPE(c_ssize_t, c_void_p, c_int64, POINTER(Vector), c_size_t, POINTER(c_uint32), c_void_p, c_void_p)
 
 
@@ -54,7 +63,9 @@ class Callbacks(ctypes.Structure):
     _fields_ = [("acked", WITH_CODE), ("close", WITH_CODE), ("data", DATA), ("consume", WITH_SIZE), ("begin_headers", ONE),
                 ("header", FIELD), ("end_headers", WITH_END), ("begin_trailers", ONE), ("trailer", FIELD), ("end_trailers", WITH_END),
                 ("stop", WITH_CODE), ("end_stream", ONE), ("reset", WITH_CODE), ("shutdown", SHUTDOWN),
-                *([("settings", SETTINGS)] if IS_VERSION_1 else [])]
+                *([("settings", SETTINGS)] if IS_VERSION_1 else []),
+                *([("origin", c_void_p), ("end_origin", c_void_p), ("rand", c_void_p)] if IS_VERSION_1_17 else []),
+                *([("settings_2", SETTINGS_2)] if IS_VERSION_1_17 else [])]
 
 
 class Reader(ctypes.Structure):
@@ -84,16 +95,24 @@ CALLS = {
     "conn_set_client_stream_priority": (c_int, [*STREAM, c_char_p, c_size_t]),
     "pri_parse_priority_versioned": (c_int, [c_int, POINTER(Priority), c_char_p, c_size_t]),
     "conn_get_stream_priority": (c_int, [c_void_p, POINTER(Priority), c_int64]),
-    "conn_set_stream_priority": (c_int, [*STREAM, POINTER(Priority)]),
+    "conn_set_stream_priority": (c_int, [*STREAM, POINTER(Priority)]), "conn_is_remote_qpack_encoder_stream": (c_int, STREAM),
     "http_parse_priority": (c_int, [POINTER(Priority), c_char_p, c_size_t]),
     "strerror": (c_char_p, [c_int]), "err_infer_quic_app_error_code": (c_uint64, [c_int]), "err_is_fatal": (c_int, [c_int]),
     "check_header_name": (c_int, [c_char_p, c_size_t]), "check_header_value": (c_int, [c_char_p, c_size_t]),
     "vec_len": (c_uint64, [POINTER(Vector), c_size_t]),
+    "conn_read_stream2": (c_ssize_t, [*STREAM, c_char_p, c_size_t, c_int, c_uint64]), "conn_is_stream_flushed": (c_int, STREAM),
+    "conn_is_stream_writable2": (c_int, STREAM), "conn_get_stream_user_data": (c_void_p, STREAM), "conn_is_drained2": (c_int, [c_void_p]),
+    "conn_get_stream_priority2_versioned": (c_int, [c_void_p, c_int, POINTER(Priority), c_int64]),
+    "get_uvarint": (c_void_p, [POINTER(c_uint64), c_char_p]), "get_varint": (c_void_p, [POINTER(c_int64), c_char_p]),
+    "get_uvarintlen": (c_size_t, [c_char_p]), "put_uvarint": (c_void_p, [c_char_p, c_uint64]), "put_uvarintlen": (c_size_t, [c_uint64]),
     "rcbuf_get_buf": (Vector, [c_void_p]), "rcbuf_incref": (None, [c_void_p]), "rcbuf_decref": (None, [c_void_p]),
 }
-OF_0_8 = {"conn_get_stream_priority", "conn_set_stream_priority", "http_parse_priority"}
+OF_0_8 = {"conn_get_stream_priority", "conn_set_stream_priority", "http_parse_priority", "conn_is_remote_qpack_encoder_stream"}
 OF_1_8 = {"conn_update_ack_offset", "conn_is_drained", "conn_get_stream_priority_versioned", "conn_set_server_stream_priority_versioned",
           "conn_set_client_stream_priority", "pri_parse_priority_versioned"}
+OF_1_17 = {"conn_read_stream2", "conn_is_stream_flushed", "conn_is_stream_writable2", "conn_get_stream_user_data", "conn_is_drained2",
+           "conn_get_stream_priority2_versioned", "get_uvarint", "get_varint", "get_uvarintlen", "put_uvarint", "put_uvarintlen"}
+NOT_THERE = (OF_0_8 if IS_VERSION_1 else OF_1_8) | (set() if IS_VERSION_1_17 else OF_1_17)
 
 
 def error_name(number):
@@ -107,7 +126,7 @@ class Library:
         self.name = name
         self.shared = ctypes.CDLL(path)
         for call, (result, arguments) in CALLS.items():
-            if call not in (OF_0_8 if IS_VERSION_1 else OF_1_8):
+            if call not in NOT_THERE:
                 function = getattr(self.shared, f"nghttp3_{call}")
                 function.restype, function.argtypes = result, arguments
                 setattr(self, call.removeprefix("conn_").removesuffix("_versioned"), function)
@@ -130,8 +149,8 @@ class Library:
             return error_name(self.set_server_stream_priority(connection, stream, 1, priority))
         return error_name(self.set_stream_priority(connection, stream, priority))
 
-    def parse_priority(self, value):
-        priority = Priority(3, 0)
+    def parse_priority(self, value, start):
+        priority = Priority(*start)
         arguments = [priority, value, len(value)]
         error = self.pri_parse_priority(1, *arguments) if IS_VERSION_1 else self.http_parse_priority(*arguments)
         return error_name(error) if error else (priority.urgency, priority.incremental)
@@ -157,17 +176,20 @@ def field_array(fields):
 class Connection:
     """One connection. Each callback is told by say(kind, stream, ..), and then by on[kind](connection, stream), where `on` has its kind"""
 
-    def __init__(self, library, is_server, say, on=None, **settings):
+    def __init__(self, library, is_server, say, on=None, versions=(CALLBACKS_VERSION, SETTINGS_VERSION), **settings):
         self.library, self.is_server, self.say, self.on = library, is_server, say, on or {}
         self.readers, self.kept = [], []
         self.callbacks = self.make_callbacks()
         limits = Settings()
-        library.settings_default(1, limits)
+        library.settings_default(versions[1], limits)
         for name, value in settings.items():
             setattr(limits, name, value)
+        if IS_VERSION_1_17 and versions == (1, 1):  # what follows the structs of 1.8 is nothing that may be read
+            for struct, end in ((self.callbacks, Callbacks.origin.offset), (limits, Settings.origins.offset)):
+                ctypes.memset(ctypes.addressof(struct) + end, 0xAA, ctypes.sizeof(struct) - end)
         place = c_void_p()
         new = library.server_new if is_server else library.client_new
-        error = new(ctypes.byref(place), 1, self.callbacks, 1, limits, None, None)
+        error = new(ctypes.byref(place), versions[0], self.callbacks, versions[1], limits, None, None)
         assert error == 0, error_name(error)
         self.at = place
         control, encoder, decoder = (3, 7, 11) if is_server else (2, 6, 10)
@@ -199,11 +221,17 @@ class Connection:
             it = at[0]
             return tell("settings", (it.section, it.table, it.blocked, it.connect, it.datagram))
 
+        def settings_2(_, at, *data):
+            it = at[0]
+            self.on["settings_2"](self, (it.section, it.table, it.blocked, it.connect, it.datagram))
+            return 0
+
         calls = [WITH_CODE(two("acked")), WITH_CODE(two("close")), DATA(body), WITH_SIZE(two("consume")), ONE(one("begin_headers")),
                  FIELD(field("header")), WITH_END(two("end_headers")), ONE(one("begin_trailers")), FIELD(field("trailer")),
                  WITH_END(two("end_trailers")), WITH_CODE(two("stop")), ONE(one("end_stream")), WITH_CODE(two("reset")),
                  SHUTDOWN(lambda _, id_, *data: tell("shutdown", id_))]
-        return Callbacks(*calls, *([SETTINGS(settings)] if IS_VERSION_1 else []))
+        calls.extend([SETTINGS(settings)] if IS_VERSION_1 else [])
+        return Callbacks(*calls, *([None, None, None, SETTINGS_2(settings_2 if "settings_2" in self.on else 0)] if IS_VERSION_1_17 else []))
 
     def read(self, stream, data, is_end=False):
         return self.library.read_stream(self.at, stream, data, len(data), is_end)

@@ -1,10 +1,11 @@
 #!/usr/bin/env python3
 """steps.py: the same steps over four pairs of libraries, which have to go alike: both steps of GOAWAY, requests that come too late,
 draining, priorities, the order in which bodies go out, wrong calls. The answers that the RFCs fix are asked for by themselves."""
+import ctypes
 import sys
 
-from byte_cases import CONTROL_TYPE, ENCODER_TYPE, GET, HEADERS, OK, SETTINGS, frame
-from library import END, IS_VERSION_1, Connection, check, error_name, libraries, pairs
+from byte_cases import CONTROL_TYPE, ENCODER_TYPE, GET, HEADERS, OK, POST, SETTINGS, frame
+from library import END, IS_VERSION_1, IS_VERSION_1_17, NO_END_STREAM, Connection, Priority, Vector, check, error_name, libraries, pairs
 
 REQUEST_REJECTED, NO_ERROR = 0x10B, 0x100
 PRIORITIES = {4: b"u=5", 8: b"u=1", 12: b"u=5, i", 16: b"u=9", 20: b""}
@@ -59,6 +60,8 @@ class Steps:
                   client.shutdown_stream_read(at, 4), client.is_stream_writable(at, 4))
         self.note("bound twice", error_name(client.bind_control_stream(at, 2)), error_name(client.bind_qpack_streams(at, 6, 10)))
         self.note("priorities", self.priority(0), self.priority(4), self.priority(1))
+        if not IS_VERSION_1:
+            self.note("of the peer's encoder", *(bool(server.is_remote_qpack_encoder_stream(self.server.at, it)) for it in range(-1, 16)))
         if IS_VERSION_1:
             self.note("update", error_name(client.set_client_stream_priority(self.client.at, 4, b"u=1", 3)))
 
@@ -184,6 +187,76 @@ def name_entries(library):
         assert came == wanted, f"{prefix.hex()} and {line.hex()}: {came}"
 
 
+def send_lower_case(client, server):
+    """names in upper case go out in lower case, of a head and of a trailer that waits for the end of the body"""
+    told = []
+    sender = Connection(client, False, lambda *_: None)
+    receiver = Connection(server, True, lambda kind, _, *what: told.append(what[1:3]) if kind in ("header", "trailer") else None)
+    check(sender.request(0, [*POST, (b"X-Head", b"A")], sender.reader(lambda _: ([b"body"], END | NO_END_STREAM))))
+    check(sender.trail(0, [(b"x", b"C"), (b"X-TRAILER", b"D")]))
+    Steps.move(sender, receiver)
+    sender.free()
+    receiver.free()
+    assert told == [*POST, (b"x-head", b"A"), (b"x", b"C"), (b"x-trailer", b"D")], f"names in upper case came as {told}"
+
+
+def older_structs(client, server):
+    """programs with the structs of 1.8"""
+    told = []
+    left, right = (Connection(library, is_server, lambda kind, *_: told.append(kind), versions=(1, 1))
+                   for library, is_server in ((client, False), (server, True)))
+    check(left.request(0, GET))
+    Steps.move(left, right)
+    check(right.respond(0, OK))
+    Steps.move(right, left)
+    left.free()
+    right.free()
+    assert told.count("settings") == 2 and told.count("end_stream") == 2, f"with the structs of 1.8: {told}"
+
+
+def later_calls(client, server):
+    """the calls of 1.17, and its callback for settings, which takes the place of the other one"""
+    told, settings = [], []
+    origins = b"\0\x0bhttps://a.b"
+    list_of_one = Vector(ctypes.cast(ctypes.c_char_p(origins), ctypes.c_void_p), len(origins))
+    left = Connection(client, False, lambda kind, *_: settings.append(kind) if kind == "settings" else None,
+                      {"settings_2": lambda _, what: settings.append(what[1:])})
+    right = Connection(server, True, lambda *_: None, origins=ctypes.pointer(list_of_one), connect=1)
+    count, stream, _, data = right.write()
+    assert stream == 3 and data.endswith(b"\x0c" + bytes([len(origins)]) + origins), f"the control stream of the server: {data.hex()}"
+    server.add_write_offset(right.at, stream, len(data))
+    check(client.read_stream2(left.at, 3, data, len(data), 0, 1))
+    assert settings == [(0, 0, 1, 0)], f"settings: {settings}"
+
+    def note():
+        told.append((client.is_stream_flushed(left.at, 0), client.is_stream_writable2(left.at, 0), client.get_stream_user_data(left.at, 0)))
+
+    note()
+    check(left.request(0, POST, left.reader(lambda _: ([b"body"], END))))
+    note()
+    check(client.set_stream_user_data(left.at, 0, 77))
+    while True:
+        count, stream, is_end, data = left.write()
+        if stream < 0:
+            break
+        note()
+        for part in (data[:2], data[2:]):
+            client.add_write_offset(left.at, stream, len(part))
+            note()
+        check(server.read_stream2(right.at, stream, data, len(data), is_end, 2))
+    priority = Priority()
+    told.append((server.get_stream_priority2(right.at, 1, priority, 0), priority.urgency, server.is_drained2(right.at)))
+    for number in (0, 63, 64, 16383, 16384, (1 << 30) - 1, 1 << 30, (1 << 62) - 1):
+        buffer, number_again, signed = ctypes.create_string_buffer(9), ctypes.c_uint64(), ctypes.c_int64()
+        place = ctypes.addressof(buffer)
+        ends = [client.put_uvarint(buffer, number), client.get_uvarint(number_again, buffer.raw), client.get_varint(signed, buffer.raw)]
+        assert number_again.value == signed.value == number, f"{number} was read as {number_again.value}"
+        told.append((ends[0] - place, buffer.raw, client.put_uvarintlen(number), client.get_uvarintlen(buffer.raw)))
+    left.free()
+    right.free()
+    return told
+
+
 def main():
     found, wrong, wanted = libraries(), 0, None
     for library in found:
@@ -195,7 +268,11 @@ def main():
             print(f"failed steps: {library.name}: {error}")
     for client, server in pairs(found):
         try:
+            send_lower_case(client, server)
             told = Steps(client, server).go()
+            if IS_VERSION_1_17:
+                told.extend(later_calls(client, server))
+                older_structs(client, server)
         except AssertionError as error:
             wrong += 1
             print(f"failed steps: {client.name} to {server.name}: {error}")
