@@ -9,3 +9,7 @@ pub mod Reading
 pub mod Shown
 pub mod Datagrams
 pub mod NamedFields
+pub mod FrontsShown
+pub mod CarriedOver
+pub mod ProgramCalls
+pub mod ProgramRuns

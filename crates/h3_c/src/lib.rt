@@ -10,6 +10,7 @@ mod exports;
 mod fields;
 mod handle;
 mod items;
+mod laws;
 mod loose;
 mod numbers;
 mod owned;
