@@ -13,3 +13,8 @@ pub mod FrontsShown
 pub mod CarriedOver
 pub mod ProgramCalls
 pub mod ProgramRuns
+pub mod Unordered
+pub mod UnorderedReading
+pub mod UnorderedSteps
+pub mod UnorderedMemory
+pub mod QuietCalls

@@ -30,12 +30,15 @@ use Rattle.h3_c.specs.Bits.{bit}
 use Rattle.h3_c.specs.Exported.{Calls, DeliversOn, OnStream, UnlessRejected}
 use Rattle.h3_c.specs.Numbers.{argument, delivery_told, ok, rejected}
 use Rattle.h3_c.specs.Programs as programs
-use Rattle.h3_c.specs.Programs.{Act, AreNew, Bytes, Call, Comes, Empty, End, FromTo, Handles, Happen, Happens, IsRefused, LearnsOf, Nothing, Reset, SameEnds, StandFor, Then, event_of, handle_at, is_taken}
+use Rattle.h3_c.specs.Programs.{Act, AreNew, Bytes, Call, Comes, Empty, End, FromTo, Handles, Happen, Happens, IsRefused, LearnsOf, Nothing, Reset, StandFor, Then, event_of, handle_at, is_taken}
 use Rattle.h3_c.specs.Seen.{Seen}
 use Rattle.h3_c.specs.declared.numbers.Told.{Told}
 use Rattle.h3_c.proofs.CarriedOver.{bytes_carried, delivery_tells, end_carried, none_carried, reset_carried, taken_so}
 use Rattle.h3_c.proofs.FrontsShown.{below_or_not, goes_there, known_id, shown_finished, shown_front, shown_none}
-use Rattle.h3_c.proofs.ProgramCalls.{Made, call_made, made_event, made_none}
+use Rattle.h3_c.proofs.ProgramCalls.{ActsSo, Made, Moves, StaysSo, call_made, made_event, made_none, stays_same}
+use Rattle.h3_c.proofs.Unordered.{unordered}
+use Rattle.h3_c.proofs.UnorderedMemory.{step_unordered}
+use Rattle.h3_c.proofs.UnorderedSteps.{IsOfC, both_unordered}
 
 -- What an act that goes from v to r is: no event, and nothing has changed; or an event with this answer.
 abbrev Goes : (EndpointState → EndpointState → Answer → EndpointState → EndpointState → Type 0) → (Answer → Type 0) → Told → Seen → Seen → Seen → Seen → Type 0
@@ -104,37 +107,37 @@ empty_goes id v w r s c =
 
 -- so an act from a side comes to this
 goes_made : (act : Act) (e : Event) (n : Told) (goes : EndpointState → EndpointState → Answer → EndpointState → EndpointState → Type 0) (tells : Answer → Type 0) (from : Side) (h g : Handles)
-    → event_of act ≡ Some (e, n) → ((a : Answer) → tells a → LearnsOf act g a)
+    → event_of act ≡ Some (e, n) → IsOfC e → ((a : Answer) → tells a → LearnsOf act g a)
     → ((a : Answer) → FromOne from goes h.client.endpoint h.server.endpoint a g.client.endpoint g.server.endpoint → Acts e h.client.endpoint h.server.endpoint a g.client.endpoint g.server.endpoint)
     → FromTo from (Goes goes tells n) h g → Made act h g
-goes_made act e n goes tells Client h g is learns acts (inl no) =
-    let same : SameEnds h g = (ap (λ (v : Seen). v.endpoint) no.1, ap (λ (v : Seen). v.endpoint) no.2) in made_none act h g same (IsRefused is (inr no.0) same)
-goes_made act e n goes tells Client h g is learns acts (inr yes) = made_event act h g e n yes.0 is (learns yes.0 yes.1) (acts yes.0 yes.2)
-goes_made act e n goes tells Server h g is learns acts (inl no) =
-    let same : SameEnds h g = (ap (λ (v : Seen). v.endpoint) no.2, ap (λ (v : Seen). v.endpoint) no.1) in made_none act h g same (IsRefused is (inr no.0) same)
-goes_made act e n goes tells Server h g is learns acts (inr yes) = made_event act h g e n yes.0 is (learns yes.0 yes.1) (acts yes.0 yes.2)
+goes_made act e n goes tells Client h g is of learns acts (inl no) =
+    made_none act h g (stays_same h.client g.client no.1) (stays_same h.server g.server no.2) (IsRefused is (inr no.0))
+goes_made act e n goes tells Client h g is of learns acts (inr yes) = made_event act h g e n yes.0 is (learns yes.0 yes.1) of (acts yes.0 yes.2)
+goes_made act e n goes tells Server h g is of learns acts (inl no) =
+    made_none act h g (stays_same h.client g.client no.2) (stays_same h.server g.server no.1) (IsRefused is (inr no.0))
+goes_made act e n goes tells Server h g is of learns acts (inr yes) = made_event act h g e n yes.0 is (learns yes.0 yes.1) of (acts yes.0 yes.2)
 
 -- **What happens comes to events that both endpoints answer.**
 pub act_made : (act : Act) (h g : Handles) (ends : Ends) → StandsFor h.client.endpoint ends.client → StandsFor h.server.endpoint ends.server → Happens act h g → Made act h g
 act_made (Call side c) h g ends client server happens = call_made side h g happens.2 c happens.0 happens.1
 act_made (Bytes Client id bytes n) h g ends client server happens =
-    goes_made (Bytes Client id bytes n) (event.Deliver Client id (length bytes)) n (CarriesBytes id (length bytes)) (λ a. Tells (answer.Delivered (length bytes)) n a) Client h g refl (λ a t. t) (λ a x. x)
+    goes_made (Bytes Client id bytes n) (event.Deliver Client id (length bytes)) n (CarriesBytes id (length bytes)) (λ a. Tells (answer.Delivered (length bytes)) n a) Client h g refl tt (λ a t. t) (λ a x. x)
     (bytes_go id bytes n h.client g.client h.server g.server ends.server server happens)
 act_made (Bytes Server id bytes n) h g ends client server happens =
-    goes_made (Bytes Server id bytes n) (event.Deliver Server id (length bytes)) n (CarriesBytes id (length bytes)) (λ a. Tells (answer.Delivered (length bytes)) n a) Server h g refl (λ a t. t) (λ a x. x)
+    goes_made (Bytes Server id bytes n) (event.Deliver Server id (length bytes)) n (CarriesBytes id (length bytes)) (λ a. Tells (answer.Delivered (length bytes)) n a) Server h g refl tt (λ a t. t) (λ a x. x)
     (bytes_go id bytes n h.server g.server h.client g.client ends.client client happens)
 act_made (End Client id n) h g ends client server happens =
-    goes_made (End Client id n) (event.DeliverEnd Client id) n (CarriesEnd id) (λ a. Tells answer.Done n a) Client h g refl (λ a t. t) (λ a x. x) (end_goes id n h.client g.client h.server g.server happens)
+    goes_made (End Client id n) (event.DeliverEnd Client id) n (CarriesEnd id) (λ a. Tells answer.Done n a) Client h g refl tt (λ a t. t) (λ a x. x) (end_goes id n h.client g.client h.server g.server happens)
 act_made (End Server id n) h g ends client server happens =
-    goes_made (End Server id n) (event.DeliverEnd Server id) n (CarriesEnd id) (λ a. Tells answer.Done n a) Server h g refl (λ a t. t) (λ a x. x) (end_goes id n h.server g.server h.client g.client happens)
+    goes_made (End Server id n) (event.DeliverEnd Server id) n (CarriesEnd id) (λ a. Tells answer.Done n a) Server h g refl tt (λ a t. t) (λ a x. x) (end_goes id n h.server g.server h.client g.client happens)
 act_made (Reset Client id n) h g ends client server happens =
-    goes_made (Reset Client id n) (event.DeliverReset Client id) n (CarriesReset id) (λ a. Tells answer.Done n a) Client h g refl (λ a t. t) (λ a x. x) (reset_goes id n h.client g.client h.server g.server happens)
+    goes_made (Reset Client id n) (event.DeliverReset Client id) n (CarriesReset id) (λ a. Tells answer.Done n a) Client h g refl tt (λ a t. t) (λ a x. x) (reset_goes id n h.client g.client h.server g.server happens)
 act_made (Reset Server id n) h g ends client server happens =
-    goes_made (Reset Server id n) (event.DeliverReset Server id) n (CarriesReset id) (λ a. Tells answer.Done n a) Server h g refl (λ a t. t) (λ a x. x) (reset_goes id n h.server g.server h.client g.client happens)
+    goes_made (Reset Server id n) (event.DeliverReset Server id) n (CarriesReset id) (λ a. Tells answer.Done n a) Server h g refl tt (λ a t. t) (λ a x. x) (reset_goes id n h.server g.server h.client g.client happens)
 act_made (Empty Client id) h g ends client server happens =
-    goes_made (Empty Client id) (event.Deliver Client id 1) ok (CarriesBytes id 1) (λ a. a ≡ answer.Short 0) Client h g refl (λ a t. t) (λ a x. x) (empty_goes id h.client g.client h.server g.server happens)
+    goes_made (Empty Client id) (event.Deliver Client id 1) ok (CarriesBytes id 1) (λ a. a ≡ answer.Short 0) Client h g refl tt (λ a t. t) (λ a x. x) (empty_goes id h.client g.client h.server g.server happens)
 act_made (Empty Server id) h g ends client server happens =
-    goes_made (Empty Server id) (event.Deliver Server id 1) ok (CarriesBytes id 1) (λ a. a ≡ answer.Short 0) Server h g refl (λ a t. t) (λ a x. x) (empty_goes id h.server g.server h.client g.client happens)
+    goes_made (Empty Server id) (event.Deliver Server id 1) ok (CarriesBytes id 1) (λ a. a ≡ answer.Short 0) Server h g refl tt (λ a t. t) (λ a x. x) (empty_goes id h.server g.server h.client g.client happens)
 
 -- runs one after another
 run_on : (first events : List Event) (given answers : List Answer) (old mid new : Ends) → EndsRun old first given mid → EndsRun mid events answers new → EndsRun old (first ++ events) (given ++ answers) new
@@ -148,30 +151,60 @@ abbrev pub CallsAreSteps : Type 0
 CallsAreSteps = (ends : Ends) (events : List Event) (answers : List Answer) (client server : EndpointState) → RunsByCalls ends events answers client server
     → (new : Ends) × EndsRun ends events answers new × StandsFor client new.client × StandsFor server new.server
 
+-- what an act leaves: both handles stand for ends, and by what a schedule speaks of it is a run
+record Left (ends : Ends) (g : Handles) (events : List Event) (answers : List Answer) : Type 0 where
+  pub new : Ends
+  pub run : EndsRun (both_unordered ends) events answers (both_unordered new)
+  pub client_stands : StandsFor g.client.endpoint new.client
+  pub server_stands : StandsFor g.server.endpoint new.server
+
+ends_are : (a b : Ends) → a.client ≡ b.client → a.server ≡ b.server → a ≡ b
+ends_are a b client server = ap (λ e. let x : Ends = record { client = e; server = a.server } in x) client ∙ ap (λ e. let x : Ends = record { client = b.client; server = e } in x) server
+
+leaves : CallsAreSteps → (h g : Handles) (ends : Ends) {events : List Event} {answers : List Answer} → StandsFor h.client.endpoint ends.client → StandsFor h.server.endpoint ends.server → Moves h g events answers → Left ends g events answers
+leaves law h g ends client server (ActsSo {e = e} {a = a} of acts) =
+    let on = law ends (e ∷ []) (a ∷ []) g.client.endpoint g.server.endpoint (record {
+      client = h.client.endpoint;
+      server = h.server.endpoint;
+      client_stands = client;
+      server_stands = server;
+      acts = (g.client.endpoint, g.server.endpoint, acts, (refl, refl));
+    }) in
+    let last : on.0 ≡ on.1.0 = on.1.2 in
+    record {
+      new = on.0;
+      run = (both_unordered on.1.0, step_unordered ends on.1.0 e a of on.1.1, ap both_unordered last);
+      client_stands = on.2;
+      server_stands = on.3;
+    }
+leaves law h g ends client server (StaysSo client_stays server_stays) =
+    let c = client_stays ends.client client in
+    let s = server_stays ends.server server in
+    record {
+      new = record { client = c.after; server = s.after };
+      run = ends_are (record { client = unordered c.after; server = unordered s.after }) (both_unordered ends) c.same s.same;
+      client_stands = c.stands;
+      server_stands = s.stands;
+    }
+
 -- what two programs come to
 pub record RanTo (ends : Ends) (h : Handles) (acts : List Act) (g : Handles) : Type 0 where
   pub events : List Event
   pub answers : List Answer
   pub stand : StandFor h acts events answers g
   pub new : Ends
-  pub run : EndsRun ends events answers new
+  pub run : EndsRun (both_unordered ends) events answers new
 
 pub acts_run : CallsAreSteps → (acts : List Act) (h g : Handles) (ends : Ends) → StandsFor h.client.endpoint ends.client → StandsFor h.server.endpoint ends.server → Happen h acts g → RanTo ends h acts g
-acts_run law [] h g ends client server happen = subst (λ x. RanTo ends h [] x) (sym happen) (record { events = []; answers = []; stand = Nothing; new = ends; run = refl })
+acts_run law [] h g ends client server happen = subst (λ x. RanTo ends h [] x) (sym happen) (record { events = []; answers = []; stand = Nothing; new = both_unordered ends; run = refl })
 acts_run law (act ∷ acts) h g ends client server (next, happens, happen) =
     let made = act_made act h next ends client server happens in
-    let on = law ends made.events made.answers next.client.endpoint next.server.endpoint (record {
-      client = h.client.endpoint;
-      server = h.server.endpoint;
-      client_stands = client;
-      server_stands = server;
-      acts = made.acts;
-    }) in
-    let rest = acts_run law acts next g on.0 on.2 on.3 happen in
+    let on = leaves law h next ends client server made.moves in
+    let rest = acts_run law acts next g on.new on.client_stands on.server_stands happen in
     record {
       events = made.events ++ rest.events;
       answers = made.answers ++ rest.answers;
       stand = Then happens made.comes rest.stand;
       new = rest.new;
-      run = run_on made.events rest.events made.answers rest.answers ends on.0 rest.new on.1 rest.run;
+      run = run_on made.events rest.events made.answers rest.answers (both_unordered ends) (both_unordered on.new) rest.new on.run rest.run;
     }

@@ -16,15 +16,15 @@ use Rattle.h3_world.specs.declared.lists.ListItem.TheVariants as listed
 use Rattle.h3_world.specs.declared.lists.ListPull.{ListPull}
 use Rattle.h3_world.specs.declared.lists.ListPull.TheVariants as list
 use Rattle.h3_c.specs.Does.{CallOfC}
-use Rattle.h3_c.specs.Does.CallOfC.{OpenRequest, OpenRequestAt, SendHead, SendTrailer, SendBody, SendBodyOf, Finish, Reset, Cancel, CloseStream, Goaway, ShutdownNotice, Shutdown, NextByPriority, SetPriority, SetInitialPriority, SendPriority, Hold, Advance, EndTaken, Read, Deliver, DeliverEnd, DeliverReset, Pull, ReadDatagram}
+use Rattle.h3_c.specs.Does.CallOfC.{OpenRequest, OpenRequestAt, SendHead, SendTrailer, SendBody, SendBodyOf, Finish, Reset, Cancel, CloseStream, Goaway, ShutdownNotice, Shutdown, NextByPriority, SendPriority, Advance, Read, Deliver, DeliverEnd, DeliverReset, Pull, ReadDatagram}
 use Rattle.h3_c.specs.Given.{fields_given}
 use Rattle.h3_c.specs.Items.{shown}
 use Rattle.h3_c.specs.Numbers.{TellsList, ok, refusal_told}
 use Rattle.h3_c.specs.Seen.{Seen}
 use Rattle.h3_c.specs.declared.numbers.Told.{Told}
 
--- The event that a call of a side is, and the number that it returns. A call that only looks is none, and so is a list whose sizes are not
--- those of its bytes.
+-- The event that a call of a side is, and the number that it returns. One that only looks, or says what goes first, is none, and so is a list whose
+-- sizes are not those of its bytes.
 abbrev pub asked : Side → CallOfC → Option (Event × Told)
 asked side (OpenRequest before id n) = Some (event.OpenRequest side, n)
 asked side (SendHead id sizes flags bytes n) = option_map (λ fields. (event.Fields side id fields, n)) (fields_given sizes flags bytes)
@@ -45,12 +45,8 @@ is_left_out (CloseStream id stop_before stop reset_before reset n) = true
 is_left_out (ShutdownNotice n) = true
 is_left_out (Shutdown n) = true
 is_left_out (NextByPriority before id n) = true
-is_left_out (SetPriority id urgency incremental n) = true
-is_left_out (SetInitialPriority id urgency incremental n) = true
 is_left_out (SendPriority id urgency incremental n) = true
-is_left_out (Hold id held n) = true
 is_left_out (Advance id count n) = true
-is_left_out (EndTaken id n) = true
 is_left_out (Read id bytes fin used before item n) = true
 is_left_out (Deliver id bytes n) = true
 is_left_out (DeliverEnd id n) = true

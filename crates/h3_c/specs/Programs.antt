@@ -112,8 +112,8 @@ abbrev pub Happen : Handles → List Act → Handles → Type 0
 Happen h [] g = g ≡ h
 Happen h (act ∷ acts) g = (next : Handles) × Happens act h next × Happen next acts g
 
--- What it stands for: an event with the answer that C learns. Or no event, and then both endpoints are as they were: the call looks, or is
--- answered H3_ARGUMENT, H3_REJECTED, or H3_MEMORY since no list was made of what C gave.
+-- What it stands for: an event with the answer that C learns. Or no event, since nothing is told of it or nothing was done: the call has none, or it
+-- is answered H3_ARGUMENT or H3_REJECTED, or H3_MEMORY where no list was made of what C gave.
 abbrev pub event_of : Act → Option (Event × Told)
 event_of (Call side call) = asked side call
 event_of (Bytes from id bytes n) = Some (event.Deliver from id (length bytes), n)
@@ -133,14 +133,11 @@ is_list (event.Fields side id fields) = true
 is_list (event.TrailerFields side id fields) = true
 is_list _ = false
 
-abbrev pub SameEnds : Handles → Handles → Type 0
-SameEnds h g = (g.client.endpoint ≡ h.client.endpoint) × (g.server.endpoint ≡ h.server.endpoint)
-
 pub data Comes (act : Act) (h g : Handles) : List Event → List Answer → Type 0 where
   IsEvent : {e : Event} {n : Told} {a : Answer} → event_of act ≡ Some (e, n) → LearnsOf act g a → Comes act h g (e ∷ []) (a ∷ [])
-  Looks : event_of act ≡ None → SameEnds h g → Comes act h g [] []
-  IsRefused : {e : Event} {n : Told} → event_of act ≡ Some (e, n) → (n ≡ argument) ⊎ (n ≡ rejected) → SameEnds h g → Comes act h g [] []
-  LacksList : {e : Event} {n : Told} → event_of act ≡ Some (e, n) → is_list e ≡ true → n ≡ memory → SameEnds h g → Comes act h g [] []
+  HasNone : event_of act ≡ None → Comes act h g [] []
+  IsRefused : {e : Event} {n : Told} → event_of act ≡ Some (e, n) → (n ≡ argument) ⊎ (n ≡ rejected) → Comes act h g [] []
+  LacksList : {e : Event} {n : Told} → event_of act ≡ Some (e, n) → is_list e ≡ true → n ≡ memory → g ≡ h → Comes act h g [] []
 
 -- **All that happens stands for these events with these answers.**
 pub data StandFor : Handles → List Act → List Event → List Answer → Handles → Type 0 where
