@@ -1,7 +1,6 @@
 -- What goes over between two handles is what a delivery of a schedule does.
-use Rattle.std.proofs.Common.{arith, ◌≡◌, ◌≤◌, ◌<◌, ◌⊎◌, inl, inr, ℕ, Bool, true, false, if◌then◌else◌, List, [], ◌∷◌, length, take, refl, sym, ap, subst, ◌∙◌, Option, Some, None, Result, Ok, Err}
-use Rattle.std.specs.Prelude.{◌==◌, ◌≢◌, ◌^◌, ◌||◌, min, nat_lt}
-use Rattle.std.proofs.lemmas.Bool.{cases_Bool}
+use Rattle.std.proofs.Common.{arith, ◌≡◌, ◌≤◌, inl, ℕ, Bool, true, false, List, [], ◌∷◌, length, take, refl, sym, ap, subst, ◌∙◌, Option, Some, None, Result, Ok, Err}
+use Rattle.std.specs.Prelude.{min, nat_lt}
 use Rattle.std.proofs.lemmas.Grind.{common_steps}
 use Rattle.h3_proto.specs.declared.stream.Side.{Side}
 use Rattle.h3_proto.specs.declared.stream.Side.TheVariants.{Client, Server}
@@ -12,12 +11,11 @@ use Rattle.h3_connection.specs.Delivering.{closed_by, closed_refusal, delivery_r
 use Rattle.h3_connection.specs.Endpoint.{EndpointHistory, Kind, bytes_waiting, kind_of}
 use Rattle.h3_connection.specs.Endpoint.Kind.{Request, ServerOpened, OwnUnidirectional, PeerUnidirectional}
 use Rattle.h3_connection.specs.Incoming.{Incoming}
-use Rattle.h3_connection.specs.Keeping.{arrival_refusal, arrives, arrives_behind, read_all, read_arrival, refused_behind, unkept}
+use Rattle.h3_connection.specs.Keeping.{arrival_refusal, arrives, arrives_behind, read_arrival, refused_behind}
 use Rattle.h3_connection.specs.ReceivingContracts.{Delivers, DeliversEnd, DeliversReset, Receives}
 use Rattle.h3_connection.specs.Sending as sender
 use Rattle.h3_connection.specs.SendingContracts.{Advances}
 use Rattle.h3_connection.specs.Shown.{has_outgoing, is_finished, is_reset, waiting}
-use Rattle.h3_connection.specs.Shutdown.{is_rejected_in}
 use Rattle.h3_connection.specs.State.{EndpointState, StandsFor}
 use Rattle.h3_connection.specs.declared.arrival.Arrival.{Arrival}
 use Rattle.h3_connection.specs.declared.arrival.Arrival.TheVariants.{BytesCame, EndCame, ResetCame}
@@ -29,19 +27,13 @@ use Rattle.h3_world.specs.Delivering.{reset_code}
 use Rattle.h3_world.specs.Headline.{is_out_of_memory}
 use Rattle.h3_world.specs.declared.event.Answer.{Answer}
 use Rattle.h3_world.specs.declared.event.Answer.TheVariants as answer
-use Rattle.h3_session.specs.Acting.{CarriesBytes, CarriesEnd, CarriesReset, HasBytes, HasEnd, HasReset, Offers}
-use Rattle.h3_session.specs.Running.{Carried, Carries, answer_of, bytes_go, bytes_taken, end_goes, is_stored, reset_goes, told, told_answer}
+use Rattle.h3_session.specs.Acting.{CarriesBytes, CarriesEnd, CarriesReset}
+use Rattle.h3_session.specs.Running.{Carried, answer_of, bytes_taken, is_stored, told, told_answer}
 use Rattle.h3_c.specs.Asked.{Tells}
-use Rattle.h3_c.specs.Bits.{bit}
-use Rattle.h3_c.specs.Does.{Does}
-use Rattle.h3_c.specs.Does.CallOfC.{Advance}
-use Rattle.h3_c.specs.Exported.{Calls, DeliversOn, OnStream}
-use Rattle.h3_c.specs.Numbers.{argument, delivery_told, ok, refusal_told, rejected}
-use Rattle.h3_c.specs.Programs as programs
-use Rattle.h3_c.specs.Programs.{Shows, is_taken}
-use Rattle.h3_c.specs.Seen.{Seen}
+use Rattle.h3_c.specs.Numbers.{delivery_told, ok, refusal_told}
+use Rattle.h3_c.specs.Programs.{is_taken}
 use Rattle.h3_c.specs.declared.numbers.Told.{Told}
-use Rattle.h3_c.proofs.FrontsShown.{below_or_not, ends_there, goes_there, known_id, shown_finished, shown_front, shown_none}
+use Rattle.h3_c.proofs.FrontsShown.{ends_there}
 
 -- No delivery is refused as one that is kept.
 not_kept_if : (b : Bool) → closed_refusal b ≡ Some refusal.Kept → ⊥

@@ -1,5 +1,5 @@
 -- What each call of a program is to a schedule: the call of an endpoint that its event names, or nothing.
-use Rattle.std.proofs.Common.{arith, ◌≡◌, ◌≤◌, ◌<◌, ◌⊎◌, inl, inr, ℕ, Bool, true, false, List, [], ◌∷◌, refl, sym, ap, subst, ◌∙◌, Option, Some, None, Result, Ok, Err}
+use Rattle.std.proofs.Common.{◌≡◌, ◌⊎◌, inl, inr, ℕ, Bool, true, false, List, [], ◌∷◌, refl, sym, ap, subst, ◌∙◌, Option, Some, None, Result, Ok, Err}
 use Rattle.std.specs.Prelude.{◌^◌, option_map}
 use Rattle.h3_field.specs.Field.{Field}
 use Rattle.h3_proto.specs.declared.stream.Side.{Side}
@@ -11,9 +11,9 @@ use Rattle.h3_connection.specs.Endpoint.{EndpointHistory}
 use Rattle.h3_connection.specs.EndsWaiting.{end_taken}
 use Rattle.h3_connection.specs.OwnIds.{other}
 use Rattle.h3_connection.specs.Prioritizing.{set_initial_priority}
-use Rattle.h3_connection.specs.SendingContracts.{Cancels, DoesOrRefuses, Finishes, GoesAway, Opens, Resets, SendsBody}
+use Rattle.h3_connection.specs.ReceivingContracts.{PullsNext}
+use Rattle.h3_connection.specs.SendingContracts.{Cancels, DoesOrRefuses, Finishes, GoesAway, Opens, Resets}
 use Rattle.h3_connection.specs.State.{EndpointState, StandsFor}
-use Rattle.h3_connection.specs.declared.event.Pull.{Pull as PullAnswer}
 use Rattle.h3_connection.specs.declared.event.Refusal.{Refusal}
 use Rattle.h3_incoming.specs.FieldsPulls.{list_of as fields_of_pull, pull_of as pull_of_fields}
 use Rattle.h3_incoming.specs.declared.fields.FieldsItem.TheVariants as came
@@ -24,20 +24,21 @@ use Rattle.h3_world.specs.declared.event.Answer.{Answer}
 use Rattle.h3_world.specs.declared.event.Answer.TheVariants as answer
 use Rattle.h3_world.specs.declared.event.Event.{Event}
 use Rattle.h3_world.specs.declared.event.Event.TheVariants as event
-use Rattle.h3_session.specs.Acting.{Acts, ByOne, PullsList}
+use Rattle.h3_session.specs.Acting.{Acts, ByOne, PullsList, SendsShared}
 use Rattle.h3_session.specs.Acting.{Tells as TellsCall}
+use Rattle.h3_session.specs.Listing.{ListsNext}
 use Rattle.h3_session.specs.Running.{body_answer, done_answer, opened_answer}
 use Rattle.h3_session.specs.SendingLists.{SendsFieldList, SendsTrailerList, order_refusal, place_refusal}
 use Rattle.h3_c.specs.Asked.{Tells, TellsSent, is_left_out, pull_listed}
 use Rattle.h3_c.specs.Does.{CallOfC, Does}
 use Rattle.h3_c.specs.Does.CallOfC as call
-use Rattle.h3_c.specs.Exported.{Calls, CallsList, CallsOn, LacksList, OnStream, OpensRequest, Pulls, SendsCut}
+use Rattle.h3_c.specs.Exported.{Calls, CallsList, CallsOn, LacksList, OnStream, OpensRequest, SendsCut}
 use Rattle.h3_c.specs.Given.{fields_given}
-use Rattle.h3_c.specs.Items.{shown}
-use Rattle.h3_c.specs.Numbers.{argument, body_told, call_told, ok}
+use Rattle.h3_c.specs.Numbers.{TellsList, argument, body_told, call_told}
 use Rattle.h3_c.specs.Ordering.{IfGiven, flag_given, priority_given}
 use Rattle.h3_c.specs.Programs.{Act, Call, Comes, HasNone, Handles, IsEvent, IsRefused, LacksList as NoList, LearnsOf, event_of, handle_at, is_list}
 use Rattle.h3_c.specs.Seen.{Seen}
+use Rattle.h3_c.specs.declared.items.PulledItem.{PulledItem}
 use Rattle.h3_c.specs.declared.numbers.Told.{Told}
 use Rattle.h3_c.proofs.FrontsShown.{below_or_not}
 use Rattle.h3_c.proofs.QuietCalls.{Stays, does_same, end_taken_same, hold_same, set_initial_same, set_priority_same}
@@ -104,7 +105,6 @@ sent_tells : (w : Seen) (cut : Option (List Field)) (fields : List Field) (n : T
     → TellsSent w.endpoint.announced.choices cut n (done_answer c.answer)
 sent_tells w cut fields n does v is c = subst (λ o. TellsSent w.endpoint.announced.choices o n (done_answer c.answer)) (sym is) (by c.answer c.is)
   where
-    use Rattle.h3_c.specs.Numbers.{TellsList}
     by : (r : Result Unit Refusal) → TellsList r w.endpoint.announced.choices fields n → TellsSent w.endpoint.announced.choices (Some fields) n (done_answer r)
     by (Ok done) tells = (tells, refl)
     by (Err r) tells = tells
@@ -165,7 +165,7 @@ module _ (side : Side) (h g : Handles) (there : handle_at g (other side) ≡ han
   ]
 
   -- a list
-  sends : (c : CallOfC) (e : List Field → Event) (n : Told) (id : ℕ) (cut : Option (List Field)) (place : _) (does : List Field → EndpointState → EndpointState → Result Unit Refusal → Type 0)
+  sends : (c : CallOfC) (e : List Field → Event) (n : Told) (id : ℕ) (cut : Option (List Field)) (place : EndpointHistory → Option Refusal) (does : List Field → EndpointState → EndpointState → Result Unit Refusal → Type 0)
       → event_of (Call side c) ≡ option_map (λ fields. (e fields, n)) cut
       → ((fields : List Field) → (is_list (e fields) ≡ true) × IsOfC (e fields))
       → ((a : Answer) → TellsSent (handle_at g side).endpoint.announced.choices cut n a → LearnsOf (Call side c) g a)
@@ -198,18 +198,18 @@ module _ (side : Side) (h g : Handles) (there : handle_at g (other side) ≡ han
     | inl below ↦ (let k = on.known below in
         let a = body_answer k.answer in
         made_event (Call side (call.SendBody id bytes n)) h g (event.Body side id bytes) n a refl (body_tells n k.answer k.is) tt
-        (by_side side (Rattle.h3_session.specs.Acting.SendsShared id bytes) h g a (inl (record { result = k.answer; given_is = refl; called = k.done })) there))
+        (by_side side (SendsShared id bytes) h g a (inl (record { result = k.answer; given_is = refl; called = k.done })) there))
     | inr above ↦ refused (call.SendBody id bytes n) (event.Body side id bytes) n refl (on.unknown above)
   ]
 
-  pulls : (id : ℕ) (before item : _) (n : Told) → Does (call.Pull id before item n) (handle_at h side) (handle_at g side) → Made (Call side (call.Pull id before item n)) h g
+  pulls : (id : ℕ) (before item : PulledItem) (n : Told) → Does (call.Pull id before item n) (handle_at h side) (handle_at g side) → Made (Call side (call.Pull id before item n)) h g
   pulls id before item n on = elim (below_or_not id (2 ^ 62)) [
     | inl below ↦ (let k = on.0.known below in
         let last = (handle_at g side).last in
         let a = answer.Listed (pull_listed last) in
         let one : PullsList (handle_at h side).endpoint (handle_at g side).endpoint id (pull_listed last) = record {
-          pulls = subst (λ p. Rattle.h3_connection.specs.ReceivingContracts.PullsNext (handle_at h side).endpoint (handle_at g side).endpoint id p) (pulled_listed last) k.pulled;
-          list = subst (λ l. Rattle.h3_session.specs.Listing.ListsNext (handle_at h side).endpoint id l) (list_listed last) k.list;
+          pulls = subst (λ p. PullsNext (handle_at h side).endpoint (handle_at g side).endpoint id p) (pulled_listed last) k.pulled;
+          list = subst (λ l. ListsNext (handle_at h side).endpoint id l) (list_listed last) k.list;
         } in
         made_event (Call side (call.Pull id before item n)) h g (event.PullFields side id) n a refl (k.done, k.given_so, refl) tt
         (by_side side (TellsCall answer.Listed (λ s t l. PullsList s t id l)) h g a (record { result = pull_listed last; given_is = refl; called = one }) there))

@@ -1,40 +1,32 @@
 -- What two programs do is a run of two endpoints.
-use Rattle.std.proofs.Common.{arith, ◌≡◌, ◌≤◌, ◌<◌, ◌⊎◌, inl, inr, ℕ, Bool, true, false, List, [], ◌∷◌, ◌++◌, length, refl, sym, ap, subst, ◌∙◌, Option, Some, None}
-use Rattle.std.specs.List.{AllByRecursion}
+use Rattle.std.proofs.Common.{arith, ◌≡◌, ◌<◌, ◌⊎◌, inl, inr, ℕ, Bool, true, false, List, [], ◌∷◌, ◌++◌, length, refl, sym, ap, subst, ◌∙◌, Some}
 use Rattle.std.specs.Prelude.{◌^◌}
 use Rattle.h3_proto.specs.declared.stream.Side.{Side}
 use Rattle.h3_proto.specs.declared.stream.Side.TheVariants.{Client, Server}
 use Rattle.h3_connection.specs.Endpoint.{EndpointHistory}
-use Rattle.h3_connection.specs.Shown.{has_outgoing, is_reset, waiting}
+use Rattle.h3_connection.specs.SendingContracts.{Advances}
+use Rattle.h3_connection.specs.Shown.{has_outgoing, is_reset}
 use Rattle.h3_connection.specs.Shutdown.{is_rejected_in}
 use Rattle.h3_connection.specs.State.{EndpointState, StandsFor}
-use Rattle.h3_world.specs.Delivering.{reset_code}
-use Rattle.h3_world.specs.Ends.{Ends, end_at, new_ends}
-use Rattle.h3_world.specs.Few.{AreFew}
-use Rattle.h3_world.specs.Run.{Run}
-use Rattle.h3_world.specs.Sendable.{IsSendable}
-use Rattle.h3_world.specs.Setup.{IsMadeSetup}
+use Rattle.h3_world.specs.Ends.{Ends}
 use Rattle.h3_world.specs.declared.event.Answer.{Answer}
 use Rattle.h3_world.specs.declared.event.Answer.TheVariants as answer
 use Rattle.h3_world.specs.declared.event.Event.{Event}
 use Rattle.h3_world.specs.declared.event.Event.TheVariants as event
-use Rattle.h3_world.specs.declared.setup.Setup.{Setup}
-use Rattle.h3_memory.specs.Refused.{EndsRun, EndsStep}
-use Rattle.h3_faithful.specs.Faithful.{Faithful}
+use Rattle.h3_memory.specs.Refused.{EndsRun}
 use Rattle.h3_session.specs.Acting.{CarriesBytes, CarriesEnd, CarriesReset, Acts, FromOne, RunsByCalls}
 use Rattle.h3_session.specs.Running.{answer_of, is_stored, told_answer}
 use Rattle.h3_connection.specs.Answers.{delivery_refused}
-use Rattle.h3_session.specs.Typed.{IsTyped}
 use Rattle.h3_c.specs.Asked.{Tells}
 use Rattle.h3_c.specs.Bits.{bit}
-use Rattle.h3_c.specs.Exported.{Calls, DeliversOn, OnStream, UnlessRejected}
-use Rattle.h3_c.specs.Numbers.{argument, delivery_told, ok, rejected}
+use Rattle.h3_c.specs.Exported.{Calls, DeliversOn}
+use Rattle.h3_c.specs.Numbers.{ok, rejected}
 use Rattle.h3_c.specs.Programs as programs
-use Rattle.h3_c.specs.Programs.{Act, AreNew, Bytes, Call, Comes, Empty, End, FromTo, Handles, Happen, Happens, IsRefused, LearnsOf, Nothing, Reset, StandFor, Then, event_of, handle_at, is_taken}
+use Rattle.h3_c.specs.Programs.{Act, Bytes, Call, Empty, End, FromTo, Handles, Happen, Happens, IsRefused, LearnsOf, Nothing, Reset, StandFor, Then, event_of, is_taken}
 use Rattle.h3_c.specs.Seen.{Seen}
 use Rattle.h3_c.specs.declared.numbers.Told.{Told}
 use Rattle.h3_c.proofs.CarriedOver.{bytes_carried, delivery_tells, end_carried, none_carried, reset_carried, taken_so}
-use Rattle.h3_c.proofs.FrontsShown.{below_or_not, goes_there, known_id, shown_finished, shown_front, shown_none}
+use Rattle.h3_c.proofs.FrontsShown.{goes_there, known_id, resets_there, shown_finished, shown_front, shown_none}
 use Rattle.h3_c.proofs.ProgramCalls.{ActsSo, Made, Moves, StaysSo, call_made, made_event, made_none, stays_same}
 use Rattle.h3_c.proofs.Unordered.{unordered}
 use Rattle.h3_c.proofs.UnorderedMemory.{step_unordered}
@@ -67,7 +59,7 @@ bytes_go id bytes n v w r s e stands c =
         let result = k.answer in
         let same = ap is_taken k.is ∙ taken_so r.endpoint s.endpoint _ result e stands k.done.receives in
         let few = shown_front v id c.buffer bytes c.count c.past c.fin c.shown c.within c.front in
-        let took : is_stored result ≡ true → Rattle.h3_connection.specs.SendingContracts.Advances v.endpoint w.endpoint id (length bytes) = λ stored f h.
+        let took : is_stored result ≡ true → Advances v.endpoint w.endpoint id (length bytes) = λ stored f h.
         (((known_id id v w _ (c.taken (same ∙ stored))).1.few f h (few f h).1).1 f h) in
         inr (answer_of (answer.Delivered (length bytes)) (delivery_refused result), delivery_tells (answer.Delivered (length bytes)) n result (refl, refl) k.is,
         bytes_carried v.endpoint w.endpoint r.endpoint s.endpoint id (length bytes) bytes result k.done took (λ untaken. ap (λ (x : Seen). x.endpoint) (c.left (same ∙ untaken)))
@@ -94,7 +86,7 @@ reset_goes id n v w r s c =
     (λ d. inr (told_answer d.answer, delivery_tells answer.Done n d.answer (refl, refl) d.is,
         subst (λ (x : Seen). CarriesReset id v.endpoint r.endpoint (told_answer d.answer) x.endpoint s.endpoint) (sym c.same)
         (reset_carried v.endpoint r.endpoint s.endpoint id d.answer d.done
-        (λ f h. let was = bit_true (is_reset f id) c.state.is_reset (k.1.1 f h).is_reset c.was_reset in (Rattle.h3_c.proofs.FrontsShown.resets_there f id was, was)))))
+        (λ f h. let was = bit_true (is_reset f id) c.state.is_reset (k.1.1 f h).is_reset c.was_reset in (resets_there f id was, was)))))
 
 empty_goes : (id : ℕ) (v w r s : Seen) → programs.IsEmpty id v w r s → Goes (CarriesBytes id 1) (λ a. a ≡ answer.Short 0) ok v w r s
 empty_goes id v w r s c =

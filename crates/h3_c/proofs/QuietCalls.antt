@@ -1,14 +1,14 @@
 -- The calls that say what goes first, and that QUIC took a FIN, change nothing of which a schedule speaks.
-use Rattle.std.proofs.Common.{◌≡◌, ◌≢◌, ℕ, Bool, true, false, if◌then◌else◌, List, [], ◌∷◌, refl, sym, ap, subst, ◌∙◌, Option, Some, None}
+use Rattle.std.proofs.Common.{◌≡◌, ℕ, Bool, true, false, if◌then◌else◌, [], ◌∷◌, refl, sym, ap, subst, ◌∙◌, Option, Some, None}
 use Rattle.std.specs.Prelude.{◌==◌, not, is_some, option_map, unwrap_or}
-use Rattle.std.proofs.lemmas.Bool.{cases_Bool, eqb-true}
+use Rattle.std.proofs.lemmas.Bool.{eqb-true}
 use Rattle.h3_priority.specs.Priority.{PriorityParameters}
 use Rattle.h3_proto.specs.StreamIds.{is_request_stream}
 use Rattle.h3_connection.specs.ByPriority.{hold, hold_at, hold_refusal, held, priority_refusal, prioritized, set_priority}
 use Rattle.h3_connection.specs.Calls.{IsSame}
 use Rattle.h3_connection.specs.Endpoint.{EndpointHistory}
 use Rattle.h3_connection.specs.EndsWaiting.{end_taken, end_taken_at, end_taken_if}
-use Rattle.h3_connection.specs.Order.{gives_way, rounds_begun}
+use Rattle.h3_connection.specs.Order.{gives_way}
 use Rattle.h3_connection.specs.Outgoing.{Outgoing as Out, is_end_next, nothing_sent}
 use Rattle.h3_connection.specs.Prioritizing.{said, saying, set_initial_priority}
 use Rattle.h3_connection.specs.Refusals.{first_of}

@@ -1,5 +1,5 @@
 -- An endpoint of which nothing is known of what sends first, and whose FINs QUIC took: what it answers to all other calls rests on neither.
-use Rattle.std.proofs.Common.{◌≡◌, ℕ, ◌+◌, Bool, true, false, if◌then◌else◌, [], ◌∷◌, refl, ap, ◌∙◌, Option, Some, None}
+use Rattle.std.proofs.Common.{◌≡◌, ℕ, ◌+◌, Bool, true, false, if◌then◌else◌, List, [], ◌∷◌, refl, ap, ◌∙◌, Option, Some, None}
 use Rattle.std.specs.Prelude.{◌==◌, ◌||◌, is_some, option_map, unwrap_or}
 use Rattle.h3_connection.specs.Endpoint.{EndpointHistory, bytes_waiting, own_waiting}
 use Rattle.h3_connection.specs.Order.{default_precedence, no_order}
@@ -62,16 +62,16 @@ seen_unordered e id =
     ap (λ b. seen b (outgoing_at (unordered e) id)) (open_unordered e id)
     ∙ ap (λ o. seen (is_open e id) o) (outgoing_unordered e id)
 
-waiting_mapped : (e : EndpointHistory) (id : ℕ) (o : Option Out)
-    → elim (option_map unordered_out o) [ None ↦ own_waiting e id | Some o ↦ part_bytes_waiting o ]
-    ≡ elim o [ None ↦ own_waiting e id | Some o ↦ part_bytes_waiting o ]
+abbrev waits_of : EndpointHistory → ℕ → Option Out → List ℕ
+waits_of e id None = own_waiting e id
+waits_of e id (Some o) = part_bytes_waiting o
+
+waiting_mapped : (e : EndpointHistory) (id : ℕ) (o : Option Out) → waits_of e id (option_map unordered_out o) ≡ waits_of e id o
 waiting_mapped e id None = refl
 waiting_mapped e id (Some o) = refl
 
 pub bytes_unordered : (e : EndpointHistory) (id : ℕ) → bytes_waiting (unordered e) id ≡ bytes_waiting e id
-bytes_unordered e id =
-    ap (λ o. elim o [ None ↦ own_waiting e id | Some o ↦ part_bytes_waiting o ]) (at_unordered e.outgoing id)
-    ∙ waiting_mapped e id (stream_at e.outgoing id)
+bytes_unordered e id = ap (λ o. waits_of e id o) (at_unordered e.outgoing id) ∙ waiting_mapped e id (stream_at e.outgoing id)
 
 pub has_unordered : (e : EndpointHistory) (id : ℕ) → has_outgoing (unordered e) id ≡ has_outgoing e id
 has_unordered e id = ap (λ b. is_own e.side id || b) (open_unordered e id)

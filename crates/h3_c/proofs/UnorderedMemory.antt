@@ -2,9 +2,9 @@
 use Rattle.std.proofs.Common.{◌≡◌, ◌≢◌, ◌≤◌, ◌⊎◌, inl, inr, ℕ, Bool, true, false, List, [], ◌∷◌, ◌++◌, length, take, refl, sym, ap, subst, ◌∙◌, Option, Some, None}
 use Rattle.h3_field.specs.Field.{Field}
 use Rattle.h3_proto.specs.declared.stream.Side.{Side}
-use Rattle.h3_proto.specs.declared.stream.Side.TheVariants.{Client, Server}
-use Rattle.h3_connection.specs.Arrivals.{Arrival, BytesCame, EndCame, ResetCame, stream_of}
-use Rattle.h3_connection.specs.Delivering.{with_incoming}
+use Rattle.h3_connection.specs.Arrivals.{stream_of}
+use Rattle.h3_connection.specs.declared.arrival.Arrival.{Arrival}
+use Rattle.h3_connection.specs.declared.arrival.Arrival.TheVariants.{BytesCame, EndCame, ResetCame}
 use Rattle.h3_connection.specs.Endpoint.{EndpointHistory, bytes_waiting, kind_of}
 use Rattle.h3_connection.specs.Endpoint.Kind.{Request}
 use Rattle.h3_connection.specs.Keeping.{settles, unkept}
@@ -14,13 +14,12 @@ use Rattle.h3_connection.specs.ReceivingContracts.{IsTaken}
 use Rattle.h3_connection.specs.Sections.{with_insertions}
 use Rattle.h3_connection.specs.Sending as sender
 use Rattle.h3_connection.specs.Shown.{has_outgoing, is_finished, is_reset, waiting}
-use Rattle.h3_connection.specs.declared.event.Fault.{Fault}
 use Rattle.h3_connection.specs.declared.event.Fault.TheVariants as fault
 use Rattle.h3_connection.specs.declared.event.Refusal.{Refusal}
 use Rattle.h3_connection.specs.declared.event.Refusal.TheVariants as refusal
 use Rattle.h3_world.specs.Delivering.{reset_code}
 use Rattle.h3_world.specs.EndLists.{send_fields, send_trailer_fields}
-use Rattle.h3_world.specs.Ends.{Ends, answered, end_at, with_end}
+use Rattle.h3_world.specs.Ends.{Ends, end_at, with_end}
 use Rattle.h3_world.specs.Headline.{is_out_of_memory}
 use Rattle.h3_world.specs.declared.event.Answer.{Answer}
 use Rattle.h3_world.specs.declared.event.Answer.TheVariants as answer
@@ -31,7 +30,7 @@ use Rattle.h3_world.specs.declared.lists.ListPull.TheVariants as list
 use Rattle.h3_memory.specs.Refused.{AnswerOf, CutsList, CutsOff, EndsStep, IsAsked, LacksMemory, LosesNothing, Stores, handed_over}
 use Rattle.h3_c.proofs.Unordered.{advance_unordered, bytes_unordered, finished_unordered, has_unordered, reset_unordered, unordered}
 use Rattle.h3_c.proofs.UnorderedReading.{reads_part}
-use Rattle.h3_c.proofs.UnorderedSteps.{IsOfC, answered_unordered, body_sent_unordered, both_unordered, cancel_unordered, end_unordered, fields_sent_unordered, goaway_unordered, open_request_unordered, trailer_sent_unordered, with_end_unordered}
+use Rattle.h3_c.proofs.UnorderedSteps.{IsOfC, answered_unordered, both_unordered, cancel_unordered, end_unordered, fields_sent_unordered, goaway_unordered, open_request_unordered, trailer_sent_unordered, with_end_unordered}
 
 -- a list that was cut off
 cuts_off : (ends new : Ends) (side : Side) (id : ℕ) (fields : List Field) → CutsOff ends side id fields new → CutsOff (both_unordered ends) side id fields (both_unordered new)

@@ -1,22 +1,24 @@
 -- What came is read alike where nothing is known of what sends first.
-use Rattle.std.proofs.Common.{◌≡◌, ℕ, ◌-◌, Bool, true, false, if◌then◌else◌, List, [], ◌∷◌, ◌++◌, refl, sym, ap, subst, ◌∙◌, Option, Some, None}
-use Rattle.std.specs.Prelude.{fold, is_some}
-use Rattle.h3_connection.specs.Arrivals.{Arrival, BytesCame, EndCame, ResetCame, stream_of}
+use Rattle.std.proofs.Common.{◌≡◌, ℕ, Bool, true, false, if◌then◌else◌, List, [], ◌∷◌, ◌++◌, refl, ap, subst, ◌∙◌, Option, Some, None}
+use Rattle.std.specs.Prelude.{fold, is_some, unwrap_or}
+use Rattle.h3_proto.specs.Settings.{value_of}
+use Rattle.h3_connection.specs.Arrivals.{stream_of}
+use Rattle.h3_connection.specs.declared.arrival.Arrival.{Arrival}
+use Rattle.h3_connection.specs.declared.arrival.Arrival.TheVariants.{BytesCame, EndCame, ResetCame}
 use Rattle.h3_connection.specs.Coming.{fields_behind, fields_item}
-use Rattle.h3_connection.specs.Control.{Found, after_peer, are_refused, holding, if_learned, is_table_usable, kept_unread, lacks_settings, learned, listened_to, read_control, read_decoder, read_encoder, read_held, taken_peer, then_decoder, unless_missing, unless_refused, with_table}
-use Rattle.h3_connection.specs.Delivering.{bytes_at, closed_by, closing, delivery_refusal, end_at, give_up, heard_as, incoming_at, kept, only_one, opened, opened_at, read_unidirectional, reset_at, taken, unidirectional_at, unless_second, with_end, with_incoming, with_unidirectional}
-use Rattle.h3_connection.specs.Endpoint.{EndpointHistory, Kind, kind_of, is_second, limit_of, replied}
+use Rattle.h3_connection.specs.Control.{Found, with_table, is_table_usable, after_peer, are_refused, holding, if_learned, kept_unread, lacks_settings, learned, listened_to, read_control, read_decoder, read_encoder, read_held, taken_peer, then_decoder, unless_missing, unless_refused}
+use Rattle.h3_connection.specs.Delivering.{bytes_at, closed_by, delivery_refusal, end_at, give_up, heard_as, incoming_at, kept, only_one, opened, opened_at, read_unidirectional, reset_at, taken, unidirectional_at, unless_second, with_end, with_incoming, with_unidirectional}
+use Rattle.h3_connection.specs.Endpoint.{EndpointHistory, Kind, kind_of, is_second, limit_of}
 use Rattle.h3_connection.specs.Endpoint.Kind.{Request, ServerOpened, OwnUnidirectional, PeerUnidirectional}
 use Rattle.h3_connection.specs.ExcessiveInstructions.{listen_up_to}
 use Rattle.h3_connection.specs.Incoming.{Incoming}
 use Rattle.h3_connection.specs.Keeping.{arrival_refusal, arrives, arrives_behind, keeping, opened_as, opened_by, pulled_after, pulls, pulls_behind, read_all, read_arrival, settles, unkept, unless_faulty}
 use Rattle.h3_connection.specs.Outgoing.{nothing_sent}
-use Rattle.h3_connection.specs.PartReading.{ReadsOn, ReadsPart, after_frames, early, held, held_as}
+use Rattle.h3_connection.specs.PartReading.{ReadsOn, ReadsPart, early, held_as}
 use Rattle.h3_connection.specs.PartReading.{ReadsWhole, ReadsFront, Holds, ReadsFrames, Hears, Listens}
 use Rattle.h3_connection.specs.PartReading.{Stops, Goes}
-use Rattle.h3_connection.specs.PeerReading.{Peer, PeerFound, read_peer}
-use Rattle.h3_connection.specs.Pulling.{Pulled}
-use Rattle.h3_connection.specs.Sending.{after_answer, after_fault, pull_at, pull_peer, pull_request, pull_unless, pulled, pulled_unidirectional}
+use Rattle.h3_connection.specs.PeerReading.{PeerFound, read_peer}
+use Rattle.h3_connection.specs.Sending.{after_answer, after_fault, pull_at, pull_peer, pull_request, pull_unless, pulled_unidirectional}
 use Rattle.h3_connection.specs.StreamSets.{stream_at}
 use Rattle.h3_connection.specs.StrictConnection.{kinds_of, knows_sessions}
 use Rattle.h3_connection.specs.Unidirectional.{Role, Unidirectional, pull_unidirectional, role_after, with_bytes}
@@ -26,7 +28,8 @@ use Rattle.h3_connection.specs.declared.event.Fault.TheVariants as fault
 use Rattle.h3_connection.specs.declared.event.Pull.{Pull}
 use Rattle.h3_connection.specs.declared.event.Pull.TheVariants as pull
 use Rattle.h3_connection.specs.declared.event.Refusal.{Refusal}
-use Rattle.h3_c.proofs.Unordered.{set_unordered, unordered, unordered_streams}
+use Rattle.h3_connection.specs.declared.event.StreamFault.TheVariants as stream_fault
+use Rattle.h3_c.proofs.Unordered.{set_unordered, unordered}
 
 -- the same of what is found, answered or pulled
 abbrev pub so_found : Found → Found
@@ -56,7 +59,10 @@ opened_unordered e id = opened_mapped e id (stream_at e.incoming id)
 
 -- the peer's control, encoder and decoder streams
 learned_unordered : (e : EndpointHistory) (pairs : List (ℕ × ℕ)) → learned (unordered e) pairs ≡ unordered (learned e pairs)
-learned_unordered e pairs = ends_if _ _ _
+learned_unordered e pairs =
+    let capacity = unwrap_or (value_of 1 pairs) 0 in
+    let blocked = unwrap_or (value_of 7 pairs) 0 in
+    ends_if (is_table_usable e.encoder.most_capacity capacity blocked) (with_table e capacity blocked) e
 
 if_learned_unordered : (before after : Option (List (ℕ × ℕ))) (e : EndpointHistory) → if_learned before after (unordered e) ≡ unordered (if_learned before after e)
 if_learned_unordered None (Some pairs) e = learned_unordered e pairs
@@ -122,7 +128,7 @@ end_at_unordered e id PeerUnidirectional = refl
 
 reset_at_unordered : (e : EndpointHistory) (id code : ℕ) (k : Kind) → reset_at (unordered e) id code k ≡ so_found (reset_at e id code k)
 reset_at_unordered e id code Request =
-    ap (λ x. (give_up x id (record (incoming_at e id) { was_reset = true }) (Rattle.h3_connection.specs.declared.event.StreamFault.TheVariants.Reset code), None)) (opened_unordered e id)
+    ap (λ x. (give_up x id (record (incoming_at e id) { was_reset = true }) (stream_fault.Reset code), None)) (opened_unordered e id)
 reset_at_unordered e id code ServerOpened = refl
 reset_at_unordered e id code OwnUnidirectional = refl
 reset_at_unordered e id code PeerUnidirectional = refl
@@ -132,16 +138,14 @@ arrival_unordered e (BytesCame id bytes) = bytes_at_unordered e id bytes (kind_o
 arrival_unordered e (EndCame id) = end_at_unordered e id (kind_of e.side id)
 arrival_unordered e (ResetCame id code) = reset_at_unordered e id code (kind_of e.side id)
 
-read_each : (arrivals : List Arrival) (e : EndpointHistory) → read_all arrivals (unordered e) ≡ so_found (read_all arrivals e)
-read_each [] e = refl
-read_each (a ∷ arrivals) e = ap (λ x. unless_faulty (read_all arrivals) x) (arrival_unordered e a) ∙ on (read_arrival e a)
-  where
-    on : (found : Found) → unless_faulty (read_all arrivals) (so_found found) ≡ so_found (unless_faulty (read_all arrivals) found)
-    on (x, Some code) = refl
-    on (x, None) = read_each arrivals x
+reads_more : (arrivals : List Arrival) → ((x : EndpointHistory) → read_all arrivals (unordered x) ≡ so_found (read_all arrivals x)) → (found : Found)
+    → unless_faulty (read_all arrivals) (so_found found) ≡ so_found (unless_faulty (read_all arrivals) found)
+reads_more arrivals later (x, Some code) = refl
+reads_more arrivals later (x, None) = later x
 
 pub all_unordered : (arrivals : List Arrival) (e : EndpointHistory) → read_all arrivals (unordered e) ≡ so_found (read_all arrivals e)
-all_unordered = read_each
+all_unordered [] e = refl
+all_unordered (a ∷ arrivals) e = ap (λ x. unless_faulty (read_all arrivals) x) (arrival_unordered e a) ∙ reads_more arrivals (λ x. all_unordered arrivals x) (read_arrival e a)
 
 closed_unordered : (found : Found) → closed_by (so_found found) ≡ so_done (closed_by found)
 closed_unordered (e, None) = refl

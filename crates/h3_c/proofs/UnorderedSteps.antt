@@ -1,34 +1,36 @@
 -- Each event is answered alike by two endpoints of which nothing is known of what sends first, also where memory is refused.
-use Rattle.std.proofs.Common.{◌≡◌, ◌≢◌, ◌⊎◌, inl, inr, ℕ, ◌≤◌, ◌<◌, Bool, true, false, if◌then◌else◌, List, [], ◌∷◌, ◌++◌, length, take, refl, sym, ap, subst, ◌∙◌, Option, Some, None}
-use Rattle.std.specs.Prelude.{◌==◌, ◌&&◌, not, nat_lt, option_map, is_some}
+use Rattle.std.proofs.Common.{◌≡◌, ◌+◌, ℕ, Bool, true, false, if◌then◌else◌, List, [], ◌∷◌, ◌++◌, length, take, refl, ap, ◌∙◌, Option, Some, None}
+use Rattle.std.specs.Prelude.{◌==◌, ◌&&◌, not, nat_lt, option_map}
 use Rattle.h3_field.specs.Field.{Field}
 use Rattle.h3_messages.specs.declared.content.Content.{Content}
 use Rattle.h3_proto.specs.declared.stream.Side.{Side}
 use Rattle.h3_proto.specs.declared.stream.Side.TheVariants.{Client, Server}
-use Rattle.h3_connection.specs.Arrivals.{Arrival, BytesCame, EndCame, ResetCame}
-use Rattle.h3_connection.specs.Delivering.{give_up, incoming_at}
+use Rattle.h3_connection.specs.declared.arrival.Arrival.{Arrival}
+use Rattle.h3_connection.specs.declared.arrival.Arrival.TheVariants.{BytesCame, EndCame, ResetCame}
+use Rattle.h3_connection.specs.Coming.{fields_behind}
+use Rattle.h3_connection.specs.Delivering.{opened_at}
+use Rattle.h3_connection.specs.Order.{no_order}
 use Rattle.h3_connection.specs.Endpoint.{EndpointHistory, bytes_waiting, is_critical_id}
-use Rattle.h3_connection.specs.Keeping.{arrives, pulls, unkept}
+use Rattle.h3_connection.specs.Keeping.{arrives, pulls}
 use Rattle.h3_connection.specs.Outgoing.{Outgoing as Out, OwnPart, is_sent_off, with_body, with_finish, with_reset, with_said, nothing_sent}
+use Rattle.h3_connection.specs.Outgoing.OwnPart.{OwnTrailer}
 use Rattle.h3_connection.specs.OwnIds.{other}
 use Rattle.h3_connection.specs.Refusals.{Sender, SenderStream, refusal_of_body, refusal_of_end, refusal_of_head, refusal_of_trailer, refusal_to_stop}
-use Rattle.h3_connection.specs.Sections.{with_insertions, written_section}
+use Rattle.h3_connection.specs.Sections.{written_section}
 use Rattle.h3_connection.specs.Sending as sender
 use Rattle.h3_connection.specs.Sending.{advance, appended, asked, broken_head_at, content_of_own, counted, does, encoded, fields_cost, head_part, is_open, known_of, outgoing_at, saying_at, seen_at, sender_at, sent_bytes, unless_closed, with_outgoing}
 use Rattle.h3_connection.specs.Shown.{has_outgoing, is_finished, is_reset, waiting}
-use Rattle.h3_connection.specs.StreamSets.{Streams, set_stream, stream_at}
+use Rattle.h3_connection.specs.StreamSets.{Streams, stream_at}
 use Rattle.h3_connection.specs.StrictConnection.{begins_none_after}
 use Rattle.h3_connection.specs.StrictSending.{broken_trailer, early_trailer, passes_content}
 use Rattle.h3_connection.specs.Lasts.{last_id}
 use Rattle.h3_connection.specs.declared.event.Pull.{Pull}
 use Rattle.h3_connection.specs.declared.event.Refusal.{Refusal}
-use Rattle.h3_connection.specs.declared.event.Refusal.TheVariants as refusal
 use Rattle.h3_messages.specs.Content.{may_end}
 use Rattle.h3_header.specs.Reads.{head_of_fields}
 use Rattle.h3_world.specs.Delivering.{reset_code}
 use Rattle.h3_world.specs.EndLists.{after_fields, after_trailer_fields, fields_refusal, send_fields, send_trailer_fields, trailer_fields_refusal}
-use Rattle.h3_world.specs.Ends.{Ends, answered, delivery, done, end_at, end_delivery, reset_delivery, was_listed, was_offered, was_pulled, with_end}
-use Rattle.h3_world.specs.Headline.{is_out_of_memory}
+use Rattle.h3_world.specs.Ends.{Ends, answered, delivery, done, end_at, end_delivery, reset_delivery, was_listed, was_offered, with_end}
 use Rattle.h3_world.specs.Lists.{listed_pull, unreadable}
 use Rattle.h3_world.specs.Setup.{takes_any}
 use Rattle.h3_world.specs.declared.event.Answer.{Answer}
@@ -48,8 +50,9 @@ done_so r s e new other same is = ap (λ x. does x (unordered e) new) same ∙ a
 
 pub open_request_unordered : (e : EndpointHistory) → sender.open_request (unordered e) ≡ so_done (sender.open_request e)
 open_request_unordered e =
-    done_so (sender.open_refusal (unordered e)) (sender.open_refusal e) e _ _ refl
-    (ap (λ l. record (sender.open_request e).1 { outgoing = l; order = (unordered e).order }) (set_unordered e.outgoing e.next_id nothing_sent))
+    let new = record (opened_at e e.next_id None) { next_id = e.next_id + 4 } in
+    done_so (sender.open_refusal e) (sender.open_refusal e) e (record (opened_at (unordered e) e.next_id None) { next_id = e.next_id + 4 }) new refl
+    (ap (λ l. record new { outgoing = l; order = no_order }) (set_unordered e.outgoing e.next_id nothing_sent))
 
 -- a stream that was written to
 changed : (e x : EndpointHistory) (id : ℕ) (change : Out → Out) → ((o : Out) → change (unordered_out o) ≡ unordered_out (change o))
@@ -94,7 +97,7 @@ fields_sent_unordered e id fields =
 
 pub trailer_sent_unordered : (e : EndpointHistory) (id : ℕ) (fields : List Field) → send_trailer_fields (unordered e) id fields ≡ so_done (send_trailer_fields e id fields)
 trailer_sent_unordered e id fields =
-    let section = Rattle.h3_connection.specs.Outgoing.OwnPart.OwnTrailer (written_section e.encoder id fields) in
+    let section = OwnTrailer (written_section e.encoder id fields) in
     let sent = encoded e id fields in
     done_so (trailer_fields_refusal (unordered e) id fields) (trailer_fields_refusal e id fields) e (after_trailer_fields (unordered e) id fields) (after_trailer_fields e id fields)
     (ap (λ s. unless_closed e (refusal_of_trailer s (unreadable (takes_any e.announced) fields) (early_trailer (outgoing_at (unordered e) id).content) (broken_trailer e.announced fields) (head_of_fields fields) fields)) (sender_unordered e id)
@@ -136,11 +139,11 @@ goaway_unordered e id = does_unordered (sender.goaway_refusal e id) e _
 abbrev pub both_unordered : Ends → Ends
 both_unordered ends = record { client = unordered ends.client; server = unordered ends.server }
 
-end_unordered : (ends : Ends) (side : Side) → end_at (both_unordered ends) side ≡ unordered (end_at ends side)
+pub end_unordered : (ends : Ends) (side : Side) → end_at (both_unordered ends) side ≡ unordered (end_at ends side)
 end_unordered ends Client = refl
 end_unordered ends Server = refl
 
-with_end_unordered : (ends : Ends) (side : Side) (e : EndpointHistory) → with_end (both_unordered ends) side (unordered e) ≡ both_unordered (with_end ends side e)
+pub with_end_unordered : (ends : Ends) (side : Side) (e : EndpointHistory) → with_end (both_unordered ends) side (unordered e) ≡ both_unordered (with_end ends side e)
 with_end_unordered ends Client e = refl
 with_end_unordered ends Server e = refl
 
@@ -159,8 +162,8 @@ one ends side success call alike =
 
 listed_mapped : (ends : Ends) (side : Side) (id : ℕ) (x : Pull × EndpointHistory) → was_listed (both_unordered ends) side id (so_pulled x) ≡ so_answered (was_listed ends side id x)
 listed_mapped ends side id (p, e) =
-    ap (λ n. (answer.Listed (listed_pull (Rattle.h3_connection.specs.Coming.fields_behind (end_at (both_unordered ends) side).kept (end_at (both_unordered ends) side) id) p), n)) (with_end_unordered ends side e)
-    ∙ ap (λ x. (answer.Listed (listed_pull (Rattle.h3_connection.specs.Coming.fields_behind x.kept x id) p), both_unordered (with_end ends side e))) (end_unordered ends side)
+    ap (λ n. (answer.Listed (listed_pull (fields_behind (end_at (both_unordered ends) side).kept (end_at (both_unordered ends) side) id) p), n)) (with_end_unordered ends side e)
+    ∙ ap (λ x. (answer.Listed (listed_pull (fields_behind x.kept x id) p), both_unordered (with_end ends side e))) (end_unordered ends side)
     ∙ ap (λ l. (answer.Listed (listed_pull l p), both_unordered (with_end ends side e))) (fields_unordered (end_at ends side).kept (end_at ends side) id)
 
 offered_mapped : (ends : Ends) (writer : Side) (id count : ℕ) (x : Option Refusal × EndpointHistory) → was_offered (both_unordered ends) writer id count (so_done x) ≡ so_answered (was_offered ends writer id count x)

@@ -1,5 +1,5 @@
 -- Which event of a schedule each call of h3.h is, and which answer C learns of it (`h3_world`, Event and Answer).
-use Rattle.std.specs.Prelude.{◌≡◌, ℕ, Bool, true, false, List, IfSome, Option, Some, None, option_map, Err}
+use Rattle.std.specs.Prelude.{◌≡◌, Bool, true, false, List, Option, Some, None, option_map, Err}
 use Rattle.h3_field.specs.Field.{Field}
 use Rattle.h3_proto.specs.declared.config.Choices.{Choices}
 use Rattle.h3_proto.specs.declared.stream.Side.{Side}

@@ -22,3 +22,4 @@ pub mod Shutdown
 pub mod Showing
 pub mod Reads
 pub mod Programs
+pub mod WorkedPrograms

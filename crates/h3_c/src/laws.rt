@@ -18,4 +18,5 @@ pub fn each_program_gets_what_the_other_sent()
 {
     h3_faithful::laws::each_side_gets_what_the_other_sent();
     h3_session::laws::calls_are_steps_of_two_endpoints();
+    h3_session::laws::schedules_within_bounds_may_be_sent();
 }

@@ -16,3 +16,4 @@ mod numbers;
 mod owned;
 mod rows;
 mod state;
+mod worked;
