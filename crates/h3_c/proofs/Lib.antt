@@ -18,3 +18,4 @@ pub mod UnorderedReading
 pub mod UnorderedSteps
 pub mod UnorderedMemory
 pub mod QuietCalls
+pub mod MadeHandles

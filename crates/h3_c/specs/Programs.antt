@@ -1,22 +1,24 @@
 -- Two programs in C, a client and a server: their calls in the order of time, and the bytes that go from one to the other. And the schedule
 -- that these stand for, with its answers.
-use Rattle.std.specs.Prelude.{◌≡◌, ◌⊎◌, ◌<◌, ◌≤◌, ℕ, Bool, true, false, ◌||◌, ◌==◌, List, [], ◌∷◌, ◌++◌, length, take, Option, Some, None}
+use Rattle.std.specs.Prelude.{◌≡◌, ◌⊎◌, ◌<◌, ◌≤◌, ℕ, Bool, true, false, ◌||◌, ◌==◌, List, [], ◌∷◌, ◌++◌, length, take, Option, Some, None, Ok}
 use Rattle.h3_proto.specs.declared.stream.Side.{Side}
 use Rattle.h3_proto.specs.declared.stream.Side.TheVariants.{Client, Server}
-use Rattle.h3_connection.specs.Endpoint.{new_endpoint}
 use Rattle.h3_connection.specs.OwnIds.{other}
-use Rattle.h3_connection.specs.State.{StandsFor}
+use Rattle.h3_connection.specs.declared.setup.Announced.{Announced}
 use Rattle.h3_world.specs.Delivering.{reset_code}
+use Rattle.h3_world.specs.Setup.{takes_settings}
 use Rattle.h3_world.specs.declared.event.Answer.{Answer}
 use Rattle.h3_world.specs.declared.event.Answer.TheVariants as answer
 use Rattle.h3_world.specs.declared.event.Event.{Event}
 use Rattle.h3_world.specs.declared.event.Event.TheVariants as event
 use Rattle.h3_world.specs.declared.setup.Setup.{Setup}
 use Rattle.h3_c.specs.Asked.{Learns, Tells, asked, is_left_out}
+use Rattle.h3_c.specs.Configs.{MakesGiven, announced_of, side_of}
 use Rattle.h3_c.specs.Does.{CallOfC, Does}
 use Rattle.h3_c.specs.Does.CallOfC.{Advance, Deliver, DeliverEnd, DeliverReset, Outgoing, Stream}
 use Rattle.h3_c.specs.Numbers.{argument, memory, ok, rejected}
 use Rattle.h3_c.specs.Seen.{Seen}
+use Rattle.h3_c.specs.declared.config.GivenConfig.{GivenConfig}
 use Rattle.h3_c.specs.declared.numbers.Told.{Told}
 use Rattle.h3_c.specs.declared.state.StreamState.{StreamState}
 
@@ -29,10 +31,20 @@ abbrev pub handle_at : Handles → Side → Seen
 handle_at h Client = h.client
 handle_at h Server = h.server
 
--- `h3_new` made both: they announce the setup, and nothing happened
-pub record AreNew (setup : Setup) (h : Handles) : Type 0 where
-  pub client : StandsFor h.client.endpoint (new_endpoint Client setup.client)
-  pub server : StandsFor h.server.endpoint (new_endpoint Server setup.server)
+-- `h3_new` made this handle, for this side, of what C gave, which announces this
+pub record IsMadeFor (side : Side) (announced : Announced) (v : Seen) : Type 0 where
+  pub given : GivenConfig
+  pub before : Option Seen
+  pub side_is : side_of given ≡ side
+  pub announces : announced_of given ≡ Ok announced
+  pub made : MakesGiven (Some given) ok before (Some v)
+
+-- `h3_new` made a client and a server, and each takes what the other one announces: one of a strict connection refuses WebTransport of a peer that
+-- announces no datagrams
+pub record AreMade (setup : Setup) (h : Handles) : Type 0 where
+  pub client : IsMadeFor Client setup.client h.client
+  pub server : IsMadeFor Server setup.server h.server
+  pub take : takes_settings setup ≡ true
 
 -- What happens: a side makes a call; or QUIC carries bytes of a stream from a side to the other one, or its end, or its reset, and n is what
 -- the delivery returns; or it is seen that nothing is left to be carried of a stream.
