@@ -19,3 +19,5 @@ pub mod UnorderedSteps
 pub mod UnorderedMemory
 pub mod QuietCalls
 pub mod MadeHandles
+pub mod ProgramMoves
+pub mod ProgramReads

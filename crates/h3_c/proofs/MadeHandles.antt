@@ -1,8 +1,6 @@
 -- What `h3_new` makes stands at the beginning of what it announces.
-use Rattle.std.proofs.Common.{arith, ◌≡◌, ◌≤◌, ◌<◌, inl, inr, ℕ, refl, sym, ap, subst, ◌∙◌, Option, Some, None, Result, Ok, Err}
+use Rattle.std.proofs.Common.{arith, ◌≡◌, ◌<◌, inl, inr, sym, ap, subst, Option, Some, Result, Ok, Err}
 use Rattle.h3_proto.specs.declared.stream.Side.{Side}
-use Rattle.h3_proto.specs.declared.stream.Side.TheVariants.{Client, Server}
-use Rattle.h3_connection.specs.Calls.{MakesEnd}
 use Rattle.h3_connection.specs.Endpoint.{new_endpoint}
 use Rattle.h3_connection.specs.SendingContracts.{Creates}
 use Rattle.h3_connection.specs.State.{EndpointState, StandsFor}
@@ -13,11 +11,10 @@ use Rattle.h3_world.specs.MadeLaws.{is_made}
 use Rattle.h3_world.specs.Setup.{IsMade, IsMadeSetup}
 use Rattle.h3_world.specs.TakesLaws.{setup_made}
 use Rattle.h3_world.specs.declared.setup.Setup.{Setup}
-use Rattle.h3_c.specs.Configs.{IsMade as OwnsMade, Makes, announced_of, config_of, limits_of, made_told, side_of}
+use Rattle.h3_c.specs.Configs.{IsMade as OwnsMade, Makes, announced_of, config_of, limits_of, made_told}
 use Rattle.h3_c.specs.Numbers.{new_told, ok}
 use Rattle.h3_c.specs.Programs.{AreMade, Handles, IsMadeFor}
 use Rattle.h3_c.specs.Seen.{Seen}
-use Rattle.h3_c.specs.declared.config.GivenConfig.{GivenConfig}
 use Rattle.h3_c.specs.declared.numbers.Told.{Told}
 use Rattle.h3_c.proofs.FrontsShown.{below_or_not, not_argument}
 

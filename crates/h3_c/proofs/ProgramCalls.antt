@@ -32,7 +32,7 @@ use Rattle.h3_session.specs.SendingLists.{SendsFieldList, SendsTrailerList, orde
 use Rattle.h3_c.specs.Asked.{Tells, TellsSent, is_left_out, pull_listed}
 use Rattle.h3_c.specs.Does.{CallOfC, Does}
 use Rattle.h3_c.specs.Does.CallOfC as call
-use Rattle.h3_c.specs.Exported.{Calls, CallsList, CallsOn, LacksList, OnStream, OpensRequest, SendsCut}
+use Rattle.h3_c.specs.Exported.{Calls, CallsList, CallsOn, LacksList, OnStream, OpensRequest, Pulls, SendsCut}
 use Rattle.h3_c.specs.Given.{fields_given}
 use Rattle.h3_c.specs.Numbers.{TellsList, argument, body_told, call_told}
 use Rattle.h3_c.specs.Ordering.{IfGiven, flag_given, priority_given}
@@ -41,14 +41,10 @@ use Rattle.h3_c.specs.Seen.{Seen}
 use Rattle.h3_c.specs.declared.items.PulledItem.{PulledItem}
 use Rattle.h3_c.specs.declared.numbers.Told.{Told}
 use Rattle.h3_c.proofs.FrontsShown.{below_or_not}
-use Rattle.h3_c.proofs.QuietCalls.{Stays, does_same, end_taken_same, hold_same, set_initial_same, set_priority_same}
+use Rattle.h3_c.proofs.ProgramMoves.{ActsSo, Moves, StaysAt, StaysSo, stays_same}
+use Rattle.h3_c.proofs.QuietCalls.{does_same, end_taken_same, hold_same, set_initial_same, set_priority_same}
 use Rattle.h3_c.proofs.Unordered.{unordered}
 use Rattle.h3_c.proofs.UnorderedSteps.{IsOfC}
-
--- What both handles are after it: they answered this event by the calls that it names; or nothing of which a schedule speaks has changed.
-pub data Moves (h g : Handles) : List Event → List Answer → Type 0 where
-  ActsSo : {e : Event} {a : Answer} → IsOfC e → Acts e h.client.endpoint h.server.endpoint a g.client.endpoint g.server.endpoint → Moves h g (e ∷ []) (a ∷ [])
-  StaysSo : ((e : EndpointHistory) → StandsFor h.client.endpoint e → Stays g.client.endpoint e) → ((e : EndpointHistory) → StandsFor h.server.endpoint e → Stays g.server.endpoint e) → Moves h g [] []
 
 -- what an act comes to
 pub record Made (act : Act) (h g : Handles) : Type 0 where
@@ -63,12 +59,6 @@ pub made_event : (act : Act) (h g : Handles) (e : Event) (n : Told) (a : Answer)
 made_event act h g e n a is learns of acts = record { events = e ∷ []; answers = a ∷ []; comes = IsEvent is learns; moves = ActsSo of acts }
 
 -- no event
-pub stays_same : (v w : Seen) → w ≡ v → (e : EndpointHistory) → StandsFor v.endpoint e → Stays w.endpoint e
-stays_same v w same e h = record { after = e; stands = subst (λ (x : Seen). StandsFor x.endpoint e) (sym same) h; same = refl }
-
-abbrev pub StaysAt : Seen → Seen → Type 0
-StaysAt v w = (e : EndpointHistory) → StandsFor v.endpoint e → Stays w.endpoint e
-
 pub made_none : (act : Act) (h g : Handles) → StaysAt h.client g.client → StaysAt h.server g.server → Comes act h g [] [] → Made act h g
 made_none act h g client server comes = record { events = []; answers = []; comes = comes; moves = StaysSo client server }
 
@@ -138,9 +128,16 @@ list_listed (pulled.Waiting count) = refl
 list_listed (pulled.Fault fault) = refl
 list_listed pulled.NoMessages = refl
 
+pub listed_pulls : (id : ℕ) (n : Told) (v w : Seen) (item : PulledItem) → Pulls id n v w item → PullsList v.endpoint w.endpoint id (pull_listed w.last)
+listed_pulls id n v w item k =
+    record {
+      pulls = subst (λ p. PullsNext v.endpoint w.endpoint id p) (pulled_listed w.last) k.pulled;
+      list = subst (λ l. ListsNext v.endpoint id l) (list_listed w.last) k.list;
+    }
+
 module _ (side : Side) (h g : Handles) (there : handle_at g (other side) ≡ handle_at h (other side)) where
   quiet : (c : CallOfC) → event_of (Call side c) ≡ None → StaysAt (handle_at h side) (handle_at g side) → Made (Call side c) h g
-  quiet c none stays = made_at (Call side c) side h g stays there (HasNone none)
+  quiet c none stays = made_at (Call side c) side h g stays there (HasNone refl none)
 
   looks_at : (c : CallOfC) → event_of (Call side c) ≡ None → handle_at g side ≡ handle_at h side → Made (Call side c) h g
   looks_at c none same = quiet c none (stays_same (handle_at h side) (handle_at g side) same)
@@ -207,10 +204,7 @@ module _ (side : Side) (h g : Handles) (there : handle_at g (other side) ≡ han
     | inl below ↦ (let k = on.0.known below in
         let last = (handle_at g side).last in
         let a = answer.Listed (pull_listed last) in
-        let one : PullsList (handle_at h side).endpoint (handle_at g side).endpoint id (pull_listed last) = record {
-          pulls = subst (λ p. PullsNext (handle_at h side).endpoint (handle_at g side).endpoint id p) (pulled_listed last) k.pulled;
-          list = subst (λ l. ListsNext (handle_at h side).endpoint id l) (list_listed last) k.list;
-        } in
+        let one = listed_pulls id n (handle_at h side) (handle_at g side) item k in
         made_event (Call side (call.Pull id before item n)) h g (event.PullFields side id) n a refl (k.done, k.given_so, refl) tt
         (by_side side (TellsCall answer.Listed (λ s t l. PullsList s t id l)) h g a (record { result = pull_listed last; given_is = refl; called = one }) there))
     | inr above ↦ refused (call.Pull id before item n) (event.PullFields side id) n refl (on.0.unknown above)

@@ -14,7 +14,7 @@ use Rattle.h3_world.specs.declared.event.Answer.TheVariants as answer
 use Rattle.h3_world.specs.declared.event.Event.{Event}
 use Rattle.h3_world.specs.declared.event.Event.TheVariants as event
 use Rattle.h3_memory.specs.Refused.{EndsRun}
-use Rattle.h3_session.specs.Acting.{CarriesBytes, CarriesEnd, CarriesReset, Acts, FromOne, RunsByCalls}
+use Rattle.h3_session.specs.Acting.{CarriesBytes, CarriesEnd, CarriesReset, Acts, FromOne}
 use Rattle.h3_session.specs.Running.{answer_of, is_stored, told_answer}
 use Rattle.h3_connection.specs.Answers.{delivery_refused}
 use Rattle.h3_c.specs.Asked.{Tells}
@@ -22,14 +22,14 @@ use Rattle.h3_c.specs.Bits.{bit}
 use Rattle.h3_c.specs.Exported.{Calls, DeliversOn}
 use Rattle.h3_c.specs.Numbers.{ok, rejected}
 use Rattle.h3_c.specs.Programs as programs
-use Rattle.h3_c.specs.Programs.{Act, Bytes, Call, Empty, End, FromTo, Handles, Happen, Happens, IsRefused, LearnsOf, Nothing, Reset, StandFor, Then, event_of, is_taken}
+use Rattle.h3_c.specs.Programs.{Act, Bytes, Call, Empty, End, FromTo, Handles, Happen, Happens, IsRead, IsRefused, LearnsOf, Nothing, Read, Reset, StandFor, Then, event_of, is_taken}
 use Rattle.h3_c.specs.Seen.{Seen}
 use Rattle.h3_c.specs.declared.numbers.Told.{Told}
 use Rattle.h3_c.proofs.CarriedOver.{bytes_carried, delivery_tells, end_carried, none_carried, reset_carried, taken_so}
 use Rattle.h3_c.proofs.FrontsShown.{goes_there, known_id, resets_there, shown_finished, shown_front, shown_none}
-use Rattle.h3_c.proofs.ProgramCalls.{ActsSo, Made, Moves, StaysSo, call_made, made_event, made_none, stays_same}
-use Rattle.h3_c.proofs.Unordered.{unordered}
-use Rattle.h3_c.proofs.UnorderedMemory.{step_unordered}
+use Rattle.h3_c.proofs.ProgramCalls.{Made, call_made, made_event, made_none}
+use Rattle.h3_c.proofs.ProgramMoves.{CallsAreSteps, leaves, run_on, stays_same}
+use Rattle.h3_c.proofs.ProgramReads.{read_made}
 use Rattle.h3_c.proofs.UnorderedSteps.{IsOfC, both_unordered}
 
 -- What an act that goes from v to r is: no event, and nothing has changed; or an event with this answer.
@@ -118,6 +118,12 @@ act_made (Bytes Client id bytes n) h g ends client server happens =
 act_made (Bytes Server id bytes n) h g ends client server happens =
     goes_made (Bytes Server id bytes n) (event.Deliver Server id (length bytes)) n (CarriesBytes id (length bytes)) (λ a. Tells (answer.Delivered (length bytes)) n a) Server h g refl tt (λ a t. t) (λ a x. x)
     (bytes_go id bytes n h.server g.server h.client g.client ends.client client happens)
+act_made (Read Client id bytes fin used item n) h g ends client server happens =
+    let made = read_made Client id bytes fin used item n h.client g.client h.server g.server happens in
+    record { events = made.events; answers = made.answers; comes = IsRead refl made.comes; moves = made.moves }
+act_made (Read Server id bytes fin used item n) h g ends client server happens =
+    let made = read_made Server id bytes fin used item n h.server g.server h.client g.client happens in
+    record { events = made.events; answers = made.answers; comes = IsRead refl made.comes; moves = made.moves }
 act_made (End Client id n) h g ends client server happens =
     goes_made (End Client id n) (event.DeliverEnd Client id) n (CarriesEnd id) (λ a. Tells answer.Done n a) Client h g refl tt (λ a t. t) (λ a x. x) (end_goes id n h.client g.client h.server g.server happens)
 act_made (End Server id n) h g ends client server happens =
@@ -131,54 +137,6 @@ act_made (Empty Client id) h g ends client server happens =
 act_made (Empty Server id) h g ends client server happens =
     goes_made (Empty Server id) (event.Deliver Server id 1) ok (CarriesBytes id 1) (λ a. a ≡ answer.Short 0) Server h g refl tt (λ a t. t) (λ a x. x) (empty_goes id h.server g.server h.client g.client happens)
 
--- runs one after another
-run_on : (first events : List Event) (given answers : List Answer) (old mid new : Ends) → EndsRun old first given mid → EndsRun mid events answers new → EndsRun old (first ++ events) (given ++ answers) new
-run_on [] events [] answers old mid new a b = subst (λ x. EndsRun x events answers new) a b
-run_on (e ∷ first) events (a ∷ given) answers old mid new (next, step, rest) b = (next, step, run_on first events given answers next mid new rest b)
-run_on [] events (a ∷ given) answers old mid new x b = absurd x
-run_on (e ∷ first) events [] answers old mid new x b = absurd x
-
--- what is cited: events that were answered by their calls are steps of the ends that were stood for
-abbrev pub CallsAreSteps : Type 0
-CallsAreSteps = (ends : Ends) (events : List Event) (answers : List Answer) (client server : EndpointState) → RunsByCalls ends events answers client server
-    → (new : Ends) × EndsRun ends events answers new × StandsFor client new.client × StandsFor server new.server
-
--- what an act leaves: both handles stand for ends, and by what a schedule speaks of it is a run
-record Left (ends : Ends) (g : Handles) (events : List Event) (answers : List Answer) : Type 0 where
-  pub new : Ends
-  pub run : EndsRun (both_unordered ends) events answers (both_unordered new)
-  pub client_stands : StandsFor g.client.endpoint new.client
-  pub server_stands : StandsFor g.server.endpoint new.server
-
-ends_are : (a b : Ends) → a.client ≡ b.client → a.server ≡ b.server → a ≡ b
-ends_are a b client server = ap (λ e. let x : Ends = record { client = e; server = a.server } in x) client ∙ ap (λ e. let x : Ends = record { client = b.client; server = e } in x) server
-
-leaves : CallsAreSteps → (h g : Handles) (ends : Ends) {events : List Event} {answers : List Answer} → StandsFor h.client.endpoint ends.client → StandsFor h.server.endpoint ends.server → Moves h g events answers → Left ends g events answers
-leaves law h g ends client server (ActsSo {e = e} {a = a} of acts) =
-    let on = law ends (e ∷ []) (a ∷ []) g.client.endpoint g.server.endpoint (record {
-      client = h.client.endpoint;
-      server = h.server.endpoint;
-      client_stands = client;
-      server_stands = server;
-      acts = (g.client.endpoint, g.server.endpoint, acts, (refl, refl));
-    }) in
-    let last : on.0 ≡ on.1.0 = on.1.2 in
-    record {
-      new = on.0;
-      run = (both_unordered on.1.0, step_unordered ends on.1.0 e a of on.1.1, ap both_unordered last);
-      client_stands = on.2;
-      server_stands = on.3;
-    }
-leaves law h g ends client server (StaysSo client_stays server_stays) =
-    let c = client_stays ends.client client in
-    let s = server_stays ends.server server in
-    record {
-      new = record { client = c.after; server = s.after };
-      run = ends_are (record { client = unordered c.after; server = unordered s.after }) (both_unordered ends) c.same s.same;
-      client_stands = c.stands;
-      server_stands = s.stands;
-    }
-
 -- what two programs come to
 pub record RanTo (ends : Ends) (h : Handles) (acts : List Act) (g : Handles) : Type 0 where
   pub events : List Event
@@ -191,7 +149,7 @@ pub acts_run : CallsAreSteps → (acts : List Act) (h g : Handles) (ends : Ends)
 acts_run law [] h g ends client server happen = subst (λ x. RanTo ends h [] x) (sym happen) (record { events = []; answers = []; stand = Nothing; new = both_unordered ends; run = refl })
 acts_run law (act ∷ acts) h g ends client server (next, happens, happen) =
     let made = act_made act h next ends client server happens in
-    let on = leaves law h next ends client server made.moves in
+    let on = leaves law ends client server made.moves in
     let rest = acts_run law acts next g on.new on.client_stands on.server_stands happen in
     record {
       events = made.events ++ rest.events;

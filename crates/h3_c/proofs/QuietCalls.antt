@@ -77,7 +77,7 @@ set_same ((q, x) ∷ streams) id o p at is = by (q == id) refl
         let later : stream_at streams id ≡ Some o = sym (ap (λ b. if b then Some x else stream_at streams id) there) ∙ at in
         ap (λ b. unordered_streams (if b then (id, p) ∷ streams else (q, x) ∷ set_stream streams id p)) there ∙ ap (λ l. (q, unordered_out x) ∷ l) (set_same streams id o p later is)
 
-with_same : (e : EndpointHistory) (id : ℕ) (o p : Out) → stream_at e.outgoing id ≡ Some o → unordered_out p ≡ unordered_out o → unordered (with_outgoing e id p) ≡ unordered e
+pub with_same : (e : EndpointHistory) (id : ℕ) (o p : Out) → stream_at e.outgoing id ≡ Some o → unordered_out p ≡ unordered_out o → unordered (with_outgoing e id p) ≡ unordered e
 with_same e id o p at is = ap (λ l. record (unordered e) { outgoing = l }) (set_same e.outgoing id o p at is)
 
 -- `h3_end_taken`
