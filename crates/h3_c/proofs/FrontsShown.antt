@@ -18,6 +18,7 @@ use Rattle.h3_c.specs.Numbers.{argument, ok}
 use Rattle.h3_c.specs.Programs.{Shows}
 use Rattle.h3_c.specs.Seen.{Seen}
 use Rattle.h3_c.specs.declared.numbers.Told.{Told}
+use Rattle.h3_c.proofs.Unordered.{waits_of}
 
 pub below_or_not : (a b : ℕ) → (a < b) ⊎ (b ≤ a)
 below_or_not a b = elim (cases_Bool (nat_lt a b)) [
@@ -63,9 +64,10 @@ shown_front v id buffer bytes count past fin s within is e h =
     let few : length bytes ≤ min (length front) (length s.before) = subst (λ n. length bytes ≤ n) f.place within in
     let fits : length bytes ≤ length front = omega (arith, few) in
     let room : length bytes ≤ length s.before = omega (arith, few) in
-    let there = front_within (bytes_waiting e id) in
-    ( is ∙ ap (λ l. take (length bytes) l) f.filled ∙ take_put (length bytes) front s.before fits room ∙ take_front (length bytes) (bytes_waiting e id) fits,
-      omega (arith, fits, there) )
+    let there = front_within (bytes_waiting e id) in (
+      is ∙ ap (λ l. take (length bytes) l) f.filled ∙ take_put (length bytes) front s.before fits room ∙ take_front (length bytes) (bytes_waiting e id) fits,
+      omega (arith, fits, there),
+    )
 
 -- what is finished is open to send
 finished_there : (o : Option Out) → unwrap_or (option_map (λ (o : Out). o.is_finished) o) false ≡ true → is_some o ≡ true
@@ -93,7 +95,7 @@ own_there e id some = elim (cases_Bool (id == control_id e.side)) [
 
 some_there : (e : EndpointHistory) (id : ℕ) (o : Option Out) → stream_at e.outgoing id ≡ o → 0 < waiting e id → has_outgoing e id ≡ true
 some_there e id None is some =
-    let own : bytes_waiting e id ≡ own_waiting e id = rw (is) refl in
+    let own : bytes_waiting e id ≡ own_waiting e id = ap (λ o. waits_of e id o) is in
     ap (λ b. b || is_some (stream_at e.outgoing id)) (own_there e id (subst (λ l. 0 < length l) own some))
 some_there e id (Some o) is some = ap (λ o. is_own e.side id || is_some o) is ∙ or_true (is_own e.side id)
 

@@ -31,7 +31,7 @@ use Rattle.h3_session.specs.Running.{body_answer, done_answer, opened_answer}
 use Rattle.h3_session.specs.SendingLists.{SendsFieldList, SendsTrailerList, order_refusal, place_refusal}
 use Rattle.h3_c.specs.Asked.{Tells, TellsSent, is_left_out, pull_listed}
 use Rattle.h3_c.specs.Does.{CallOfC, Does}
-use Rattle.h3_c.specs.Does.CallOfC as call
+use Rattle.h3_c.specs.Does.{CallOfC as call}
 use Rattle.h3_c.specs.Exported.{Calls, CallsList, CallsOn, LacksList, OnStream, OpensRequest, Pulls, SendsCut}
 use Rattle.h3_c.specs.Given.{fields_given}
 use Rattle.h3_c.specs.Numbers.{TellsList, argument, body_told, call_told}

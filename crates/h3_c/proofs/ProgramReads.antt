@@ -21,7 +21,7 @@ use Rattle.h3_connection.specs.StreamSets.{stream_at}
 use Rattle.h3_connection.specs.declared.arrival.Arrival.TheVariants.{BytesCame}
 use Rattle.h3_connection.specs.declared.event.DeliverError.{DeliverError}
 use Rattle.h3_connection.specs.declared.event.DeliverError.TheVariants as deliver_error
-use Rattle.h3_connection.specs.declared.event.Item.TheVariants as item
+use Rattle.h3_connection.specs.declared.event.Item.TheVariants as found
 use Rattle.h3_connection.specs.declared.event.Pull.{Pull}
 use Rattle.h3_connection.specs.declared.event.Pull.TheVariants as pull
 use Rattle.h3_connection.specs.declared.event.Refusal.{Refusal}
@@ -43,6 +43,7 @@ use Rattle.h3_c.specs.Asked.{Tells, pull_listed}
 use Rattle.h3_c.specs.Exported.{Pulls as PullsSo}
 use Rattle.h3_c.specs.Numbers.{delivery_told}
 use Rattle.h3_c.specs.Programs.{CarriesRead, ComesOfRead, Handles, InPlace, Pulls, PullsEnd, Rejects, Stops, StopsEnd, bytes_answers, bytes_events}
+use Rattle.h3_c.specs.Reads.ReadsCopied.{pulled as was_pulled, stopped as was_stopped, unended as was_unended}
 use Rattle.h3_c.specs.Reads.{ReadsAt, ReadsCopied, ReadsPlaced, TakesBytes, TakesEnd, ends_with, is_kept, taken_of}
 use Rattle.h3_c.specs.Seen.{Seen}
 use Rattle.h3_c.specs.declared.items.PulledItem.{PulledItem}
@@ -141,7 +142,7 @@ pub record ReadMade (from : Side) (id : ℕ) (bytes : List ℕ) (fin used : ℕ)
   pub moves : Moves (pair from v r) (pair from w s) events answers
 
 module _ (from : Side) (id : ℕ) (bytes : List ℕ) (fin used : ℕ) (item : PulledItem) (n : Told) (v w r s : Seen) (c : CarriesRead id bytes fin used item n v w r s) where
-  Goal : Type 0
+  abbrev Goal : Type 0
   Goal = ReadMade from id bytes fin used item n v w r s
 
   below : id < 2 ^ 62
@@ -193,7 +194,7 @@ module _ (from : Side) (id : ℕ) (bytes : List ℕ) (fin used : ℕ) (item : Pu
 
   -- the end is next
   is_ended : ends_with fin bytes used ≡ true → (e : EndpointHistory) → StandsFor w.endpoint e → (is_finished e id ≡ true) × (waiting e id ≡ 0)
-  is_ended ends e h = let left = c.end ends in (shown_finished w id left.0 0 0 left.1 e h, shown_none w id left.0 left.1 e h)
+  is_ended ends e h = let left = c.ended ends in (shown_finished w id left.0 0 0 left.1 e h, shown_none w id left.0 left.1 e h)
 
   -- a pull
   pulled_last : (ended : EndpointState) → PullsSo id n (with_endpoint r ended) s item → Moves (pair from w (with_endpoint r ended)) (pair from w s) (event.PullFields (other from) id ∷ []) (answer.Listed (pull_listed s.last) ∷ [])
@@ -205,7 +206,7 @@ module _ (from : Side) (id : ℕ) (bytes : List ℕ) (fin used : ℕ) (item : Pu
       none_moves from v v r (with_endpoint r start) (stays_same v v refl) (λ e h. record { after = e; stands = stands_unchanged r.endpoint start e same h; same = refl })
 
   copied : (start : EndpointState) → IsSame r.endpoint start → (before : PulledItem) → ReadsCopied (with_endpoint r start) s id bytes fin n before item used → Goal
-  copied start same before (ReadsCopied.pulled mid ended few some takes takes_end p) = by (ends_with fin bytes used) refl takes_end
+  copied start same before (was_pulled mid ended few some takes takes_end p) = by (ends_with fin bytes used) refl takes_end
     where
       by : (b : Bool) → ends_with fin bytes used ≡ b → TakesEnd b (length bytes == 0) mid ended id → Goal
       by false is unchanged =
@@ -231,7 +232,7 @@ module _ (from : Side) (id : ℕ) (bytes : List ℕ) (fin used : ℕ) (item : Pu
             (end_moves from id w w (with_endpoint r mid) (with_endpoint r ended) (answer.Refused refusal.AfterEnd) (end_carried w.endpoint mid ended id (Err (deliver_error.Refused refusal.AfterEnd)) delivers (is_ended is)))
             (pulled_last ended p)));
       }
-  copied start same before (ReadsCopied.stopped count stop few told stops last events used_is given) = by stops.error stops.told stops.refused stops.taken
+  copied start same before (was_stopped count stop few told stops last events used_is given) = by stops.error stops.told stops.refused stops.taken
     where
       given_answer : DeliverError → Answer
       given_answer e = answer_of (answer.Delivered count) (delivery_refused {X = Unit {0}} (Err e))
@@ -266,7 +267,7 @@ module _ (from : Side) (id : ℕ) (bytes : List ℕ) (fin used : ℕ) (item : Pu
           }
       by (deliver_error.Refused why) is refused taken = untaken (deliver_error.Refused why) is refused taken (λ stored. let never : false ≡ true = stored in cc)
       by (deliver_error.OutOfMemory back) is refused taken = untaken (deliver_error.OutOfMemory back) is refused taken (λ stored. let never : false ≡ true = stored in cc)
-  copied start same before (ReadsCopied.unended mid ends takes refuses last events given) =
+  copied start same before (was_unended mid ends takes refuses last events given) =
       let all = used_all fin used bytes ends in
       let took : TakesBytes start mid id (take used bytes) = subst (TakesBytes start mid id) (sym (ap (λ k. take k bytes) all ∙ take_all bytes)) takes in
       let a = told_answer (Err refuses.0) in
@@ -291,7 +292,7 @@ delivers_so ends from id count has enough front is none =
     let goes : delivery ends from id count ≡ was_offered ends from id count (arrives (end_at ends (other from)) (BytesCame id (take count (bytes_waiting (end_at ends from) id)))) = rw (has, enough) refl in
     goes ∙ ap (λ l. was_offered ends from id count (arrives (end_at ends (other from)) (BytesCame id l))) (sym is) ∙ offered ends from id count (arrives (end_at ends (other from)) (BytesCame id front)) none
 
-hands_piece : (ends : Ends) (side : Side) (id : ℕ) (piece : List ℕ) (x : Pull × EndpointHistory) → x.0 ≡ pull.Item (item.Body piece)
+hands_piece : (ends : Ends) (side : Side) (id : ℕ) (piece : List ℕ) (x : Pull × EndpointHistory) → x.0 ≡ pull.Item (found.Body piece)
     → was_listed ends side id x ≡ (answer.Listed (list.Item (listed.Body piece)), with_end ends side x.1)
 hands_piece ends side id piece (p, e) is = ap (λ q. was_listed ends side id (q, e)) is
 
@@ -307,7 +308,7 @@ record PieceRuns (from : Side) (id used : ℕ) (piece : List ℕ) (ends : Ends) 
 
 module _ (id used : ℕ) (front piece : List ℕ) (ends : Ends) (w s : EndpointState) where
   piece_of_client : has_outgoing ends.client id ≡ true → nat_lt (waiting ends.client id) used ≡ false → front ≡ take used (bytes_waiting ends.client id) → (arrives ends.server (BytesCame id front)).0 ≡ None
-      → (pulls (arrives ends.server (BytesCame id front)).1 id).0 ≡ pull.Item (item.Body piece) → StandsFor w (advance ends.client id used) → StandsFor s (pulls (arrives ends.server (BytesCame id front)).1 id).1
+      → (pulls (arrives ends.server (BytesCame id front)).1 id).0 ≡ pull.Item (found.Body piece) → StandsFor w (advance ends.client id used) → StandsFor s (pulls (arrives ends.server (BytesCame id front)).1 id).1
       → PieceRuns Client id used piece ends w s
   piece_of_client has enough is none pulled writer reader =
       let came = (arrives ends.server (BytesCame id front)).1 in
@@ -323,7 +324,7 @@ module _ (id used : ℕ) (front piece : List ℕ) (ends : Ends) (w s : EndpointS
       }
 
   piece_of_server : has_outgoing ends.server id ≡ true → nat_lt (waiting ends.server id) used ≡ false → front ≡ take used (bytes_waiting ends.server id) → (arrives ends.client (BytesCame id front)).0 ≡ None
-      → (pulls (arrives ends.client (BytesCame id front)).1 id).0 ≡ pull.Item (item.Body piece) → StandsFor w (advance ends.server id used) → StandsFor s (pulls (arrives ends.client (BytesCame id front)).1 id).1
+      → (pulls (arrives ends.client (BytesCame id front)).1 id).0 ≡ pull.Item (found.Body piece) → StandsFor w (advance ends.server id used) → StandsFor s (pulls (arrives ends.client (BytesCame id front)).1 id).1
       → PieceRuns Server id used piece ends w s
   piece_of_server has enough is none pulled writer reader =
       let came = (arrives ends.client (BytesCame id front)).1 in
@@ -339,7 +340,7 @@ module _ (id used : ℕ) (front piece : List ℕ) (ends : Ends) (w s : EndpointS
       }
 
 piece_moves : (from : Side) (id used : ℕ) (front piece : List ℕ) (v w r s : Seen) → ((e : EndpointHistory) → StandsFor v.endpoint e → (has_outgoing e id ≡ true) × (front ≡ take used (bytes_waiting e id)) × (used ≤ waiting e id) × StandsFor w.endpoint (advance e id used))
-    → ((e : EndpointHistory) → StandsFor r.endpoint e → ((arrives e (BytesCame id front)).0 ≡ None) × ((pulls (arrives e (BytesCame id front)).1 id).0 ≡ pull.Item (item.Body piece)) × StandsFor s.endpoint (pulls (arrives e (BytesCame id front)).1 id).1)
+    → ((e : EndpointHistory) → StandsFor r.endpoint e → ((arrives e (BytesCame id front)).0 ≡ None) × ((pulls (arrives e (BytesCame id front)).1 id).0 ≡ pull.Item (found.Body piece)) × StandsFor s.endpoint (pulls (arrives e (BytesCame id front)).1 id).1)
     → Moves (pair from v r) (pair from w s) (event.Deliver from id used ∷ event.PullFields (other from) id ∷ []) (answer.Delivered used ∷ answer.Listed (list.Item (listed.Body piece)) ∷ [])
 piece_moves Client id used front piece v w r s writes reads = RunsSo (tt, tt, tt) (λ ends client server.
     let a = writes ends.client client in
@@ -369,9 +370,9 @@ read_made from id bytes fin used item n v w r s c = by (is_rejected_in r.endpoin
           comes = InPlace p x.done x.given_so;
           moves = piece_moves from id used (front_to p bytes) (piece_of p bytes) v w r s
               (λ e h.
-                let f = fronts from id bytes fin used item n v w r s c used few e h in
-                let all : min used (length (bytes_waiting e id)) ≡ used = omega (arith, f.1) in
-                (there from id bytes fin used item n v w r s c e h, sym same ∙ f.0, f.1, subst (λ k. StandsFor w.endpoint (advance e id k)) all (advances from id bytes fin used item n v w r s c few e h)))
+              let f = fronts from id bytes fin used item n v w r s c used few e h in
+              let all : min used (length (bytes_waiting e id)) ≡ used = omega (arith, f.1) in
+              (there from id bytes fin used item n v w r s c e h, sym same ∙ f.0, f.1, subst (λ k. StandsFor w.endpoint (advance e id k)) all (advances from id bytes fin used item n v w r s c few e h)))
               (λ e h. (x.reads.accepted e h, x.reads.pulled e h, x.reads.stands e h));
         }
 

@@ -56,23 +56,29 @@ bytes_go id bytes n v w r s e stands c =
     delivered id n r s _ _ below c.delivered
     (λ no. inl (no.0, c.left (rejected_untaken n no.0), no.1))
     (λ k.
-        let result = k.answer in
-        let same = ap is_taken k.is ∙ taken_so r.endpoint s.endpoint _ result e stands k.done.receives in
-        let few = shown_front v id c.buffer bytes c.count c.past c.fin c.shown c.within c.front in
-        let took : is_stored result ≡ true → Advances v.endpoint w.endpoint id (length bytes) = λ stored f h.
-        (((known_id id v w _ (c.taken (same ∙ stored))).1.few f h (few f h).1).1 f h) in
-        inr (answer_of (answer.Delivered (length bytes)) (delivery_refused result), delivery_tells (answer.Delivered (length bytes)) n result (refl, refl) k.is,
-        bytes_carried v.endpoint w.endpoint r.endpoint s.endpoint id (length bytes) bytes result k.done took (λ untaken. ap (λ (x : Seen). x.endpoint) (c.left (same ∙ untaken)))
-        (goes_there v id c.buffer bytes c.count c.past c.fin c.shown c.within c.front c.some) few))
+    let result = k.answer in
+    let same = ap is_taken k.is ∙ taken_so r.endpoint s.endpoint _ result e stands k.done.receives in
+    let few = shown_front v id c.buffer bytes c.count c.past c.fin c.shown c.within c.front in
+    let took : is_stored result ≡ true → Advances v.endpoint w.endpoint id (length bytes) = λ stored f h.
+    (((known_id id v w _ (c.taken (same ∙ stored))).1.few f h (few f h).1).1 f h) in
+    inr (
+      answer_of (answer.Delivered (length bytes)) (delivery_refused result),
+      delivery_tells (answer.Delivered (length bytes)) n result (refl, refl) k.is,
+      bytes_carried v.endpoint w.endpoint r.endpoint s.endpoint id (length bytes) bytes result k.done took (λ untaken. ap (λ (x : Seen). x.endpoint) (c.left (same ∙ untaken)))
+          (goes_there v id c.buffer bytes c.count c.past c.fin c.shown c.within c.front c.some) few,
+    ))
 
 end_goes : (id : ℕ) (n : Told) (v w r s : Seen) → programs.CarriesEnd id n v w r s → Goes (CarriesEnd id) (λ a. Tells answer.Done n a) n v w r s
 end_goes id n v w r s c =
     let below = (known_id id v v _ c.shown.call.1).0 in
     delivered id n r s _ _ below c.delivered
     (λ no. inl (no.0, c.same, no.1))
-    (λ k. inr (told_answer k.answer, delivery_tells answer.Done n k.answer (refl, refl) k.is,
-        subst (λ (x : Seen). CarriesEnd id v.endpoint r.endpoint (told_answer k.answer) x.endpoint s.endpoint) (sym c.same)
-        (end_carried v.endpoint r.endpoint s.endpoint id k.answer k.done (λ f h. (shown_finished v id c.buffer 0 0 c.shown f h, shown_none v id c.buffer c.shown f h)))))
+    (λ k. inr (
+      told_answer k.answer,
+      delivery_tells answer.Done n k.answer (refl, refl) k.is,
+      subst (λ (x : Seen). CarriesEnd id v.endpoint r.endpoint (told_answer k.answer) x.endpoint s.endpoint) (sym c.same)
+          (end_carried v.endpoint r.endpoint s.endpoint id k.answer k.done (λ f h. (shown_finished v id c.buffer 0 0 c.shown f h, shown_none v id c.buffer c.shown f h))),
+    ))
 
 bit_true : (b : Bool) (n : ℕ) → n ≡ bit b → n ≡ 1 → b ≡ true
 bit_true true n is one = refl
@@ -83,19 +89,25 @@ reset_goes id n v w r s c =
     let k = known_id id v v _ c.shown.1 in
     delivered id n r s _ _ k.0 c.delivered
     (λ no. inl (no.0, c.same, no.1))
-    (λ d. inr (told_answer d.answer, delivery_tells answer.Done n d.answer (refl, refl) d.is,
-        subst (λ (x : Seen). CarriesReset id v.endpoint r.endpoint (told_answer d.answer) x.endpoint s.endpoint) (sym c.same)
-        (reset_carried v.endpoint r.endpoint s.endpoint id d.answer d.done
-        (λ f h. let was = bit_true (is_reset f id) c.state.is_reset (k.1.1 f h).is_reset c.was_reset in (resets_there f id was, was)))))
+    (λ d. inr (
+      told_answer d.answer,
+      delivery_tells answer.Done n d.answer (refl, refl) d.is,
+      subst (λ (x : Seen). CarriesReset id v.endpoint r.endpoint (told_answer d.answer) x.endpoint s.endpoint) (sym c.same)
+          (reset_carried v.endpoint r.endpoint s.endpoint id d.answer d.done
+          (λ f h. let was = bit_true (is_reset f id) c.state.is_reset (k.1.1 f h).is_reset c.was_reset in (resets_there f id was, was))),
+    ))
 
 empty_goes : (id : ℕ) (v w r s : Seen) → programs.IsEmpty id v w r s → Goes (CarriesBytes id 1) (λ a. a ≡ answer.Short 0) ok v w r s
 empty_goes id v w r s c =
     let k = known_id id v v _ c.shown.1 in
-    inr (answer.Short 0, refl,
-    subst (λ (x : Seen). CarriesBytes id 1 v.endpoint r.endpoint (answer.Short 0) x.endpoint s.endpoint) (sym c.same.0)
-    (subst (λ (x : Seen). CarriesBytes id 1 v.endpoint r.endpoint (answer.Short 0) v.endpoint x.endpoint) (sym c.same.1)
-    (none_carried v.endpoint r.endpoint id
-    (λ f h. (bit_true (has_outgoing f id) c.state.has_outgoing (k.1.1 f h).has_outgoing c.there, sym (k.1.1 f h).waiting ∙ c.none)))))
+    inr (
+      answer.Short 0,
+      refl,
+      subst (λ (x : Seen). CarriesBytes id 1 v.endpoint r.endpoint (answer.Short 0) x.endpoint s.endpoint) (sym c.same.0)
+          (subst (λ (x : Seen). CarriesBytes id 1 v.endpoint r.endpoint (answer.Short 0) v.endpoint x.endpoint) (sym c.same.1)
+          (none_carried v.endpoint r.endpoint id
+          (λ f h. (bit_true (has_outgoing f id) c.state.has_outgoing (k.1.1 f h).has_outgoing c.there, sym (k.1.1 f h).waiting ∙ c.none)))),
+    )
 
 -- so an act from a side comes to this
 goes_made : (act : Act) (e : Event) (n : Told) (goes : EndpointState → EndpointState → Answer → EndpointState → EndpointState → Type 0) (tells : Answer → Type 0) (from : Side) (h g : Handles)

@@ -105,17 +105,17 @@ does_none None e new is = (refl, refl)
 does_none (Some r) e new is = absurd (let never : Some r ≡ None = is in cc)
 
 -- what is not refused is open
-passed : (closed : Option ℕ) (request open : Bool) → closed_or closed (first_of ((not request, refusal.NotRequestId) ∷ (not open, refusal.NotOpen) ∷ [])) ≡ None → open ≡ true
-passed (Some code) request open is = absurd (let never : Some (refusal.Closed code) ≡ None = is in cc)
-passed None false open is = absurd (let never : Some refusal.NotRequestId ≡ None = is in cc)
+passed : (closed : Option ℕ) (request is_there : Bool) → closed_or closed (first_of ((not request, refusal.NotRequestId) ∷ (not is_there, refusal.NotOpen) ∷ [])) ≡ None → is_there ≡ true
+passed (Some code) request there is = absurd (let never : Some (refusal.Closed code) ≡ None = is in cc)
+passed None false there is = absurd (let never : Some refusal.NotRequestId ≡ None = is in cc)
 passed None true false is = absurd (let never : Some refusal.NotOpen ≡ None = is in cc)
 passed None true true is = refl
 
 -- a change of what goes before it
 changes_same : (e : EndpointHistory) (id : ℕ) (change : Out → Out) → ((o : Out) → unordered_out (change o) ≡ unordered_out o) → (o : Option Out) → stream_at e.outgoing id ≡ o → is_some o ≡ true
     → unordered (with_outgoing e id (change (outgoing_at e id))) ≡ unordered e
-changes_same e id change alike None at open = absurd (let never : false ≡ true = open in cc)
-changes_same e id change alike (Some o) at open =
+changes_same e id change alike None at there = absurd (let never : false ≡ true = there in cc)
+changes_same e id change alike (Some o) at there =
     let is : outgoing_at e id ≡ o = ap (λ x. unwrap_or x nothing_sent) at in
     with_same e id o (change (outgoing_at e id)) at (alike (outgoing_at e id) ∙ ap unordered_out is)
 
@@ -123,8 +123,8 @@ priority_same : (e : EndpointHistory) (id : ℕ) (change : Out → Out) (new : E
     → (does (priority_refusal e id) e new).0 ≡ None → unordered (does (priority_refusal e id) e new).1 ≡ unordered e
 priority_same e id change new alike is none =
     let d = does_none (priority_refusal e id) e new none in
-    let open = passed e.closed (is_request_stream id) (is_open e id) d.0 in
-    ap unordered d.1 ∙ is ∙ changes_same e id change alike (stream_at e.outgoing id) refl open
+    let there = passed e.closed (is_request_stream id) (is_open e id) d.0 in
+    ap unordered d.1 ∙ is ∙ changes_same e id change alike (stream_at e.outgoing id) refl there
 
 -- `h3_set_priority`
 pub set_priority_same : (id : ℕ) (p : PriorityParameters) (e : EndpointHistory) → (set_priority e id p).0 ≡ None → unordered (set_priority e id p).1 ≡ unordered e

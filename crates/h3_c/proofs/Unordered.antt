@@ -62,7 +62,7 @@ seen_unordered e id =
     ap (λ b. seen b (outgoing_at (unordered e) id)) (open_unordered e id)
     ∙ ap (λ o. seen (is_open e id) o) (outgoing_unordered e id)
 
-abbrev waits_of : EndpointHistory → ℕ → Option Out → List ℕ
+abbrev pub waits_of : EndpointHistory → ℕ → Option Out → List ℕ
 waits_of e id None = own_waiting e id
 waits_of e id (Some o) = part_bytes_waiting o
 

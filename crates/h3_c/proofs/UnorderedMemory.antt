@@ -103,8 +103,11 @@ loses ends new side id l =
         ⊎ (((unordered l.after).kept ≡ []) × IsAsked (unordered l.after) id (end_at (both_unordered new) side) × (both_unordered new ≡ with_end (both_unordered ends) side (end_at (both_unordered new) side)))
     by (inl is) = inl (ap both_unordered is ∙ sym (with_end_unordered ends side l.after))
     by (inr (none, asked, is)) =
-        inr (none, subst (λ e. IsAsked (unordered l.after) id e) (sym (end_unordered new side)) (asked_on l.after (end_at new side) id asked),
-        ap both_unordered is ∙ sym (with_end_unordered ends side (end_at new side)) ∙ sym (ap (λ e. with_end (both_unordered ends) side e) (end_unordered new side)))
+        inr (
+          none,
+          subst (λ e. IsAsked (unordered l.after) id e) (sym (end_unordered new side)) (asked_on l.after (end_at new side) id asked),
+          ap both_unordered is ∙ sym (with_end_unordered ends side (end_at new side)) ∙ sym (ap (λ e. with_end (both_unordered ends) side e) (end_unordered new side)),
+        )
 
 handed_unordered : (ends : Ends) (writer : Side) (id count : ℕ) → handed_over (both_unordered ends) writer id count ≡ both_unordered (handed_over ends writer id count)
 handed_unordered ends writer id count =
@@ -183,12 +186,13 @@ module _ (ends new : Ends) where
   -- what was handed over is kept
   bytes_kept : (writer : Side) (id count : ℕ) → LacksMemory ends (event.Deliver writer id count) (answer.Refused refusal.Kept) new → LacksMemory (both_unordered ends) (event.Deliver writer id count) (answer.Refused refusal.Kept) (both_unordered new)
   bytes_kept writer id count (there, fits, kept) =
-      let waits = at_end ends writer (λ e. bytes_waiting e id) (λ e. bytes_unordered e id) in
-      (at_end ends writer (λ e. has_outgoing e id) (λ e. has_unordered e id) ∙ there,
-      subst (λ (l : List ℕ). count ≤ length l) (sym waits) fits,
-      subst (λ l. Stores (both_unordered ends) (other writer) (BytesCame id (take count l)) (handed_over (both_unordered ends) writer id count) (both_unordered new)) (sym waits)
-      (subst (λ x. Stores (both_unordered ends) (other writer) (BytesCame id (take count (bytes_waiting (end_at ends writer) id))) x (both_unordered new)) (sym (handed_unordered ends writer id count))
-      (stores ends (handed_over ends writer id count) new (other writer) (BytesCame id (take count (bytes_waiting (end_at ends writer) id))) kept)))
+      let waits = at_end ends writer (λ e. bytes_waiting e id) (λ e. bytes_unordered e id) in (
+        at_end ends writer (λ e. has_outgoing e id) (λ e. has_unordered e id) ∙ there,
+        subst (λ (l : List ℕ). count ≤ length l) (sym waits) fits,
+        subst (λ l. Stores (both_unordered ends) (other writer) (BytesCame id (take count l)) (handed_over (both_unordered ends) writer id count) (both_unordered new)) (sym waits)
+            (subst (λ x. Stores (both_unordered ends) (other writer) (BytesCame id (take count (bytes_waiting (end_at ends writer) id))) x (both_unordered new)) (sym (handed_unordered ends writer id count))
+            (stores ends (handed_over ends writer id count) new (other writer) (BytesCame id (take count (bytes_waiting (end_at ends writer) id))) kept)),
+      )
 
   lacks_unordered : (e : Event) (a : Answer) → IsOfC e → Lacking a → LacksMemory ends e a new → LacksMemory (both_unordered ends) e a (both_unordered new)
   lacks_unordered (event.OpenRequest side) _ of NoRoom h = nothing side (λ e. (sender.open_request e).0) (λ e. ap (λ x. x.0) (open_request_unordered e)) h

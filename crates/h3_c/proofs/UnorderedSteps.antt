@@ -191,16 +191,16 @@ delivery_unordered ends writer id count =
     let comes : was_offered (both_unordered ends) writer id count (arrives (end_at (both_unordered ends) (other writer)) (BytesCame id front)) ≡ so_answered offered =
     ap (λ x. was_offered (both_unordered ends) writer id count x) (comes_unordered ends (other writer) (BytesCame id front)) ∙ offered_mapped ends writer id count (arrives (end_at ends (other writer)) (BytesCame id front)) in
     ap (λ x. if not (has_outgoing x id) then (answer.NoStream, both_unordered ends) else (
-        if nat_lt (waiting x id) count then (answer.Short (waiting x id), both_unordered ends) else
-        was_offered (both_unordered ends) writer id count (arrives (end_at (both_unordered ends) (other writer)) (BytesCame id (take count (bytes_waiting x id)))))) (end_unordered ends writer)
+    if nat_lt (waiting x id) count then (answer.Short (waiting x id), both_unordered ends) else
+    was_offered (both_unordered ends) writer id count (arrives (end_at (both_unordered ends) (other writer)) (BytesCame id (take count (bytes_waiting x id)))))) (end_unordered ends writer)
     ∙ ap (λ b. if not b then (answer.NoStream, both_unordered ends) else (
-        if nat_lt (waiting (unordered e) id) count then (answer.Short (waiting (unordered e) id), both_unordered ends) else
-        was_offered (both_unordered ends) writer id count (arrives (end_at (both_unordered ends) (other writer)) (BytesCame id (take count (bytes_waiting (unordered e) id)))))) (has_unordered e id)
+    if nat_lt (waiting (unordered e) id) count then (answer.Short (waiting (unordered e) id), both_unordered ends) else
+    was_offered (both_unordered ends) writer id count (arrives (end_at (both_unordered ends) (other writer)) (BytesCame id (take count (bytes_waiting (unordered e) id)))))) (has_unordered e id)
     ∙ ap (λ l. if not (has_outgoing e id) then (answer.NoStream, both_unordered ends) else (
-        if nat_lt (length l) count then (answer.Short (length l), both_unordered ends) else
-        was_offered (both_unordered ends) writer id count (arrives (end_at (both_unordered ends) (other writer)) (BytesCame id (take count l))))) (bytes_unordered e id)
+    if nat_lt (length l) count then (answer.Short (length l), both_unordered ends) else
+    was_offered (both_unordered ends) writer id count (arrives (end_at (both_unordered ends) (other writer)) (BytesCame id (take count l))))) (bytes_unordered e id)
     ∙ ap (λ x. if not (has_outgoing e id) then (answer.NoStream, both_unordered ends) else (
-        if nat_lt (waiting e id) count then (answer.Short (waiting e id), both_unordered ends) else x)) comes
+    if nat_lt (waiting e id) count then (answer.Short (waiting e id), both_unordered ends) else x)) comes
     ∙ ap (λ x. if not (has_outgoing e id) then (answer.NoStream, both_unordered ends) else x) (answered_if (nat_lt (waiting e id) count) (answer.Short (waiting e id), ends) offered)
     ∙ answered_if (not (has_outgoing e id)) (answer.NoStream, ends) (if nat_lt (waiting e id) count then (answer.Short (waiting e id), ends) else offered)
 

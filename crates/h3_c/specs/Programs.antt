@@ -20,8 +20,7 @@ use Rattle.h3_world.specs.declared.setup.Setup.{Setup}
 use Rattle.h3_c.specs.Asked.{Learns, Tells, asked, is_left_out, pull_listed}
 use Rattle.h3_c.specs.Configs.{MakesGiven, announced_of, side_of}
 use Rattle.h3_c.specs.Does.{CallOfC, Does}
-use Rattle.h3_c.specs.Does.CallOfC as call
-use Rattle.h3_c.specs.Does.CallOfC.{Advance, Deliver, DeliverEnd, DeliverReset, Outgoing, Stream}
+use Rattle.h3_c.specs.Does.CallOfC.{Advance, Deliver, DeliverEnd, DeliverReset, Outgoing, Read as ReadOfC, Stream}
 use Rattle.h3_c.specs.Numbers.{argument, memory, ok, rejected}
 use Rattle.h3_c.specs.Items.{shown}
 use Rattle.h3_c.specs.Reads.{ends_with, place_shown}
@@ -104,9 +103,9 @@ pub record CarriesRead (id : ℕ) (bytes : List ℕ) (fin used : ℕ) (item : Pu
   pub within : length bytes ≤ count
   pub front : bytes ≡ take (length bytes) buffer
   pub some : (0 < length bytes) ⊎ (shown_fin ≡ 1)
-  pub read : Does (call.Read id bytes fin used before item n) r s
+  pub read : Does (ReadOfC id bytes fin used before item n) r s
   pub taken : Does (Advance id used ok) v w
-  pub end : ends_with fin bytes used ≡ true → (left : List ℕ) × Shows w id left 0 0 1
+  pub ended : ends_with fin bytes used ≡ true → (left : List ℕ) × Shows w id left 0 0 1
 
 -- The end goes over where `h3_outgoing` would show no bytes, and the end behind them.
 pub record CarriesEnd (id : ℕ) (n : Told) (v w r s : Seen) : Type 0 where
