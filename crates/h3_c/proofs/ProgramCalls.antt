@@ -212,19 +212,19 @@ module _ (side : Side) (h g : Handles) (there : handle_at g (other side) ≡ han
 
   -- what goes first
   done_so : (c : CallOfC) (n : Told) (act : EndpointHistory → Option Refusal × EndpointHistory) → event_of (Call side c) ≡ None → ((e : EndpointHistory) → (act e).0 ≡ None → unordered (act e).1 ≡ unordered e)
-      → Calls call_told n (handle_at h side) (handle_at g side) (λ r. DoesOrRefuses act (handle_at h side).endpoint (handle_at g side).endpoint (call_refused r)) → Made (Call side c) h g
+      → Calls call_told n (handle_at h side) (handle_at g side) (λ (r : Result Unit Refusal). DoesOrRefuses act (handle_at h side).endpoint (handle_at g side).endpoint (call_refused r)) → Made (Call side c) h g
   done_so c n act none alike k = quiet c none (does_same act (handle_at h side).endpoint (handle_at g side).endpoint (call_refused k.answer) k.done alike)
 
   prioritizes : (c : CallOfC) → event_of (Call side c) ≡ None → (id urgency incremental : ℕ) (n : Told) (act : PriorityParameters → EndpointHistory → Option Refusal × EndpointHistory)
       → ((p : PriorityParameters) (e : EndpointHistory) → (act p e).0 ≡ None → unordered (act p e).1 ≡ unordered e)
       → OnStream id n (handle_at h side) (handle_at g side) (IfGiven (priority_given urgency incremental) n (handle_at h side) (handle_at g side)
-      (λ p. Calls call_told n (handle_at h side) (handle_at g side) (λ r. DoesOrRefuses (act p) (handle_at h side).endpoint (handle_at g side).endpoint (call_refused r)))) → Made (Call side c) h g
+      (λ p. Calls call_told n (handle_at h side) (handle_at g side) (λ (r : Result Unit Refusal). DoesOrRefuses (act p) (handle_at h side).endpoint (handle_at g side).endpoint (call_refused r)))) → Made (Call side c) h g
   prioritizes c none id urgency incremental n act alike on = elim (below_or_not id (2 ^ 62)) [
     | inl below ↦ by (priority_given urgency incremental) (on.known below)
     | inr above ↦ looks_at c none (on.unknown above).1
   ]
     where
-      by : (o : Option PriorityParameters) → IfGiven o n (handle_at h side) (handle_at g side) (λ p. Calls call_told n (handle_at h side) (handle_at g side) (λ r. DoesOrRefuses (act p) (handle_at h side).endpoint (handle_at g side).endpoint (call_refused r))) → Made (Call side c) h g
+      by : (o : Option PriorityParameters) → IfGiven o n (handle_at h side) (handle_at g side) (λ p. Calls call_told n (handle_at h side) (handle_at g side) (λ (r : Result Unit Refusal). DoesOrRefuses (act p) (handle_at h side).endpoint (handle_at g side).endpoint (call_refused r))) → Made (Call side c) h g
       by None given = looks_at c none given.1
       by (Some p) k = done_so c n (act p) none (alike p) k
 

@@ -220,14 +220,14 @@ module _ (from : Side) (id : ℕ) (bytes : List ℕ) (fin used : ℕ) (item : Pu
       by true is (inl delivers) = record {
         events = bytes_events from id used ++ event.DeliverEnd from id ∷ event.PullFields (other from) id ∷ [];
         answers = bytes_answers used ++ answer.Done ∷ answer.Listed (pull_listed s.last) ∷ [];
-        comes = PullsEnd is (inl refl) p.done p.given_so;
+        comes = PullsEnd answer.Done is (inl refl) p.done p.given_so;
         moves = ThenSo (starts start same) (ThenSo (bytes_part start mid few some takes) (ThenSo
             (end_moves from id w w (with_endpoint r mid) (with_endpoint r ended) answer.Done (end_carried w.endpoint mid ended id (Ok tt) delivers (is_ended is))) (pulled_last ended p)));
       }
       by true is (inr (alone, delivers)) = record {
         events = bytes_events from id used ++ event.DeliverEnd from id ∷ event.PullFields (other from) id ∷ [];
         answers = bytes_answers used ++ answer.Refused refusal.AfterEnd ∷ answer.Listed (pull_listed s.last) ∷ [];
-        comes = PullsEnd is (inr refl) p.done p.given_so;
+        comes = PullsEnd (answer.Refused refusal.AfterEnd) is (inr refl) p.done p.given_so;
         moves = ThenSo (starts start same) (ThenSo (bytes_part start mid few some takes) (ThenSo
             (end_moves from id w w (with_endpoint r mid) (with_endpoint r ended) (answer.Refused refusal.AfterEnd) (end_carried w.endpoint mid ended id (Err (deliver_error.Refused refusal.AfterEnd)) delivers (is_ended is)))
             (pulled_last ended p)));
@@ -246,7 +246,7 @@ module _ (from : Side) (id : ℕ) (bytes : List ℕ) (fin used : ℕ) (item : Pu
           record {
             events = event.Deliver from id count ∷ [];
             answers = given_answer e ∷ [];
-            comes = Stops count few (tells e is);
+            comes = Stops (given_answer e) count few (tells e is);
             moves = ThenSo (starts start same) (ThenSo
                 (bytes_move from id count v v (with_endpoint r start) s (given_answer e)
                 (bytes_carried v.endpoint v.endpoint start s.endpoint id count (take count bytes) (Err e) refused (λ stored. absurd (not stored)) (λ u. refl) there (fronts count few)))
@@ -259,7 +259,7 @@ module _ (from : Side) (id : ℕ) (bytes : List ℕ) (fin used : ℕ) (item : Pu
           record {
             events = event.Deliver from id count ∷ [];
             answers = given_answer deliver_error.Kept ∷ [];
-            comes = Stops count few (tells deliver_error.Kept is);
+            comes = Stops (given_answer deliver_error.Kept) count few (tells deliver_error.Kept is);
             moves = ThenSo (starts start same)
                 (bytes_move from id count v w (with_endpoint r start) s (given_answer deliver_error.Kept)
                 (bytes_carried v.endpoint w.endpoint start s.endpoint id count (take count bytes) (Err deliver_error.Kept) refused
@@ -274,7 +274,7 @@ module _ (from : Side) (id : ℕ) (bytes : List ℕ) (fin used : ℕ) (item : Pu
       record {
         events = bytes_events from id used ++ event.DeliverEnd from id ∷ [];
         answers = bytes_answers used ++ a ∷ [];
-        comes = StopsEnd ends (delivery_tells answer.Done n (Err refuses.0) (refl, refl) refuses.1);
+        comes = StopsEnd a ends (delivery_tells answer.Done n (Err refuses.0) (refl, refl) refuses.1);
         moves = ThenSo (starts start same) (ThenSo (bytes_part start mid (omega (arith, all)) (λ some. omega (arith, all, some)) took)
             (end_moves from id w w (with_endpoint r mid) s a (end_carried w.endpoint mid s.endpoint id (Err refuses.0) refuses.2 (is_ended ends))));
       }
@@ -318,7 +318,7 @@ module _ (id used : ℕ) (front piece : List ℕ) (ends : Ends) (w s : EndpointS
       let two = hands_piece mid Server id piece (pulls came id) pulled in
       record {
         new = last;
-        run = (mid, (sym (ap (λ x. x.0) one), sym (ap (λ x. x.1) one)), last, (sym (ap (λ x. x.0) two), sym (ap (λ x. x.1) two)), refl);
+        run = (mid, (sym (ap (λ x. x.0) one), sym (ap (λ x. x.1) one)), (last, (sym (ap (λ x. x.0) two), sym (ap (λ x. x.1) two)), refl));
         writer_stands = writer;
         reader_stands = reader;
       }
@@ -334,7 +334,7 @@ module _ (id used : ℕ) (front piece : List ℕ) (ends : Ends) (w s : EndpointS
       let two = hands_piece mid Client id piece (pulls came id) pulled in
       record {
         new = last;
-        run = (mid, (sym (ap (λ x. x.0) one), sym (ap (λ x. x.1) one)), last, (sym (ap (λ x. x.0) two), sym (ap (λ x. x.1) two)), refl);
+        run = (mid, (sym (ap (λ x. x.0) one), sym (ap (λ x. x.1) one)), (last, (sym (ap (λ x. x.0) two), sym (ap (λ x. x.1) two)), refl));
         writer_stands = writer;
         reader_stands = reader;
       }
@@ -342,12 +342,12 @@ module _ (id used : ℕ) (front piece : List ℕ) (ends : Ends) (w s : EndpointS
 piece_moves : (from : Side) (id used : ℕ) (front piece : List ℕ) (v w r s : Seen) → ((e : EndpointHistory) → StandsFor v.endpoint e → (has_outgoing e id ≡ true) × (front ≡ take used (bytes_waiting e id)) × (used ≤ waiting e id) × StandsFor w.endpoint (advance e id used))
     → ((e : EndpointHistory) → StandsFor r.endpoint e → ((arrives e (BytesCame id front)).0 ≡ None) × ((pulls (arrives e (BytesCame id front)).1 id).0 ≡ pull.Item (found.Body piece)) × StandsFor s.endpoint (pulls (arrives e (BytesCame id front)).1 id).1)
     → Moves (pair from v r) (pair from w s) (event.Deliver from id used ∷ event.PullFields (other from) id ∷ []) (answer.Delivered used ∷ answer.Listed (list.Item (listed.Body piece)) ∷ [])
-piece_moves Client id used front piece v w r s writes reads = RunsSo (tt, tt, tt) (λ ends client server.
+piece_moves Client id used front piece v w r s writes reads = RunsSo (tt, (tt, tt)) (λ ends client server.
     let a = writes ends.client client in
     let b = reads ends.server server in
     let p = piece_of_client id used front piece ends w.endpoint s.endpoint a.0 (not_fewer (waiting ends.client id) used a.2) a.1 b.0 b.1 a.3 b.2 in
     record { new = p.new; run = p.run; client_stands = p.writer_stands; server_stands = p.reader_stands })
-piece_moves Server id used front piece v w r s writes reads = RunsSo (tt, tt, tt) (λ ends client server.
+piece_moves Server id used front piece v w r s writes reads = RunsSo (tt, (tt, tt)) (λ ends client server.
     let a = writes ends.server server in
     let b = reads ends.client client in
     let p = piece_of_server id used front piece ends w.endpoint s.endpoint a.0 (not_fewer (waiting ends.server id) used a.2) a.1 b.0 b.1 a.3 b.2 in
@@ -382,12 +382,12 @@ read_made from id bytes fin used item n v w r s c = by (is_rejected_in r.endpoin
 
     by : (b : Bool) → is_rejected_in r.endpoint id ≡ b → ReadMade from id bytes fin used item n v w r s
     by true is =
-        let no = (c.read.reads.known known).refused is in
+        let rejects = (c.read.reads.known known).refused is in
         let none : used ≡ 0 = (c.read.rejected known is).1 in
         record {
           events = [];
           answers = [];
-          comes = Rejects no.0;
-          moves = none_moves from v w r s (stays_there from id bytes fin used item n v w r s c none) (stays_same r s no.1);
+          comes = Rejects rejects.0;
+          moves = none_moves from v w r s (stays_there from id bytes fin used item n v w r s c none) (stays_same r s rejects.1);
         }
     by false is = let reads = (c.read.reads.known known).taken is in at reads.place c.before reads.reads

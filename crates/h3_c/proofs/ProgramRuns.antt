@@ -40,11 +40,11 @@ Goes event tells n v w r s =
 -- a delivery is rejected, or is a call
 delivered : {P : Type 0} {X : Type 0} (id : ℕ) (n : Told) (r s : Seen) (does : X → Type 0) (told : X → Told) → id < 2 ^ 62 → DeliversOn told id n r s does
     → ((n ≡ rejected) × (s ≡ r) → P) → (Calls told n r s does → P) → P
-delivered {P} id n r s does told below on no yes = by (is_rejected_in r.endpoint id) refl
+delivered {P} id n r s does told below on rejects takes = by (is_rejected_in r.endpoint id) refl
   where
     by : (b : Bool) → is_rejected_in r.endpoint id ≡ b → P
-    by true is = no ((on.known below).refused is)
-    by false is = yes ((on.known below).taken is)
+    by true is = rejects ((on.known below).refused is)
+    by false is = takes ((on.known below).taken is)
 
 rejected_untaken : (n : Told) → n ≡ rejected → is_taken n ≡ false
 rejected_untaken n is = ap is_taken is
@@ -54,7 +54,7 @@ bytes_go : (id : ℕ) (bytes : List ℕ) (n : Told) (v w r s : Seen) (e : Endpoi
 bytes_go id bytes n v w r s e stands c =
     let below = (known_id id v v _ c.shown.call.1).0 in
     delivered id n r s _ _ below c.delivered
-    (λ no. inl (no.0, c.left (rejected_untaken n no.0), no.1))
+    (λ x. inl (x.0, c.left (rejected_untaken n x.0), x.1))
     (λ k.
     let result = k.answer in
     let same = ap is_taken k.is ∙ taken_so r.endpoint s.endpoint _ result e stands k.done.receives in
@@ -72,7 +72,7 @@ end_goes : (id : ℕ) (n : Told) (v w r s : Seen) → programs.CarriesEnd id n v
 end_goes id n v w r s c =
     let below = (known_id id v v _ c.shown.call.1).0 in
     delivered id n r s _ _ below c.delivered
-    (λ no. inl (no.0, c.same, no.1))
+    (λ x. inl (x.0, c.same, x.1))
     (λ k. inr (
       told_answer k.answer,
       delivery_tells answer.Done n k.answer (refl, refl) k.is,
@@ -88,7 +88,7 @@ reset_goes : (id : ℕ) (n : Told) (v w r s : Seen) → programs.CarriesReset id
 reset_goes id n v w r s c =
     let k = known_id id v v _ c.shown.1 in
     delivered id n r s _ _ k.0 c.delivered
-    (λ no. inl (no.0, c.same, no.1))
+    (λ x. inl (x.0, c.same, x.1))
     (λ d. inr (
       told_answer d.answer,
       delivery_tells answer.Done n d.answer (refl, refl) d.is,
@@ -114,12 +114,12 @@ goes_made : (act : Act) (e : Event) (n : Told) (goes : EndpointState → Endpoin
     → event_of act ≡ Some (e, n) → IsOfC e → ((a : Answer) → tells a → LearnsOf act g a)
     → ((a : Answer) → FromOne from goes h.client.endpoint h.server.endpoint a g.client.endpoint g.server.endpoint → Acts e h.client.endpoint h.server.endpoint a g.client.endpoint g.server.endpoint)
     → FromTo from (Goes goes tells n) h g → Made act h g
-goes_made act e n goes tells Client h g is of learns acts (inl no) =
-    made_none act h g (stays_same h.client g.client no.1) (stays_same h.server g.server no.2) (IsRefused is (inr no.0))
-goes_made act e n goes tells Client h g is of learns acts (inr yes) = made_event act h g e n yes.0 is (learns yes.0 yes.1) of (acts yes.0 yes.2)
-goes_made act e n goes tells Server h g is of learns acts (inl no) =
-    made_none act h g (stays_same h.client g.client no.2) (stays_same h.server g.server no.1) (IsRefused is (inr no.0))
-goes_made act e n goes tells Server h g is of learns acts (inr yes) = made_event act h g e n yes.0 is (learns yes.0 yes.1) of (acts yes.0 yes.2)
+goes_made act e n goes tells Client h g is of learns acts (inl x) =
+    made_none act h g (stays_same h.client g.client x.1) (stays_same h.server g.server x.2) (IsRefused is (inr x.0))
+goes_made act e n goes tells Client h g is of learns acts (inr x) = made_event act h g e n x.0 is (learns x.0 x.1) of (acts x.0 x.2)
+goes_made act e n goes tells Server h g is of learns acts (inl x) =
+    made_none act h g (stays_same h.client g.client x.2) (stays_same h.server g.server x.1) (IsRefused is (inr x.0))
+goes_made act e n goes tells Server h g is of learns acts (inr x) = made_event act h g e n x.0 is (learns x.0 x.1) of (acts x.0 x.2)
 
 -- **What happens comes to events that both endpoints answer.**
 pub act_made : (act : Act) (h g : Handles) (ends : Ends) → StandsFor h.client.endpoint ends.client → StandsFor h.server.endpoint ends.server → Happens act h g → Made act h g

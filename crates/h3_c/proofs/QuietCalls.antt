@@ -63,19 +63,21 @@ pub record Stays (new : EndpointState) (e : EndpointHistory) : Type 0 where
 same_some : (o p : Out) → Some o ≡ Some p → o ≡ p
 same_some o p is = cc
 
+set_by : (q id : ℕ) (x o p : Out) (streams : Streams Out) → (if q == id then Some x else stream_at streams id) ≡ Some o → unordered_out p ≡ unordered_out o
+    → (stream_at streams id ≡ Some o → unordered_streams (set_stream streams id p) ≡ unordered_streams streams) → (b : Bool) → (q == id) ≡ b
+    → unordered_streams (if q == id then (id, p) ∷ streams else (q, x) ∷ set_stream streams id p) ≡ (q, unordered_out x) ∷ unordered_streams streams
+set_by q id x o p streams at is later true here =
+    let first : x ≡ o = same_some x o (sym (ap (λ b. if b then Some x else stream_at streams id) here) ∙ at) in
+    let id_is : q ≡ id = eqb-true q id here in
+    ap (λ b. unordered_streams (if b then (id, p) ∷ streams else (q, x) ∷ set_stream streams id p)) here ∙ ap (λ y. (id, y) ∷ unordered_streams streams) (is ∙ ap unordered_out (sym first))
+    ∙ ap (λ n. (n, unordered_out x) ∷ unordered_streams streams) (sym id_is)
+set_by q id x o p streams at is later false other =
+    let behind : stream_at streams id ≡ Some o = sym (ap (λ b. if b then Some x else stream_at streams id) other) ∙ at in
+    ap (λ b. unordered_streams (if b then (id, p) ∷ streams else (q, x) ∷ set_stream streams id p)) other ∙ ap (λ l. (q, unordered_out x) ∷ l) (later behind)
+
 set_same : (streams : Streams Out) (id : ℕ) (o p : Out) → stream_at streams id ≡ Some o → unordered_out p ≡ unordered_out o → unordered_streams (set_stream streams id p) ≡ unordered_streams streams
 set_same [] id o p at is = absurd (let never : None ≡ Some o = at in cc)
-set_same ((q, x) ∷ streams) id o p at is = by (q == id) refl
-  where
-    by : (b : Bool) → (q == id) ≡ b → unordered_streams (if q == id then (id, p) ∷ streams else (q, x) ∷ set_stream streams id p) ≡ (q, unordered_out x) ∷ unordered_streams streams
-    by true here =
-        let first : x ≡ o = same_some x o (sym (ap (λ b. if b then Some x else stream_at streams id) here) ∙ at) in
-        let id_is : q ≡ id = eqb-true q id here in
-        ap (λ b. unordered_streams (if b then (id, p) ∷ streams else (q, x) ∷ set_stream streams id p)) here
-        ∙ ap (λ y. (id, y) ∷ unordered_streams streams) (is ∙ ap unordered_out (sym first)) ∙ ap (λ n. (n, unordered_out x) ∷ unordered_streams streams) (sym id_is)
-    by false there =
-        let later : stream_at streams id ≡ Some o = sym (ap (λ b. if b then Some x else stream_at streams id) there) ∙ at in
-        ap (λ b. unordered_streams (if b then (id, p) ∷ streams else (q, x) ∷ set_stream streams id p)) there ∙ ap (λ l. (q, unordered_out x) ∷ l) (set_same streams id o p later is)
+set_same ((q, x) ∷ streams) id o p at is = set_by q id x o p streams at is (λ behind. set_same streams id o p behind is) (q == id) refl
 
 pub with_same : (e : EndpointHistory) (id : ℕ) (o p : Out) → stream_at e.outgoing id ≡ Some o → unordered_out p ≡ unordered_out o → unordered (with_outgoing e id p) ≡ unordered e
 with_same e id o p at is = ap (λ l. record (unordered e) { outgoing = l }) (set_same e.outgoing id o p at is)

@@ -196,13 +196,13 @@ pub data ComesOfRead (from : Side) (id : ℕ) (bytes : List ℕ) (fin used : ℕ
   Pulls : ends_with fin bytes used ≡ false → n ≡ ok → item ≡ shown s.last
       → ComesOfRead from id bytes fin used item n s (bytes_events from id used ++ event.PullFields (other from) id ∷ []) (bytes_answers used ++ answer.Listed (pull_listed s.last) ∷ [])
   -- the same, with the end between the two. It may have come before
-  PullsEnd : {a : Answer} → ends_with fin bytes used ≡ true → (a ≡ answer.Done) ⊎ (a ≡ answer.Refused refusal.AfterEnd) → n ≡ ok → item ≡ shown s.last
+  PullsEnd : (a : Answer) → ends_with fin bytes used ≡ true → (a ≡ answer.Done) ⊎ (a ≡ answer.Refused refusal.AfterEnd) → n ≡ ok → item ≡ shown s.last
       → ComesOfRead from id bytes fin used item n s (bytes_events from id used ++ event.DeliverEnd from id ∷ event.PullFields (other from) id ∷ [])
       (bytes_answers used ++ a ∷ answer.Listed (pull_listed s.last) ∷ [])
   -- a delivery alone, whose number C gets
-  Stops : {a : Answer} (count : ℕ) → count ≤ length bytes → Tells (answer.Delivered count) n a → ComesOfRead from id bytes fin used item n s (event.Deliver from id count ∷ []) (a ∷ [])
+  Stops : (a : Answer) (count : ℕ) → count ≤ length bytes → Tells (answer.Delivered count) n a → ComesOfRead from id bytes fin used item n s (event.Deliver from id count ∷ []) (a ∷ [])
   -- a delivery, where there were bytes, and that of the end, whose number C gets
-  StopsEnd : {a : Answer} → ends_with fin bytes used ≡ true → Tells answer.Done n a → ComesOfRead from id bytes fin used item n s (bytes_events from id used ++ event.DeliverEnd from id ∷ []) (bytes_answers used ++ a ∷ [])
+  StopsEnd : (a : Answer) → ends_with fin bytes used ≡ true → Tells answer.Done n a → ComesOfRead from id bytes fin used item n s (bytes_events from id used ++ event.DeliverEnd from id ∷ []) (bytes_answers used ++ a ∷ [])
 
 pub data Comes (act : Act) (h g : Handles) : List Event → List Answer → Type 0 where
   IsEvent : {e : Event} {n : Told} {a : Answer} → event_of act ≡ Some (e, n) → LearnsOf act g a → Comes act h g (e ∷ []) (a ∷ [])
