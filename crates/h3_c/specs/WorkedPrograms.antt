@@ -1,5 +1,5 @@
 -- A worked pair of programs: a client sends a request and a server answers it, as on the first page of the documents, and what these calls stand for.
-use Rattle.std.specs.Prelude.{ℕ, List, [], ◌∷◌, ◌++◌, codes, Option, Some, None}
+use Rattle.std.specs.Prelude.{ℕ, true, List, [], ◌∷◌, ◌++◌, codes, Option, Some, None}
 use Rattle.h3_field.specs.Field.{Field, plain_field}
 use Rattle.h3_header.specs.Head.{head_fields}
 use Rattle.h3_proto.specs.declared.stream.Side.TheVariants.{Client, Server}
