@@ -21,3 +21,4 @@ pub mod QuietCalls
 pub mod MadeHandles
 pub mod ProgramMoves
 pub mod ProgramReads
+pub mod ProgramHistories

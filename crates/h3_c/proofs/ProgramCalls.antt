@@ -135,6 +135,12 @@ listed_pulls id n v w item k =
       list = subst (λ l. ListsNext v.endpoint id l) (list_listed w.last) k.list;
     }
 
+-- The calls whose events are told by what the endpoint stands for.
+pub data ByHistory : CallOfC → Type 0 where
+  ClosesBoth : (id stop_before stop reset_before reset : ℕ) (n : Told) → ByHistory (call.CloseStream id stop_before stop reset_before reset n)
+  GivesNoticeOf : (n : Told) → ByHistory (call.ShutdownNotice n)
+  ShutsDownOf : (n : Told) → ByHistory (call.Shutdown n)
+
 module _ (side : Side) (h g : Handles) (there : handle_at g (other side) ≡ handle_at h (other side)) where
   quiet : (c : CallOfC) → event_of (Call side c) ≡ None → StaysAt (handle_at h side) (handle_at g side) → Made (Call side c) h g
   quiet c none stays = made_at (Call side c) side h g stays there (HasNone refl none)
@@ -248,47 +254,45 @@ module _ (side : Side) (h g : Handles) (there : handle_at g (other side) ≡ han
   never : {P : Type 0} → true ≡ false → P
   never h = absurd (cc)
 
-  pub call_made : (c : CallOfC) → is_left_out c ≡ false → Does c (handle_at h side) (handle_at g side) → Made (Call side c) h g
-  call_made (call.OpenRequest before id n) out d = opens before id n d
-  call_made (call.NextRequestId before id n) out d = looks_at _ refl d.0
-  call_made (call.OpenRequestAt id n) out d = never out
-  call_made (call.SendHead id sizes flags bytes n) out d =
-      sends (call.SendHead id sizes flags bytes n) (λ fields. event.Fields side id fields) n id (fields_given sizes flags bytes) (λ e. place_refusal e id) (λ fields s t r. SendsFieldList s t id fields r) refl (λ fields. (refl, tt)) (λ a tells. tells) (λ fields a acts. acts) d
-  call_made (call.SendTrailer id sizes flags bytes n) out d =
-      sends (call.SendTrailer id sizes flags bytes n) (λ fields. event.TrailerFields side id fields) n id (fields_given sizes flags bytes) (λ e. order_refusal e id) (λ fields s t r. SendsTrailerList s t id fields r) refl (λ fields. (refl, tt)) (λ a tells. tells) (λ fields a acts. acts) d
-  call_made (call.SendBody id bytes n) out d = sends_body id bytes n d
-  call_made (call.SendBodyOf id len n) out d = never out
-  call_made (call.Finish id n) out d = calls (call.Finish id n) (event.Finish side id) n id (λ s t r. Finishes s t id r) refl tt (λ a tells. tells) (λ a acts. acts) d
-  call_made (call.Reset id n) out d = calls (call.Reset id n) (event.Reset side id) n id (λ s t r. Resets s t id r) refl tt (λ a tells. tells) (λ a acts. acts) d
-  call_made (call.Cancel id n) out d = calls (call.Cancel id n) (event.Cancel side id) n id (λ s t r. Cancels s t id r) refl tt (λ a tells. tells) (λ a acts. acts) d
-  call_made (call.CloseStream id stop_before stop reset_before reset n) out d = never out
-  call_made (call.Goaway id n) out d = calls (call.Goaway id n) (event.Goaway side id) n id (λ s t r. GoesAway s t id r) refl tt (λ a tells. tells) (λ a acts. acts) d
-  call_made (call.ShutdownNotice n) out d = never out
-  call_made (call.Shutdown n) out d = never out
-  call_made (call.FirstUnseen id n) out d = looks_at _ refl d.0
-  call_made (call.IsDrained drained n) out d = looks_at _ refl d.0
-  call_made (call.NextToSend from before id n) out d = looks_at _ refl d.0
-  call_made (call.NextByPriority before id n) out d = never out
-  call_made (call.SetPriority id urgency incremental n) out d = prioritizes (call.SetPriority id urgency incremental n) refl id urgency incremental n (λ p e. set_priority e id p) (λ p. set_priority_same id p) d
-  call_made (call.SetInitialPriority id urgency incremental n) out d = prioritizes (call.SetInitialPriority id urgency incremental n) refl id urgency incremental n (λ p e. set_initial_priority e id p) (λ p. set_initial_same id p) d
-  call_made (call.SendPriority id urgency incremental n) out d = never out
-  call_made (call.PriorityOf id urgency_before urgency incremental_before incremental n) out d = looks_at _ refl d.0
-  call_made (call.Hold id held n) out d = holds id held n d
-  call_made (call.Outgoing id before buffer count_before count past_before past fin_before fin n) out d = looks_at _ refl d.0
-  call_made (call.Advance id count n) out d = never out
-  call_made (call.EndTaken id n) out d = ends id n d
-  call_made (call.Read id bytes fin used before item n) out d = never out
-  call_made (call.Deliver id bytes n) out d = never out
-  call_made (call.DeliverEnd id n) out d = never out
-  call_made (call.DeliverReset id code n) out d = never out
-  call_made (call.Pull id before item n) out d = pulls id before item n d
-  call_made (call.NextUnblocked from before id n) out d = looks_at _ refl d.0
-  call_made (call.ItemFields sizes_before sizes flags_before flags before bytes n) out d = looks_at _ refl d.0
-  call_made (call.ItemBytes from before buffer count_before count n) out d = looks_at _ refl d.0
-  call_made (call.DatagramHead id before buffer count_before count n) out d = looks_at _ refl d.0
-  call_made (call.ReadDatagram bytes id_before id from_before from n) out d = never out
-  call_made (call.Stream id before state n) out d = looks_at _ refl d.0
-  call_made (call.StreamKind id before kind n) out d = looks_at _ refl d.0
-  call_made (call.Connection state n) out d = looks_at _ refl d.0
-  call_made (call.NextEvent kind_before kind number_before number n) out d = looks _ refl (ap (λ (v : Seen). v.endpoint) d.rest)
-  call_made (call.PeerSetting setting before value n) out d = looks_at _ refl d.0
+  pub call_made : (c : CallOfC) → is_left_out c ≡ false → Does c (handle_at h side) (handle_at g side) → Made (Call side c) h g ⊎ ByHistory c
+  call_made (call.OpenRequest before id n) out d = inl (opens before id n d)
+  call_made (call.NextRequestId before id n) out d = inl (looks_at _ refl d.0)
+  call_made (call.OpenRequestAt id n) out d = inl (never out)
+  call_made (call.SendHead id sizes flags bytes n) out d = inl (sends (call.SendHead id sizes flags bytes n) (λ fields. event.Fields side id fields) n id (fields_given sizes flags bytes) (λ e. place_refusal e id) (λ fields s t r. SendsFieldList s t id fields r) refl (λ fields. (refl, tt)) (λ a tells. tells) (λ fields a acts. acts) d)
+  call_made (call.SendTrailer id sizes flags bytes n) out d = inl (sends (call.SendTrailer id sizes flags bytes n) (λ fields. event.TrailerFields side id fields) n id (fields_given sizes flags bytes) (λ e. order_refusal e id) (λ fields s t r. SendsTrailerList s t id fields r) refl (λ fields. (refl, tt)) (λ a tells. tells) (λ fields a acts. acts) d)
+  call_made (call.SendBody id bytes n) out d = inl (sends_body id bytes n d)
+  call_made (call.SendBodyOf id len n) out d = inl (never out)
+  call_made (call.Finish id n) out d = inl (calls (call.Finish id n) (event.Finish side id) n id (λ s t r. Finishes s t id r) refl tt (λ a tells. tells) (λ a acts. acts) d)
+  call_made (call.Reset id n) out d = inl (calls (call.Reset id n) (event.Reset side id) n id (λ s t r. Resets s t id r) refl tt (λ a tells. tells) (λ a acts. acts) d)
+  call_made (call.Cancel id n) out d = inl (calls (call.Cancel id n) (event.Cancel side id) n id (λ s t r. Cancels s t id r) refl tt (λ a tells. tells) (λ a acts. acts) d)
+  call_made (call.CloseStream id stop_before stop reset_before reset n) out d = inr (ClosesBoth id stop_before stop reset_before reset n)
+  call_made (call.Goaway id n) out d = inl (calls (call.Goaway id n) (event.Goaway side id) n id (λ s t r. GoesAway s t id r) refl tt (λ a tells. tells) (λ a acts. acts) d)
+  call_made (call.ShutdownNotice n) out d = inr (GivesNoticeOf n)
+  call_made (call.Shutdown n) out d = inr (ShutsDownOf n)
+  call_made (call.FirstUnseen id n) out d = inl (looks_at _ refl d.0)
+  call_made (call.IsDrained drained n) out d = inl (looks_at _ refl d.0)
+  call_made (call.NextToSend from before id n) out d = inl (looks_at _ refl d.0)
+  call_made (call.NextByPriority before id n) out d = inl (never out)
+  call_made (call.SetPriority id urgency incremental n) out d = inl (prioritizes (call.SetPriority id urgency incremental n) refl id urgency incremental n (λ p e. set_priority e id p) (λ p. set_priority_same id p) d)
+  call_made (call.SetInitialPriority id urgency incremental n) out d = inl (prioritizes (call.SetInitialPriority id urgency incremental n) refl id urgency incremental n (λ p e. set_initial_priority e id p) (λ p. set_initial_same id p) d)
+  call_made (call.SendPriority id urgency incremental n) out d = inl (never out)
+  call_made (call.PriorityOf id urgency_before urgency incremental_before incremental n) out d = inl (looks_at _ refl d.0)
+  call_made (call.Hold id held n) out d = inl (holds id held n d)
+  call_made (call.Outgoing id before buffer count_before count past_before past fin_before fin n) out d = inl (looks_at _ refl d.0)
+  call_made (call.Advance id count n) out d = inl (never out)
+  call_made (call.EndTaken id n) out d = inl (ends id n d)
+  call_made (call.Read id bytes fin used before item n) out d = inl (never out)
+  call_made (call.Deliver id bytes n) out d = inl (never out)
+  call_made (call.DeliverEnd id n) out d = inl (never out)
+  call_made (call.DeliverReset id code n) out d = inl (never out)
+  call_made (call.Pull id before item n) out d = inl (pulls id before item n d)
+  call_made (call.NextUnblocked from before id n) out d = inl (looks_at _ refl d.0)
+  call_made (call.ItemFields sizes_before sizes flags_before flags before bytes n) out d = inl (looks_at _ refl d.0)
+  call_made (call.ItemBytes from before buffer count_before count n) out d = inl (looks_at _ refl d.0)
+  call_made (call.DatagramHead id before buffer count_before count n) out d = inl (looks_at _ refl d.0)
+  call_made (call.ReadDatagram bytes id_before id from_before from n) out d = inl (never out)
+  call_made (call.Stream id before state n) out d = inl (looks_at _ refl d.0)
+  call_made (call.StreamKind id before kind n) out d = inl (looks_at _ refl d.0)
+  call_made (call.Connection state n) out d = inl (looks_at _ refl d.0)
+  call_made (call.NextEvent kind_before kind number_before number n) out d = inl (looks _ refl (ap (λ (v : Seen). v.endpoint) d.rest))
+  call_made (call.PeerSetting setting before value n) out d = inl (looks_at _ refl d.0)

@@ -47,7 +47,7 @@ run_on (e ∷ first) events (a ∷ given) answers old mid new (next, step, rest)
 run_on [] events (a ∷ given) answers old mid new x b = absurd x
 run_on (e ∷ first) events [] answers old mid new x b = absurd x
 
-run_unordered : (events : List Event) (answers : List Answer) (ends new : Ends) → AreOfC events → EndsRun ends events answers new → EndsRun (both_unordered ends) events answers (both_unordered new)
+pub run_unordered : (events : List Event) (answers : List Answer) (ends new : Ends) → AreOfC events → EndsRun ends events answers new → EndsRun (both_unordered ends) events answers (both_unordered new)
 run_unordered [] [] ends new of run = ap both_unordered run
 run_unordered (e ∷ events) (a ∷ answers) ends new of (mid, step, rest) = (both_unordered mid, step_unordered ends mid e a of.0 step, run_unordered events answers mid new of.1 rest)
 run_unordered [] (a ∷ answers) ends new of x = absurd x

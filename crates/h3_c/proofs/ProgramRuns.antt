@@ -27,8 +27,9 @@ use Rattle.h3_c.specs.Seen.{Seen}
 use Rattle.h3_c.specs.declared.numbers.Told.{Told}
 use Rattle.h3_c.proofs.CarriedOver.{bytes_carried, delivery_tells, end_carried, none_carried, reset_carried, taken_so}
 use Rattle.h3_c.proofs.FrontsShown.{goes_there, known_id, resets_there, shown_finished, shown_front, shown_none}
-use Rattle.h3_c.proofs.ProgramCalls.{Made, call_made, made_event, made_none}
-use Rattle.h3_c.proofs.ProgramMoves.{CallsAreSteps, leaves, run_on, stays_same}
+use Rattle.h3_c.proofs.ProgramCalls.{ByHistory, Made, call_made, made_event, made_none}
+use Rattle.h3_c.proofs.ProgramHistories.{MadeAt, at_ends, by_history}
+use Rattle.h3_c.proofs.ProgramMoves.{CallsAreSteps, run_on, stays_same}
 use Rattle.h3_c.proofs.ProgramReads.{read_made}
 use Rattle.h3_c.proofs.UnorderedSteps.{IsOfC, both_unordered}
 
@@ -122,32 +123,36 @@ goes_made act e n goes tells Server h g is of learns acts (inl x) =
 goes_made act e n goes tells Server h g is of learns acts (inr x) = made_event act h g e n x.0 is (learns x.0 x.1) of (acts x.0 x.2)
 
 -- **What happens comes to events that both endpoints answer.**
-pub act_made : (act : Act) (h g : Handles) (ends : Ends) → StandsFor h.client.endpoint ends.client → StandsFor h.server.endpoint ends.server → Happens act h g → Made act h g
-act_made (Call side c) h g ends client server happens = call_made side h g happens.2 c happens.0 happens.1
-act_made (Bytes Client id bytes n) h g ends client server happens =
+pub act_made : CallsAreSteps → (act : Act) (h g : Handles) (ends : Ends) → StandsFor h.client.endpoint ends.client → StandsFor h.server.endpoint ends.server → Happens act h g → MadeAt act h g ends
+act_made law (Call side c) h g ends client server happens = by (call_made side h g happens.2 c happens.0 happens.1)
+  where
+    by : Made (Call side c) h g ⊎ ByHistory c → MadeAt (Call side c) h g ends
+    by (inl made) = at_ends law ends client server made
+    by (inr history) = by_history side h g happens.2 ends client server c history happens.1
+act_made law (Bytes Client id bytes n) h g ends client server happens = at_ends law ends client server (
     goes_made (Bytes Client id bytes n) (event.Deliver Client id (length bytes)) n (CarriesBytes id (length bytes)) (λ a. Tells (answer.Delivered (length bytes)) n a) Client h g refl tt (λ a t. t) (λ a x. x)
-    (bytes_go id bytes n h.client g.client h.server g.server ends.server server happens)
-act_made (Bytes Server id bytes n) h g ends client server happens =
+    (bytes_go id bytes n h.client g.client h.server g.server ends.server server happens))
+act_made law (Bytes Server id bytes n) h g ends client server happens = at_ends law ends client server (
     goes_made (Bytes Server id bytes n) (event.Deliver Server id (length bytes)) n (CarriesBytes id (length bytes)) (λ a. Tells (answer.Delivered (length bytes)) n a) Server h g refl tt (λ a t. t) (λ a x. x)
-    (bytes_go id bytes n h.server g.server h.client g.client ends.client client happens)
-act_made (Read Client id bytes fin used item n) h g ends client server happens =
+    (bytes_go id bytes n h.server g.server h.client g.client ends.client client happens))
+act_made law (Read Client id bytes fin used item n) h g ends client server happens =
     let made = read_made Client id bytes fin used item n h.client g.client h.server g.server happens in
-    record { events = made.events; answers = made.answers; comes = IsRead refl made.comes; moves = made.moves }
-act_made (Read Server id bytes fin used item n) h g ends client server happens =
+    at_ends law ends client server (record { events = made.events; answers = made.answers; comes = IsRead refl made.comes; moves = made.moves })
+act_made law (Read Server id bytes fin used item n) h g ends client server happens =
     let made = read_made Server id bytes fin used item n h.server g.server h.client g.client happens in
-    record { events = made.events; answers = made.answers; comes = IsRead refl made.comes; moves = made.moves }
-act_made (End Client id n) h g ends client server happens =
-    goes_made (End Client id n) (event.DeliverEnd Client id) n (CarriesEnd id) (λ a. Tells answer.Done n a) Client h g refl tt (λ a t. t) (λ a x. x) (end_goes id n h.client g.client h.server g.server happens)
-act_made (End Server id n) h g ends client server happens =
-    goes_made (End Server id n) (event.DeliverEnd Server id) n (CarriesEnd id) (λ a. Tells answer.Done n a) Server h g refl tt (λ a t. t) (λ a x. x) (end_goes id n h.server g.server h.client g.client happens)
-act_made (Reset Client id n) h g ends client server happens =
-    goes_made (Reset Client id n) (event.DeliverReset Client id) n (CarriesReset id) (λ a. Tells answer.Done n a) Client h g refl tt (λ a t. t) (λ a x. x) (reset_goes id n h.client g.client h.server g.server happens)
-act_made (Reset Server id n) h g ends client server happens =
-    goes_made (Reset Server id n) (event.DeliverReset Server id) n (CarriesReset id) (λ a. Tells answer.Done n a) Server h g refl tt (λ a t. t) (λ a x. x) (reset_goes id n h.server g.server h.client g.client happens)
-act_made (Empty Client id) h g ends client server happens =
-    goes_made (Empty Client id) (event.Deliver Client id 1) ok (CarriesBytes id 1) (λ a. a ≡ answer.Short 0) Client h g refl tt (λ a t. t) (λ a x. x) (empty_goes id h.client g.client h.server g.server happens)
-act_made (Empty Server id) h g ends client server happens =
-    goes_made (Empty Server id) (event.Deliver Server id 1) ok (CarriesBytes id 1) (λ a. a ≡ answer.Short 0) Server h g refl tt (λ a t. t) (λ a x. x) (empty_goes id h.server g.server h.client g.client happens)
+    at_ends law ends client server (record { events = made.events; answers = made.answers; comes = IsRead refl made.comes; moves = made.moves })
+act_made law (End Client id n) h g ends client server happens = at_ends law ends client server (
+    goes_made (End Client id n) (event.DeliverEnd Client id) n (CarriesEnd id) (λ a. Tells answer.Done n a) Client h g refl tt (λ a t. t) (λ a x. x) (end_goes id n h.client g.client h.server g.server happens))
+act_made law (End Server id n) h g ends client server happens = at_ends law ends client server (
+    goes_made (End Server id n) (event.DeliverEnd Server id) n (CarriesEnd id) (λ a. Tells answer.Done n a) Server h g refl tt (λ a t. t) (λ a x. x) (end_goes id n h.server g.server h.client g.client happens))
+act_made law (Reset Client id n) h g ends client server happens = at_ends law ends client server (
+    goes_made (Reset Client id n) (event.DeliverReset Client id) n (CarriesReset id) (λ a. Tells answer.Done n a) Client h g refl tt (λ a t. t) (λ a x. x) (reset_goes id n h.client g.client h.server g.server happens))
+act_made law (Reset Server id n) h g ends client server happens = at_ends law ends client server (
+    goes_made (Reset Server id n) (event.DeliverReset Server id) n (CarriesReset id) (λ a. Tells answer.Done n a) Server h g refl tt (λ a t. t) (λ a x. x) (reset_goes id n h.server g.server h.client g.client happens))
+act_made law (Empty Client id) h g ends client server happens = at_ends law ends client server (
+    goes_made (Empty Client id) (event.Deliver Client id 1) ok (CarriesBytes id 1) (λ a. a ≡ answer.Short 0) Client h g refl tt (λ a t. t) (λ a x. x) (empty_goes id h.client g.client h.server g.server happens))
+act_made law (Empty Server id) h g ends client server happens = at_ends law ends client server (
+    goes_made (Empty Server id) (event.Deliver Server id 1) ok (CarriesBytes id 1) (λ a. a ≡ answer.Short 0) Server h g refl tt (λ a t. t) (λ a x. x) (empty_goes id h.server g.server h.client g.client happens))
 
 -- what two programs come to
 pub record RanTo (ends : Ends) (h : Handles) (acts : List Act) (g : Handles) : Type 0 where
@@ -160,8 +165,8 @@ pub record RanTo (ends : Ends) (h : Handles) (acts : List Act) (g : Handles) : T
 pub acts_run : CallsAreSteps → (acts : List Act) (h g : Handles) (ends : Ends) → StandsFor h.client.endpoint ends.client → StandsFor h.server.endpoint ends.server → Happen h acts g → RanTo ends h acts g
 acts_run law [] h g ends client server happen = subst (λ x. RanTo ends h [] x) (sym happen) (record { events = []; answers = []; stand = Nothing; new = both_unordered ends; run = refl })
 acts_run law (act ∷ acts) h g ends client server (next, happens, happen) =
-    let made = act_made act h next ends client server happens in
-    let on = leaves law ends client server made.moves in
+    let made = act_made law act h next ends client server happens in
+    let on = made.left in
     let rest = acts_run law acts next g on.new on.client_stands on.server_stands happen in
     record {
       events = made.events ++ rest.events;

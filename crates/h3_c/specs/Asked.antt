@@ -16,7 +16,7 @@ use Rattle.h3_world.specs.declared.lists.ListItem.TheVariants as listed
 use Rattle.h3_world.specs.declared.lists.ListPull.{ListPull}
 use Rattle.h3_world.specs.declared.lists.ListPull.TheVariants as list
 use Rattle.h3_c.specs.Does.{CallOfC}
-use Rattle.h3_c.specs.Does.CallOfC.{OpenRequest, OpenRequestAt, SendHead, SendTrailer, SendBody, SendBodyOf, Finish, Reset, Cancel, CloseStream, Goaway, ShutdownNotice, Shutdown, NextByPriority, SendPriority, Advance, Read, Deliver, DeliverEnd, DeliverReset, Pull, ReadDatagram}
+use Rattle.h3_c.specs.Does.CallOfC.{OpenRequest, OpenRequestAt, SendHead, SendTrailer, SendBody, SendBodyOf, Finish, Reset, Cancel, Goaway, NextByPriority, SendPriority, Advance, Read, Deliver, DeliverEnd, DeliverReset, Pull, ReadDatagram}
 use Rattle.h3_c.specs.Given.{fields_given}
 use Rattle.h3_c.specs.Items.{shown}
 use Rattle.h3_c.specs.Numbers.{TellsList, ok, refusal_told}
@@ -41,9 +41,6 @@ asked side _ = None
 abbrev pub is_left_out : CallOfC → Bool
 is_left_out (OpenRequestAt id n) = true
 is_left_out (SendBodyOf id len n) = true
-is_left_out (CloseStream id stop_before stop reset_before reset n) = true
-is_left_out (ShutdownNotice n) = true
-is_left_out (Shutdown n) = true
 is_left_out (NextByPriority before id n) = true
 is_left_out (SendPriority id urgency incremental n) = true
 is_left_out (Advance id count n) = true

@@ -1,9 +1,10 @@
 -- Two programs in C, a client and a server: their calls in the order of time, and the bytes that go from one to the other. And the schedule
 -- that these stand for, with its answers.
-use Rattle.std.specs.Prelude.{if◌then◌else◌, ◌≡◌, ◌⊎◌, ◌<◌, ◌≤◌, ℕ, Bool, true, false, ◌||◌, ◌==◌, List, [], ◌∷◌, ◌++◌, length, take, Option, Some, None, Ok}
+use Rattle.std.specs.Prelude.{if◌then◌else◌, ◌≡◌, ◌⊎◌, ◌<◌, ◌≤◌, ℕ, Bool, true, false, ◌||◌, ◌==◌, List, [], ◌∷◌, ◌++◌, length, take, Option, Some, None, is_none, Ok}
 use Rattle.h3_proto.specs.declared.stream.Side.{Side}
 use Rattle.h3_proto.specs.declared.stream.Side.TheVariants.{Client, Server}
 use Rattle.h3_connection.specs.OwnIds.{other}
+use Rattle.h3_connection.specs.declared.event.Refusal.{Refusal}
 use Rattle.h3_connection.specs.declared.event.Refusal.TheVariants as refusal
 use Rattle.h3_connection.specs.declared.setup.Announced.{Announced}
 use Rattle.h3_incoming.specs.BodyPlaces.{piece_of}
@@ -17,10 +18,12 @@ use Rattle.h3_world.specs.declared.event.Event.TheVariants as event
 use Rattle.h3_world.specs.declared.lists.ListItem.TheVariants as listed
 use Rattle.h3_world.specs.declared.lists.ListPull.TheVariants as list
 use Rattle.h3_world.specs.declared.setup.Setup.{Setup}
+use Rattle.h3_session.specs.Running.{answer_of}
 use Rattle.h3_c.specs.Asked.{Learns, Tells, asked, is_left_out, pull_listed}
+use Rattle.h3_c.specs.Bits.{bit}
 use Rattle.h3_c.specs.Configs.{MakesGiven, announced_of, side_of}
 use Rattle.h3_c.specs.Does.{CallOfC, Does}
-use Rattle.h3_c.specs.Does.CallOfC.{Advance, Deliver, DeliverEnd, DeliverReset, Outgoing, Read as ReadOfC, Stream}
+use Rattle.h3_c.specs.Does.CallOfC.{Advance, CloseStream, Deliver, DeliverEnd, DeliverReset, Outgoing, Read as ReadOfC, Shutdown, ShutdownNotice, Stream}
 use Rattle.h3_c.specs.Numbers.{argument, memory, ok, rejected}
 use Rattle.h3_c.specs.Items.{shown}
 use Rattle.h3_c.specs.Reads.{ends_with, place_shown}
@@ -151,7 +154,7 @@ Happen h [] g = g ≡ h
 Happen h (act ∷ acts) g = (next : Handles) × Happens act h next × Happen next acts g
 
 -- What it stands for: an event with the answer that C learns. Or no event, since nothing is told of it or nothing was done: the call has none, or it
--- is answered H3_ARGUMENT or H3_REJECTED, or H3_MEMORY where no list was made of what C gave.
+-- is answered H3_ARGUMENT or H3_REJECTED, or H3_MEMORY where no list was made of what C gave. Three calls are others (`Comes`).
 abbrev pub event_of : Act → Option (Event × Told)
 event_of (Read from id bytes fin used item n) = None
 event_of (Call side call) = asked side call
@@ -209,6 +212,12 @@ pub data Comes (act : Act) (h g : Handles) : List Event → List Answer → Type
   HasNone : is_read act ≡ false → event_of act ≡ None → Comes act h g [] []
   IsRefused : {e : Event} {n : Told} → event_of act ≡ Some (e, n) → (n ≡ argument) ⊎ (n ≡ rejected) → Comes act h g [] []
   LacksList : {e : Event} {n : Told} → event_of act ≡ Some (e, n) → is_list e ≡ true → n ≡ memory → g ≡ h → Comes act h g [] []
+  -- a call that shuts a connection down, where it writes a GOAWAY: of an id that C did not give
+  GoesAway : {side : Side} {n : Told} (id : ℕ) → (act ≡ Call side (ShutdownNotice n)) ⊎ (act ≡ Call side (Shutdown n)) → n ≡ ok → Comes act h g (event.Goaway side id ∷ []) (answer.Done ∷ [])
+  -- a stream that is closed both ways is canceled and reset, each unless that is over
+  Closes : {side : Side} {id stop_before stop reset_before reset : ℕ} {n : Told} (canceled sent_off : Option Refusal) → act ≡ Call side (CloseStream id stop_before stop reset_before reset n) → n ≡ ok
+      → (canceled ≡ None) ⊎ (canceled ≡ Some refusal.Ended) → reset ≡ bit (is_none sent_off)
+      → Comes act h g (event.Cancel side id ∷ event.Reset side id ∷ []) (answer_of answer.Done canceled ∷ answer_of answer.Done sent_off ∷ [])
   IsRead : {from : Side} {id fin used : ℕ} {bytes : List ℕ} {item : PulledItem} {n : Told} {events : List Event} {answers : List Answer} → act ≡ Read from id bytes fin used item n
       → ComesOfRead from id bytes fin used item n (handle_at g (other from)) events answers → Comes act h g events answers
 
