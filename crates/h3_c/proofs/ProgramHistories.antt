@@ -169,18 +169,18 @@ module _ (side : Side) (h g : Handles) (there : handle_at g (other side) ≡ han
   ends_both : (id : ℕ) → (canceled : Option Refusal) → (canceled ≡ None) ⊎ (canceled ≡ Some refusal.Ended) → (cancel (end_at ends side) id).0 ≡ canceled
       → StandsFor (handle_at g side).endpoint (reset (cancel (end_at ends side) id).1 id).1
       → Left ends g (event.Cancel side id ∷ event.Reset side id ∷ []) (answer_of answer.Done canceled ∷ answer_of answer.Done (reset (cancel (end_at ends side) id).1 id).0 ∷ [])
-  ends_both id canceled may is stands =
+  ends_both id canceled may is after_stands =
       let one = cancel (end_at ends side) id in
       let mid = with_end ends side one.1 in
       let last = with_end ends side (reset one.1 id).1 in
-      let s = with_stands side there (reset one.1 id).1 stands in
+      let s = with_stands side there (reset one.1 id).1 after_stands in
       let first = done_is ends side answer.Done one in
       let memory : is_out_of_memory (answer_of answer.Done canceled) ≡ false = clear canceled may in
       let step = step_of ends mid (event.Cancel side id) (answer_of answer.Done canceled) memory (sym (ap (λ x. x.0) first ∙ ap (λ r. answer_of answer.Done r) is)) (sym (ap (λ x. x.1) first)) in
       let two = step_of mid last (event.Reset side id) (answer_of answer.Done (reset one.1 id).0) (reset_answers one.1 id) (sym (ap (λ x. x.0) (second side one.1))) (sym (ap (λ x. x.1) (second side one.1))) in
       record {
         new = last;
-        run = run_unordered (event.Cancel side id ∷ event.Reset side id ∷ []) _ ends last (tt, (tt, tt)) (mid, step, (last, two, refl));
+        run = run_unordered (event.Cancel side id ∷ event.Reset side id ∷ []) (answer_of answer.Done canceled ∷ answer_of answer.Done (reset one.1 id).0 ∷ []) ends last (tt, (tt, tt)) (mid, step, (last, two, refl));
         client_stands = s.0;
         server_stands = s.1;
       }
