@@ -1,5 +1,5 @@
 -- What C reads of an endpoint.
-use Rattle.std.specs.Prelude.{◌≡◌, ℕ, List, length, Option, Some, None}
+use Rattle.std.specs.Prelude.{◌≡◌, ℕ, length, Option, Some, None}
 use Rattle.h3_connection.specs.Endpoint.{EndpointHistory, bytes_waiting}
 use Rattle.h3_connection.specs.Lasts.{last_id}
 use Rattle.h3_connection.specs.Shown.{has_outgoing, is_finished, is_reset, peer_limits, table_sizes, waiting_heads, block_tries, peer_setting}

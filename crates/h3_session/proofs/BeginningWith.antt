@@ -1,5 +1,5 @@
 -- A new endpoint that announces further settings stands for the history of one.
-use Rattle.std.proofs.Common.{◌≡◌, ℕ, ◌≤◌, List, [], arith, refl, ap, sym, subst, ◌∙◌, append-nil, Result, Ok, Err}
+use Rattle.std.proofs.Common.{◌≡◌, ℕ, List, [], arith, refl, ap, sym, subst, ◌∙◌, append-nil, Result, Ok, Err}
 use Rattle.h3_proto.specs.Further.{further_from}
 use Rattle.h3_proto.specs.declared.frame.SettingsError.{SettingsError}
 use Rattle.std.specs.Prelude.{OnOk}

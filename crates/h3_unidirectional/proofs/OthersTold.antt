@@ -1,5 +1,5 @@
 -- The settings of no meaning that a control stream begins with, as they are read.
-use Rattle.std.proofs.Common.{◌≡◌, ℕ, ◌==◌, Bool, true, false, if◌then◌else◌, List, [], ◌∷◌, ◌++◌, Option, Some, None, refl, ap, sym, ◌∙◌, subst}
+use Rattle.std.proofs.Common.{◌≡◌, ℕ, ◌==◌, true, false, if◌then◌else◌, List, Option, Some, None, refl, ap, sym, ◌∙◌, subst}
 use Rattle.std.specs.Prelude.{is_some}
 use Rattle.h3_proto.specs.declared.stream.Side.{Side}
 use Rattle.h3_wire.specs.Known.{known_by}
@@ -94,7 +94,7 @@ having_settings kinds side p f rest pairs told tells = by_settings p.settings re
     by_settings None is = by_frame f
       where
         found : (g : Frame PayloadLen) → (missing : read_frame side q None g ≡ (q, Some missing_settings)) → read_frame side q None g ≡ with_both q pairs p.others → ⊥
-        found g missing e = let wrong : Some missing_settings ≡ None = ap (λ (x : PeerFound). x.1) (sym missing ∙ e) in cc
+        found g missing e = let wrong : Some missing_settings ≡ None = ap (λ (x : PeerFound). x.1) (sym missing ∙ e) in absurd (cc)
 
         by_frame : (g : Frame PayloadLen) → read_frame side q None g ≡ with_both q pairs p.others → read_frame side (record q { others = with_others None g p.others bytes }) None g ≡ with_both q pairs (others_by told p.others)
         by_frame (frame.Settings others) e =

@@ -44,7 +44,7 @@ impl Connection {
     }
 }
 
-/// Its type, where that has no meaning and the stream is delivered.
+/// Its type, if that has no meaning and the stream is delivered.
 fn other_type(kind: Option<Kind>) -> Option<u64>
     ensures { result ≡ type_of kind }
 {
