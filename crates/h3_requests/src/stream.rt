@@ -86,7 +86,7 @@ impl RequestStream {
         class_of(&self.outgoing.precedence())
     }
 
-    // The same where streams may have classes of their own. Until one has, all are in one, and nothing is worked out.
+    // The same if streams may have classes of their own. Until one has, all are in one, and nothing is worked out.
     #[inline(always)]
     pub(crate) fn class_if(&self, has_classes: bool) -> u64
         requires { has_classes ≡ false → class_at (Some self.now) ≡ 6 }
