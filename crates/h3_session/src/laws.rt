@@ -122,13 +122,13 @@ pub fn calls_are_steps_of_two_endpoints()
 {}
 
 ghost use Rattle.std.specs.List.{AllByRecursion};
-ghost use Rattle.h3_world.specs.Few.{AreFew};
+ghost use Rattle.h3_world.specs.Small.{AreSmall};
 ghost use Rattle.h3_world.specs.Sendable.{IsSendable};
 ghost use Rattle.h3_session.specs.Typed.{IsTyped};
 
 /// The events of a schedule within the bounds of `run` may be sent: what the laws of two endpoints ask for.
 pub fn schedules_within_bounds_may_be_sent()
-    ensures { (setup : Setup) (events : List Event) → AllByRecursion IsTyped events → AreFew setup events → AllByRecursion (IsSendable setup) events }
+    ensures { (setup : Setup) (events : List Event) → AllByRecursion IsTyped events → AreSmall setup events → AllByRecursion (IsSendable setup) events }
 {}
 
 ghost use Rattle.std.specs.Prelude.{Result};
