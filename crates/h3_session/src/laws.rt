@@ -35,6 +35,7 @@
 //!   limit takes it if it is at least four times what its side announces (`limits_above_what_is_announced_take_what_is_sent`). So two such
 //!   sides run in a world (`two_limited_endpoints_run_in_a_world`, `two_strict_limited_endpoints_run_in_a_world`). A side without a limit
 //!   takes every list (`sides_without_limits_take_all`).
+//! - What a schedule within its bounds sends may be sent (`schedules_within_bounds_may_be_sent`).
 //! - Lists: a header section and a trailer are sent as the lists of their fields are (`heads_are_sent_as_their_lists`).
 //! - Datagrams: what is written in front of a payload reads back as the id of its stream (`datagrams_read_back`).
 //! - Shutting down: no request below the last GOAWAY is rejected (`nothing_below_a_goaway_is_rejected`). What is drained stays drained
@@ -118,6 +119,16 @@ pub fn calls_are_steps_of_two_endpoints()
     ensures each { (ends : Ends) (events : List Event) (answers : List Answer) (client server : EndpointState) → RunsByCalls ends events answers client server → AnswersEach ends events answers }
     ensures whole { (ends : Ends) (events : List Event) (answers : List Answer) (client server : EndpointState) → RunsByCalls ends events answers client server → list_any is_out_of_memory answers ≡ false →
         RunsTo ends events answers client server }
+{}
+
+ghost use Rattle.std.specs.List.{AllByRecursion};
+ghost use Rattle.h3_world.specs.Small.{AreSmall};
+ghost use Rattle.h3_world.specs.Sendable.{IsSendable};
+ghost use Rattle.h3_session.specs.Typed.{IsTyped};
+
+/// The events of a schedule within the bounds of `run` may be sent: what the laws of two endpoints ask for.
+pub fn schedules_within_bounds_may_be_sent()
+    ensures { (setup : Setup) (events : List Event) → AllByRecursion IsTyped events → AreSmall setup events → AllByRecursion (IsSendable setup) events }
 {}
 
 ghost use Rattle.std.specs.Prelude.{Result};
