@@ -1,10 +1,13 @@
 -- What a stream has is what one has that is like it but for the code of a reset.
 use Rattle.std.proofs.Common.{◌≡◌, ℕ, ◌+◌, Bool, true, false, [], refl, sym, ◌∙◌, ap, if◌then◌else◌}
+use Rattle.h3_coding.specs.VarintLaws.{none_at_end}
+use Rattle.h3_wire.specs.FrameLeft.{left_behind_type}
 use Rattle.h3_wire.specs.UnknownSize.{is_under_way}
 use Rattle.std.specs.Prelude.{Option, Some, None, is_some, option_map, unwrap_or, ◌||◌}
 use Rattle.h3_proto.specs.declared.stream.Side.{Side}
 use Rattle.h3_proto.specs.declared.stream.Side.TheVariants.{Client, Server}
 use Rattle.h3_connection.specs.Delivering.{closed_refusal}
+use Rattle.h3_connection.specs.FrameLeft.{frame_left_of_request}
 use Rattle.h3_connection.specs.Incoming.{nothing_came}
 use Rattle.h3_connection.specs.Keeping.{is_settled_request}
 use Rattle.h3_connection.specs.Prioritizing.{takes_no_response}
@@ -99,3 +102,17 @@ pub held_is : (own : Announced) (streams model : Streams RequestState) (id : ℕ
     → counted (held_of_request own (unwrap_or (option_map (λ r. r.incoming) a) nothing_came)) ≡ counted (held_of_request own (unwrap_or (option_map (λ r. r.incoming) (kept_at model id)) nothing_came))
 held_is own streams model id a view alike =
     held_of own a ∙ ap (λ o. unwrap_or o 0) (part_is (λ r. counted (held_of_request own r.incoming)) (λ r. refl) streams model id a view alike) ∙ sym (held_of own (kept_at model id))
+
+-- of a frame nothing is to come where nothing came
+pub nothing_left : 0 ≡ frame_left_of_request nothing_came
+nothing_left = ap left_behind_type (sym none_at_end)
+
+left_of : (o : Option RequestState) → frame_left_of_request (unwrap_or (option_map (λ r. r.incoming) o) nothing_came) ≡ unwrap_or (option_map (λ r. frame_left_of_request r.incoming) o) 0
+left_of None = sym nothing_left
+left_of (Some r) = refl
+
+-- and how much of a frame is still to come
+pub left_is : (streams model : Streams RequestState) (id : ℕ) (a : Option RequestState) → streams ≡ model → AreAlike a (kept_at streams id)
+    → frame_left_of_request (unwrap_or (option_map (λ r. r.incoming) a) nothing_came) ≡ frame_left_of_request (unwrap_or (option_map (λ r. r.incoming) (kept_at model id)) nothing_came)
+left_is streams model id a view alike =
+    left_of a ∙ ap (λ o. unwrap_or o 0) (part_is (λ r. frame_left_of_request r.incoming) (λ r. refl) streams model id a view alike) ∙ sym (left_of (kept_at model id))
