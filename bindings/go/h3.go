@@ -232,8 +232,8 @@ func (e *Endpoint) SetPriority(id uint64, priority Priority) error {
 	return refusal(C.h3_set_priority(&e.raw, C.uint64_t(id), urgency, incremental, &detail), detail)
 }
 
-// SetInitialPriority says which priority a request asks for by its `priority` field (ReadPriority). It counts unless the client updated it, or
-// SetPriority set one. Until then a stream has urgency 3, and is not incremental.
+// SetInitialPriority sets the priority that the request's `priority` field asks for (ReadPriority). A PRIORITY_UPDATE frame of the client
+// overrides it, and so does SetPriority. The default is urgency 3, not incremental.
 func (e *Endpoint) SetInitialPriority(id uint64, priority Priority) error {
 	var detail C.uint64_t
 	urgency, incremental := C.uint32_t(priority.Urgency), bit(priority.Incremental)

@@ -63,8 +63,8 @@ class Config:
     above its required insert count. Without `webtransport` its frames and streams are ignored. After the peer's GOAWAY a client begins no
     request."""
     priority_updates: int
-    """Of how many streams a server keeps what PRIORITY_UPDATE frames said (RFC 9218, section 7.2) until it is used, at most 128. With 0 such a frame is
-    one of an unknown type."""
+    """For how many streams a server stores PRIORITY_UPDATE frames that did not take effect yet (RFC 9218, section 7.2): at most 128.
+    With 0 it ignores these frames."""
 
     @classmethod
     def client(cls) -> Self:

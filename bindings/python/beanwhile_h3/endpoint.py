@@ -279,8 +279,8 @@ class Endpoint:
         self._call("h3_raw_set_priority", _number(id), _number(priority.urgency), int(priority.incremental))
 
     def set_initial_priority(self, id: int, priority: Priority) -> None:
-        """The request of a stream asks for this priority by its `priority` field (`Priority.read`). It counts unless the client updated it, or
-        `set_priority` set one. Until then a stream has urgency 3, and is not incremental.
+        """Sets the priority that the request's `priority` field asks for (`Priority.read`). A PRIORITY_UPDATE frame of the client
+        overrides it, and so does `set_priority`. The default is urgency 3, not incremental.
 
         Raises `Answer.ARGUMENT`, `CLOSED`, `NOT_REQUEST_ID`, `NOT_OPEN`, `MEMORY`."""
         self._call("h3_raw_set_initial_priority", _number(id), _number(priority.urgency), int(priority.incremental))

@@ -325,8 +325,8 @@ impl Endpoint {
         self.call(|handle, detail, out| unsafe { raw::h3_raw_set_priority(handle, id, urgency, incremental, detail, out) })
     }
 
-    /// The request of a stream asks for this priority by its `priority` field (`Priority::read`). It counts unless the client updated it, or
-    /// `set_priority` set one. Until then a stream has urgency 3, and is not incremental.
+    /// Sets the priority that the request's `priority` field asks for (`Priority::read`). A PRIORITY_UPDATE frame of the client overrides
+    /// it, and so does `set_priority`. The default is urgency 3, not incremental.
     ///
     /// # Errors
     ///
