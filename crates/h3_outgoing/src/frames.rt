@@ -156,6 +156,7 @@ impl WaitingFrames {
     }
 
     /// Takes the first bytes, over frames too. A frame that is wholly taken is dropped.
+    #[inline(always)]
     pub(crate) fn advance(&mut self, count: usize)
         requires { count ≤ length (bytes_of self.old.frames) }
         ensures { self.new.frames ≡ without_front count self.old.frames }

@@ -329,6 +329,7 @@ impl OutgoingStream {
     }
 
     /// Takes the first bytes of what waits, at most all. It may cross frames; one that is wholly taken is dropped.
+    #[inline(always)]
     pub fn advance(&mut self, count: usize)
         requires { count ≤ length (bytes_of self.old.pieces) }
         ensures { self.new ≡ taken_from self.old count }

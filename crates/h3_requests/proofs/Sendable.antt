@@ -411,6 +411,11 @@ ready_before counts s streams class id count is r h there is_class left some =
     ap (λ k. is_ready s k id) is_class ∙ h.ready (class_at (Some r)) id ∙ ap (λ o. has_bytes o && (class_at (Some r) == class_at o)) there ∙ ap (λ b. has_bytes (Some r) && b) (itself (class_at (Some r)))
     ∙ and_true (has_bytes (Some r)) ∙ fewer count r.outgoing.pieces (sym left ∙ some)
 
+-- while all streams are of one class this one is
+pub of_plain : {n : ℕ} {counts : Blocked} {s : ReadyStreams} {streams : Streams RequestState} (id : ℕ) (r : RequestState) → AreKept counts s n streams → kept_at streams id ≡ Some r
+    → s.has_classes ≡ false → class_at (Some r) ≡ 6
+of_plain id r h there none = sym (ap class_at there) ∙ h.classed.plain none id
+
 -- a body changes nothing of the stream's end
 pub body_end : (o : OutgoingState) (bytes : List ℕ) → (end_waits (has_body o bytes) ≡ end_waits o) × (takes_end (has_body o bytes) ≡ takes_end o)
 body_end o [] = (refl, refl)

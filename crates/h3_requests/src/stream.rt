@@ -9,7 +9,7 @@ ghost use Rattle.h3_requests.specs.Done.{is_done, is_sought};
 ghost use Rattle.h3_requests.specs.Unblocked.{is_unblocked};
 ghost use Rattle.h3_requests.specs.Over.{reset_with, with_end_taken, IsOver, ReceivesAlike, SendsAlike};
 
-use crate::class::class_of;
+use crate::class::{PLAIN, class_of};
 use bytes::Bytes;
 use h3_connection::arrival::MOST_HELD;
 use h3_connection::event::StreamFault;
@@ -84,6 +84,19 @@ impl RequestStream {
         ensures few { result ≤ 16 }
     {
         class_of(&self.outgoing.precedence())
+    }
+
+    // The same if streams may have classes of their own. Until one has, all are in one, and nothing is worked out.
+    #[inline(always)]
+    pub(crate) fn class_if(&self, has_classes: bool) -> u64
+        requires { has_classes ≡ false → class_at (Some self.now) ≡ 6 }
+        ensures value { result ≡ class_at (Some self.now) }
+        ensures few { result ≤ 16 }
+    {
+        if !has_classes {
+            return PLAIN;
+        }
+        self.class()
     }
 
     // Whether its end or its reset came: nothing more comes then.

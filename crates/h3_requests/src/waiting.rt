@@ -27,6 +27,9 @@ const WORD: u64 = 64;
 /// So many words have the bits of all request streams.
 const WORDS: u64 = 1 << 54;
 
+/// The greatest id that a request stream may have.
+const LAST: u64 = (1 << 62) - STEP;
+
 /// The words of a class begin so far after those of the one before. As that is one more than a class has, the words of the same ids of
 /// different classes have places of their own in the row.
 const STRIDE: u64 = WORDS + 1;
@@ -278,14 +281,11 @@ impl WaitingStreams {
         requires { class ≤ 16 }
         ensures { IsLeast (is_waiting self.now class) from result }
     {
-        let Some(end) = from.checked_add(STEP - 1) else {
-            return None;
-        };
-        let first = end / STEP;
-        let number = first / WORD;
-        if number >= WORDS {
+        if from > LAST {
             return None;
         }
+        let first = (from + (STEP - 1)) / STEP;
+        let number = first / WORD;
         let base = class * STRIDE;
         let place = first % WORD;
         let here = self.waiting_in(base + number) >> place;
@@ -398,7 +398,7 @@ impl WaitingStreams {
     fn waiting_in(&self, number: u64) -> u64
         ensures { result ≡ waiting_at self.now number }
     {
-        self.words.get(number).waiting
+        self.words.waiting_in(number)
     }
 
     // The first word from this number on that has a stream on which something waits.

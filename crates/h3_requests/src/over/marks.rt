@@ -129,13 +129,13 @@ impl Marks {
         }
     }
 
-    /// The same, with one test if no stream has a mark.
+    /// The same, with one test if no stream has a mark, and with two if it is no request stream.
     #[inline(always)]
     pub(crate) fn get_if_any(&self, id: u64) -> u8
         requires { AreBelow self.now }
         ensures { result ≡ mark_at self.now id }
     {
-        if id > self.top {
+        if id > self.top || !has_place(id) {
             return 0;
         }
         self.get_with_call(id)

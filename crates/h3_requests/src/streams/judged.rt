@@ -42,10 +42,10 @@ impl RequestStreams {
         if let Some(refusal) = later {
             return Err(refusal);
         }
+        let class = stream.class_if(self.ready.has_classes());
         let Ok(frame) = stream.outgoing.reserve() else {
             return Err(Refusal::OutOfMemory);
         };
-        let class = stream.class();
         let Ok(()) = self.ready.reserve_both(class, id) else {
             return Err(Refusal::OutOfMemory);
         };
@@ -112,7 +112,7 @@ impl RequestStreams {
         if !body.has_remaining() {
             return Ok(());
         }
-        let class = stream.class();
+        let class = stream.class_if(self.ready.has_classes());
         let Ok(()) = self.ready.reserve(class, id) else {
             return Err((Refusal::OutOfMemory, body));
         };
@@ -143,7 +143,7 @@ impl RequestStreams {
         if len == 0 {
             return Ok(());
         }
-        let class = stream.class();
+        let class = stream.class_if(self.ready.has_classes());
         let Ok(()) = self.ready.reserve(class, id) else {
             return Err(Refusal::OutOfMemory);
         };
@@ -173,7 +173,7 @@ impl RequestStreams {
         if !stream.outgoing.content().may_end() {
             return Err(Refusal::Malformed(Malformation::ContentLength));
         }
-        let class = stream.class();
+        let class = stream.class_if(self.ready.has_classes());
         stream.outgoing.finish();
         let ends = stream.outgoing.end_waits();
         let is_over = stream.is_over();

@@ -32,7 +32,7 @@ impl RequestStreams {
         let Some(stream) = self.streams.get_mut(id) else {
             return Err(section);
         };
-        let class = stream.class();
+        let class = stream.class_if(self.ready.has_classes());
         let Ok(()) = self.ready.reserve_both(class, id) else {
             return Err(section);
         };
@@ -87,7 +87,7 @@ impl RequestStreams {
             self.ready.settle_end(class, id, false);
             return true;
         };
-        let class = stream.class();
+        let class = stream.class_if(self.ready.has_classes());
         if !stream.outgoing.take_end() {
             return false;
         }

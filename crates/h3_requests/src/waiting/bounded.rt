@@ -46,6 +46,17 @@ impl BoundedWords {
         self.words.get(number)
     }
 
+    /// On which streams of the word of a number something waits. (The bounds are asked first: mostly nothing waits.)
+    #[inline(always)]
+    pub(crate) fn waiting_in(&self, number: u64) -> u64
+        ensures { result ≡ (word_at self.now number).waiting }
+    {
+        if number < self.bounds.lowest || number > self.bounds.highest {
+            return 0;
+        }
+        self.words.get(number).waiting
+    }
+
     /// The word of a number, if it stands in the row. It is found with no search.
     #[inline(always)]
     pub(crate) fn near(&self, number: u64) -> Option<Word>

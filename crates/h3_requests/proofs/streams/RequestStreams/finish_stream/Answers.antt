@@ -1,7 +1,7 @@
 -- The stream waits for as much as before, and its end waits.
-use Rattle.std.proofs.Common.{ap, refl, rules, ◌∙◌}
+use Rattle.std.proofs.Common.{ap, refl, rules, ◌∙◌, sym}
 use Rattle.h3_connection.specs.State.{RequestState}
-use Rattle.h3_requests.proofs.Sendable.{class_place, ended, moved, written}
+use Rattle.h3_requests.proofs.Sendable.{class_place, ended, moved, of_plain, written}
 use Rattle.h3_requests.proofs.streams.RequestStreams.finish_stream.Goals as goal
 
 pub invariant_of-self-then-not-takes_end : goal.invariant_of-self-then-not-takes_end
@@ -18,3 +18,7 @@ invariant_of-self-2 c = moved c.retire_if.ensures
 -- a stream that may be finished has a place
 pub settle_end-requires-clause-place : goal.settle_end-requires-clause-place
 settle_end-requires-clause-place c = λ ends. class_place c.self.invariant _ c.args.id c.in-Some.stream.now (search rules) (search rules) (search rules)
+
+-- while all streams are of one class it is of that
+pub class_if-class-requires : goal.class_if-class-requires
+class_if-class-requires c = λ none. of_plain {s = c.self.inside.ready} c.args.id c.in-Some.stream.now c.self.invariant (search rules) (sym c.has_classes.ensures ∙ none)

@@ -1,6 +1,6 @@
 -- The stream waits for as much as before, and room alone is taken.
-use Rattle.std.proofs.Common.{rules}
-use Rattle.h3_requests.proofs.Sendable.{both_kept, written}
+use Rattle.std.proofs.Common.{rules, sym, ◌∙◌}
+use Rattle.h3_requests.proofs.Sendable.{both_kept, of_plain, written}
 use Rattle.h3_requests.proofs.streams.RequestStreams.reserve_head.Goals as goal
 
 pub invariant_of-self-then-not-takes_head : goal.invariant_of-self-then-not-takes_head
@@ -17,3 +17,7 @@ invariant_of-self-in_default-reserve_both c = both_kept {s = c.self.inside.ready
 
 pub invariant_of-self-2 : goal.invariant_of-self-2
 invariant_of-self-2 c = both_kept {s = c.self.inside.ready} {t = c.reserve_both.new.self} c.reserve_both.ensures.same c.reserve_both.ensures.ending c.reserve_both.ensures.places c.reserve_both.ensures.classes (written _ _ _ _ c.args.id c.in-Some.stream.now _ (c.get_mut.follows.holds _) (search rules) (search rules) (search rules) c.self.invariant)
+
+-- while all streams are of one class it is of that
+pub class_if-class-requires : goal.class_if-class-requires
+class_if-class-requires c = λ none. of_plain {s = c.self.inside.ready} c.args.id c.in-Some.stream.now c.self.invariant (search rules) (sym c.has_classes.ensures ∙ none)

@@ -8,7 +8,7 @@ use Rattle.h3_requests.specs.HasBytes.{gives_end, has_end}
 use Rattle.h3_requests.specs.Over.{IsOver, with_end_taken}
 use Rattle.h3_requests.specs.Stored.{over_at, streams_in}
 use Rattle.h3_requests.specs.Listed.{either}
-use Rattle.h3_requests.proofs.Sendable.{end_gone, over_gives, over_gone, written}
+use Rattle.h3_requests.proofs.Sendable.{end_gone, of_plain, over_gives, over_gone, written}
 use Rattle.h3_requests.proofs.streams.RequestStreams.take_end.Goals as goal
 
 pub invariant_of-self-in_default : goal.invariant_of-self-in_default
@@ -38,3 +38,7 @@ pub invariant_of-self-2 : goal.invariant_of-self-2
 invariant_of-self-2 c =
     end_gone _ _ _ _ _ _ c.args.id c.in-Some.stream.now (record { incoming = c.stream.inside.incoming; outgoing = c.take_end-2.new.self }) (c.get_mut.follows.holds _) (search rules) (ap (λ (r : RequestState). r.incoming.waits_for) c.stream.view_is)
     (search rules) (search rules) (search rules) c.settle_end-2.ensures.bytes c.settle_end-2.ensures.end c.settle_end-2.ensures.places c.settle_end-2.ensures.classes c.self.invariant
+
+-- while all streams are of one class it is of that
+pub class_if-class-requires : goal.class_if-class-requires
+class_if-class-requires c = λ none. of_plain {s = c.self.inside.ready} c.args.id c.in-Some.stream.now c.self.invariant (search rules) (sym c.has_classes.ensures ∙ none)
