@@ -1,7 +1,8 @@
 #!/usr/bin/env bash
 # Does each crate cite of another crate only what stands in its specs/ and its public functions, never its proofs/? One line
 # 'ok CRATE' or 'failed CRATE' a crate, and the lines that cite another crate's proofs. And does each file that an import names
-# have the names that it takes (scripts/gate/imports.py); is crates.txt in order, with no name that is not used (scripts/gate/crates.py)?
+# have the names that it takes (scripts/gate/imports.py); does something need each definition and lemma (scripts/gate/reached.py); is
+# crates.txt in order, with no name that is not used (scripts/gate/crates.py)?
 set -uo pipefail
 export LC_ALL=C
 cd "$(dirname "$0")/../.."
@@ -26,5 +27,6 @@ for crate in $crates; do
   fi
 done
 python3 scripts/gate/imports.py || bad=1
+python3 scripts/gate/reached.py || bad=1
 python3 scripts/gate/crates.py || bad=1
 exit "$bad"

@@ -31,11 +31,6 @@ at_above n k f less = rw (lt-ltb n k less) refl
 at_below : (n k : ℕ) (f : ℕ → ℕ) → k ≤ n → where_above n f k ≡ 0
 at_below n k f more = rw (le-ltb n k more) refl
 
--- the same function has the same sum,
-pub same_above : (n : ℕ) (f g : ℕ → ℕ) → ((k : ℕ) → g k ≡ f k) → sum_above n g ≡ sum_above n f
-unfolding sum_above
-same_above n f g same = same_in (where_above n f) (where_above n g) 0 (2 ^ 64) (λ k le lt. ap (λ m. if nat_lt n k then m else 0) (same k))
-
 -- and one that differs at one number another one
 one_above : (n id : ℕ) (f g : ℕ → ℕ) → id < 2 ^ 64 → ((k : ℕ) → k ≢ id → g k ≡ f k) → sum_above n g + where_above n f id ≡ sum_above n f + where_above n g id
 unfolding sum_above

@@ -134,7 +134,8 @@ impl Blocked {
         requires sound { IsSound self.old }
         requires few { self.old.total < 2 ^ 62 }
         requires some { 0 < count }
-        ensures placed { OnOk result ((n : ℕ) → sum_above n (number_at self.new) ≡ sum_above n (number_at self.old) + one_if (nat_lt n count)) }
+        ensures placed { OnOk result
+            ((n : ℕ) → sum_above n (number_at self.new) ≡ sum_above n (number_at self.old) + one_if (nat_lt n count)) }
         ensures err { OnErr result (SameCounts self.old self.new) }
         ensures newest { self.new.newest ≡ self.old.newest }
         ensures sound { IsSound self.new }

@@ -4,7 +4,7 @@ use Rattle.std.specs.Prelude.{min, slice_get, Some}
 use Rattle.std.specs.List.{list_all}
 use Rattle.std.proofs.Math.ListN.{set}
 use Rattle.std.proofs.lemmas.Bool.{lt-ltb}
-use Rattle.std.proofs.lemmas.List.{append_assoc, drop_all, drop_more, drop-set-lt, length-set, take_more_set}
+use Rattle.std.proofs.lemmas.List.{append_assoc, drop_more, drop-set-lt, length-set, take_more_set}
 use Rattle.std.proofs.lemmas.Option.{get_or_from_slice_get}
 use Rattle.std.proofs.lemmas.Grind.{drop_more_same}
 use Rattle.h3_field.specs.Field.{Field}
@@ -76,9 +76,6 @@ pub short_fails : (fields : List Field) (i : ℕ) (f : Field) (all : Bool) → i
 short_fails fields i f all inside is long before =
     sym (ap (λ b. b && list_all is_short (drop (i + 1) fields)) long) ∙ sym (ap (list_all is_short) (field_first fields i f inside is)) ∙ before
 
-pub short_whole : (fields : List Field) (i : ℕ) (all : Bool) → length fields ≤ i → list_all is_short (drop i fields) ≡ all → true ≡ all
-short_whole fields i all past before = sym (ap (list_all is_short) (drop_all i fields past)) ∙ before
-
 pub is_first_short : (fields : List Field) (i : ℕ) (f : Field) → i < length fields → slice_get fields i ≡ Some f → list_all is_short (drop i fields) ≡ true → (is_short f ≡ true) × (list_all is_short (drop (i + 1) fields) ≡ true)
 is_first_short fields i f inside is all = both (is_short f) (list_all is_short (drop (i + 1) fields)) (sym (ap (list_all is_short) (field_first fields i f inside is)) ∙ all)
   where
@@ -106,10 +103,3 @@ short_within fields len few small = short_row fields (by (length (row_of fields)
         let size : length (row_of (f ∷ fields)) ≡ length f.name + (length f.value + length (row_of fields)) =
         length-append f.name (f.value ++ row_of fields) ∙ ap (λ n. length f.name + n) (length-append f.value (row_of fields)) in
         both _ _ _ (lt-ltb (length f.name) (2 ^ 32) (omega (arith, size, h))) (lt-ltb (length f.value) (2 ^ 32) (omega (arith, size, h))) (short_row fields (omega (arith, size, h)))
-
--- Of a row of so many bytes none was cut off in counting.
-pub row_is : (fields : List Field) (room : ℕ) → room < 2 ^ 64 - 1 → row_len fields ≤ room → length (row_of fields) ≤ room
-row_is fields room small few = by (length (row_of fields)) room (2 ^ 64 - 1) small few
-  where
-    by : (n room most : ℕ) → room < most → min n most ≤ room → n ≤ room
-    by n room most small few = omega (arith, small, few)

@@ -1,8 +1,7 @@
 -- Heads: how long the bytes of one are that is not whole, and a round of the loop over them.
-use Rattle.std.proofs.Common.{◌≡◌, ℕ, ◌+◌, ◌<◌, ◌≤◌, List, [], ◌∷◌, ◌++◌, length, drop, get_or, Some, None, ap, ◌∙◌, sym, arith, lit≤, length-append, add_comm, zero-add}
+use Rattle.std.proofs.Common.{◌≡◌, ℕ, ◌+◌, ◌<◌, ◌≤◌, List, [], ◌∷◌, ◌++◌, length, drop, get_or, Some, None, ap, ◌∙◌, sym, arith, lit≤, add_comm, zero-add}
 use Rattle.std.proofs.lemmas.List.{drop_more, drop_all}
 use Rattle.h3_coding.specs.Encodings.{IsEncoding, one, two, four, eight}
-use Rattle.h3_coding.specs.Reading.{Takes}
 use Rattle.h3_capsule.specs.declared.capsule.Capsule.TheVariants.{Head, Pending}
 use Rattle.h3_capsule.specs.Capsule.{Answer, head_of, in_value, in_head, one_more}
 use Rattle.h3_capsule.specs.Capsule.Place.{InHead}
@@ -12,10 +11,6 @@ most v octets (one f) = rw f.count (lit≤ tt)
 most v octets (two f) = rw f.count (lit≤ tt)
 most v octets (four f) = rw f.count (lit≤ tt)
 most v octets (eight f) = rw f.count (lit≤ tt)
-
--- a number that was read took at most eight bytes
-pub taken : (v : ℕ) (bytes rest : List ℕ) → Takes (IsEncoding v) bytes rest → length bytes ≤ length rest + 8
-taken v bytes rest t = omega (arith, most v t.octets t.is_encoding, ap length t.parts, length-append t.octets rest)
 
 -- so many bytes were taken before
 abbrev pub later : ℕ → Answer → Answer

@@ -1,7 +1,7 @@
 //! The lines of what a pull delivers: bytes that are no letters are written as escapes, so that no two items have one line.
 use crate::case::Told;
 use h3_connection::event::{Item, Pull};
-use h3_field::HeaderField;
+use h3_field::{Fields, HeaderField};
 use h3_header::Header;
 use h3_script::text::FaultText;
 use h3_session::{FieldsItem, FieldsPull};
@@ -52,10 +52,10 @@ fn tell_list_pull(told: &mut Told, pull: &FieldsPull) {
 
 fn tell_list_item(told: &mut Told, item: &FieldsItem) {
     match item {
-        FieldsItem::Interim(list) => tell_list(told, "interim", list.fields()),
-        FieldsItem::Head(list) => tell_list(told, "head", list.fields()),
+        FieldsItem::Interim(list) => tell_list(told, "interim", &list.fields()),
+        FieldsItem::Head(list) => tell_list(told, "head", &list.fields()),
         FieldsItem::Body(bytes) => escaped(told, "body ", bytes.as_slice()),
-        FieldsItem::Trailer(list) => tell_list(told, "trailer", list.fields()),
+        FieldsItem::Trailer(list) => tell_list(told, "trailer", &list.fields()),
         FieldsItem::TooLarge(size) => {
             told.say("too large");
             told.then_show(*size);
@@ -70,9 +70,10 @@ fn tell_list_item(told: &mut Told, item: &FieldsItem) {
 }
 
 /// The name, and the fields after it. A value of more than 100 bytes that are all the same is one of them, and their count.
-fn tell_list(told: &mut Told, name: &str, fields: &[HeaderField]) {
+fn tell_list(told: &mut Told, name: &str, fields: &Fields<'_>) {
     told.say(name);
-    for field in fields {
+    for place in 0..fields.len() {
+        let field = fields.get(place);
         escaped(told, " ", field.name());
         match repeated(field.value()) {
             Some(byte) => {

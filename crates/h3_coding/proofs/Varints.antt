@@ -1,6 +1,5 @@
 -- What a read finds at the front of bytes, and what it does not.
-use Rattle.std.proofs.Common.{◌≡◌, ℕ, ◌+◌, ◌-◌, ◌/◌, ◌^◌, ◌<◌, ◌≤◌, List, [], ◌∷◌, ◌++◌, length, take, drop, arith, lit<, sym, ◌∙◌, ap, ap₂, refl, subst, zero, suc, length-append, length-take, inl, inr, Some, None, Result, Ok, Err, IfOk, IfErr}
-use Rattle.std.proofs.lemmas.List.{take-append-drop}
+use Rattle.std.proofs.Common.{◌≡◌, ℕ, ◌+◌, ◌-◌, ◌/◌, ◌^◌, ◌<◌, ◌≤◌, List, [], ◌∷◌, ◌++◌, length, take, drop, arith, lit<, sym, ◌∙◌, ap, ap₂, refl, subst, zero, suc, length-take, inl, inr, Some, None, Result, Ok, Err}
 use Rattle.std.proofs.Math.Seq.{take-append-add, drop-append-add}
 use Rattle.std.proofs.lemmas.Nat.{pow_pos}
 use Rattle.std.proofs.Math.Nat.{pow-le-pow_right}
@@ -11,8 +10,7 @@ use Rattle.h3_coding.specs.Encodings.{IsEncoding, IsUnfinished, empty, short}
 use Rattle.h3_coding.specs.Reading.{Takes}
 use Rattle.h3_coding.specs.Varint.{varint_at, ReadsVarint}
 use Rattle.h3_coding.specs.declared.coding.UnexpectedEnd.{UnexpectedEnd}
-use Rattle.h3_coding.specs.Begins.{Begins}
-use Rattle.h3_coding.specs.VarintLaws.{enough, fewer, none_at_end, reads_encoding, cases_number, begins, of_front, reads_more, used}
+use Rattle.h3_coding.specs.VarintLaws.{enough, fewer, none_at_end, reads_encoding, begins, of_front, used}
 
 pub reads_taken : (v : ℕ) (old new : List ℕ) → Takes (IsEncoding v) old new → varint_at old ≡ Some (v, new)
 reads_taken v old new t = ap varint_at t.parts ∙ reads_encoding v t.octets new t.is_encoding
@@ -29,10 +27,6 @@ unfinished_at first count bytes rest byte e none k = elim (cases_lt (length rest
   | inl few ↦ let power = pow_pos (first / 64) in short first byte e k (rw k (omega (arith, few, power, ap length e)))
   | inr h ↦ let there = enough first rest h in let same = ap varint_at e in absurd (cc)
 ]
-
-pub reads_varint : (r : Result ℕ UnexpectedEnd) (old new : List ℕ) → IfOk r (λ v. Takes (IsEncoding v) old new) → IfErr r (λ e. IsUnfinished old e.0 new) → ReadsVarint r old new
-reads_varint (Ok v) old new ok err = reads_taken v old new ok
-reads_varint (Err e) old new ok err = reads_none old new e.0 err
 
 -- bytes without a number are fewer than 8
 pub few_unfinished : (old left : List ℕ) (count : ℕ) → IsUnfinished old count left → length old < 8
@@ -54,17 +48,6 @@ within v n left bytes rest e count =
     let front : take n bytes ≡ octets ++ take left rest = ap₂ (λ k l. take k l) sum parts ∙ take-append-add octets rest left in
     let back : drop n bytes ≡ drop left rest = ap₂ (λ k l. drop k l) sum parts ∙ drop-append-add octets rest left in
     (ap varint_at front ∙ of_front v b.first b.more (take left rest) b.asked b.value, back)
-
--- what is read in the first n bytes is read in all
-pub beyond : (v n : ℕ) (bytes rest : List ℕ) → varint_at (take n bytes) ≡ Some (v, rest) → varint_at bytes ≡ Some (v, rest ++ drop n bytes)
-beyond v n bytes rest e = ap varint_at (sym (take-append-drop n bytes)) ∙ reads_more v (take n bytes) rest (drop n bytes) e
-
--- no number in all, none in a front
-pub none_within : (n : ℕ) (bytes : List ℕ) → varint_at bytes ≡ None → varint_at (take n bytes) ≡ None
-none_within n bytes e = elim (cases_number (take n bytes)) [
-  | inl none ↦ none
-  | inr some ↦ let there = beyond some.0 n bytes some.1 some.2 in absurd (cc)
-]
 
 -- a list with a front that is not empty, by its first byte
 pub first_of : (chunk all : List ℕ) → IsChunkOf chunk all → 0 < length chunk → all ≡ slice_index chunk 0 ∷ drop 1 all

@@ -118,10 +118,6 @@ ended_good t f coming h = record { encoder = h.encoder; untold = λ fresh front 
 abbrev Agrees : (ℕ → Bool) → Side → (ℕ → Front) → List Call → Type 0
 Agrees T side fronts cs = (q : ℕ) → any_peer side q ≡ true → Good (T q) (fronts q) (brought_on q cs)
 
-pick : (T : ℕ → Bool) (side : Side) (b : Bool) (x y : Sight) (cs : List Call) → (b ≡ true → Agrees T side x.fronts cs) → (b ≡ false → Agrees T side y.fronts cs) → Agrees T side (if b then x else y).fronts cs
-pick T side true x y cs h k = h refl
-pick T side false x y cs h k = k refl
-
 unless_same : (T : ℕ → Bool) (side : Side) (r : Option Refusal) (s t : Sight) (cs : List Call) → Agrees T side s.fronts cs → Agrees T side t.fronts cs → Agrees T side (unless_refused r s t).1.fronts cs
 unless_same T side (Some r) s t cs h k = h
 unless_same T side None s t cs h k = k

@@ -34,9 +34,6 @@ by_tests g a missing bad =
     if missing then (holding g a, Some missing_settings)
     else (if bad then (record (holding g a) { peer = settings_alone (holding g a).peer (found_of g a).0.settings }, Some settings_error) else read_frames g a)
 
-read_is : (g : EndpointHistory) (a : List ℕ) → read_control g a ≡ by_tests g a (misses g a) (refuses g a)
-read_is g a = refl
-
 -- where both pass, its frames are read
 pub as_frames : (g : EndpointHistory) (a : List ℕ) → misses g a ≡ false → refuses g a ≡ false → read_control g a ≡ read_frames g a
 as_frames g a first taken = ap (λ m. by_tests g a m (refuses g a)) first ∙ ap (by_tests g a false) taken

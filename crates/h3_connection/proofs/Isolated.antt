@@ -191,9 +191,6 @@ keeps_rest answer.Pending e = (refl, refl, refl)
 keeps_rest (answer.Waiting n) e = (refl, refl, refl)
 keeps_rest answer.NoMessages e = (refl, refl, refl)
 
-was_pulled_is : (p : Pull × EndpointHistory) → was_pulled p ≡ (WasPulled p.0, p.1)
-was_pulled_is (given, e) = refl
-
 -- a pull of the stream itself
 pull_here : (T : ℕ → Bool) (id : ℕ) (e : EndpointHistory) (s : Sight) (at : Option Incoming) → Before T id e s → s.incoming ≡ at
     → (pull_request e id at).1.closed ≡ None

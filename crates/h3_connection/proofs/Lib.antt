@@ -6,7 +6,6 @@ pub mod Isolated
 pub mod Fronts
 pub mod Brought
 pub mod UpToFault
-pub mod Distinct
 pub mod PullBounds
 pub mod WaitingCounts
 pub mod ReadingStays

@@ -13,7 +13,7 @@ use Rattle.h3_connection.specs.Unidirectional.Role.{Untold, Control, Encoder, De
 use Rattle.h3_connection.specs.Endpoint.{EndpointHistory, Kind, kind_of}
 use Rattle.h3_connection.specs.Endpoint.Kind.{Request, ServerOpened, OwnUnidirectional, PeerUnidirectional}
 use Rattle.h3_connection.specs.Control.{Found, read_control, read_encoder, read_decoder}
-use Rattle.h3_connection.specs.Delivering.{opened_at, opened, taken, closed_by, heard_as, unless_second, read_unidirectional, unidirectional_at, with_unidirectional, bytes_at, end_at, reset_at}
+use Rattle.h3_connection.specs.Delivering.{opened_at, opened, taken, heard_as, unless_second, read_unidirectional, unidirectional_at, with_unidirectional, bytes_at, end_at, reset_at}
 use Rattle.h3_connection.specs.Sending.{does, after_answer, pull_at, pull_unless, pull_request, pull_peer, advance_at, sent_bytes, counted}
 use Rattle.h3_connection.specs.CallLists.{Call, Result, called, done, was_pulled}
 use Rattle.h3_connection.specs.EndsWaiting.{end_taken_at, end_taken_if}
@@ -50,10 +50,6 @@ hearing e id Ignored bytes = itself e
 
 unidirectional : (e : EndpointHistory) (id : ℕ) (o : Unidirectional) (heard : Role × List ℕ) → SameSetup e (read_unidirectional e id o heard).0
 unidirectional e id o (role, bytes) = let h = hearing (with_unidirectional e id (with_bytes o (role, bytes))) id role bytes in record { side = h.side; announced = h.announced }
-
-closes : (e : EndpointHistory) (found : Found) → SameSetup e found.0 → SameSetup e (closed_by found).1
-closes e (f, None) h = h
-closes e (f, Some code) h = record { side = h.side; announced = h.announced }
 
 does_all : (r : Option Refusal) (e f : EndpointHistory) (success : Result) → SameSetup e f → SameSetup e (done success (does r e f)).1
 does_all (Some r) e f success h = itself e

@@ -9,7 +9,7 @@ use Rattle.h3_connection.specs.Unidirectional.{Unidirectional, Role, untold, wit
 use Rattle.h3_connection.specs.Unidirectional.Role.{Untold, Control, Encoder, Decoder, Session, Push, Ignored}
 use Rattle.h3_connection.specs.Endpoint.{EndpointHistory, limit_of, is_second}
 use Rattle.h3_connection.specs.Control.{Found, read_encoder, read_decoder, read_control}
-use Rattle.h3_connection.specs.Delivering.{incoming_at, opened_at, opened, taken, only_one, unless_second, heard_as, closed_by, request_refusal}
+use Rattle.h3_connection.specs.Delivering.{incoming_at, opened_at, opened, taken, only_one, unless_second, heard_as, request_refusal}
 use Rattle.h3_connection.specs.Sending.{does}
 use Rattle.h3_connection.specs.CallLists.{Call, Result, done}
 use Rattle.h3_connection.specs.CallLists.Result.{Done}
@@ -157,12 +157,3 @@ role_of_bytes o (Decoder, bytes) = refl
 role_of_bytes o (Session id, bytes) = refl
 role_of_bytes o (Push id, bytes) = refl
 role_of_bytes o (Ignored, bytes) = refl
-
--- an end that goes on has found no fault
-pub open_after : (found : Found) → (closed_by found).1.closed ≡ None → found.1 ≡ None
-open_after (e, None) p = refl
-open_after (e, Some code) p = cc
-
-closed_by_none : (found : Found) → found.1 ≡ None → (closed_by found).1 ≡ found.0
-closed_by_none (e, None) p = refl
-closed_by_none (e, Some code) p = cc

@@ -1,5 +1,5 @@
 -- How many streams wait, when one of them changes or insertions come.
-use Rattle.std.proofs.Common.{arith, ◌≡◌, ◌≤◌, ℕ, ◌+◌, Bool, true, false, [], ◌∷◌, refl, ap, inl, inr}
+use Rattle.std.proofs.Common.{arith, ◌≡◌, ◌≤◌, ℕ, ◌+◌, Bool, true, false, [], ◌∷◌, ap, inl, inr}
 use Rattle.std.specs.Prelude.{Option, Some, None, if◌then◌else◌, ◌==◌, nat_lt, count_by}
 use Rattle.std.proofs.lemmas.List.Sums.{sum_by-cons}
 use Rattle.std.proofs.lemmas.Grind.{common_steps}
@@ -26,9 +26,6 @@ one_less n m a b h k = elim (cases_lt n a) [
 abbrev pub waits_at : Option Incoming → ℕ
 waits_at None = 0
 waits_at (Some i) = i.waits_for
-
-at_first : (q id : ℕ) (y : Incoming) (streams : Streams Incoming) → q ≡ id → stream_at ((q, y) ∷ streams) id ≡ Some y
-at_first q id y streams same = let h : (q == id) ≡ true = grind (arith, common_steps) in rw h refl
 
 -- a stream that waits for no more than it did: no more streams wait
 pub count_set : (n : ℕ) (streams : Streams Incoming) (id : ℕ) (i : Incoming) → i.waits_for ≤ waits_at (stream_at streams id) → waiting_above n (set_stream streams id i) ≤ waiting_above n streams

@@ -44,15 +44,6 @@ announced_as settings limits choices a e = by_tests (nat_le (2 ^ 30) limits.tabl
         let made = not_below (announcing pairs limits choices) a beside.0 in
         record { pairs = pairs; is = is; table = k; blocked = l; announced = sym made.0; within = subst (λ x. is_below_announced x ≡ false) made.0 made.1; beside = subst (λ x. announces_alone x ≡ false) made.0 beside.1 }
 
-pub announces : (settings : Result (List (ℕ × ℕ)) SettingsError) (limits : Limits) (choices : Choices) (pairs : List (ℕ × ℕ)) → settings ≡ Ok pairs → nat_le (2 ^ 30) limits.table ≡ false → nat_lt 65535 limits.blocked ≡ false
-    → announces_alone (announcing pairs limits choices) ≡ false → is_below_announced (announcing pairs limits choices) ≡ false → announced_by settings limits choices ≡ Ok (announcing pairs limits choices)
-announces settings limits choices pairs is table blocked beside within =
-    ap (λ b. if b then Err TableLimit else (if nat_lt 65535 limits.blocked then Err BlockedLimit else with_limits settings limits choices)) table
-    ∙ ap (λ b. if b then Err BlockedLimit else with_limits settings limits choices) blocked
-    ∙ ap (λ r. with_limits r limits choices) is
-    ∙ ap (λ b. if b then Err (Settings (InvalidSettingValue 0x2b603742 1)) else unless_below (announcing pairs limits choices)) beside
-    ∙ ap (λ b. if b then Err UnfinishedLimit else Ok (announcing pairs limits choices)) within
-
 -- **A limit takes whatever a peer sends that keeps to what is announced**: a list of the greatest size and an instruction for the whole table in up to
 -- four bytes for each of their bytes, and whatever has 256 bytes.
 pub limit_takes_announced : (a : Announced) → is_limit a.choices.unfinished_limit ≡ true → is_below_announced a ≡ false

@@ -1,5 +1,5 @@
 -- What holds of instructions that are longer than their reader takes.
-use Rattle.std.proofs.Common.{◌≡◌, ℕ, zero, suc, ◌+◌, ◌-◌, ◌≤◌, ◌<◌, Bool, true, false, ◌&&◌, nat_lt, List, [], ◌∷◌, ◌++◌, length, take, refl, ap, sym, ◌∙◌, arith, inl, inr}
+use Rattle.std.proofs.Common.{◌≡◌, ℕ, zero, suc, ◌+◌, ◌-◌, ◌≤◌, Bool, true, false, ◌&&◌, nat_lt, List, [], ◌∷◌, ◌++◌, length, take, refl, ap, sym, ◌∙◌, arith, inl, inr}
 use Rattle.std.proofs.lemmas.Bool.{and_parts, and_right, cases_lt, lt-ltb, le-ltb}
 use Rattle.std.proofs.lemmas.List.{take_all, take-append-le}
 use Rattle.h3_field.specs.InstructionLaws.{instruction_stable, decoder_instruction_stable}
@@ -47,15 +47,6 @@ nothing_missing (wait.Bytes count) e =
       | inr none ↦ let zero_more : count ≡ 0 = omega (arith, none) in zero_more
     ]
 
-something_missing : (w : Wait) → goes_on w ≡ true → 0 < missing w
-something_missing wait.Nothing e = absurd (cc)
-something_missing wait.Integer e = let one : 0 < 1 = omega arith in one
-something_missing (wait.Bytes count) e =
-    elim (cases_lt 0 count) [
-      | inl some ↦ some
-      | inr none ↦ let wrong : true ≡ false = sym e ∙ le-ltb 0 count none in absurd (cc)
-    ]
-
 -- Where the bytes are no more than the limit, an instruction that exceeds it is not whole.
 exceeding_waits : (most : ℕ) (waiting : List ℕ → Wait) (bytes : List ℕ) → length bytes ≤ most → exceeds most waiting bytes ≡ true → goes_on (waiting bytes) ≡ true
 exceeding_waits most waiting [] few e = absurd (cc)
@@ -74,14 +65,6 @@ exceeds_unfinished most bytes few e = unfinished_is (instruction bytes) (sym (en
 
 pub decoder_exceeds_unfinished : (most : ℕ) (bytes : List ℕ) → length bytes ≤ most → exceeds most decoder_wait bytes ≡ true → decoder_instruction bytes ≡ Unfinished
 decoder_exceeds_unfinished most bytes few e = unfinished_is (decoder_instruction bytes) (sym (decoder_waits bytes) ∙ exceeding_waits most decoder_wait bytes few e)
-
--- As many bytes as the limit allows, with no whole instruction at the front, tell that it is longer.
-pub exceeds_full : (most : ℕ) (waiting : List ℕ → Wait) (first : ℕ) (rest : List ℕ) → is_limit most ≡ true → length (first ∷ rest) ≡ most → goes_on (waiting (first ∷ rest)) ≡ true
-    → exceeds most waiting (first ∷ rest) ≡ true
-exceeds_full most waiting first rest limit full waits =
-    exceeds_short most waiting first rest (omega (arith, full))
-    ∙ ap (λ b. b && nat_lt most (length (first ∷ rest) + missing (waiting (first ∷ rest)))) limit
-    ∙ lt-ltb most (length (first ∷ rest) + missing (waiting (first ∷ rest))) (omega (arith, full, something_missing (waiting (first ∷ rest)) waits))
 
 -- What is told to be longer stays so, whatever comes behind; and so does an instruction that is whole or bad within the limit.
 pub taken_more : (most : ℕ) (bytes more : List ℕ) → length bytes ≤ most → take most (bytes ++ more) ≡ bytes ++ take (most - length bytes) more

@@ -29,9 +29,6 @@ pub record Peer : Type 0 where
 abbrev pub none_read : ℕ → Peer
 none_read most = record { unread = []; settings = None; goaways = []; most_pushes = None; updates = no_updates most }
 
-abbrev pub nothing_read : Peer
-nothing_read = none_read 0
-
 -- the peer after its bytes were read, and the code of a connection fault
 abbrev pub PeerFound : Type 0
 PeerFound = Peer × Option ℕ

@@ -73,10 +73,6 @@ pub nothing_told : (strict : Bool) (code : ℕ) → stream_fault strict code Non
 nothing_told true code = refl
 nothing_told false code = refl
 
--- What is read of what is held, by the tests that come before the frames.
-pub held_missing : (e : EndpointHistory) → lacks_settings e ≡ true → read_held e ≡ (e, Some missing_settings)
-held_missing e lacks = ap (λ b. if b then (e, Some missing_settings) else after_peer e (read_peer (kinds_of e.announced) (limit_of e) e.side e.peer)) lacks
-
 pub held_refused : (e : EndpointHistory) → lacks_settings e ≡ false → are_refused e e.peer.settings (read_peer (kinds_of e.announced) (limit_of e) e.side e.peer).0.settings ≡ true
     → read_held e ≡ (record e { peer = settings_alone e.peer (read_peer (kinds_of e.announced) (limit_of e) e.side e.peer).0.settings }, Some settings_error)
 held_refused e first bad =

@@ -3,9 +3,6 @@ use Rattle.std.proofs.Common.{◌≡◌, ℕ, Bool, true, false, List, [], ◌�
 use Rattle.std.specs.Prelude.{not, ◌&&◌, ◌||◌, codes, option_map, if◌then◌else◌}
 use Rattle.std.specs.List.{list_any}
 use Rattle.h3_field.specs.Field.{Field}
-use Rattle.h3_header.specs.Head.{Head}
-use Rattle.h3_header.specs.HeadTests.{takes_protocol}
-use Rattle.h3_header.specs.TakenLaws.{takes_named}
 use Rattle.h3_messages.specs.Messages.{first_broken, violation_of_request, violation_of_response, violation_of_trailer, holds, pseudo_first, only_pseudo_of, request_names, repeats_pseudo, has_connection_field, is_te_wrong, is_length_wrong, is_protocol_wrong, is_connect, is_connect_wrong, misses_pseudo, is_scheme_wrong, is_authority_wrong, is_path_wrong, has_space_around}
 use Rattle.h3_messages.specs.OwnMessageLaws.{own_request_unbroken, own_response_unbroken, own_trailer_unbroken, own_answer_unbroken}
 use Rattle.h3_messages.specs.OwnMessages.{violation_of_own_request, violation_of_own_trailer, violation_of_own_answer}
@@ -19,7 +16,7 @@ use Rattle.h3_connection.specs.Refusals.{first_of, unless_going}
 use Rattle.h3_connection.specs.Sending.{closed_or, does}
 use Rattle.h3_connection.specs.Endpoint.{EndpointHistory}
 use Rattle.h3_connection.specs.StrictMessages.{broken_rule, malformation_by}
-use Rattle.h3_connection.specs.StrictSending.{broken_head, broken_protocol, broken_trailer, peer_connects, unless_malformed}
+use Rattle.h3_connection.specs.StrictSending.{broken_head, broken_trailer, peer_connects, unless_malformed}
 use Rattle.h3_connection.specs.declared.event.Malformation.{Malformation}
 use Rattle.h3_connection.specs.declared.event.Malformation.TheVariants as malformation
 use Rattle.h3_connection.specs.declared.event.Refusal.{Refusal}
@@ -107,12 +104,6 @@ passed false r rules e = e
 pub not_malformed : (broken : Option Malformation) (later : List (Bool × Refusal)) → first_of (unless_malformed broken later) ≡ None → broken ≡ None
 not_malformed None later e = refl
 not_malformed (Some why) later e = absurd (cc)
-
--- what stands behind it is left
--- a protocol that is one of the two names is never refused
-pub no_broken_protocol : (own : Announced) (head : Head) → takes_protocol false head.protocol ≡ true → broken_protocol own head ≡ None
-no_broken_protocol own head named =
-    ap (λ b. let rule : Option Malformation = if b then None else Some malformation.Value in rule) (takes_named own.choices.extensions.any_protocol head.protocol named)
 
 pub not_early : (early : Option Malformation) (later : List (Bool × Refusal)) → first_of (unless_malformed early later) ≡ None → first_of later ≡ None
 not_early None later e = e

@@ -1,8 +1,8 @@
 //! An exchange by lists of fields (RFC 9114, section 4.3): no header is made of a header section, at either end.
 use crate::endpoints::{Stop, carry, carry_own};
-use crate::log::{field, fields, words};
+use crate::log::{field, words};
 use h3_session::endpoint::Endpoint;
-use h3_session::{BlockPull, FieldsItem, FieldsPull, HeaderField, Plain, StreamId, Told};
+use h3_session::{BlockPull, Fields, FieldsItem, FieldsPull, HeaderField, Plain, StreamId, Told};
 use std::alloc::{AllocError, Global};
 
 /// A GET and its response. The server takes lists that it could keep; the client reads each list where it lies, in memory that serves again.
@@ -63,7 +63,7 @@ fn pull_lists(text: &mut String, endpoint: &mut Endpoint, id: StreamId) -> Resul
         match endpoint.pull_fields(id) {
             FieldsPull::Item(FieldsItem::Head(list)) => {
                 words(text, "server: a head")?;
-                fields(text, list.fields())?;
+                show(text, &list.fields())?;
             }
             FieldsPull::Item(FieldsItem::End) => return Ok(words(text, "server: the end")?),
             _ => return Ok(words(text, "server: nothing more")?),
@@ -94,11 +94,7 @@ fn is_read(text: &mut String, answer: &BlockPull) -> Result<bool, AllocError> {
     match answer.told() {
         Told::Message(_, _) => {
             words(text, "client: a head")?;
-            let list = answer.fields();
-            for place in 0..list.len() {
-                let lent = list.get(place);
-                field(text, lent.name(), lent.value())?;
-            }
+            show(text, &answer.fields())?;
             Ok(true)
         }
         Told::Plain(Plain::End) => {
@@ -110,4 +106,13 @@ fn is_read(text: &mut String, answer: &BlockPull) -> Result<bool, AllocError> {
             Ok(false)
         }
     }
+}
+
+/// A line for each field, which is lent from its place.
+fn show(text: &mut String, list: &Fields<'_>) -> Result<(), AllocError> {
+    for place in 0..list.len() {
+        let lent = list.get(place);
+        field(text, lent.name(), lent.value())?;
+    }
+    Ok(())
 }

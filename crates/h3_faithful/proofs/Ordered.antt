@@ -75,10 +75,6 @@ same_settings : (setup : Setup) (side : Side) → (announced_at (plain_setup set
 same_settings setup Client = refl
 same_settings setup Server = refl
 
-same_any : (setup : Setup) (side : Side) → takes_any (announced_at (plain_setup setup) side) ≡ takes_any (announced_at setup side)
-same_any setup Client = refl
-same_any setup Server = refl
-
 fits_known : (setup : Setup) (w : World) (side : Side) (fields : List Field) → takes_size setup side fields ≡ true → is_too_large (settings_known (plain_setup setup) w side) fields ≡ false
 fits_known setup w side fields fits = by_came (settings_came (plain_setup setup) w (other side))
   where

@@ -5,7 +5,7 @@ use Rattle.std.proofs.lemmas.List.{drop_more, drop_all}
 use Rattle.std.proofs.lemmas.Nat.{pow_pos, pow-add, shl_whole, and_mask, mul-add-lt}
 use Rattle.std.proofs.lemmas.Grind.{pow_more}
 use Rattle.std.proofs.Math.Nat.{pow-le-pow_right, le-mul_of_pos_right}
-use Rattle.h3_field.specs.Integer.{ones, groups, prefixed}
+use Rattle.h3_field.specs.Integer.{ones}
 use Rattle.h3_field.specs.Reading.{Whole, Unfinished, Bad, then_read}
 use Rattle.h3_field.specs.IntegerAnswer.{AnswersInteger}
 use Rattle.h3_field.specs.declared.prefix_int.Error.TheVariants.{Overflow, UnexpectedEnd}
@@ -38,11 +38,6 @@ group_last limit sum place bytes i h within last = rw (drop_more bytes i 0 h, lt
 
 pub group_more : (limit sum place : ℕ) (bytes : List ℕ) (i : ℕ) → i < length bytes → sum + get_or bytes i 0 % 128 * 128 ^ place < limit → 128 ≤ get_or bytes i 0 → groups_reading limit sum place (drop i bytes) ≡ groups_reading limit (sum + get_or bytes i 0 % 128 * 128 ^ place) (place + 1) (drop (i + 1) bytes)
 group_more limit sum place bytes i h within more = rw (drop_more bytes i 0 h, lt-leb limit (sum + get_or bytes i 0 % 128 * 128 ^ place) within, le-ltb (get_or bytes i 0) 128 more) refl
-
--- the first byte
-pub integer_low : (size : ℕ) (bytes : List ℕ) → 0 < length bytes → get_or bytes 0 0 % 2 ^ size < ones size → integer size bytes ≡ Whole (get_or bytes 0 0 / 2 ^ size, get_or bytes 0 0 % 2 ^ size) (drop 1 bytes)
-integer_low size [] h small = absurd (omega arith)
-integer_low size (first ∷ bytes) h small = rw (lt-ltb (first % 2 ^ size) (ones size) small) refl
 
 masked : (first size all : ℕ) → all ≡ ones size → bit_and first all ≡ first % 2 ^ size
 masked first size all e = rw e (and_mask first size)
@@ -122,9 +117,3 @@ top_fits size flags low h few le =
     let eight : size + (8 - size) ≡ 8 = omega arith in
     let all : 2 ^ size * 2 ^ (8 - size) ≡ 256 = sym power ∙ ap (λ k. 2 ^ k) eight in
     (whole, omega (arith, place, all))
-
-pub small_is : (size flags value : ℕ) → value < ones size → prefixed size flags value ≡ (flags * 2 ^ size + value) ∷ []
-small_is size flags value h = rw (lt-ltb value (ones size) h) refl
-
-pub large_is : (size flags value : ℕ) → ones size ≤ value → prefixed size flags value ≡ (flags * 2 ^ size + ones size) ∷ groups 9 (value - ones size)
-large_is size flags value h = rw (le-ltb value (ones size) h) refl

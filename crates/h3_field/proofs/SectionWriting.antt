@@ -1,9 +1,9 @@
 -- A field section in the midst of its writing.
-use Rattle.std.proofs.Common.{◌≡◌, ℕ, ◌+◌, ◌-◌, ◌^◌, ◌<◌, ◌≤◌, min, List, [], ◌∷◌, ◌++◌, length, take, drop, get_or, refl, ap, sym, ◌∙◌, arith, append_assoc, append-nil}
+use Rattle.std.proofs.Common.{◌≡◌, ℕ, ◌+◌, ◌-◌, ◌^◌, ◌<◌, min, List, [], ◌∷◌, ◌++◌, length, take, drop, get_or, refl, ap, sym, ◌∙◌, arith, append_assoc, append-nil}
 use Rattle.std.proofs.Common.{false, Some}
 use Rattle.std.specs.List.{slice_get}
 use Rattle.std.proofs.lemmas.Option.{get_or_from_slice_get, slice_get_within}
-use Rattle.std.proofs.lemmas.List.{take_more, take_all, take_at, take-append-drop}
+use Rattle.std.proofs.lemmas.List.{take_more, take_at, take-append-drop}
 use Rattle.std.proofs.lemmas.List.Concat.{flat_map-append}
 use Rattle.std.proofs.lemmas.List.Sums.{sum_by-append, sum_by-cons}
 use Rattle.h3_field.specs.Field.{Field, field_size, section_size}
@@ -25,9 +25,6 @@ pub record Put (start items : List ℕ) (fields : List Field) (index size : ℕ)
   pub items_are : items ≡ start ++ section_bytes (take index fields)
   pub size_is : size ≡ section_size (take index fields)
   pub bytes : AllByRecursion IsFieldOfBytes (take index fields)
-
-pub put_begin : (start items : List ℕ) (fields : List Field) → items ≡ start ++ 0 ∷ 0 ∷ [] → Put start items fields 0 0
-put_begin start items fields e = record { items_are = e; size_is = refl; bytes = tt }
 
 next_size : (fields : List Field) (i : ℕ) (f : Field) → i < length fields → f ≡ get_or fields i f → section_size (take (i + 1) fields) ≡ section_size (take i fields) + field_size f
 next_size fields i f lt is =
@@ -58,11 +55,6 @@ put_more start items new fields i size own next f p lt is below e own_is next_is
       size_is = omega (arith, next_is, exact, p.size_is, sum);
       bytes = rw (take_more fields i f lt, ← is) (all_more (take i fields) f p.bytes each);
     }
-
-pub put_all : (start items : List ℕ) (fields : List Field) (index size : ℕ) → Put start items fields index size → length fields ≤ index → (items ≡ start ++ section_bytes fields) × (size ≡ section_size fields) × AllByRecursion IsFieldOfBytes fields
-put_all start items fields index size p all =
-    let whole = take_all index fields all in
-    (rw whole at p.items_are, rw whole at p.size_is, rw whole at p.bytes)
 
 pub put_refused : (start items new : List ℕ) (fields : List Field) (index size : ℕ) → Put start items fields index size → new ≡ items → take (length start) new ≡ start
 put_refused start items new fields index size p e = rw (e, p.items_are) (take_at start (section_bytes (take index fields)) (length start) refl)

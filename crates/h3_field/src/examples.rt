@@ -73,12 +73,14 @@ pub fn never_indexed()
     ensures named_plain { line_bytes (static_line (plain_field (codes "authorization") (codes "a"))) ≡ 95 ∷ 69 ∷ 129 ∷ 31 ∷ [] }
     ensures named { line_bytes (static_line (flagged (plain_field (codes "authorization") (codes "a")) true)) ≡ 127 ∷ 69 ∷ 129 ∷ 31 ∷ [] }
     ensures literal_plain { line_bytes (static_line (plain_field (codes "x-a") (codes "1"))) ≡ 43 ∷ 242 ∷ 176 ∷ 255 ∷ 129 ∷ 15 ∷ [] }
-    ensures literal { line_bytes (static_line (flagged (plain_field (codes "x-a") (codes "1")) true)) ≡ 59 ∷ 242 ∷ 176 ∷ 255 ∷ 129 ∷ 15 ∷ [] }
+    ensures literal { line_bytes
+        (static_line (flagged (plain_field (codes "x-a") (codes "1")) true)) ≡ 59 ∷ 242 ∷ 176 ∷ 255 ∷ 129 ∷ 15 ∷ [] }
     ensures entry_plain { line_bytes (static_line (plain_field (codes ":path") (codes "/"))) ≡ 193 ∷ [] }
     ensures entry { line_bytes (static_line (flagged (plain_field (codes ":path") (codes "/")) true)) ≡ 113 ∷ 129 ∷ 99 ∷ [] }
     ensures post_base { line_bytes (PostBaseName 0 (huffman_text (codes "1")) true) ≡ 8 ∷ 129 ∷ 15 ∷ [] }
     ensures named_read { line (113 ∷ 1 ∷ 47 ∷ []) ≡ Whole (Named true 1 (record { is_huffman = false; bytes = 47 ∷ [] }) true) [] }
-    ensures literal_read { line (49 ∷ 97 ∷ 1 ∷ 98 ∷ []) ≡ Whole (LiteralField (record { is_huffman = false; bytes = 97 ∷ [] }) (record { is_huffman = false; bytes = 98 ∷ [] }) true) [] }
+    ensures literal_read { line (49 ∷ 97 ∷ 1 ∷ 98 ∷ []) ≡ Whole
+        (LiteralField (record { is_huffman = false; bytes = 97 ∷ [] }) (record { is_huffman = false; bytes = 98 ∷ [] }) true) [] }
     ensures post_base_read { line (8 ∷ 1 ∷ 97 ∷ []) ≡ Whole (PostBaseNamed 0 (record { is_huffman = false; bytes = 97 ∷ [] }) true) [] }
 {}
 
@@ -91,7 +93,8 @@ pub fn shortest_strings()
     ensures empty { encoder_bytes (InsertLiteral (coded true (codes "x-a")) (coded true [])) ≡ 67 ∷ 120 ∷ 45 ∷ 97 ∷ 0 ∷ [] }
     ensures off { line_bytes (StaticName 84 (coded false (codes "1")) false) ≡ 95 ∷ 69 ∷ 129 ∷ 15 ∷ [] }
     ensures off_longer { encoder_bytes (InsertWithStaticName 84 (coded false (249 ∷ []))) ≡ 255 ∷ 21 ∷ 132 ∷ 255 ∷ 255 ∷ 255 ∷ 239 ∷ [] }
-    ensures read { line (35 ∷ 120 ∷ 45 ∷ 97 ∷ 1 ∷ 49 ∷ []) ≡ Whole (LiteralField (payload_of (plain_text (codes "x-a"))) (payload_of (plain_text (codes "1"))) false) [] }
+    ensures read { line (35 ∷ 120 ∷ 45 ∷ 97 ∷ 1 ∷ 49 ∷ []) ≡ Whole
+        (LiteralField (payload_of (plain_text (codes "x-a"))) (payload_of (plain_text (codes "1"))) false) [] }
 {}
 
 /// Fields that name a secret: credentials, and cookies of fewer than 20 bytes. Names are compared whole.
@@ -103,7 +106,8 @@ pub fn secrets()
     ensures long_cookie { is_secret (plain_field (codes "cookie") (codes "id=12345678901234567")) ≡ false }
     ensures other_name { is_secret (plain_field (codes "x-authorization") (codes "a")) ≡ false }
     ensures upper_case { is_secret (plain_field (codes "Cookie") (codes "a")) ≡ false }
-    ensures guarded_cookie { guarded true (plain_field (codes "cookie") (codes "a")) ≡ flagged (plain_field (codes "cookie") (codes "a")) true }
+    ensures guarded_cookie { guarded true (plain_field (codes "cookie") (codes "a")) ≡ flagged
+        (plain_field (codes "cookie") (codes "a")) true }
     ensures not_guarded { guarded false (plain_field (codes "cookie") (codes "a")) ≡ plain_field (codes "cookie") (codes "a") }
 {}
 

@@ -225,7 +225,8 @@ impl HeaderField {
         alloc: Global,
         value: CowSlice<'static, u8>,
     ) -> Result<HeaderField, AllocError>
-        ensures { IfOk result (λ f. f ≡ record { name = self.now.name; value = cow_slice_items value.entry; never_indexed = self.now.never_indexed }) }
+        ensures { IfOk result
+            (λ f. f ≡ record { name = self.now.name; value = cow_slice_items value.entry; never_indexed = self.now.never_indexed }) }
     {
         let name = match self.name_part() {
             Part::Static(name) => CowSlice::Borrowed(name),

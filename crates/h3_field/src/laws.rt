@@ -30,7 +30,8 @@ use std::hash::Hash;
 /// A written field line is read back, whatever follows.
 #[tactic(auto, using(crate::specs::ReadBackLaws::line_reads_back))]
 pub fn line_reads_back()
-    ensures { (l : FieldLine) (rest : List ℕ) → IsWritable l → IsLineOfBytes l → length (line_bytes l) < 2 ^ 63 → HasLine (line_bytes l ++ rest) l rest }
+    ensures { (l : FieldLine) (rest : List ℕ) → IsWritable l → IsLineOfBytes l → length (line_bytes l) < 2 ^ 63
+        → HasLine (line_bytes l ++ rest) l rest }
 {}
 
 /// Bytes begin with one line.
@@ -41,7 +42,8 @@ pub fn one_line()
 /// A written encoder instruction is read back, whatever follows.
 #[tactic(auto, using(crate::specs::ReadBackLaws::instruction_reads_back))]
 pub fn instruction_reads_back()
-    ensures { (i : EncoderInstruction) (rest : List ℕ) → IsSendable i → IsInstructionOfBytes i → length (encoder_bytes i) < 2 ^ 63 → HasInstruction (encoder_bytes i ++ rest) i rest }
+    ensures { (i : EncoderInstruction) (rest : List ℕ) → IsSendable i → IsInstructionOfBytes i → length (encoder_bytes i) < 2 ^ 63
+        → HasInstruction (encoder_bytes i ++ rest) i rest }
 {}
 
 /// A written decoder instruction is read back, whatever follows.
@@ -52,7 +54,8 @@ pub fn reply_reads_back()
 
 /// Bytes begin with one encoder instruction.
 pub fn one_instruction()
-    ensures { (bytes rest more : List ℕ) (i j : EncoderInstruction) → HasInstruction bytes i rest → HasInstruction bytes j more → (i ≡ j) × (rest ≡ more) }
+    ensures { (bytes rest more : List ℕ) (i j : EncoderInstruction) → HasInstruction bytes i rest → HasInstruction bytes j more → (i ≡ j)
+        × (rest ≡ more) }
 {}
 
 /// A section has one answer under a limit.
@@ -63,28 +66,37 @@ pub fn one_answer()
 /// What a reader answers to a written section: the fields and the sum of their sizes if that is within the limit. Otherwise it is the sum
 /// at the first field that passes it.
 pub fn section_reads_back()
-    ensures answer { (limit : ℕ) (fields : List Field) (answer : Answer) → AllByRecursion IsFieldOfBytes fields → section_size fields < 2 ^ 62 → length (section_bytes fields) < 2 ^ 63 → AnswersSection limit (section_bytes fields) answer → answer ≡ answer_from limit 0 [] fields }
-    ensures within { (limit : ℕ) (fields : List Field) → section_size fields < 2 ^ 62 → section_size fields ≤ limit → answer_from limit 0 [] fields ≡ Fields fields (section_size fields) }
+    ensures answer { (limit : ℕ) (fields : List Field) (answer : Answer) → AllByRecursion IsFieldOfBytes fields
+        → section_size fields < 2 ^ 62 → length (section_bytes fields) < 2 ^ 63 → AnswersSection limit (section_bytes fields) answer
+        → answer ≡ answer_from limit 0 [] fields }
+    ensures within { (limit : ℕ) (fields : List Field) → section_size fields < 2 ^ 62 → section_size fields ≤ limit
+        → answer_from limit 0 [] fields ≡ Fields fields (section_size fields) }
 {}
 
 /// A prefixed integer in range is read back, whatever follows, in each of its encodings; and nothing else is read.
 pub fn integer_reads_back()
-    ensures written { (size flags n : ℕ) (rest : List ℕ) → n < integer_limit size → integer size (prefixed size flags n ++ rest) ≡ Whole (flags, n) rest }
-    ensures longer { (size flags n : ℕ) (octets rest : List ℕ) → IsInteger size flags n octets → n < integer_limit size → integer size (octets ++ rest) ≡ Whole (flags, n) rest }
-    ensures nothing_else { (size flags n : ℕ) (bytes rest : List ℕ) → integer size bytes ≡ Whole (flags, n) rest → Encoded size flags n bytes rest }
+    ensures written { (size flags n : ℕ) (rest : List ℕ) → n < integer_limit size
+        → integer size (prefixed size flags n ++ rest) ≡ Whole (flags, n) rest }
+    ensures longer { (size flags n : ℕ) (octets rest : List ℕ) → IsInteger size flags n octets → n < integer_limit size
+        → integer size (octets ++ rest) ≡ Whole (flags, n) rest }
+    ensures nothing_else { (size flags n : ℕ) (bytes rest : List ℕ) → integer size bytes ≡ Whole (flags, n) rest
+        → Encoded size flags n bytes rest }
 {}
 
 /// A written section prefix is read back, whatever follows, and a reader within the window takes the count and the base
 /// that were written.
 pub fn prefix_reads_back()
     ensures written { (capacity count base : ℕ) → prefix_bytes capacity count base ≡ encoded_bytes (written_prefix capacity count base) }
-    ensures bytes { (p : EncodedPrefix) (rest : List ℕ) → p.encoded < integer_limit 8 → p.delta < integer_limit 7 → prefix (encoded_bytes p ++ rest) ≡ Whole p rest }
-    ensures taken { (capacity inserted count base : ℕ) → 0 < capacity → (count ≡ 0 → base ≡ 0) → inserted < count + most_entries capacity → count ≤ inserted + most_entries capacity → IsPrefix capacity inserted (written_prefix capacity count base) count base }
+    ensures bytes { (p : EncodedPrefix) (rest : List ℕ) → p.encoded < integer_limit 8 → p.delta < integer_limit 7
+        → prefix (encoded_bytes p ++ rest) ≡ Whole p rest }
+    ensures taken { (capacity inserted count base : ℕ) → 0 < capacity → (count ≡ 0 → base ≡ 0) → inserted < count + most_entries capacity
+        → count ≤ inserted + most_entries capacity → IsPrefix capacity inserted (written_prefix capacity count base) count base }
 {}
 
 /// A written string is read back as it was coded, whatever follows, and a payload is one string. What was written is its payload's.
 pub fn string_reads_back()
-    ensures written { (size flags : ℕ) (text : Text) (rest : List ℕ) → length (text_bytes text) < integer_limit (size - 1) → string size (string_literal size flags text ++ rest) ≡ Whole (flags, payload_of text) rest }
+    ensures written { (size flags : ℕ) (text : Text) (rest : List ℕ) → length (text_bytes text) < integer_limit (size - 1)
+        → string size (string_literal size flags text ++ rest) ≡ Whole (flags, payload_of text) rest }
     ensures stands { (text : Text) → AllByRecursion IsByte text.bytes → StandsFor (payload_of text) text.bytes }
     ensures one { (p : Payload) (s t : List ℕ) → StandsFor p s → StandsFor p t → s ≡ t }
 {}
@@ -136,7 +148,8 @@ pub fn readings_leave_ends()
 /// it is Huffman coded.
 pub fn strings_are_shortest()
     ensures off { (bytes : List ℕ) → coded false bytes ≡ huffman_text bytes }
-    ensures shortest { (size flags : ℕ) (text : Text) → length (string_literal size flags (coded true text.bytes)) ≤ length (string_literal size flags text) }
+    ensures shortest { (size flags : ℕ) (text : Text)
+        → length (string_literal size flags (coded true text.bytes)) ≤ length (string_literal size flags text) }
     ensures within { (size flags : ℕ) (bytes : List ℕ) → length (string_literal size flags (coded true bytes)) ≤ length bytes + 10 }
 {}
 

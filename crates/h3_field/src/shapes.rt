@@ -21,7 +21,8 @@ use std::alloc::Global;
 
 /// The first byte, if there is one and it is not from `low` to `high`.
 pub(crate) fn other_first(buf: &SliceCursor<'_>, low: u8, high: u8) -> Option<u8>
-    ensures { MatchOption result (begins low high buf.now ≡ true) (λ first. (begins low high buf.now ≡ false) × (first ≡ slice_index buf.now 0)) }
+    ensures { MatchOption result (begins low high buf.now ≡ true)
+        (λ first. (begins low high buf.now ≡ false) × (first ≡ slice_index buf.now 0)) }
 {
     let bytes = buf.chunk();
     if bytes.is_empty() {
@@ -155,7 +156,8 @@ pub(crate) struct TwoStrings {
 
 /// The error of two strings, if the first is one for which there is no memory.
 fn refusal_before(second: &Payload<'_>) -> ParseError
-    ensures { result ≡ (if is_some (string_of second.now) then parse_error.OutOfMemory else parse_error.String string_error.HuffmanDecoding) }
+    ensures { result ≡
+        (if is_some (string_of second.now) then parse_error.OutOfMemory else parse_error.String string_error.HuffmanDecoding) }
 {
     if second.is_string() {
         return ParseError::OutOfMemory;
@@ -229,7 +231,8 @@ pub(crate) fn put_index_and_string(
     requires index { index < 2 ^ 62 }
     requires value { length value.now < 2 ^ 62 }
     ensures memory { IsOkUnless result string_error.OutOfMemory }
-    ensures ok { OnOk result (buf.new.items ≡ buf.old.items ++ (prefixed size flags index ++ string_literal 8 0 (coded shortest value.now))) }
+    ensures ok { OnOk result
+        (buf.new.items ≡ buf.old.items ++ (prefixed size flags index ++ string_literal 8 0 (coded shortest value.now))) }
     ensures err { OnErr result (buf.new.items ≡ buf.old.items) }
 {
     let start = buf.len();
@@ -256,7 +259,9 @@ pub(crate) fn put_two_strings(
     requires name { length name.now < 2 ^ 62 }
     requires value { length value.now < 2 ^ 62 }
     ensures memory { IsOkUnless result string_error.OutOfMemory }
-    ensures ok { OnOk result (buf.new.items ≡ buf.old.items ++ (string_literal size flags (coded shortest name.now) ++ string_literal 8 0 (coded shortest value.now))) }
+    ensures ok { OnOk result
+        (buf.new.items ≡ buf.old.items ++
+        (string_literal size flags (coded shortest name.now) ++ string_literal 8 0 (coded shortest value.now))) }
     ensures err { OnErr result (buf.new.items ≡ buf.old.items) }
 {
     let start = buf.len();

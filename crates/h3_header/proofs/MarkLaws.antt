@@ -1,5 +1,5 @@
 -- Tables that have 1 at each byte of a class, and what a loop over a text makes of their entries.
-use Rattle.std.proofs.Common.{◌≡◌, ℕ, ◌+◌, ◌<◌, ◌==◌, Bool, true, false, ◌&&◌, cond, bit_and, List, length, map, take, get_or, refl, ap, ap₂, sym, ◌∙◌, arith}
+use Rattle.std.proofs.Common.{◌≡◌, ℕ, ◌+◌, ◌<◌, Bool, true, false, ◌&&◌, cond, bit_and, List, length, map, take, get_or, refl, ap, ap₂, sym, ◌∙◌, arith}
 use Rattle.std.specs.List.{list_all, range_with_len}
 use Rattle.std.proofs.lemmas.List.FromFn.{get_or-map-range_with_len}
 use Rattle.std.proofs.lemmas.List.Folds.{list_all_more}
@@ -30,10 +30,3 @@ pub marked_more : (test : ℕ → Bool) (text : List ℕ) (i d all one : ℕ) �
     → bit_and all one ≡ marked test (take (i + 1) text)
 marked_more test text i d all one inside before is =
     ap₂ bit_and before is ∙ both (list_all test (take i text)) (test (get_or text i d)) ∙ ap (λ b. cond b 1 0) (sym (list_all_more test text i d inside))
-
-pub all_marked : (test : ℕ → Bool) (text : List ℕ) (all : ℕ) → all ≡ marked test text → (all == 1) ≡ list_all test text
-all_marked test text all is = ap (λ n. n == 1) is ∙ by (list_all test text)
-  where
-    by : (b : Bool) → (cond b 1 0 == 1) ≡ b
-    by true = refl
-    by false = refl

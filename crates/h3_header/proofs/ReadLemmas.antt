@@ -1,5 +1,5 @@
 -- How a list is read field by field.
-use Rattle.std.proofs.Common.{◌≡◌, Bool, List, [], ◌∷◌, fold, refl, sym, subst, inl, inr}
+use Rattle.std.proofs.Common.{◌≡◌, Bool, List, [], ◌∷◌, fold, sym, subst, inl, inr}
 use Rattle.h3_field.specs.Field.{Field}
 use Rattle.h3_header.specs.Head.{Head}
 use Rattle.h3_header.specs.Reads.{Accepts, Refuses, AcceptsAll, RefusesOne, with_field}
@@ -10,9 +10,6 @@ pub record Rest (any : Bool) (start : Head) (all rest : List Field) (h : Head) :
   pub accepts : AcceptsAll any h rest → AcceptsAll any start all
   pub refuses : (e : HeaderError) → RefusesOne any h rest e → RefusesOne any start all e
   pub reads : fold with_field h rest ≡ fold with_field start all
-
-pub Rest-start : (any : Bool) (start : Head) (all : List Field) → Rest any start all all start
-Rest-start any start all = record { accepts = λ a. a; refuses = λ e a. a; reads = refl }
 
 Rest-more : (any : Bool) (start : Head) (all rest : List Field) (f : Field) (h : Head) → Accepts any h f → Rest any start all (f ∷ rest) h → Rest any start all rest (with_field h f)
 unfolding AcceptsAll RefusesOne

@@ -1,5 +1,5 @@
 -- The field list of a head is read as a head with that very list.
-use Rattle.std.specs.Prelude.{◌≡◌, ℕ, Bool, false, List, [], map, option_map, IfSome, All}
+use Rattle.std.specs.Prelude.{◌≡◌, ℕ, Bool, List, [], map, option_map, IfSome, All}
 use Rattle.http_header.specs.Token.{IsToken}
 use Rattle.http_header.specs.FieldName.{IsHeaderName}
 use Rattle.http_header.specs.FieldValue.{FieldValue, plain_value, IsFieldValue}
@@ -33,10 +33,6 @@ pub record IsValidMap (m : Entries FieldValue) : Type 0 where
 -- the list is that of a head, and this head has this list, where any protocol is taken or the two names alone
 abbrev pub ReadsBackBy : Bool → List Field → Type 0
 ReadsBackBy any fields = AcceptsAll any (trailer_head []) fields × (head_fields (head_of_fields fields) ≡ fields)
-
--- the same where the two names alone are taken
-abbrev pub ReadsBack : List Field → Type 0
-ReadsBack fields = ReadsBackBy false fields
 
 -- a map whose values are not marked sensitive
 abbrev pub unmarked : Entries FieldValue → Entries FieldValue

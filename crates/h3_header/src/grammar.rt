@@ -193,7 +193,9 @@ fn is_path(text: &[u8]) -> bool
 
 // An empty path, `*`, or one that begins with `/` or with the `?` of a query.
 fn begins_path(text: &[u8]) -> bool
-    ensures { result ≡ (bytes_eq text.now (codes "") || (bytes_eq text.now (codes "*") || ((slice_index text.now 0 == slash) || (slice_index text.now 0 == question_mark)))) }
+    ensures { result ≡
+        (bytes_eq text.now (codes "") ||
+        (bytes_eq text.now (codes "*") || ((slice_index text.now 0 == slash) || (slice_index text.now 0 == question_mark)))) }
 {
     let first = byte_at(text, 0);
     text.is_empty() || text == b"*".as_slice() || first == b'/' || first == b'?'

@@ -51,7 +51,9 @@ pub fn round_trip(alloc: Global, header: &Header, any: bool) -> Result<Header, H
 /// A list of so few fields that a map has room for all their names is judged field by field. The first of which anything is malformed
 /// refuses it, and if nothing is malformed of any it is a header section's, whether any protocol is taken or the two names alone.
 pub fn fields_are_judged_alone()
-    ensures refused { (any : Bool) (fields : List Field) (i : ℕ) (f : Field) (part : BadPart) → length fields ≤ 24576 → i < length fields → All (λ f. bad_part any f ≡ None) (take i fields) → bad_part any (get_or fields i f) ≡ Some part → head_by any fields ≡ IsNone (refusal_of part) }
+    ensures refused { (any : Bool) (fields : List Field) (i : ℕ) (f : Field) (part : BadPart) → length fields ≤ 24576 → i < length fields
+        → All (λ f. bad_part any f ≡ None) (take i fields) → bad_part any (get_or fields i f) ≡ Some part
+        → head_by any fields ≡ IsNone (refusal_of part) }
     ensures head { (any : Bool) (fields : List Field) → All (λ f. bad_part any f ≡ None) (take 24576 fields) → IsHeadUnlessMany any fields }
 {}
 
@@ -59,9 +61,11 @@ pub fn fields_are_judged_alone()
 /// protocol is taken or the two names alone. What is a header section with the two names is so with any.
 pub fn lists_are_their_value()
     ensures head { (any : Bool) (fields : List Field) (h : Head) → IsHeadOf any fields h → head_by any fields ≡ IsHead h }
-    ensures refused { (any : Bool) (fields : List Field) (e : HeaderError) (why : HeadRefusal) → RefusesOne any (trailer_head []) fields e → told e ≡ Some why → head_by any fields ≡ IsNone why }
+    ensures refused { (any : Bool) (fields : List Field) (e : HeaderError) (why : HeadRefusal) → RefusesOne any (trailer_head []) fields e
+        → told e ≡ Some why → head_by any fields ≡ IsNone why }
     ensures is_head { (any : Bool) (fields : List Field) (h : Head) → head_by any fields ≡ IsHead h → IsHeadOf any fields h }
-    ensures is_refused { (any : Bool) (fields : List Field) (e : HeaderError) (why : HeadRefusal) → head_by any fields ≡ IsNone why → told e ≡ Some why → RefusesOne any (trailer_head []) fields e }
+    ensures is_refused { (any : Bool) (fields : List Field) (e : HeaderError) (why : HeadRefusal) → head_by any fields ≡ IsNone why
+        → told e ≡ Some why → RefusesOne any (trailer_head []) fields e }
     ensures named { (any : Bool) (fields : List Field) (h : Head) → IsHeadOf false fields h → head_by any fields ≡ IsHead h }
 {}
 
@@ -69,7 +73,8 @@ pub fn lists_are_their_value()
 /// lists of the same names and values. What a header is written as has no flag.
 pub fn heads_have_no_flags()
     ensures flags { (any : Bool) (flag : Field → Bool) (fields : List Field) → head_by any (with_flags flag fields) ≡ head_by any fields }
-    ensures texts { (any : Bool) (fields others : List Field) → map unflagged fields ≡ map unflagged others → head_by any fields ≡ head_by any others }
+    ensures texts { (any : Bool) (fields others : List Field) → map unflagged fields ≡ map unflagged others
+        → head_by any fields ≡ head_by any others }
     ensures written { (h : Head) → map unflagged (head_fields h) ≡ head_fields h }
 {}
 
@@ -77,9 +82,11 @@ pub fn heads_have_no_flags()
 /// with the two names is the same one with any token. And each header section with a token of at most 31 bytes as its protocol is what its
 /// own fields read as.
 pub fn any_protocol_changes_protocols_alone()
-    ensures others { (fields : List Field) → AllByRecursion (λ f. kind_of f.name ≡ kind.Protocol → ⊥) fields → head_by true fields ≡ head_of fields }
+    ensures others { (fields : List Field) → AllByRecursion (λ f. kind_of f.name ≡ kind.Protocol → ⊥) fields
+        → head_by true fields ≡ head_of fields }
     ensures stays { (fields : List Field) (h : Head) → head_of fields ≡ IsHead h → head_by true fields ≡ IsHead h }
-    ensures tokens_read_back { (p : Pseudo) (m : Entries FieldValue) → IsValidPseudo true p → IsValidMap m → head_by true (head_fields (head_of_parts p m)) ≡ IsHead (as_read (head_of_parts p m)) }
+    ensures tokens_read_back { (p : Pseudo) (m : Entries FieldValue) → IsValidPseudo true p → IsValidMap m
+        → head_by true (head_fields (head_of_parts p m)) ≡ IsHead (as_read (head_of_parts p m)) }
 {}
 
 /// What a `:protocol` by itself reads as if any is taken (RFC 8441, 4; a token is that of RFC 9110, 5.6.2), and if the two names alone are.

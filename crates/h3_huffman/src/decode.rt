@@ -141,7 +141,8 @@ pub fn is_encoding(payload: &[u8]) -> bool
 /// Writes the string whose Huffman encoding the payload is to the front of `out`, and says how long it is.
 pub fn decode_into(payload: &[u8], out: &mut [u8]) -> Option<usize>
     requires room { 8 * length payload.now + 10 ≤ 5 * length out.old }
-    ensures whole { MatchOption result (IsNoPayload payload.now) (λ n. (n ≤ length out.new) × AllByRecursion IsByte (take n out.new) × (payload.now ≡ huffman (take n out.new))) }
+    ensures whole { MatchOption result (IsNoPayload payload.now)
+        (λ n. (n ≤ length out.new) × AllByRecursion IsByte (take n out.new) × (payload.now ≡ huffman (take n out.new))) }
 {
     let mut acc: u64 = 0;
     let mut count: u64 = 0;

@@ -91,7 +91,9 @@ struct Ahead {
 fn add_four(plain: &[u8], place: usize, acc: u64, count: u64) -> Option<Ahead>
     requires there { place + 4 ≤ length plain.now }
     requires few { count < 32 }
-    ensures standing { IfSome result (λ ahead. (out : List ℕ) (written : ℕ) → Written plain.now out place acc count written → Written plain.now out (place + 4) ahead.acc ahead.count written) }
+    ensures standing { IfSome result
+        (λ ahead. (out : List ℕ) (written : ℕ) → Written plain.now out place acc count written
+        → Written plain.now out (place + 4) ahead.acc ahead.count written) }
     ensures fits { IfSome result (λ ahead. ahead.count < 64) }
 {
     let first_length = word_len(plain[place]);

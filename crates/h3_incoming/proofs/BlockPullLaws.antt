@@ -1,10 +1,10 @@
 -- What is told with the fields in a block.
-use Rattle.std.proofs.Common.{◌≡◌, ℕ, List, Some, refl, ap, sym, ◌∙◌, subst}
+use Rattle.std.proofs.Common.{◌≡◌, ℕ, List, Some, refl, ap, sym, ◌∙◌}
 use Rattle.std.specs.Prelude.{Option, None, IfSome}
 use Rattle.h3_field.specs.Field.{Field}
 use Rattle.h3_connection.specs.declared.event.Fault.{Fault}
 use Rattle.h3_incoming.specs.Answering.{fault_told, plain_pull}
-use Rattle.h3_incoming.specs.BlockPulls.{fields_kept, status_kept, status_or_none, told_with, HasStatus}
+use Rattle.h3_incoming.specs.BlockPulls.{fields_kept, told_with, HasStatus}
 use Rattle.h3_incoming.specs.FieldsPulls.{list_of, plain_answer, pull_of}
 use Rattle.h3_incoming.specs.declared.answer.MessageKind.{MessageKind}
 use Rattle.h3_incoming.specs.declared.answer.MessageKind.TheVariants as kind
@@ -56,22 +56,6 @@ block_kept (told.Message kind.Interim status) fields = refl
 block_kept (told.Message kind.Head status) fields = refl
 block_kept (told.Message kind.Trailer status) fields = refl
 block_kept (told.Plain p) fields = none_listed (list_of (plain_answer p)) fields (plain_listed p)
-
-status_by : (k : MessageKind) (status : Option ℕ) (fields : List Field) → HasStatus (told.Message k status) fields → status ≡ status_kept (told_with (told.Message k status) fields)
-status_by kind.Interim status fields h = h
-status_by kind.Head status fields h = h
-status_by kind.Trailer status fields h = h
-
-pub status_message : (t : Told) (k : MessageKind) (status : Option ℕ) (fields : List Field) → t ≡ told.Message k status → HasStatus t fields → status ≡ status_kept (told_with t fields)
-status_message t k status fields is h =
-    status_by k status fields (subst (λ s. HasStatus s fields) is h) ∙ ap (λ s. status_kept (told_with s fields)) (sym is)
-
-none_kept : (listed : Option (List Field)) → listed ≡ None → status_or_none listed ≡ None
-none_kept None is = refl
-none_kept (Some l) is = absurd (cc)
-
-pub status_plain : (t : Told) (p : Plain) (fields : List Field) → t ≡ told.Plain p → None ≡ status_kept (told_with t fields)
-status_plain t p fields is = sym (none_kept (list_of (plain_answer p)) (plain_listed p)) ∙ ap (λ s. status_kept (told_with s fields)) (sym is)
 
 fault_by : (k : MessageKind) (status : Option ℕ) (fields : List Field) → fault_told (pull_of (told_with (told.Message k status) fields)) ≡ None
 fault_by kind.Interim status fields = refl

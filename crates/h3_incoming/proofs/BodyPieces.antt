@@ -78,10 +78,6 @@ with_one : (bytes : List ℕ) → 0 < length bytes → with_piece [] bytes ≡ b
 with_one [] some = absurd (omega (arith, some))
 with_one (byte ∷ bytes) some = refl
 
--- its only piece is what was delivered
-with_unread : Incoming → List (List ℕ) → Incoming
-with_unread i pieces = record i { unread = pieces }
-
 kept_is : (i : Incoming) (bytes : List ℕ) → i.fault ≡ None → i.unread ≡ [] → 0 < length bytes → kept i bytes ≡ record i { unread = bytes ∷ [] }
 kept_is i bytes fault none some =
     ap (λ u. let x : Incoming = record i { unread = u } in x)
@@ -97,9 +93,6 @@ in_one id i piece within open_still one few =
     ap (λ b. if b then malformed id malformation.ContentLength i [] else in_payload i) within
     ∙ ap (λ b. if b && nat_lt (length (concat i.unread)) i.body_left then connection_fault frame_error i else body_of i (chunk_of i.body_left i.unread)) open_still
     ∙ ap (λ u. body_of i (chunk_of i.body_left u)) one ∙ ap (body_of i) (one_chunk i.body_left piece few)
-
-taken_whole : (n : ℕ) (bytes : List ℕ) → n ≤ length bytes → length (take n bytes) ≡ n
-taken_whole n bytes h = length-take-le n bytes h
 
 -- In the payload that is under way.
 module _ (i : Incoming) (bytes : List ℕ) (clear : keeps_nothing i ≡ true) (none : i.unread ≡ []) where

@@ -1,10 +1,9 @@
 -- What is told of a head or trailer that is kept as its list.
 use Rattle.std.proofs.Common.{◌≡◌, Bool, List, Some, refl, ap, ◌∙◌}
-use Rattle.std.specs.Prelude.{Option, None, IfSome, Result, Ok, Err, IfOk, OnOk, OnErr}
+use Rattle.std.specs.Prelude.{Option, None, IfSome}
 use Rattle.h3_field.specs.Field.{Field}
 use Rattle.h3_header.specs.Head.{Head}
-use Rattle.h3_header.specs.BadPart.{IsHeadUnlessMany}
-use Rattle.h3_header.specs.HeadRead.{IsHead, IsNone, head_by}
+use Rattle.h3_header.specs.HeadRead.{IsHead, head_by}
 use Rattle.h3_header.specs.Reads.{IsHeadOf, head_of_fields}
 use Rattle.h3_connection.specs.declared.event.Pull.TheVariants as pull
 use Rattle.h3_incoming.specs.Answering.{item_of}
@@ -36,19 +35,3 @@ is_this None fields is = absurd (cc)
 pub status_is : (any : Bool) (fields : List Field) (o : Outline) → ((fs : List Field) (h : Head) → head_by any fs ≡ IsHead h → IsHeadOf any fs h) → read.Head o ≡ list_read (head_by any fields) → o.status ≡ (head_of_fields fields).status
 status_is any fields o law is =
     reads_head (head_by any fields) o is _ (λ h head same. ap (λ (p : Outline). p.status) same ∙ ap (λ (q : Head). q.status) (law fields h head).1)
-
--- so it is no list that is malformed
-pub never_malformed : (any : Bool) (fields : List Field) (o : Outline) → read.Head o ≡ list_read (head_by any fields) → IsHeadUnlessMany any fields
-never_malformed any fields o is = λ why none. let wrong : read.Head o ≡ list_read (IsNone why) = is ∙ ap list_read none in absurd (cc)
-
-pub ok_as : {E : Type 0} (result : Result ListRead E) (r s : ListRead) → IfOk result (λ q. q ≡ r) → r ≡ s → IfOk result (λ q. q ≡ s)
-ok_as (Ok q) r s h e = h ∙ e
-ok_as (Err _) r s h e = h
-
-pub on_ok : {A E : Type 0} (result : Result A E) (P Q : Type 0) → OnOk result P → (P → Q) → OnOk result Q
-on_ok (Ok q) P Q h f = f h
-on_ok (Err _) P Q h f = h
-
-pub on_err : {A E : Type 0} (result : Result A E) (Q : Type 0) → Q → OnErr result Q
-on_err (Ok q) Q given = tt
-on_err (Err _) Q given = given

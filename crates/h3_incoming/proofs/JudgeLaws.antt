@@ -31,13 +31,12 @@ use Rattle.h3_qpack.specs.declared.block_within.BlockWithin.TheVariants as withi
 use Rattle.h3_qpack.specs.declared.block_within.SectionSummary.{SectionSummary}
 use Rattle.h3_incoming.specs.declared.judge.Judged.{Judged}
 use Rattle.h3_incoming.specs.declared.judge.Judged.TheVariants as judge
-use Rattle.h3_proto.specs.declared.stream.Side.TheVariants.{Client, Server}
 use Rattle.h3_incoming.specs.Judging.{HasItem, HasList, Tells, judged_as}
-use Rattle.h3_incoming.specs.Outline.{outline_of, is_read_outline, list_read}
+use Rattle.h3_incoming.specs.Outline.{outline_of, list_read}
 use Rattle.h3_incoming.specs.declared.outline.Outline.{Outline}
 use Rattle.h3_incoming.specs.declared.outline.ListRead.{ListRead}
 use Rattle.h3_incoming.specs.declared.outline.ListRead.TheVariants as read
-use Rattle.h3_connection.specs.Pulling.{Pulled, is_for, is_memory, malformation_of, malformed, next_place, head_or_trailer, judged, with_content, read_section, decoded, at_section}
+use Rattle.h3_connection.specs.Pulling.{Pulled, is_memory, malformation_of, malformed, next_place, head_or_trailer, judged, with_content, read_section, decoded, at_section}
 
 -- a refusal that tells no malformation is for want of memory
 memory_at : (any : Bool) (at : FieldKind) (h : Head) (f : Field) (e : HeaderError) → RefusesAt any at h f e → told e ≡ None → RefusesAt any at h f error.OutOfMemory
@@ -105,11 +104,6 @@ has_item (judge.Malformed why told) answer i is = tt
 pub has_list : (j : Judged) (listed : Option (List Field)) (fields : List Field) → IfSome listed (λ l. l ≡ fields) → HasList j listed fields
 has_list (judge.HandsOut place left told) listed fields h = h
 has_list (judge.Malformed why told) listed fields h = tt
-
--- an outline tells as much of a head as its place asks
-pub is_read : (side : Side) (h : Head) → is_read_outline side (outline_of h) ≡ is_for side h
-is_read Client h = refl
-is_read Server h = refl
 
 -- what a list is told to be says what it reads as
 pub reads_head : (r : HeadRead) (o : Outline) → read.Head o ≡ list_read r → (P : Type 0) → ((h : Head) → r ≡ IsHead h → o ≡ outline_of h → P) → P

@@ -23,10 +23,6 @@ pub lists_none : (listed came : Option (List Field)) → listed ≡ None → Lis
 lists_none None came e = tt
 lists_none (Some l) came e = absurd (cc)
 
-pub lists_none_there : (r : DecoderState) (section : Option (List ℕ)) (listed : Option (List Field)) → listed ≡ None → IfSome section (λ bytes. Lists listed (fields_in r (Some bytes)))
-lists_none_there r None listed e = tt
-lists_none_there r (Some bytes) listed e = lists_none listed (fields_in r (Some bytes)) e
-
 -- the list that was decoded
 pub lists_decoded : (r : DecoderState) (bytes : List ℕ) (fields : List Field) (count : ℕ) (listed : Option (List Field)) → decode_section r bytes ≡ Fields fields count
     → IfSome listed (λ l. l ≡ fields) → Lists listed (fields_in r (Some bytes))

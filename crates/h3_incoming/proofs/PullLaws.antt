@@ -19,7 +19,6 @@ use Rattle.h3_qpack.specs.DecoderState.{DecoderState}
 use Rattle.h3_connection.specs.declared.event.Fault.TheVariants.{Stream}
 use Rattle.h3_connection.specs.declared.event.Item.TheVariants as item
 use Rattle.h3_connection.specs.declared.event.Malformation.TheVariants as malformation
-use Rattle.h3_messages.specs.Content.{is_exceeded}
 use Rattle.h3_connection.specs.declared.event.Pull.{Pull}
 use Rattle.h3_connection.specs.declared.event.Pull.TheVariants as pull
 use Rattle.h3_connection.specs.declared.event.StreamFault.{StreamFault}
@@ -29,7 +28,7 @@ use Rattle.h3_connection.specs.declared.setup.Announced.{Announced}
 use Rattle.h3_connection.specs.Codes.{excessive_load, refusal_code}
 use Rattle.h3_connection.specs.Incoming.{Incoming, Passes, is_body}
 use Rattle.h3_connection.specs.Skipping.{skipped}
-use Rattle.h3_connection.specs.Pulling.{Pulled, is_memory, just, connection_fault, left_with, raw, malformed, in_payload, at_payload, at_section, at_frame, framed, next_frame, between_frames, excess, in_message, next_item, pull_stream}
+use Rattle.h3_connection.specs.Pulling.{Pulled, is_memory, just, connection_fault, left_with, raw, malformed, at_payload, at_section, at_frame, framed, next_frame, between_frames, excess, in_message, next_item, pull_stream}
 use Rattle.h3_incoming.specs.Finding.{FindsRefused, IsTooLong}
 use Rattle.h3_incoming.specs.Gives.{Gives}
 use Rattle.h3_incoming.specs.Placing.{is_session}
@@ -43,18 +42,6 @@ gives_as p q answer new before after e h = subst (λ x. Gives x answer new befor
 pub gives_just : (p : Pulled) (answer : Pull) (new : Incoming) (before after : List ℕ) → p ≡ just answer new → after ≡ before → Gives p answer new before after
 gives_just p answer new before after e same =
     gives_as p (just answer new) answer new before after e (record { is = refl; replies = same ∙ sym (append-nil before) })
-
--- a payload that is not longer than the content may be
-pub gives_bytes : (id : ℕ) (i : Incoming) (answer : Pull) (new : Incoming) (before after : List ℕ) → is_exceeded i.content ≡ false → in_payload i ≡ just answer new → after ≡ before
-    → Gives (at_payload id i) answer new before after
-gives_bytes id i answer new before after within e same =
-    gives_just (at_payload id i) answer new before after (ap (λ b. if b then malformed id malformation.ContentLength i [] else in_payload i) within ∙ e) same
-
--- and one that is
-pub gives_too_much : (id : ℕ) (i : Incoming) (answer : Pull) (new : Incoming) (before after : List ℕ) → is_exceeded i.content ≡ true
-    → Gives (malformed id malformation.ContentLength i []) answer new before after → Gives (at_payload id i) answer new before after
-gives_too_much id i answer new before after over h =
-    gives_as (at_payload id i) (malformed id malformation.ContentLength i []) answer new before after (ap (λ b. if b then malformed id malformation.ContentLength i [] else in_payload i) over) h
 
 -- the receiver that passed some frames is that of the bytes that are left
 pub left_is : (i new : Incoming) → Passes i new → new ≡ left_with i (concat new.unread)

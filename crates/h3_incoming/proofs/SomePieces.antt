@@ -1,10 +1,9 @@
 -- Of pieces none of which is empty none gets so.
-use Rattle.std.proofs.Common.{◌≡◌, ℕ, zero, suc, ◌-◌, ◌<◌, ◌≤◌, Bool, true, false, nat_lt, nat_le, if◌then◌else◌, List, [], ◌∷◌, ◌++◌, length, take, drop, refl, ap, sym, subst, arith, inl, inr, length-append}
-use Rattle.std.specs.Prelude.{Option, Some, None}
+use Rattle.std.proofs.Common.{◌≡◌, ℕ, zero, suc, ◌-◌, List, [], ◌∷◌, ◌++◌, length, refl, sym, subst, arith, inl, inr, length-append}
 use Rattle.std.specs.List.{concat}
-use Rattle.std.proofs.lemmas.Bool.{cases_lt, leb-false}
+use Rattle.std.proofs.lemmas.Bool.{cases_lt}
 use Rattle.std.proofs.lemmas.List.{length-drop}
-use Rattle.h3_wire.specs.Pieces.{with_piece, without, chunk_of, first_of, others_in, IsRest}
+use Rattle.h3_wire.specs.Pieces.{with_piece, without, IsRest}
 use Rattle.h3_wire.specs.PieceLaws.{without-within, without-past}
 use Rattle.h3_incoming.specs.SomePieces.{AreSome}
 
@@ -26,19 +25,6 @@ some_without (suc n) (p ∷ pieces) h = elim (cases_lt (suc n) (length p)) [
 
 pub some_rest : (all new : List (List ℕ)) → IsRest all new → AreSome all → AreSome new
 some_rest all new rest h = subst AreSome (sym rest.2) (some_without rest.0 all h)
-
-pub some_first : (o : Option (List ℕ)) (all new : List (List ℕ)) → (o, new) ≡ first_of all → AreSome all → AreSome new
-some_first o [] new e h = subst AreSome (sym (ap others_in e)) tt
-some_first o (p ∷ pieces) new e h = subst AreSome (sym (ap others_in e)) h.1
-
-by_size : (b : Bool) (max : ℕ) (p : List ℕ) (pieces : List (List ℕ)) → nat_le (length p) max ≡ b → (0 < length p) × AreSome pieces
-    → AreSome (others_in (if b then (Some p, pieces) else (Some (take max p), drop max p ∷ pieces)))
-by_size true max p pieces e h = h.1
-by_size false max p pieces e h = let less = leb-false (length p) max e in (omega (arith, length-drop max p, less), h.1)
-
-pub some_chunk : (o : Option (List ℕ)) (max : ℕ) (all new : List (List ℕ)) → (o, new) ≡ chunk_of max all → AreSome all → AreSome new
-some_chunk o max [] new e h = subst AreSome (sym (ap others_in e)) tt
-some_chunk o max (p ∷ pieces) new e h = subst AreSome (sym (ap others_in e)) (by_size (nat_le (length p) max) max p pieces refl h)
 
 -- where they have no byte, there are none
 pub some_none : (pieces : List (List ℕ)) → AreSome pieces → length (concat pieces) ≡ 0 → pieces ≡ []

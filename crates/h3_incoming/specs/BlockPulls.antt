@@ -1,5 +1,5 @@
 -- What an answer says whose fields lie in a block: it is the one with lists of fields that it stands for.
-use Rattle.std.specs.Prelude.{◌≡◌, ℕ, List, [], Option, Some, None, ⊤}
+use Rattle.std.specs.Prelude.{◌≡◌, List, [], Option, Some, None, ⊤}
 use Rattle.h3_field.specs.Field.{Field}
 use Rattle.h3_header.specs.Reads.{head_of_fields}
 use Rattle.h3_incoming.specs.FieldsPulls.{list_of, listed_as, plain_answer}
@@ -25,11 +25,3 @@ fields_or_none (Some fields) = fields
 -- the fields of its head or trailer, or none
 abbrev pub fields_kept : FieldsPull → List Field
 fields_kept p = fields_or_none (list_of p)
-
-abbrev pub status_or_none : Option (List Field) → Option ℕ
-status_or_none None = None
-status_or_none (Some fields) = (head_of_fields fields).status
-
--- the status of its head, if that has one
-abbrev pub status_kept : FieldsPull → Option ℕ
-status_kept p = status_or_none (list_of p)

@@ -1,6 +1,6 @@
-//! What a pull answers, written in one place. In a `Pull` header and trailer sections are `Header`s. A `FieldsPull` has the lists of fields
-//! that came, and a `BlockPull` has them in memory that serves again. An answer with a `Header` is large: one that is returned is moved
-//! from call to call, and each call clears the room for it.
+//! What a pull answers, written in one place. In a `Pull` header and trailer sections are `Header`s, and a `BlockPull` has the lists of
+//! fields that came, in memory that serves again. An answer with a `Header` is large: one that is returned is moved from call to call,
+//! and each call clears the room for it.
 ghost use Rattle.std.specs.Prelude.{◌≡◌, Bool, Option, None, List, IfOk, IfSome, OnOk, OnErr, false, []};
 ghost use Rattle.h3_field.specs.Field.{Field};
 ghost use Rattle.h3_header.specs.BadPart.{IsHeadUnlessMany};
@@ -76,8 +76,8 @@ pub trait Answer: Drop {
 
     /// Returns what a decoded list is, and writes the header or trailer section that it is at this place, for this side. Of a malformed
     /// list it only returns why it is malformed. An `Err` says that an allocation failed: only for a list for which such an answer asks for
-    /// memory. It is returned for no malformed list, unless that has more fields than a map has names for. An answer that keeps lists
-    /// learns what the list is, if that is known. The value of `:protocol` may be any short token, or one of the two names alone.
+    /// memory. It is returned for no malformed list, unless that has more fields than a map has names for. What the list is may be known.
+    /// The value of `:protocol` may be any short token, or one of the two names alone.
     fn give_message(
         &mut self,
         alloc: Global,
@@ -89,13 +89,11 @@ pub trait Answer: Drop {
     ) -> Result<ListRead, AllocError>
         requires { IfSome known (λ r. r ≡ list_read (head_by any_protocol fields)) }
         ensures read { IfOk result (λ r. r ≡ list_read (head_by any_protocol fields)) }
-        ensures head { OnOk result ((h : Head) → head_by any_protocol fields ≡ IsHead h → told self.new ≡ pull.Item (message_at side place h)) }
+        ensures head { OnOk result
+            ((h : Head) → head_by any_protocol fields ≡ IsHead h → told self.new ≡ pull.Item (message_at side place h)) }
         ensures list { OnOk result ((h : Head) → head_by any_protocol fields ≡ IsHead h → IfSome (listed self.new) (λ l. l ≡ fields)) }
         ensures memory { OnErr result (asks any_protocol fields) }
         ensures good { OnErr result (IsHeadUnlessMany any_protocol fields) };
-
-    /// Whether header and trailer sections are kept as their lists, of which no `Header` is made.
-    fn keeps_lists() -> bool;
 
     /// An empty block for the fields of a section, with the memory of the last answer if that kept one. What the answer is then is not
     /// said: the caller gives one after this call.
@@ -265,10 +263,6 @@ impl Answer for Pull {
         fields: FieldBlock,
     ) -> Result<ListRead, AllocError> {
         give_header(self, alloc, side, place, any_protocol, &fields.fields())
-    }
-
-    fn keeps_lists() -> bool {
-        false
     }
 
     fn room(&mut self, alloc: Global) -> FieldBlock {

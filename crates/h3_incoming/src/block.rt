@@ -1,13 +1,14 @@
 //! The answer of a pull whose header and trailer sections are the lists of fields that came, in a block of memory that serves again.
-ghost use Rattle.std.specs.Prelude.{◌≡◌, ◌<◌, ℕ, List, Option, length, IfSome};
+ghost use Rattle.std.specs.Prelude.{◌≡◌, ◌<◌, List, Option, length, IfSome};
 ghost use Rattle.h3_field.specs.Field.{Field};
 ghost use Rattle.h3_header.specs.Reads.{head_of_fields};
 ghost use Rattle.h3_incoming.specs.Answering.{fault_told, plain_pull};
-ghost use Rattle.h3_incoming.specs.BlockPulls.{fields_kept, status_kept, told_with, HasStatus};
-ghost use Rattle.h3_incoming.specs.FieldsPulls.{list_of, listed_as, pull_of};
+ghost use Rattle.h3_incoming.specs.BlockPulls.{fields_kept, told_with, HasStatus};
+ghost use Rattle.h3_incoming.specs.FieldsPulls.{list_of, listed_as, plain_answer, pull_of};
 ghost use Rattle.h3_incoming.specs.declared.fields.FieldsPull.TheVariants as answer;
 
 use crate::answer::{Answer, MessageKind, Plain, kind_at};
+use crate::fields::{FieldsItem, FieldsPull};
 use crate::outline::{ListRead, read_unless};
 use h3_connection::event::Fault;
 use h3_connection::place::Place;
@@ -79,11 +80,15 @@ impl BlockPull {
         self.block.fields()
     }
 
-    /// The status of a response's header section, as its `Header` has it. It takes no look at the fields.
-    pub fn status(&self) -> Option<StatusCode>
-        ensures { result ≡ status_kept self.now }
+    /// The answer, with its block as the list of a header or trailer section. Nothing is copied.
+    pub fn into_pull(self) -> FieldsPull
+        ensures { result ≡ self }
     {
-        status_of(&self.told)
+        let BlockPull { told, block } = self;
+        match told {
+            Told::Message(kind, _) => FieldsPull::Item(listed(kind, block)),
+            Told::Plain(plain) => of_plain(plain),
+        }
     }
 
     // The fields of a header or trailer section with this status, or none.
@@ -143,10 +148,6 @@ impl Answer for BlockPull {
         }
     }
 
-    fn keeps_lists() -> bool {
-        true
-    }
-
     fn room(&mut self, alloc: Global) -> FieldBlock {
         self.told = Told::Plain(Plain::Pending);
         let mut block = mem::replace(&mut self.block, FieldBlock::new(alloc));
@@ -159,13 +160,29 @@ impl Answer for BlockPull {
     }
 }
 
-// The status that the answer has.
-fn status_of(told: &Told) -> Option<StatusCode>
-    ensures { (fields : List Field) → HasStatus told.now fields → result ≡ status_kept (told_with told.now fields) }
+fn listed(kind: MessageKind, fields: FieldBlock) -> FieldsItem
+    ensures { result ≡ listed_as kind fields }
 {
-    match told {
-        Told::Message(_, status) => *status,
-        Told::Plain(_) => None,
+    match kind {
+        MessageKind::Interim => FieldsItem::Interim(fields),
+        MessageKind::Head => FieldsItem::Head(fields),
+        MessageKind::Trailer => FieldsItem::Trailer(fields),
+    }
+}
+
+fn of_plain(answer: Plain) -> FieldsPull
+    ensures { result ≡ plain_answer answer }
+{
+    match answer {
+        Plain::Body(bytes) => FieldsPull::Item(FieldsItem::Body(bytes)),
+        Plain::Raw(bytes) => FieldsPull::Item(FieldsItem::Raw(bytes)),
+        Plain::Session(session) => FieldsPull::Item(FieldsItem::Session(session)),
+        Plain::TooLarge(size) => FieldsPull::Item(FieldsItem::TooLarge(size)),
+        Plain::End => FieldsPull::Item(FieldsItem::End),
+        Plain::Pending => FieldsPull::Pending,
+        Plain::Waiting(count) => FieldsPull::Waiting(count),
+        Plain::Fault(fault) => FieldsPull::Fault(fault),
+        Plain::NoMessages => FieldsPull::NoMessages,
     }
 }
 

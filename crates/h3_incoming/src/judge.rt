@@ -39,7 +39,8 @@ pub(crate) enum Judged {
 // RFC 9204 2.2.2.1: section acknowledgment, written
 /// Whether a section named an entry of the table: then it has to be acknowledged (RFC 9204, section 4.4.1).
 pub(crate) fn names_entries(decoded: &BlockWithin) -> bool
-    ensures { (max : ℕ) (name : List ℕ) (dyn_ref : Bool) (fields block : List Field) → IsBlockWithin max name dyn_ref fields decoded.now block → result ≡ dyn_ref }
+    ensures { (max : ℕ) (name : List ℕ) (dyn_ref : Bool) (fields block : List Field)
+        → IsBlockWithin max name dyn_ref fields decoded.now block → result ≡ dyn_ref }
 {
     match decoded {
         BlockWithin::Fields(summary) => summary.dyn_ref,
@@ -63,7 +64,9 @@ pub(crate) fn judge<O: Answer>(
     ensures judged { IfOk result (λ j. (id : ℕ) (r : DecoderState) (i : Incoming) (replies : List DecoderInstruction) (dyn_ref : Bool) (fields : List Field)
         → IsBlockWithin (section_of announced.now) (codes ":status") dyn_ref fields decoded block → i.place ≡ place → i.content ≡ content → i.response ≡ known → read_section side announced.now id r i replies fields ≡ judged_as id i replies (O.told out.new) j) }
     ensures item { IfOk result (λ j. HasItem j (O.told out.new)) }
-    ensures list { IfOk result (λ j. (dyn_ref : Bool) (fields : List Field) → IsBlockWithin (section_of announced.now) (codes ":status") dyn_ref fields decoded block → HasList j (O.listed out.new) fields) }
+    ensures list { IfOk result
+        (λ j. (dyn_ref : Bool) (fields : List Field)
+        → IsBlockWithin (section_of announced.now) (codes ":status") dyn_ref fields decoded block → HasList j (O.listed out.new) fields) }
 {
     match decoded {
         BlockWithin::Fields(_) => {
@@ -118,16 +121,7 @@ fn judge_fields<O: Answer>(
     ensures good { OnErr result (IsHeadUnlessMany announced.now.choices.extensions.any_protocol fields) }
 {
     let any_protocol = announced.choices.extensions.any_protocol;
-    let keeps_lists = O::keeps_lists();
-    let read = read_at(
-        keeps_lists,
-        side,
-        announced,
-        place,
-        content,
-        known,
-        &fields.fields(),
-    );
+    let read = read_at(side, announced, place, content, known, &fields.fields());
     let strict = read.strict;
     let broken = if_whole(content, strict.broken);
     match out.give_message(alloc, side, place, any_protocol, read.list, fields) {
@@ -220,7 +214,8 @@ fn judge_trailer(
 // RFC 9110 15.2: interim responses, as 103, received
 // The place after a section that is too large: after an interim response, a client goes on to wait for the final one.
 fn place_behind(side: Side, place: Place, status: Option<Vec<u8>>) -> Place
-    ensures { (fields : List Field) → option_map (λ v. v.items) status ≡ last_value (codes ":status") fields → result ≡ next_place side place fields }
+    ensures { (fields : List Field) → option_map (λ v. v.items) status ≡ last_value (codes ":status") fields
+        → result ≡ next_place side place fields }
 {
     match place {
         Place::BeforeHead => match side {

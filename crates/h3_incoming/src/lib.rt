@@ -16,5 +16,5 @@ mod strict;
 pub use answer::Answer;
 pub use block::{BlockPull, Told};
 pub use body_place::BodyPlace;
-pub use fields::{FieldList, FieldsItem, FieldsPull};
+pub use fields::{FieldsItem, FieldsPull};
 pub use stream::IncomingStream;

@@ -1,15 +1,15 @@
 //! What a list of fields reads as: the fields are read where they lie.
-ghost use Rattle.std.specs.Prelude.{◌≡◌, ◌≤◌, ◌<◌, false, [], All, true, Some, None, IfOk, IfSome, OnErr, length, fold, option_map, is_some};
-ghost use Rattle.h3_header.specs.BadPart.{bad_part, refusal_of, AreGood};
+ghost use Rattle.std.specs.Prelude.{◌≡◌, ◌≤◌, ◌<◌, false, [], true, Some, None, IfOk, IfSome, OnErr, length, option_map, is_some};
+ghost use Rattle.h3_header.specs.BadPart.{refusal_of, AreGood};
 ghost use Rattle.h3_header.specs.Head.{trailer_head};
 ghost use Rattle.h3_header.specs.BadPart.{IsHeadUnlessMany};
 ghost use Rattle.h3_header.specs.HeadRead.{HeadRefusal, head_by, is_value_at, told};
-ghost use Rattle.h3_header.specs.Reads.{kind_of, status_number, RefusesOne};
+ghost use Rattle.h3_header.specs.Reads.{status_number, RefusesOne};
 ghost use Rattle.h3_header.specs.declared.headers.kind.FieldKind.TheVariants.{Status};
 ghost use Rattle.h3_connection.specs.Pulling.{malformation_of};
 ghost use Rattle.h3_connection.specs.Pulling.{is_interim};
 ghost use Rattle.h3_incoming.specs.Judging.{Tells};
-ghost use Rattle.h3_incoming.specs.Outline.{outline_of, empty_outline, first_status, outlined, outlined_by, is_sent_outline, is_read_outline, list_read};
+ghost use Rattle.h3_incoming.specs.Outline.{outline_of, empty_outline, first_status, outlined_by, is_sent_outline, is_read_outline, list_read};
 ghost use Rattle.h3_incoming.specs.declared.outline.ListRead.TheVariants as read;
 
 use h3_connection::event::Malformation;
@@ -150,7 +150,7 @@ pub fn read_list(
 
 /// The same, but it may be known already.
 #[inline(always)]
-pub(crate) fn read_unless(
+pub fn read_unless(
     known: Option<ListRead>,
     alloc: Global,
     fields: &Fields<'_>,
@@ -277,7 +277,8 @@ pub(crate) fn read_refused(
     any_protocol: bool,
     error: &HeaderError,
 ) -> Result<ListRead, AllocError>
-    ensures ok { IfOk result (λ r. (why : HeadRefusal) × Tells any_protocol fields.now error.now why × (r ≡ read.Malformed (malformation_of why))) }
+    ensures ok { IfOk result
+        (λ r. (why : HeadRefusal) × Tells any_protocol fields.now error.now why × (r ≡ read.Malformed (malformation_of why))) }
     ensures memory { OnErr result (told error.now ≡ None) }
     ensures good { OnErr result (IsHeadUnlessMany any_protocol fields.now) }
 {

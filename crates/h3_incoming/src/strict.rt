@@ -34,11 +34,10 @@ pub(crate) struct OneRead {
     pub(crate) strict: StrictRead,
 }
 
-/// What a field list says at its place. In front of it such content was left, and this was known of the content of a response. If a strict
-/// endpoint keeps it as a list, one walk also finds what the list is. If a field is malformed, a second walk finds what the list says.
+/// What a field list says at its place. In front of it such content was left, and this was known of the content of a response. If messages
+/// are strict, one walk also finds what the list is. If a field is malformed, a second walk finds what the list says.
 #[inline(always)]
 pub(crate) fn read_at(
-    keeps_lists: bool,
     side: Side,
     announced: &Announced,
     place: Place,
@@ -51,7 +50,7 @@ pub(crate) fn read_at(
     ensures content { result.strict.content ≡ content_at side announced.now place content fields.now }
     ensures response { result.strict.response ≡ response_at side announced.now place known fields.now }
 {
-    if keeps_lists && announced.choices.strict_messages && fields.len() <= MOST_NAMES {
+    if announced.choices.strict_messages && fields.len() <= MOST_NAMES {
         return read_once(side, announced, place, content, known, fields);
     }
     OneRead {

@@ -11,12 +11,11 @@ use Rattle.h3_world.specs.Setup.{IsMadeSetup, Setup}
 use Rattle.h3_world.specs.World.{World}
 use Rattle.h3_headline.specs.Cited.{Laws}
 use Rattle.h3_memory.specs.Kept.{Delivery, Bytes, End, Reset, KeepingWorld, kept_at, read_delivery, read_deliveries}
-use Rattle.h3_memory.specs.Keeping.{AreKept, Held, StandsKeeping}
+use Rattle.h3_memory.specs.Keeping.{AreKept, StandsKeeping}
 use Rattle.h3_memory.proofs.BehindOwn.{found_as}
-use Rattle.h3_memory.proofs.KeptAlike.{all_none}
 use Rattle.h3_memory.proofs.KeptLaws.{KeptLaws}
 use Rattle.h3_memory.proofs.ReadingEnds.{ends_of, stands_of, two_of}
-use Rattle.h3_memory.proofs.ReadingState.{Reading, ReadsAt}
+use Rattle.h3_memory.proofs.ReadingState.{Reading}
 use Rattle.h3_memory.proofs.ReadsWhole.{reads_first}
 
 pub record ReadsAll (setup : Setup) (w : World) (side : Side) (mine ds : List Delivery) (f g : EndpointHistory) (arrivals : List Arrival) : Type 0 where
@@ -35,10 +34,6 @@ reads_all qpack laws setup w side mine [] f g (a ∷ arrivals) made r = absurd r
 reads_all qpack laws setup w side mine (Bytes id count ∷ ds) f g [] made r = absurd r.here.kept
 reads_all qpack laws setup w side mine (End id ∷ ds) f g [] made r = absurd r.here.kept
 reads_all qpack laws setup w side mine (Reset id ∷ ds) f g [] made r = absurd r.here.kept
-
--- From two endpoints that stand with what they keep, and back.
-abbrev pub none_held : Held
-none_held = record { control = []; encoder = []; decoder = [] }
 
 pub reading_of : (setup : Setup) (k : KeepingWorld) (ends : Ends) (side : Side) → StandsKeeping setup k ends
     → Reading setup k.world side (kept_at k (other side)) (kept_at k side) (unkept (end_at ends side)) (end_at ends (other side)) (end_at ends side).kept
@@ -148,7 +143,3 @@ standing_of setup w Server mine ds f g x arrivals r is =
         distinct = r.there.distinct;
       };
     }
-
--- With nothing kept nothing is held.
-pub nothing_held : (setup : Setup) (w : World) (side : Side) (mine : List Delivery) (er f : EndpointHistory) → (h : ReadsAt setup w side mine [] er f []) → h.held ≡ none_held
-nothing_held setup w side mine er f h = all_none (other side) h.held h.kept

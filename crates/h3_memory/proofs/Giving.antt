@@ -23,7 +23,7 @@ use Rattle.h3_world.specs.World.{World}
 use Rattle.h3_headline.specs.Cited.{Laws}
 use Rattle.h3_headline.specs.DeliverLaws.{has_outgoing_is}
 use Rattle.h3_memory.specs.Kept.{Delivery, Bytes, KeepingWorld, read_delivery, read_deliveries}
-use Rattle.h3_memory.specs.Keeping.{MayAllBeRead, StandsKeeping, ahead, came_of, text_of}
+use Rattle.h3_memory.specs.Keeping.{MayAllBeRead, StandsKeeping, came_of, text_of}
 use Rattle.h3_memory.proofs.CatchesUp.{ReadsAll, keeping_so, reads_all, standing_of}
 use Rattle.h3_memory.proofs.HandsOver.{LetsGo, advanced_ahead, hands_over}
 use Rattle.h3_memory.proofs.Judged.{Waits, arrives_so, outgoing_ahead, waits_at}
@@ -69,9 +69,6 @@ read_one_more setup w writer (first ∷ ds) d = read_one_more setup (read_delive
 -- nothing is kept
 pub unkept_is : (e : EndpointHistory) → e.kept ≡ [] → e ≡ record e { kept = [] }
 unkept_is e none = ap (λ l. record e { kept = l }) none
-
-abbrev found_so : EndpointHistory → Option Refusal × EndpointHistory
-found_so e = (None, e)
 
 enough : (n count : ℕ) → nat_lt n count ≡ false → count ≤ n
 enough n count e = grind (arith, common_steps, e)

@@ -155,10 +155,6 @@ module _ (setup : Setup) (w : World) (side : Side) where
         next_id = next_back er ew ∙ t.next_id ∙ sym (ap (λ n. 4 * n) count);
       }
 
--- What the writer has handed over is as much.
-more_in : (q d c n : ℕ) (ds : List Delivery) → bytes_in q (Bytes c n ∷ ds) ≡ bytes_in q (Bytes c n ∷ []) + bytes_in q ds
-more_in q d c n ds = omega arith
-
 back_own : (side : Side) (own : Own) (count : ℕ) (ds : List Delivery)
     → handed_own side own (Bytes (control_id side) count ∷ ds) ≡ handed_own side (record own { decoder_taken = min 1 own.decoder_taken }) (Bytes (control_id side) count ∷ Bytes (decoder_id side) (own.decoder_taken - 1) ∷ ds)
 back_own Client own count ds = taken_alike own _ _ _ _ _ _ (omega arith) (omega arith) (omega arith)

@@ -16,7 +16,6 @@ use Rattle.h3_connection.specs.OwnIds.{other, is_own}
 use Rattle.h3_connection.specs.Shown as shown
 use Rattle.h3_connection.specs.StreamSets.{Streams, stream_at}
 use Rattle.h3_connection.specs.Unidirectional as unidirectional
-use Rattle.h3_connection.specs.Unidirectional.{Role, untold}
 use Rattle.h3_connection.specs.declared.setup.Announced.{Announced}
 use Rattle.h3_world.specs.Setup.{Setup}
 use Rattle.h3_world.specs.Delivering.{is_closed}
@@ -122,9 +121,6 @@ refused_alike side who own id None (Some new) h = absurd h
 refused_alike side who own id (Some old) None h = absurd h
 refused_alike Client who own id (Some old) (Some new) h = ap (λ (i : Incoming). closed_refusal (i.ended || i.was_reset)) h.same
 refused_alike Server who own id (Some old) (Some new) h = ap (λ (i : Incoming). closed_refusal (i.ended || i.was_reset)) h.same
-
-untold_open : (role : Role) → closed_refusal (unidirectional.is_closed (record untold { role = role })) ≡ None
-untold_open role = refl
 
 pub refused_ahead : (setup : Setup) (w : World) (side : Side) (mine ds : List Delivery) (f g : EndpointHistory) (arrivals : List Arrival) (id : ℕ) → Reading setup w side mine ds f g arrivals → has_outgoing w (other side) id ≡ true
     → delivery_refusal f id ≡ closed_refusal (is_closed w (other side) id)

@@ -126,11 +126,6 @@ pub decoder_gone : (writer : Side) (held : Held) → (held_without writer held (
 decoder_gone Client held = refl
 decoder_gone Server held = refl
 
--- nothing is held of any stream
-pub all_none : (writer : Side) (held : Held) → ((i : ℕ) → held_of writer held i ≡ []) → held ≡ record { control = []; encoder = []; decoder = [] }
-all_none Client held none = ap (λ l. record held { control = l }) (none 2) ∙ ap (λ l. record held { control = []; encoder = l }) (none 6) ∙ ap (λ l. record held { control = []; encoder = []; decoder = l }) (none 10)
-all_none Server held none = ap (λ l. record held { control = l }) (none 3) ∙ ap (λ l. record held { control = []; encoder = l }) (none 7) ∙ ap (λ l. record held { control = []; encoder = []; decoder = l }) (none 11)
-
 -- Of a stream that its writer has not opened no bytes are kept.
 pub none_of_closed : (setup : Setup) (w : World) (writer : Side) (came : ℕ → ℕ) (closed : ℕ → Bool) (ds : List Delivery) (id : ℕ) → has_outgoing w writer id ≡ false → MayAllBeRead setup w writer came closed ds → bytes_in id ds ≡ 0
 none_of_closed setup w writer came closed [] id shut may = refl

@@ -48,10 +48,6 @@ pub record EndGoesOver (setup : Setup) (w : World) (writer : Side) (id : ℕ) : 
   pub ends : may_end setup w writer id ≡ true
   pub goes_on : is_closed w writer id ≡ false
 
-opposite : (b : Bool) → not b ≡ false → b ≡ true
-opposite true e = refl
-opposite false e = cc
-
 pub end_goes_over : (setup : Setup) (w : World) (writer : Side) (id : ℕ) → (end_delivery setup w writer id).0 ≡ answer.Done → EndGoesOver setup w writer id
 end_goes_over setup w writer id e = by_tests (has_outgoing w writer id) refl (may_end setup w writer id) refl (is_closed w writer id) refl e
   where

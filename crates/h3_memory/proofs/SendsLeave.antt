@@ -68,9 +68,6 @@ opposite : (b : Bool) → not b ≡ false → b ≡ true
 opposite true e = refl
 opposite false e = cc
 
-taking : (f : Flow) (takes : Bool) → (takes ≡ true → is_finished f ≡ false) → not takes ≡ false → is_finished f ≡ false
-taking f takes open_still e = open_still (opposite takes e)
-
 -- the same where two rules follow
 not_finished_then : (finished reset first second : Bool) → (not finished && not reset && first && second) ≡ true → finished ≡ false
 not_finished_then true reset first second e = cc

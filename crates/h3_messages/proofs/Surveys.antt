@@ -14,9 +14,8 @@ use Rattle.h3_messages.specs.Known.{text, place, known_of}
 use Rattle.h3_messages.specs.Messages.{has_name, holds, value_of, is_pseudo, pseudo_first, is_word, has_space_around}
 use Rattle.h3_messages.specs.Survey.{has, IsSeen, TakesName, TakesField, is_unknown_pseudo, is_wrong_te}
 use Rattle.h3_messages.specs.declared.known.Known.{Known}
-use Rattle.h3_messages.specs.declared.known.Known.TheVariants.{Method, Scheme, Authority, Path, Protocol, Status, Host, ContentLength, Te, Connection, KeepAlive, ProxyConnection, TransferEncoding, Upgrade}
+use Rattle.h3_messages.specs.declared.known.Known.TheVariants.{Te}
 use Rattle.h3_messages.specs.declared.name_set.NameSet.{NameSet}
-use Rattle.h3_messages.specs.declared.slot.Slot.{Slot}
 use Rattle.h3_messages.specs.declared.seen.Seen.{Seen}
 
 -- the value of a name
@@ -115,25 +114,6 @@ not_unknown false false = refl
 pub unknown_named : (f : Field) (known : Known) (old new : Bool) → Some known ≡ known_of f.name → new ≡ old → new ≡ (old || is_unknown_pseudo f)
 unknown_named f known old new e is = is ∙ (not_unknown old (is_pseudo f) ∙ ap (λ o. old || (is_pseudo f && not (is_some o))) e)
 
-no_te : (known : Known) → (known ≢ Te) → eqb 8 (place known) ≡ false
-no_te Method h = refl
-no_te Scheme h = refl
-no_te Authority h = refl
-no_te Path h = refl
-no_te Protocol h = refl
-no_te Status h = refl
-no_te Host h = refl
-no_te ContentLength h = refl
-no_te Te h = absurd (h refl)
-no_te Connection h = refl
-no_te KeepAlive h = refl
-no_te ProxyConnection h = refl
-no_te TransferEncoding h = refl
-no_te Upgrade h = refl
-
-pub te_kept : (known : Known) (old word : Bool) → (known ≢ Te) → old ≡ (old || (eqb 8 (place known) && not word))
-te_kept known old word h = no_more old ∙ ap (λ b. old || (b && not word)) (sym (no_te known h))
-
 keeps : (its : List ℕ) (k : Known) (a : Seen) → TakesName false its k a a
 keeps its k a = record { value = λ d. same_value (has k a.there) _; there = no_more (has k a.there); repeated = no_second (has k a.repeated) (has k a.there) }
 
@@ -150,38 +130,6 @@ and_true false = refl
 
 pub unknown_none : (f : Field) (old new : Bool) → None ≡ known_of f.name → new ≡ (old || is_pseudo f) → new ≡ (old || is_unknown_pseudo f)
 unknown_none f old new e is = is ∙ (ap (λ b. old || b) (and_true (is_pseudo f)) ∙ ap (λ o. old || (is_pseudo f && not (is_some o))) e)
-
--- no field
-abbrev pub fourteen : Slot → List Slot
-fourteen s = s ∷ s ∷ s ∷ s ∷ s ∷ s ∷ s ∷ s ∷ s ∷ s ∷ s ∷ s ∷ s ∷ s ∷ []
-
-at_fourteen : (s : Slot) (k : Known) (d : Slot) → get_or (fourteen s) (place k) d ≡ s
-at_fourteen s Method d = refl
-at_fourteen s Scheme d = refl
-at_fourteen s Authority d = refl
-at_fourteen s Path d = refl
-at_fourteen s Protocol d = refl
-at_fourteen s Status d = refl
-at_fourteen s Host d = refl
-at_fourteen s ContentLength d = refl
-at_fourteen s Te d = refl
-at_fourteen s Connection d = refl
-at_fourteen s KeepAlive d = refl
-at_fourteen s ProxyConnection d = refl
-at_fourteen s TransferEncoding d = refl
-at_fourteen s Upgrade d = refl
-
-pub none_seen : (s : Slot) (there repeated : NameSet) → s.value.now ≡ [] → ((k : Known) → has k there ≡ false) → ((k : Known) → has k repeated ≡ false) → IsSeen [] record { slots = fourteen s; there = there; repeated = repeated; has_regular = false; is_out_of_order = false; has_unknown_pseudo = false; has_wrong_te = false; has_spaced_value = false }
-none_seen s there repeated v t r = record {
-  values = λ k d. ap (λ x. x.value.now) (at_fourteen s k d) ∙ v;
-  there = t;
-  repeated = r;
-  has_regular = refl;
-  is_out_of_order = refl;
-  has_unknown_pseudo = refl;
-  has_wrong_te = refl;
-  has_spaced_value = refl;
-}
 
 itself : (i : ℕ) → eqb i i ≡ true
 itself i = grind (arith, nat_tests)

@@ -99,7 +99,8 @@ impl<'a> Survey<'a> {
 
     /// The value of the first `:status`, or none.
     pub fn status(&self) -> Option<&'a [u8]>
-        ensures some { IfSome result (λ text. (holds (codes ":status") self.now.fields.now ≡ true) × (text.now ≡ value_of (codes ":status") self.now.fields.now)) }
+        ensures some { IfSome result
+            (λ text. (holds (codes ":status") self.now.fields.now ≡ true) × (text.now ≡ value_of (codes ":status") self.now.fields.now)) }
         ensures none { IfNone result (holds (codes ":status") self.now.fields.now ≡ false) }
     {
         if self.holds(Known::Status) {

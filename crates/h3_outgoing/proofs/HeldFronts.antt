@@ -95,13 +95,6 @@ last_one w ys before out next past f is none =
       past = f.past ∙ sym (ap past_of (drop-append-le next w ys (omega (arith, f.copied.place, front_within w))) ∙ past_apart (drop next w) ys none);
     }
 
--- all of it was copied: no place follows, and the buffer is not full
-pub all_copied : (w before out : List ℕ) (count past : ℕ) → Fronts w before out count past → past ≡ 0 → count < length before → (front_of w ≡ w) × (count ≡ length w)
-all_copied w before out count past f none room =
-    let at : count ≡ length (front_of w) = omega (arith, f.copied.place, room) in
-    let same : front_of w ≡ w = exhausted w (sym (ap (λ n. past_of (drop n w)) at) ∙ sym f.past ∙ none) in
-    (same, at ∙ ap length same)
-
 -- a frame more behind bytes of which all were copied
 drop_behind : (n : ℕ) (xs ys : List ℕ) → length xs ≤ n → drop n (xs ++ ys) ≡ drop (n - length xs) ys
 drop_behind n [] ys h = let none : n ≡ n - 0 = omega arith in ap (λ k. drop k ys) none
@@ -194,12 +187,6 @@ pub queue_more : (frames : List Piece) (i : ℕ) (p : Piece) (before mid out : L
     → Done (bytes_of (take i frames)) before mid at → FrontsAt (all_of p) at mid next past is_last out → is_last ≡ false → Done (bytes_of (take (i + 1) frames)) before out next
 queue_more frames i p before mid out at next past is_last inside is d f on =
     subst (λ l. Done l before out next) (next_bytes frames i p inside is) (done_more (bytes_of (take i frames)) (all_of p) before mid out at next past is_last d f on)
-
--- all of them were copied
-pub all_done : (w before out : List ℕ) (at : ℕ) → Done w before out at → Fronts w before out at 0
-all_done w before out at d =
-    let none : drop at w ≡ [] = drop_all at w (omega (arith, d.all)) in
-    record { copied = subst (λ l. Filled l before out at) (sym d.whole) d.filled; past = sym (ap past_of none) }
 
 -- two places, and behind them a queue
 pub of_places : (first second : Option Piece) (later : List Piece) → (bytes_of (at_most_one first) ++ bytes_of (at_most_one second)) ++ bytes_of later ≡ bytes_of (frames_in first second later)

@@ -138,11 +138,3 @@ second_some first second later h = first_some second None later (behind_first fi
 
 pub later_some : (first second : Option Piece) (later : List Piece) → EachHas (frames_in first second later) → EachHas later
 later_some first second later h = behind_first second None later (behind_first first second later h)
-
--- how many wait in each place
-pub sum_in : (first second : Option Piece) (later : List Piece)
-    → length (bytes_of (frames_in first second later)) ≡ length (bytes_of (at_most_one first)) + (length (bytes_of (at_most_one second)) + length (bytes_of later))
-sum_in first second later =
-    let outer = flat_map-append all_of (at_most_one first) (at_most_one second ++ later) in
-    let inner = flat_map-append all_of (at_most_one second) later in
-    omega (arith, ap length outer, ap length inner, length-append (bytes_of (at_most_one first)) (bytes_of (at_most_one second ++ later)), length-append (bytes_of (at_most_one second)) (bytes_of later))

@@ -1,13 +1,9 @@
 -- Integers of at most 15 digits.
 use Rattle.std.proofs.Common.{ℕ, ◌+◌, ◌*◌, ◌^◌, ◌<◌, ◌≤◌, arith, lit<}
 use Rattle.std.proofs.Math.Nat.{pow-le-pow_right}
-use Rattle.std.proofs.lemmas.Grind.{pow_more}
 
 -- there is room for one more digit
 pub room : (number index : ℕ) → index < 15 → number + 23 ≤ 23 * 10 ^ index → number ≤ 23 * 10 ^ 14
 room number index h k =
     let few : index ≤ 14 = omega arith in
     omega (arith, pow-le-pow_right {n = 10} (lit< tt) few)
-
-pub more : (number digit index : ℕ) → digit < 208 → number + 23 ≤ 23 * 10 ^ index → number * 10 + digit + 23 ≤ 23 * 10 ^ (index + 1)
-more number digit index h k = rw (pow_more 10 index) (omega arith)

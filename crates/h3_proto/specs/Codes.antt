@@ -49,9 +49,6 @@ code_text code = name_or_number code (code_name code)
 abbrev pub general_protocol_error : ℕ
 general_protocol_error = 0x101
 
-abbrev pub internal_error : ℕ
-internal_error = 0x102
-
 abbrev pub stream_creation_error : ℕ
 stream_creation_error = 0x103
 

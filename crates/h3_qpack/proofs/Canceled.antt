@@ -3,7 +3,6 @@ use Rattle.std.proofs.Common.{Less, Equal, Greater, ◌⊎◌, inl, inr, ◌≡�
 use Rattle.std.specs.Prelude.{◌==◌}
 use Rattle.std.specs.List.{AllByRecursion, list_all, list_any}
 use Rattle.std.specs.Ordering.{nat_cmp, match_ordering}
-use Rattle.std.specs.BTreeMap.{is_at}
 use Rattle.std.specs.BTreeSet.{insert_key}
 use Rattle.std.proofs.lemmas.Grind.{common_steps}
 use Rattle.std.proofs.lemmas.List.Elements.{filter-append}
@@ -50,11 +49,6 @@ canceled_more stream other (id ∷ ids) = by_order (nat_lt stream id) (stream ==
         let same : stream ≡ id = grind (arith, common_steps) in
         rw same (twice (id == other) (list_any (λ k. k == other) ids))
     by_order false false e h = rw h (swapped (id == other) (stream == other) (list_any (λ k. k == other) ids))
-
--- a set's own test finds an id
-pub id_found : (stream : ℕ) (ids : List ℕ) → list_any (is_at (nat_cmp stream)) ids ≡ list_any (λ id. id == stream) ids
-id_found stream [] = refl
-id_found stream (id ∷ ids) = grind (arith, common_steps, id_found stream ids)
 
 -- No section may be blocked, no entry is there, and none is inserted for later sections: the encoder is not economical, or none fits.
 pub record NamesNone (s : EncoderHistory) : Type 0 where

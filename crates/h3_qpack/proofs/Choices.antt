@@ -41,18 +41,6 @@ usable_is s most n = by_test (nat_lt (blocks_out s) s.limit) refl
     by_test true e = rw (or_true (nat_le n s.known_received), and_true (nat_le n most)) refl
     by_test false e = rw (or_false (nat_le n s.known_received)) (grind (arith, common_steps))
 
--- the order of three tests
-turned : (a b c : Bool) → (a && b && c) ≡ (c && a && b)
-turned true true true = refl
-turned true true false = refl
-turned true false true = refl
-turned true false false = refl
-turned false b true = refl
-turned false b false = refl
-
-le_false : (a b : ℕ) → b < a → nat_le a b ≡ false
-le_false a b h = grind (arith, common_steps)
-
 lt_false : (a b : ℕ) → b ≤ a → nat_lt a b ≡ false
 lt_false a b h = grind (arith, common_steps)
 

@@ -199,9 +199,6 @@ abbrev second_in : Option (ℕ × ℕ) → ℕ
 second_in None = 0
 second_in (Some p) = p.1
 
-SomePair : ℕ → ℕ → Option (ℕ × ℕ)
-SomePair a b = Some (a, b)
-
 pair_same : (a b c d : ℕ) (o : Option (ℕ × ℕ)) → o ≡ Some (a, b) → o ≡ Some (c, d) → (a ≡ c) × (b ≡ d)
 pair_same a b c d o e f = (ap first_in (sym e ∙ f), ap second_in (sym e ∙ f))
 

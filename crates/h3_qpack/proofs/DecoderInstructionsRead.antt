@@ -1,20 +1,16 @@
 -- An instruction of a decoder at the front of some bytes, and instructions one behind the other.
-use Rattle.std.proofs.Common.{◌≡◌, ℕ, ◌<◌, ◌≤◌, ◌^◌, ◌-◌, not, Bool, false, List, [], ◌∷◌, ◌++◌, length, Option, Some, None, Ok, Err, refl, ap, sym, ◌∙◌, subst, arith}
+use Rattle.std.proofs.Common.{◌≡◌, ℕ, ◌<◌, ◌≤◌, ◌^◌, ◌-◌, not, Bool, false, List, [], ◌∷◌, ◌++◌, length, Option, Some, Ok, refl, ap, sym, ◌∙◌, subst, arith}
 use Rattle.std.specs.List.{list_any}
 use Rattle.h3_field.specs.Reading.{Reading, Whole, Unfinished, Bad}
-use Rattle.h3_field.specs.Errors.{encoder_parse}
 use Rattle.h3_field.specs.Instruction.{DecoderInstruction}
 use Rattle.h3_field.specs.Instruction.DecoderInstruction.{Acknowledge, Increment}
 use Rattle.h3_field.specs.InstructionReading.{decoder_instruction}
 use Rattle.h3_field.specs.InstructionAnswer.{AnswersReply}
-use Rattle.h3_field.specs.declared.prefix_int.Error.TheVariants.{Overflow}
-use Rattle.h3_field.specs.declared.parse_error.ParseError.{ParseError}
-use Rattle.h3_field.specs.declared.parse_error.ParseError.TheVariants.{Integer}
 use Rattle.h3_qpack.specs.EncoderHistory.{EncoderHistory, encoder_after, encoder_after_all, is_refused}
 use Rattle.h3_table.specs.Tracking.{is_of}
 use Rattle.h3_qpack.specs.EncoderState.{EncoderState, encoder_state, refuses_increment, encoder_state_after}
 use Rattle.h3_qpack.specs.Instructions.{AreDecoderInstructions, NoDecoderInstruction, NextDecoderInstruction, AreAccepted}
-use Rattle.h3_qpack.specs.EncoderAnswers.{HasReadDecoderInstructions, HasReadDecoderInstruction, IsDecoderInstructionRefusal}
+use Rattle.h3_qpack.specs.EncoderAnswers.{HasReadDecoderInstructions, HasReadDecoderInstruction}
 use Rattle.h3_qpack.proofs.EncoderStates.{encoder_after_state, tracked_state}
 
 -- what was read at the front
@@ -26,19 +22,6 @@ reply_here {I} says r old new o i is answer = from r (subst (λ (x : Option I). 
     from (Whole j rest) h = rw (h.0, h.1) refl
     from Unfinished h = absurd (cc)
     from Bad h = absurd (cc)
-
-pub reply_unfinished : {I : Type 0} (says : I → DecoderInstruction) (r : Reading DecoderInstruction) (old new : List ℕ) → AnswersReply says r old new (Ok None) → r ≡ Unfinished
-reply_unfinished says (Whole i rest) old new h = absurd h
-reply_unfinished says Unfinished old new h = refl
-reply_unfinished says Bad old new h = absurd (cc)
-
-pub reply_refused : {I : Type 0} (says : I → DecoderInstruction) (r : Reading DecoderInstruction) (old new : List ℕ) (e : ParseError) → AnswersReply says r old new (Err e)
-    → (r ≡ Bad) × IsDecoderInstructionRefusal r (encoder_parse e)
-reply_refused says (Whole i rest) old new e h = absurd h
-reply_refused says Unfinished old new e h = absurd (cc)
-reply_refused says Bad old new e h =
-    let same : e ≡ Integer Overflow = cc in
-    (refl, rw same refl)
 
 -- One instruction that was read and is not refused, by what is kept after it.
 pub heard_one : (old new : EncoderState) (bytes left : List ℕ) (i : DecoderInstruction) → decoder_instruction bytes ≡ Whole i left → length left < length bytes

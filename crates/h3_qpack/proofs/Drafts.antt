@@ -27,10 +27,6 @@ pub record IsDraft (s : EncoderHistory) (d : Draft) : Type 0 where
   pub evictions_known : evictions s.capacity d.inserted ≤ max s.known_received (evictions s.capacity s.inserted)
   pub small : length s.inserted < 2 ^ 62 → length d.inserted < 2 ^ 62
 
-All-map : {X : Type 0} (P Q : X → Type 0) (xs : List X) → ((x : X) → P x → Q x) → AllByRecursion P xs → AllByRecursion Q xs
-All-map P Q [] f h = tt
-All-map P Q (x ∷ xs) f h = (f x h.0, All-map P Q xs f h.1)
-
 All-tested : (d : ℕ) (xs : List ℕ) → list_all (λ number. nat_lt d number) xs ≡ true → AllByRecursion (λ number. d < number) xs
 All-tested d [] h = tt
 All-tested d (x ∷ xs) h = let e = and_parts (nat_lt d x) (list_all (λ number. nat_lt d number) xs) h in (lt_true d x e.0, All-tested d xs e.1)

@@ -22,11 +22,6 @@ use Rattle.h3_qpack.specs.GuardLaws.{guarded_more}
 use Rattle.h3_table.specs.EvictionLaws.{evicted_with_entry}
 use Rattle.h3_table.specs.ReleasingLaws.{All-join}
 
--- what follows from two facts of an accepted call
-pub on_both : {T E P Q R : Type 0} (r : Result T E) → (P → Q → R) → OnOk r P → OnOk r Q → OnOk r R
-on_both (Ok x) f p q = f p q
-on_both (Err e) f p q = p
-
 -- what is appended or left grows
 pub grown : {T E : Type 0} (P : Type 0) (r : Result T E) (old new more : List ℕ) → OnOk r (new ≡ old ++ more) → OnErr r (P × (new ≡ old)) → length old ≤ length new
 grown P (Ok x) old new more p q = omega (arith, ap length p, length-append old more)
@@ -62,9 +57,6 @@ pub record InFields (t : EncoderState) (section : Section) (lines instruction_by
   pub grown : length instruction_bytes ≤ length later
   pub are_bytes : AllByRecursion IsFieldOfBytes (take index fields)
   pub drafted : (s : EncoderHistory) (start : List ℕ) → IsDrafted s (draft_of s []) t section lines start instruction_bytes → IsDrafted s (draft_of s (take index fields)) new next more start later
-
-pub in_none : (t : EncoderState) (section : Section) (lines instruction_bytes : List ℕ) (fields : List Field) → IsOver t.table section → InFields t section lines instruction_bytes t section lines instruction_bytes fields 0
-in_none t section lines instruction_bytes fields o = record { over = o; grown = omega arith; are_bytes = tt; drafted = λ s start h. h }
 
 pub draft_more : (s : EncoderHistory) (fields : List Field) (index : ℕ) (f : Field) → index < length fields → f ≡ get_or fields index f → draft_of s (take (index + 1) fields) ≡ add_field s (draft_of s (take index fields)) (guarded s.choices.guards_secrets f)
 draft_more s fields index f lt is =
@@ -132,14 +124,3 @@ pub in_refused : (t : EncoderState) (section : Section) (lines instruction_bytes
     → (s : EncoderHistory) (start : List ℕ) → IsDrafted s (draft_of s []) t section lines start instruction_bytes → IsCutOff s s fields new start later
 in_refused t section lines instruction_bytes mid between m l new later fields index i le same unwritten s start h =
     rw (same, unwritten) (in_cut_off t section lines instruction_bytes mid between m l fields index i le s start h)
-
--- a field is within the sum
-one_size : (f : Field) → section_size (f ∷ []) ≡ field_size f
-one_size f = omega (arith, sum_by-cons field_size f [])
-
-pub field_within : (fields : List Field) (index : ℕ) (f : Field) (most : ℕ) → index < length fields → f ≡ get_or fields index f → section_size fields < most → field_size f < most
-field_within fields index f most lt is below =
-    let more : take (index + 1) fields ≡ take index fields ++ f ∷ [] = take_more fields index f lt ∙ ap (λ x. take index fields ++ x ∷ []) (sym is) in
-    let whole = sym (ap (λ x. section_size x) (take-append-drop (index + 1) fields)) ∙ sum_by-append field_size (take (index + 1) fields) (drop (index + 1) fields) in
-    let front = ap (λ x. section_size x) more ∙ sum_by-append field_size (take index fields) (f ∷ []) in
-    omega (arith, whole, front, one_size f, below)

@@ -2,7 +2,6 @@
 use Rattle.std.proofs.lemmas.List.{take-append-le}
 use Rattle.std.proofs.Math.Seq.{take-length}
 use Rattle.h3_field.specs.FieldLaws.{same_bytes, same_field}
-use Rattle.h3_field.specs.Line.{FieldLine}
 use Rattle.std.proofs.Common.{take, ◌≡◌, ℕ, ◌+◌, ◌-◌, ◌^◌, ◌<◌, ◌≤◌, Bool, true, false, ◌&&◌, List, [], ◌∷◌, ◌++◌, length, max, refl, sym, ◌∙◌, ap, subst, arith, length-append, Option, Some, None, nat_le, nat_lt, bytes_eq, fold, append-nil, append_assoc, slice_get}
 use Rattle.std.proofs.lemmas.Grind.{common_steps}
 use Rattle.std.proofs.lemmas.Bool.{and_parts}
@@ -12,7 +11,7 @@ use Rattle.h3_field.specs.StaticTable.{static_table, static_field, static_name}
 use Rattle.h3_field.specs.Instruction.{EncoderInstruction}
 use Rattle.h3_table.specs.Table.{evictions}
 use Rattle.h3_qpack.specs.EncoderHistory.{EncoderHistory}
-use Rattle.h3_qpack.specs.SectionEncoding.{Draft, found, marks_after, evictions_by, is_insertable, remaining, insertion, add_line, add_literal, write_field, add_field, first_draft, guarded_fields, draft_of, found_name, instructions_for}
+use Rattle.h3_qpack.specs.SectionEncoding.{Draft, found, marks_after, evictions_by, is_insertable, remaining, insertion, add_literal, write_field, add_field, first_draft, guarded_fields, draft_of, found_name, instructions_for}
 use Rattle.h3_qpack.specs.TableHistory.{TableHistory, entry_still_at, field_inserted, table_after_insertion, table_after, table_after_all, table_of, IsReadAs}
 use Rattle.h3_table.specs.TableLaws.{evictions-append}
 use Rattle.h3_qpack.proofs.Newest.{chosen, newest_from-passes}
@@ -115,11 +114,6 @@ one_read greatest capacity instructions inserted i f step h =
         → table_after_all greatest (Some (table_of capacity [])) (take k (instructions ++ i ∷ [])) ≡ Some (table_of capacity (take k (inserted ++ f ∷ [])))
     by_order k true e le = front k (grind (arith, common_steps))
     by_order k false e le = let far : length instructions < k = grind (arith, common_steps) in whole k (omega (arith, far, le, length-append instructions (i ∷ [])))
-
--- a line changes neither
-line_read_as : (greatest : ℕ) (s : EncoderHistory) (before : List EncoderInstruction) (d : Draft) (line : FieldLine) (names : List ℕ)
-    → IsReadAs greatest s.capacity (before ++ d.instructions) d.inserted → IsReadAs greatest s.capacity (before ++ (add_line d line names).instructions) (add_line d line names).inserted
-line_read_as greatest s before d line names h = h
 
 literal_read_as : (greatest : ℕ) (s : EncoderHistory) (before : List EncoderInstruction) (d : Draft) (f : Field)
     → IsReadAs greatest s.capacity (before ++ d.instructions) d.inserted → IsReadAs greatest s.capacity (before ++ (add_literal s d f).instructions) (add_literal s d f).inserted

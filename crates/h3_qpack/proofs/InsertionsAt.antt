@@ -17,7 +17,7 @@ use Rattle.h3_field.specs.declared.parse_error.ParseError.{ParseError}
 use Rattle.h3_field.specs.declared.parse_error.ParseError.TheVariants.{Integer, String, InvalidPrefix, InvalidBase, OutOfMemory}
 use Rattle.std.proofs.lemmas.Grind.{common_steps}
 use Rattle.h3_field.specs.Instruction.EncoderInstruction.{SetCapacity, InsertWithStaticName, InsertWithEntryName, InsertLiteral, Duplicate}
-use Rattle.h3_table.specs.TableState.{TableState, has_room, with_entry, with_capacity}
+use Rattle.h3_table.specs.TableState.{TableState, has_room, with_capacity}
 use Rattle.h3_qpack.specs.DecoderState.{DecoderState, insertion_of, inserting, decoder_after, greatest_capacity}
 use Rattle.h3_qpack.specs.WholeInstructions.{is_insertion}
 use Rattle.h3_qpack.specs.Instructions.{BeginsBad}
@@ -85,11 +85,6 @@ begins_no_insertion place h says read old new o i e is answer inserts none =
     let no_field : insertion_of h told.0 ≡ None = sym (coding_plays_no_part h told.0) ∙ ap (insertion_of h) told.2 ∙ none in
     inr (told.1.form, new, told.1.whole, λ j s. let same = one_instruction_said told.1.form told.0 j told.1.says s in (sym (ap is_insertion same) ∙ own, sym (ap (insertion_of h) same) ∙ no_field))
 
-pub not_whole : {I : Type 0} (place : Place) (says : I → EncoderInstruction) (r : Reading InstructionForm) (old new : List ℕ) → instruction old ≡ r → AnswersInstruction says place r old new (Ok None) → instruction old ≡ Unfinished
-not_whole place says (Whole form rest) old new e h = absurd h
-not_whole place says Unfinished old new e h = e
-not_whole place says Bad old new e h = absurd (cc)
-
 not_said : (h : TableState) (old rest : List ℕ) (form : InstructionForm) → instruction old ≡ Whole form rest → ((i : EncoderInstruction) → Says form i → ⊥) → BeginsNoInsertion h old
 not_said h old rest form e none = inr (form, rest, e, λ i s. absurd (none i s))
 
@@ -134,29 +129,8 @@ no_room_bad r bytes rest f b none = inr (
       ap (decoder_after r) same ∙ insertion_reads r b.i b.inserts ∙ ap (inserting r) b.names ∙ rw none refl,
 )
 
-pub room_reads : (r : DecoderState) (bytes rest : List ℕ) (f : Field) → BeginsInsertion r.table bytes f rest → has_room r.table f ≡ true
-    → HasReadOne r (record r { table = with_entry r.table f }) bytes rest
-room_reads r bytes rest f b room =
-    record {
-      i = b.i;
-      here = b.here;
-      table = insertion_reads r b.i b.inserts ∙ ap (inserting r) b.names ∙ rw room refl;
-      less = b.less;
-      grows = omega arith;
-    }
-
 -- a capacity that is set, one that is too large, and one that is refused
 pub capacity_reads : (r : DecoderState) (bytes rest : List ℕ) (n : ℕ) → HasInstruction bytes (SetCapacity n) rest → length rest < length bytes → n ≤ greatest_capacity r
     → HasReadOne r (record r { table = with_capacity r.table n }) bytes rest
 capacity_reads r bytes rest n here less le =
     record { i = SetCapacity n; here = here; table = (let yes : nat_le n (greatest_capacity r) ≡ true = grind (arith, common_steps) in rw yes refl); less = less; grows = omega arith }
-
-pub capacity_bad : (r : DecoderState) (bytes rest : List ℕ) (n : ℕ) → HasInstruction bytes (SetCapacity n) rest → greatest_capacity r < n → BeginsBad r bytes
-capacity_bad r bytes rest n here above = inr (
-  here.form,
-  rest,
-  here.whole,
-  λ i s.
-      let same = one_instruction_said here.form i (SetCapacity n) s here.says in
-      ap (decoder_after r) same ∙ (let no : nat_le n (greatest_capacity r) ≡ false = grind (arith, common_steps) in rw no refl),
-)

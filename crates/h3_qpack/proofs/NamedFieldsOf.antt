@@ -53,10 +53,6 @@ lines_alike P here there base other (line ∷ lines) (f ∷ fields) same all h =
 lines_alike P here there base other [] (f ∷ fields) same all h = absurd h
 lines_alike P here there base other (line ∷ lines) [] same all h = absurd h
 
--- what a line names it names after further insertions
-named_field-append : (fs gs : List Field) (base : ℕ) (line : FieldLine) (f : Field) → named_field fs base line ≡ Some f → named_field (fs ++ gs) base line ≡ Some f
-named_field-append fs gs base line f h = line_alike (insertion_at fs) (insertion_at (fs ++ gs)) base base line f (λ g e. insertion_at-append fs gs (entry_number base line) g e) h
-
 pub StandFor-append : (fs gs : List Field) (base : ℕ) (lines : List FieldLine) (fields : List Field) → StandFor fs base lines fields → StandFor (fs ++ gs) base lines fields
 StandFor-append fs gs base lines fields h =
     lines_alike (λ line. Unit {0}) (insertion_at fs) (insertion_at (fs ++ gs)) base base lines fields (λ line any g e. insertion_at-append fs gs (entry_number base line) g e) (any_of lines) h

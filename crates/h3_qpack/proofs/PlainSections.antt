@@ -1,9 +1,9 @@
 -- A field section that names no entry in the midst of its writing.
-use Rattle.std.proofs.Common.{◌≡◌, ℕ, ◌+◌, ◌≤◌, List, [], ◌∷◌, ◌++◌, length, take, flat_map, refl, ap, sym, ◌∙◌, append_assoc, append-nil}
+use Rattle.std.proofs.Common.{◌≡◌, ℕ, ◌+◌, List, [], ◌∷◌, ◌++◌, length, take, flat_map, refl, ap, sym, ◌∙◌, append_assoc, append-nil}
 use Rattle.std.proofs.Common.{Some}
 use Rattle.std.specs.List.{AllByRecursion, slice_get}
 use Rattle.std.proofs.lemmas.Option.{get_or_from_slice_get, slice_get_within}
-use Rattle.std.proofs.lemmas.List.{take_more, take_all, take_at}
+use Rattle.std.proofs.lemmas.List.{take_more, take_at}
 use Rattle.std.proofs.lemmas.List.Concat.{flat_map-append}
 use Rattle.h3_field.specs.Field.{Field}
 use Rattle.h3_field.specs.Secret.{guarded}
@@ -21,9 +21,6 @@ use Rattle.h3_qpack.specs.declared.encoder_choices.EncoderChoices.{EncoderChoice
 pub record Put (choices : EncoderChoices) (start items : List ℕ) (fields : List Field) (index : ℕ) : Type 0 where
   pub items_are : items ≡ start ++ static_section choices (take index fields)
   pub bytes : AllByRecursion IsFieldOfBytes (take index fields)
-
-pub put_begin : (choices : EncoderChoices) (start items : List ℕ) (fields : List Field) → items ≡ start ++ 0 ∷ 0 ∷ [] → Put choices start items fields 0
-put_begin choices start items fields e = record { items_are = e; bytes = tt }
 
 -- the line of one field more
 next_lines : (choices : EncoderChoices) (fields : List Field) (f : Field)
@@ -43,12 +40,6 @@ put_more choices start items new fields index f g p at taken e each =
           ∙ ap (λ x. start ++ 0 ∷ 0 ∷ x) (sym (next_lines choices front f)) ∙ ap (λ fs. start ++ static_section choices fs) (sym more);
       bytes = rw more (All-join IsFieldOfBytes front (f ∷ []) p.bytes (each, tt));
     }
-
-pub put_all : (choices : EncoderChoices) (start items : List ℕ) (fields : List Field) (index : ℕ) → Put choices start items fields index → length fields ≤ index
-    → (items ≡ start ++ static_section choices fields) × AllByRecursion IsFieldOfBytes fields
-put_all choices start items fields index p all =
-    let whole = take_all index fields all in
-    (rw whole at p.items_are, rw whole at p.bytes)
 
 pub put_refused : (choices : EncoderChoices) (start items new : List ℕ) (fields : List Field) (index : ℕ) → Put choices start items fields index → new ≡ items → take (length start) new ≡ start
 put_refused choices start items new fields index p e = rw (e, p.items_are) (take_at start (static_section choices (take index fields)) (length start) refl)

@@ -34,37 +34,8 @@ count_is_one capacity inserted encoded a b (inl x) (inr y) = absurd (omega (arit
 count_is_one capacity inserted encoded a b (inr x) (inl y) = absurd (omega (arith, x.0, y.0))
 count_is_one capacity inserted encoded a b (inr x) (inr y) = one_count capacity inserted encoded a b x.1 y.1
 
-base_is_one : (below : Bool) (delta count a b : ℕ) → IsBase below delta count a → IsBase below delta count b → a ≡ b
-base_is_one true delta count a b x y = omega (arith, x, y)
-base_is_one false delta count a b x y = omega (arith, x, y)
-
-pub prefix_is_one : (capacity inserted : ℕ) (p : EncodedPrefix) (count base other_count other_base : ℕ) → IsPrefix capacity inserted p count base → IsPrefix capacity inserted p other_count other_base
-    → (count ≡ other_count) × (base ≡ other_base)
-prefix_is_one capacity inserted p count base other_count other_base (inl x) (inl y) = (x.1 ∙ sym y.1, x.2 ∙ sym y.2)
-prefix_is_one capacity inserted p count base other_count other_base (inl x) (inr y) = absurd (omega (arith, x.0, y.0))
-prefix_is_one capacity inserted p count base other_count other_base (inr x) (inl y) = absurd (omega (arith, x.0, y.0))
-prefix_is_one capacity inserted p count base other_count other_base (inr x) (inr y) =
-    let one = count_is_one capacity inserted p.encoded count other_count x.1 y.1 in
-    let same : IsBase p.is_negative p.delta other_count base = subst (λ c. IsBase p.is_negative p.delta c base) one x.2 in
-    (one, base_is_one p.is_negative p.delta other_count base other_base same y.2)
-
-pub record SamePrefix (rest other_rest : List ℕ) (count other_count base other_base : ℕ) : Type 0 where
-  pub rest_is : rest ≡ other_rest
-  pub count_is : count ≡ other_count
-  pub base_is : base ≡ other_base
-
 both_parts : {A : Type 0} (v w : A) (r s : List ℕ) → Whole v r ≡ Whole w s → (v ≡ w) × (r ≡ s)
 both_parts v w r s e = (cc, cc)
-
--- a section begins in one way
-pub begins_once : (r : DecoderState) (bytes new rest : List ℕ) (p : EncodedPrefix) (inserted capacity count base other_count other_base : ℕ) → Begun r bytes new p inserted capacity
-    → IsPrefix capacity inserted p count base → HasPrefix r bytes rest other_count other_base → SamePrefix new rest count other_count base other_base
-begins_once r bytes new rest p inserted capacity count base other_count other_base b is h =
-    let same = both_parts p h.encoded new rest (sym b.whole ∙ h.whole) in
-    let mine : IsPrefix (count_capacity r) r.table.inserted p count base = rw (b.inserted_is, b.capacity_is) at is in
-    let other : IsPrefix (count_capacity r) r.table.inserted p other_count other_base = subst (λ q. IsPrefix (count_capacity r) r.table.inserted q other_count other_base) (sym same.0) h.is in
-    let one = prefix_is_one (count_capacity r) r.table.inserted p count base other_count other_base mine other in
-    record { rest_is = same.1; count_is = one.0; base_is = one.1 }
 
 pub has_prefix : (r : DecoderState) (bytes new : List ℕ) (p : EncodedPrefix) (inserted capacity count base : ℕ) → Begun r bytes new p inserted capacity
     → is_allowed r p ≡ true → IsPrefix capacity inserted p count base → HasPrefix r bytes new count base

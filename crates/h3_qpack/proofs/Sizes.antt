@@ -30,10 +30,6 @@ with_front fields all (Some more) e = (more, cc)
 pub large_within : (h : TableState) (base : ℕ) (bytes rest : List ℕ) (front all : List Field) (max : ℕ) → AreRead h base bytes front rest → max < told_size front → fields_in h base bytes ≡ Some all → max < told_size all
 large_within h base bytes rest front all max read large is = let w = with_front front all (fields_in h base rest) (sym read ∙ is) in large_front max front all w.0 w.1 large
 
--- the sum with one field more, as a reader adds it up
-pub size_next : (fields : List Field) (f : Field) (sum own next : ℕ) → sum ≡ told_size fields → own ≡ min (2 ^ 64 - 1) (field_size f) → next ≡ min (sum + own) (2 ^ 64 - 1) → next ≡ told_size (fields ++ f ∷ [])
-size_next fields f sum own next s o n = omega (arith, s, o, n, sum_by-append field_size fields (f ∷ []))
-
 -- the sizes of fields, by their bytes that lie end to end
 pub size_end_to_end : (fields : List Field) → length (end_to_end fields) + 32 * length fields ≡ section_size fields
 unfolding end_to_end

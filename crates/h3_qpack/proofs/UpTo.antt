@@ -2,7 +2,7 @@
 use Rattle.std.proofs.Common.{◌≡◌, ℕ, zero, suc, ◌-◌, ◌<◌, ◌≤◌, Bool, true, false, if◌then◌else◌, List, [], ◌∷◌, length, take, min, Option, Some, None, refl, sym, ◌∙◌, ap, arith, nat_lt, slice_get, inl, inr}
 use Rattle.std.specs.List.{AllByRecursion}
 use Rattle.std.proofs.lemmas.Bool.{cases_lt, lt-ltb, le-ltb}
-use Rattle.std.proofs.lemmas.List.{length-take, take_all}
+use Rattle.std.proofs.lemmas.List.{length-take}
 use Rattle.std.proofs.lemmas.Option.{slice_get_past}
 use Rattle.h3_field.specs.Field.{Field}
 use Rattle.h3_field.specs.Line.{FieldLine}
@@ -52,13 +52,6 @@ entry_above most h number high = by_test (nat_lt (evicted (up_to most h)) number
     by_test : (b : Bool) → (if b then slice_get (take (most - evicted h) h.entries) (number - evicted (up_to most h) - 1) else None) ≡ None
     by_test true = past
     by_test false = refl
-
--- the table up to its newest entry is the table
-pub up_to_newest : (h : TableState) → length h.entries ≤ h.inserted → up_to h.inserted h ≡ h
-up_to_newest h made =
-    let all : take (h.inserted - evicted h) h.entries ≡ h.entries = take_all (h.inserted - evicted h) h.entries (omega (arith, made)) in
-    let same : min h.inserted h.inserted ≡ h.inserted = omega arith in
-    ap (λ es. record h { entries = es; inserted = min h.inserted h.inserted }) all ∙ ap (λ n. record h { inserted = n }) same
 
 -- lines that name no entry above the number
 pub lines_below : (most : ℕ) (h : TableState) (base : ℕ) (lines : List FieldLine) (fields : List Field) → AllByRecursion (λ line. entry_number base line ≤ most) lines → HaveFields h base lines fields → HaveFields (up_to most h) base lines fields

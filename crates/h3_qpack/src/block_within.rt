@@ -270,7 +270,9 @@ impl<'t> Lines<'t> {
         block: &mut FieldBlock,
     ) -> Result<BlockWithin, DecoderError>
         requires { block.old ≡ [] }
-        ensures ok { IfOk result (λ d. (fields : List Field) × (fields_in self.now.table self.now.base buf.old ≡ Some fields) × IsBlockWithin max name.now dyn_ref fields d block.new × (buf.new ≡ [])) }
+        ensures ok { IfOk result
+            (λ d. (fields : List Field) × (fields_in self.now.table self.now.base buf.old ≡ Some fields)
+            × IsBlockWithin max name.now dyn_ref fields d block.new × (buf.new ≡ [])) }
         ensures err { IfErr result (IsReasonFor (fields_in self.now.table self.now.base buf.old ≡ None) (λ count. ⊥)) }
         ensures memory { IfErr result (λ e. e ≡ OutOfMemory → LinesAskMemory self.now.table self.now.base buf.old) }
     {
@@ -295,8 +297,10 @@ impl<'t> Lines<'t> {
         block: &mut FieldBlock,
     ) -> Result<u64, DecoderError>
         requires { block.old ≡ [] }
-        ensures ok { IfOk result (λ sum. (fields_in self.now.table self.now.base buf.old ≡ Some block.new) × (sum ≡ told_size block.new) × (buf.new ≡ [])) }
-        ensures err { IfErr result (λ e. IsReasonFor (fields_in self.now.table self.now.base buf.old ≡ None) (λ count. ⊥) e × (block.new ≡ [])) }
+        ensures ok { IfOk result
+            (λ sum. (fields_in self.now.table self.now.base buf.old ≡ Some block.new) × (sum ≡ told_size block.new) × (buf.new ≡ [])) }
+        ensures err { IfErr result
+            (λ e. IsReasonFor (fields_in self.now.table self.now.base buf.old ≡ None) (λ count. ⊥) e × (block.new ≡ [])) }
         ensures memory { IfErr result (λ e. e ≡ OutOfMemory → LinesAskMemory self.now.table self.now.base buf.old) }
     {
         match self.block_within(buf, u64::MAX, block) {

@@ -165,7 +165,8 @@ impl Decoder {
     pub fn decode_header(&self, buf: &mut SliceCursor<'_>) -> Result<Decoded, DecoderError>
         ensures ok { IfOk result (λ d. (count : ℕ) × MeansFields self.now buf.old count d.fields.items × (d.dyn_ref ≡ nat_lt 0 count)
             × (d.mem_size ≡ min (2 ^ 64 - 1) (section_size d.fields.items)) × (buf.new ≡ [])) }
-        ensures value { IfOk result (λ d. (count : ℕ) × (decode_section self.now buf.old ≡ Fields d.fields.items count) × (d.dyn_ref ≡ nat_lt 0 count)) }
+        ensures value { IfOk result
+            (λ d. (count : ℕ) × (decode_section self.now buf.old ≡ Fields d.fields.items count) × (d.dyn_ref ≡ nat_lt 0 count)) }
         ensures err { IfErr result (λ e. IsRefusal self.now buf.old e × (buf.new ≡ buf.old)) }
         ensures refusal { IfErr result (IsRefusalOf (decode_section self.now buf.old)) }
         ensures memory { IfErr result (λ e. e ≡ OutOfMemory → MayAskMemory self.now buf.old) }
@@ -232,7 +233,8 @@ impl Decoder {
     ) -> Result<SectionSummary, DecoderError>
         ensures ok { IfOk result (λ d. (count : ℕ) × MeansFields self.now buf.old count block.new × (d.dyn_ref ≡ nat_lt 0 count)
             × (d.mem_size ≡ min (2 ^ 64 - 1) (section_size block.new)) × (buf.new ≡ [])) }
-        ensures value { IfOk result (λ d. (count : ℕ) × (decode_section self.now buf.old ≡ Fields block.new count) × (d.dyn_ref ≡ nat_lt 0 count)) }
+        ensures value { IfOk result
+            (λ d. (count : ℕ) × (decode_section self.now buf.old ≡ Fields block.new count) × (d.dyn_ref ≡ nat_lt 0 count)) }
         ensures err { IfErr result (λ e. IsRefusal self.now buf.old e × (buf.new ≡ buf.old) × (block.new ≡ [])) }
         ensures refusal { IfErr result (IsRefusalOf (decode_section self.now buf.old)) }
         ensures memory { IfErr result (λ e. e ≡ OutOfMemory → MayAskMemory self.now buf.old) }

@@ -84,7 +84,20 @@ fn reserve(names: &mut Index, fields: &mut Index) -> Result<(), AllocError>
 impl DynamicTable {
     /// A table of capacity 0, whose sections may not be blocked. It may have any capacity up to 2^30 - 1.
     pub fn new(alloc: Global) -> DynamicTable
-        ensures { result ≡ record { table = no_entries; most_capacity = 2 ^ 30 - 1; announced = 0; limit = 0; known_received = 0; blocking_counts = []; tracked = []; canceled = none_canceled None; counts_acknowledgments = false; choices = no_choices; marks = no_marks } }
+        ensures { result ≡
+            record {
+              table = no_entries;
+              most_capacity = 2 ^ 30 - 1;
+              announced = 0;
+              limit = 0;
+              known_received = 0;
+              blocking_counts = [];
+              tracked = [];
+              canceled = none_canceled None;
+              counts_acknowledgments = false;
+              choices = no_choices;
+              marks = no_marks;
+            } }
     {
         DynamicTable {
             entries: Entries::new(alloc),
@@ -253,7 +266,8 @@ impl DynamicTable {
     /// Sets the capacity, at most 2^30 - 1, as the one that the decoder announced: the oldest entries are evicted, unless a tracked
     /// section names one of them.
     pub fn set_max_size(&mut self, size: usize) -> Result<(), Error>
-        ensures ok { OnOk result (MayHaveCapacity self.old size × (self.new ≡ record self.old { table = with_capacity self.old.table size; announced = size })) }
+        ensures ok { OnOk result
+            (MayHaveCapacity self.old size × (self.new ≡ record self.old { table = with_capacity self.old.table size; announced = size })) }
         ensures err { IfErr result (λ e. IsCapacityRefusal self.old size e × (self.new ≡ self.old)) }
     {
         let after = match self.evicted_with_capacity(size) {
@@ -276,7 +290,8 @@ impl DynamicTable {
         requires empty { self.old.table.inserted ≡ 0 }
         requires small { announced < 2 ^ 30 }
         requires few { limit ≤ 65535 }
-        ensures { self.new ≡ record self.old { table = with_capacity self.old.table (min self.old.most_capacity announced); announced = announced; limit = limit } }
+        ensures { self.new ≡ record
+            self.old { table = with_capacity self.old.table (min self.old.most_capacity announced); announced = announced; limit = limit } }
     {
         self.entries.evicted();
         self.entries.set_capacity(self.most_capacity.min(announced));
@@ -286,7 +301,9 @@ impl DynamicTable {
 
     /// How many entries are evicted once the table has this capacity, if it may have it.
     pub(crate) fn evicted_with_capacity(&self, size: usize) -> Result<usize, Error>
-        ensures ok { IfOk result (λ n. MayHaveCapacity self.now size × (n ≡ evicted (with_capacity self.now.table size)) × (evicted self.now.table ≤ n) × (n ≤ self.now.table.inserted)) }
+        ensures ok { IfOk result
+            (λ n. MayHaveCapacity self.now size × (n ≡ evicted (with_capacity self.now.table size)) × (evicted self.now.table ≤ n)
+            × (n ≤ self.now.table.inserted)) }
         ensures err { IfErr result (IsCapacityRefusal self.now size) }
     {
         if size > MAX_CAPACITY {
@@ -315,7 +332,9 @@ impl DynamicTable {
     /// received, named by no tracked section, and below `oldest`.
     pub(crate) fn room_for(&self, field: &FieldRef<'_>, oldest: usize) -> Option<usize>
         requires plain { field.now.never_indexed ≡ false }
-        ensures some { IfSome result (λ n. MayInsertInto self.now field.now oldest × (n ≡ evicted (with_entry self.now.table field.now)) × (evicted self.now.table ≤ n)) }
+        ensures some { IfSome result
+            (λ n. MayInsertInto self.now field.now oldest × (n ≡ evicted (with_entry self.now.table field.now))
+            × (evicted self.now.table ≤ n)) }
         ensures none { IfNone result (MayInsertInto self.now field.now oldest → ⊥) }
     {
         if self.entries.inserted() + 1 >= MOST_INSERTIONS
@@ -387,7 +406,9 @@ impl DynamicTable {
         field: &FieldRef<'_>,
         section: &Section,
     ) -> Option<(usize, usize)>
-        ensures some { IfSome result (λ p. MayInsertAhead self.now section.now field.now × (p.0 ≡ evicted (with_entry self.now.table field.now)) × (evicted self.now.table ≤ p.0)) }
+        ensures some { IfSome result
+            (λ p. MayInsertAhead self.now section.now field.now × (p.0 ≡ evicted (with_entry self.now.table field.now))
+            × (evicted self.now.table ≤ p.0)) }
         ensures missed { IfSome result (λ p. IsMissed self.now.table p.1 field.now) }
         ensures none { IfNone result (MayInsertAhead self.now section.now field.now → ⊥) }
     {

@@ -68,7 +68,8 @@ impl Encoder {
     /// From now on an acknowledgment of a section tells of the insertions that the section needs (RFC 9204, section 2.1.4), or does not. If
     /// it does, an increment that is 0 or past what was inserted is refused (RFC 9204, section 4.4.3), and else it is not. Off at first.
     pub fn count_acknowledgments(&mut self, counted: bool)
-        ensures { (s : EncoderHistory) → self.old ≡ encoder_state s → self.new ≡ encoder_state (record s { counts_acknowledgments = counted }) }
+        ensures { (s : EncoderHistory) → self.old ≡ encoder_state s
+            → self.new ≡ encoder_state (record s { counts_acknowledgments = counted }) }
     {
         self.table.count_acknowledgments(counted);
     }
@@ -84,7 +85,8 @@ impl Encoder {
     /// forgotten. If there is one too many the least goes. From then on each stream up to it counts as canceled that has no tracked
     /// section: its sections name no entry, which costs their compression alone.
     pub fn keep_canceled(&mut self, most: Option<usize>)
-        ensures { (s : EncoderHistory) → self.old ≡ encoder_state s → self.new ≡ encoder_state (record s { canceled = none_canceled most }) }
+        ensures { (s : EncoderHistory) → self.old ≡ encoder_state s
+            → self.new ≡ encoder_state (record s { canceled = none_canceled most }) }
     {
         self.table.keep_canceled(most);
     }
@@ -159,8 +161,10 @@ impl Encoder {
     ) -> Result<(), EncoderError>
         requires { self.old.table.inserted ≡ 0 }
         ensures limits { OnOk result ((announced < 2 ^ 30) × (blocked ≤ 65535)) }
-        ensures ok { OnOk result ((s : EncoderHistory) → self.old ≡ encoder_state s → self.new ≡ encoder_state (using_table s announced blocked)) }
-        ensures written { OnOk result (out.new.items ≡ out.old.items ++ encoder_bytes (SetCapacity (min self.old.most_capacity announced))) }
+        ensures ok { OnOk result
+            ((s : EncoderHistory) → self.old ≡ encoder_state s → self.new ≡ encoder_state (using_table s announced blocked)) }
+        ensures written { OnOk result
+            (out.new.items ≡ out.old.items ++ encoder_bytes (SetCapacity (min self.old.most_capacity announced))) }
         ensures err { IfErr result (λ e. IsTableRefusal announced blocked e × (self.new ≡ self.old) × (out.new.items ≡ out.old.items)) }
     {
         if announced > MAX_CAPACITY {
@@ -273,9 +277,12 @@ impl Encoder {
         ensures read_before { HasReadDecoderInstructions self.old self.new read.old read.new }
         ensures rest { read.new ≡ drop (length read.old - length read.new) read.old }
         ensures ok { OnOk result (decoder_instruction read.new ≡ Unfinished) }
-        ensures err { IfErr result (λ e. ((s : EncoderHistory) → self.new ≡ encoder_state s → IsLeft s read.new e) × IsDecoderInstructionRefusal (decoder_instruction read.new) e) }
+        ensures err { IfErr result
+            (λ e. ((s : EncoderHistory) → self.new ≡ encoder_state s → IsLeft s read.new e)
+            × IsDecoderInstructionRefusal (decoder_instruction read.new) e) }
         ensures value { OnOk result ((s : EncoderHistory) → self.old ≡ encoder_state s → HasListened s self.new read.old read.new false) }
-        ensures refused { IfErr result (λ e. e ≢ OutOfMemory → (s : EncoderHistory) → self.old ≡ encoder_state s → HasListened s self.new read.old read.new true) }
+        ensures refused { IfErr result
+            (λ e. e ≢ OutOfMemory → (s : EncoderHistory) → self.old ≡ encoder_state s → HasListened s self.new read.old read.new true) }
     {
         while read.remaining() > 0 {
             let is_read = match self.take_instruction(read) {
@@ -306,7 +313,9 @@ impl Encoder {
             IsSent s stream fields.now count self.new block.old.items block.new.items encoder_buf.old.items encoder_buf.new.items) }
         ensures grows { length encoder_buf.old.items ≤ length encoder_buf.new.items }
         ensures unwritten { OnErr result (block.new.items ≡ block.old.items) }
-        ensures cut_off { OnErr result ((s : EncoderHistory) → self.old ≡ encoder_state s → IsCutOff s (writing_on s stream) fields.now self.new encoder_buf.old.items encoder_buf.new.items) }
+        ensures cut_off { OnErr result
+            ((s : EncoderHistory) → self.old ≡ encoder_state s
+            → IsCutOff s (writing_on s stream) fields.now self.new encoder_buf.old.items encoder_buf.new.items) }
     {
         self.encode_lent(stream, block, encoder_buf, &Fields::of(fields))
     }
@@ -326,7 +335,9 @@ impl Encoder {
             IsSent s stream fields.now count self.new block.old.items block.new.items encoder_buf.old.items encoder_buf.new.items) }
         ensures grows { length encoder_buf.old.items ≤ length encoder_buf.new.items }
         ensures unwritten { OnErr result (block.new.items ≡ block.old.items) }
-        ensures cut_off { OnErr result ((s : EncoderHistory) → self.old ≡ encoder_state s → IsCutOff s (writing_on s stream) fields.now self.new encoder_buf.old.items encoder_buf.new.items) }
+        ensures cut_off { OnErr result
+            ((s : EncoderHistory) → self.old ≡ encoder_state s
+            → IsCutOff s (writing_on s stream) fields.now self.new encoder_buf.old.items encoder_buf.new.items) }
     {
         if self.table.is_canceled(stream) {
             put_static_section(self.table.choices(), fields, block)?;
@@ -370,7 +381,8 @@ pub fn set_dynamic_table_size(
     out: &mut Vec<u8>,
     size: usize,
 ) -> Result<(), EncoderError>
-    ensures ok { OnOk result (MayHaveCapacity table.old size × (table.new ≡ record table.old { table = with_capacity table.old.table size; announced = size })) }
+    ensures ok { OnOk result
+        (MayHaveCapacity table.old size × (table.new ≡ record table.old { table = with_capacity table.old.table size; announced = size })) }
     ensures written { OnOk result (out.new.items ≡ out.old.items ++ encoder_bytes (SetCapacity size)) }
     ensures err { IfErr result (λ e. IsSizeRefusal table.old size e × (table.new ≡ table.old) × (out.new.items ≡ out.old.items)) }
 {

@@ -215,7 +215,8 @@ impl<'a> DynamicTableEncoder<'a> {
     /// that is never indexed is not inserted (section 7.1.3). If an allocation fails nothing changes.
     pub fn insert(&mut self, field: &HeaderField) -> Result<DynamicInsertionResult, Error>
         ensures ok { IfOk result (AnswersInsertion self.old.table.now self.old.section field.now self.new.table.now self.new.section) }
-        ensures err { IfErr result (λ e. (e ≡ OutOfMemory) × (self.new.table.now ≡ self.old.table.now) × (self.new.section ≡ self.old.section)) }
+        ensures err { IfErr result
+            (λ e. (e ≡ OutOfMemory) × (self.new.table.now ≡ self.old.table.now) × (self.new.section ≡ self.old.section)) }
         ensures same_reference { self.new.table.ghost_name ≡ self.old.table.ghost_name }
         ensures stream { self.new.stream ≡ self.old.stream }
     {
@@ -239,7 +240,9 @@ impl<'a> DynamicTableEncoder<'a> {
     /// Ends the section, and answers its required insert count. If it names entries it is tracked under its stream, until it is
     /// acknowledged or the stream is canceled (RFC 9204, section 2.1.1). If an allocation fails it is not tracked.
     pub fn commit(self) -> Result<usize, Error>
-        ensures ok { IfOk result (λ count. (count ≡ self.entry.section.newest) × (self.exit.0.now ≡ committed self.entry.table.now self.entry.stream self.entry.section)) }
+        ensures ok { IfOk result
+            (λ count. (count ≡ self.entry.section.newest)
+            × (self.exit.0.now ≡ committed self.entry.table.now self.entry.stream self.entry.section)) }
         ensures err { IfErr result (λ e. (e ≡ OutOfMemory) × (self.exit.0.now ≡ self.entry.table.now)) }
     {
         let DynamicTableEncoder {

@@ -23,7 +23,8 @@ pub fn requests()
     ensures first { encoded_section (fresh 220 2) sample ≡ 3 ∷ 129 ∷ 209 ∷ 215 ∷ 16 ∷ 17 ∷ [] }
     ensures inserts { flat_map encoder_bytes (instructions_for (fresh 220 2) sample) ≡ 192 ∷ host_text ++ 193 ∷ path_text }
     ensures second { encoded_section (sent_section (fresh 220 2) 0 sample) sample ≡ 3 ∷ 0 ∷ 209 ∷ 215 ∷ 129 ∷ 128 ∷ [] }
-    ensures third { encoded_section (sent_section (sent_section (fresh 220 2) 0 sample) 4 sample) sample ≡ 0 ∷ 0 ∷ 209 ∷ 215 ∷ 80 ∷ host_text ++ 81 ∷ path_text }
+    ensures third { encoded_section
+        (sent_section (sent_section (fresh 220 2) 0 sample) 4 sample) sample ≡ 0 ∷ 0 ∷ 209 ∷ 215 ∷ 80 ∷ host_text ++ 81 ∷ path_text }
 {}
 
 /// A small table: after a cancellation the entry stays, and after an increment and an acknowledgment it may go.
@@ -31,7 +32,8 @@ pub fn requests()
 pub fn responses()
     ensures first { encoded_section (fresh 64 10) (with_header x_a) ≡ 2 ∷ 128 ∷ 217 ∷ 16 ∷ [] }
     ensures inserts { flat_map encoder_bytes (instructions_for (fresh 64 10) (with_header x_a)) ≡ 99 ∷ 242 ∷ 176 ∷ 255 ∷ 129 ∷ 15 ∷ [] }
-    ensures canceled { encoded_section (encoder_after (sent_section (fresh 64 10) 0 (with_header x_a)) (CancelStream 0)) (with_header x_b) ≡ 0 ∷ 0 ∷ 217 ∷ 43 ∷ 242 ∷ 180 ∷ 127 ∷ 129 ∷ 23 ∷ [] }
+    ensures canceled { encoded_section (encoder_after (sent_section (fresh 64 10) 0 (with_header x_a)) (CancelStream 0))
+        (with_header x_b) ≡ 0 ∷ 0 ∷ 217 ∷ 43 ∷ 242 ∷ 180 ∷ 127 ∷ 129 ∷ 23 ∷ [] }
 {}
 
 /// The newest entry of a name that may be used is not always the newest of the name.
@@ -45,7 +47,8 @@ pub fn older_entry()
 #[tactic(auto, unfolding(h3_field::specs::StaticTable::static_table, h3_field::specs::StaticTable::static_field, h3_field::specs::StaticTable::static_name, h3_huffman::specs::Huffman::huffman, h3_huffman::specs::Huffman::octets, h3_huffman::specs::Huffman::code_word, h3_huffman::specs::Huffman::bits))]
 pub fn decoder()
     ensures two { option_map (λ r. r.table.entries) three ≡ Some (x_a ∷ x_a_of (codes "2") ∷ []) }
-    ensures one { option_map (λ r. r.table.entries) (decoder_after_all three (SetCapacity 40 ∷ SetCapacity 100 ∷ [])) ≡ Some (x_a_of (codes "2") ∷ []) }
+    ensures one { option_map (λ r. r.table.entries) (decoder_after_all three (SetCapacity 40 ∷ SetCapacity 100 ∷ [])) ≡ Some
+        (x_a_of (codes "2") ∷ []) }
     ensures evicted { decoder_after_all three (SetCapacity 40 ∷ InsertWithEntryName 1 (huffman_text (codes "3")) ∷ []) ≡ None }
     ensures above { decoder_after_all three (SetCapacity 101 ∷ []) ≡ None }
     ensures too_large { decoder_after_all (Some (announcing 220)) (SetCapacity 221 ∷ []) ≡ None }
@@ -76,7 +79,8 @@ pub fn counts()
 pub fn refusals()
     ensures none { is_refused (fresh 64 10) (Acknowledge 0) ≡ true }
     ensures tracked { is_refused (sent_section (fresh 64 10) 0 (with_header x_a)) (Acknowledge 0) ≡ false }
-    ensures front { (encoder_after_front (fresh 64 10) (Increment 1 ∷ Acknowledge 0 ∷ Increment 1 ∷ [])).1 ≡ Acknowledge 0 ∷ Increment 1 ∷ [] }
+    ensures front { (encoder_after_front (fresh 64 10) (Increment 1 ∷ Acknowledge 0 ∷ Increment 1 ∷ [])).1 ≡ Acknowledge 0 ∷ Increment
+        1 ∷ [] }
     ensures known { (encoder_after_front (fresh 64 10) (Increment 1 ∷ Acknowledge 0 ∷ Increment 1 ∷ [])).0.known_received ≡ 1 }
 {}
 
@@ -92,7 +96,8 @@ pub fn withdrawal()
 #[tactic(auto, unfolding(h3_field::specs::StaticTable::static_table, h3_field::specs::StaticTable::static_field, h3_field::specs::StaticTable::static_name, h3_huffman::specs::Huffman::huffman, h3_huffman::specs::Huffman::octets, h3_huffman::specs::Huffman::code_word, h3_huffman::specs::Huffman::bits))]
 pub fn cancellations()
     ensures released { encoded_section (writing_on three_canceled 4) (with_header x_b) ≡ 3 ∷ 128 ∷ 217 ∷ 16 ∷ [] }
-    ensures canceled { encoded_section (writing_on canceled_first 0) (with_header x_a) ≡ 0 ∷ 0 ∷ 217 ∷ 43 ∷ 242 ∷ 176 ∷ 255 ∷ 129 ∷ 15 ∷ [] }
+    ensures canceled { encoded_section (writing_on canceled_first 0)
+        (with_header x_a) ≡ 0 ∷ 0 ∷ 217 ∷ 43 ∷ 242 ∷ 176 ∷ 255 ∷ 129 ∷ 15 ∷ [] }
     ensures other { encoded_section (writing_on canceled_first 4) (with_header x_a) ≡ 2 ∷ 128 ∷ 217 ∷ 16 ∷ [] }
 {}
 
@@ -163,7 +168,8 @@ pub fn economical_tables()
     ensures unknown { encoded_section (inserted_ahead 64) (with_header x_a) ≡ 0 ∷ 0 ∷ 217 ∷ 43 ∷ 242 ∷ 176 ∷ 255 ∷ 129 ∷ 15 ∷ [] }
     ensures once { instructions_for (inserted_ahead 64) (with_header x_a) ≡ [] }
     ensures known { encoded_section (encoder_after (inserted_ahead 64) (Increment 1)) (with_header x_a) ≡ 2 ∷ 0 ∷ 217 ∷ 128 ∷ [] }
-    ensures first_of_name { instructions_for (encoder_after (inserted_ahead 64) (Increment 1)) (with_header x_b) ≡ InsertLiteral (huffman_text (codes "x-b")) (huffman_text (codes "2")) ∷ [] }
+    ensures first_of_name { instructions_for (encoder_after (inserted_ahead 64) (Increment 1)) (with_header x_b) ≡ InsertLiteral
+        (huffman_text (codes "x-b")) (huffman_text (codes "2")) ∷ [] }
     ensures spared { instructions_for (encoder_after (inserted_ahead 64) (Increment 1)) (x_a_of (codes "2") ∷ []) ≡ [] }
     ensures other { instructions_for (fresh 64 0) (with_header x_a) ≡ [] }
 {}
@@ -177,8 +183,10 @@ pub fn draining_tables()
     ensures new_entry { (draft_of two_drain (empty_b ∷ [])).lines ≡ PostBaseField 0 ∷ [] }
     ensures lasts { (draft_of two_drain (x_long ∷ [])).lines ≡ RelativeField 0 ∷ [] }
     ensures spared { instructions_for two_drain (a_of_two ∷ []) ≡ [] }
-    ensures literal { (draft_of two_drain (a_of_two ∷ [])).lines ≡ Literal (huffman_text (codes "a")) (huffman_text (codes "2")) false ∷ [] }
-    ensures second_time { instructions_for (sent_section two_drain 12 (a_of_two ∷ [])) (a_of_two ∷ []) ≡ InsertLiteral (huffman_text (codes "a")) (huffman_text (codes "2")) ∷ [] }
+    ensures literal { (draft_of two_drain (a_of_two ∷ [])).lines ≡ Literal (huffman_text (codes "a"))
+        (huffman_text (codes "2")) false ∷ [] }
+    ensures second_time { instructions_for (sent_section two_drain 12 (a_of_two ∷ [])) (a_of_two ∷ []) ≡ InsertLiteral
+        (huffman_text (codes "a")) (huffman_text (codes "2")) ∷ [] }
     ensures plain { (draft_of (record two_drain { choices = no_choices }) (empty_b ∷ [])).lines ≡ RelativeField 1 ∷ [] }
 {}
 
@@ -190,10 +198,12 @@ pub fn never_indexed()
     ensures none { instructions_for (fresh 4096 100) (secret_a ∷ []) ≡ [] }
     ensures second { encoded_section secret_sent (secret_a ∷ []) ≡ 0 ∷ 0 ∷ 59 ∷ 242 ∷ 176 ∷ 255 ∷ 129 ∷ 15 ∷ [] }
     ensures still { instructions_for secret_sent (secret_a ∷ []) ≡ [] }
-    ensures new_entry { instructions_for secret_sent (x_a ∷ []) ≡ InsertLiteral (huffman_text (codes "x-a")) (huffman_text (codes "1")) ∷ [] }
+    ensures new_entry { instructions_for secret_sent (x_a ∷ []) ≡ InsertLiteral (huffman_text (codes "x-a"))
+        (huffman_text (codes "1")) ∷ [] }
     ensures entry { encoded_section (sent_section (fresh 4096 100) 0 (x_a ∷ [])) (secret_a ∷ []) ≡ 2 ∷ 0 ∷ 96 ∷ 129 ∷ 15 ∷ [] }
     ensures behind { encoded_section (fresh 4096 100) (x_a ∷ secret_a ∷ []) ≡ 2 ∷ 128 ∷ 16 ∷ 8 ∷ 129 ∷ 15 ∷ [] }
-    ensures static_entry { encoded_section (fresh 4096 100) (flagged (plain_field (codes ":path") (codes "/")) true ∷ []) ≡ 0 ∷ 0 ∷ 113 ∷ 129 ∷ 99 ∷ [] }
+    ensures static_entry { encoded_section (fresh 4096 100)
+        (flagged (plain_field (codes ":path") (codes "/")) true ∷ []) ≡ 0 ∷ 0 ∷ 113 ∷ 129 ∷ 99 ∷ [] }
     ensures ahead { instructions_for (no_waiting 64) (secret_a ∷ []) ≡ [] }
     ensures marks { (sent_section (no_waiting 64) 0 (secret_a ∷ [])).marks ≡ (no_waiting 64).marks }
 {}
@@ -204,7 +214,8 @@ pub fn never_indexed()
 pub fn guarded_secrets()
     ensures literal { encoded_section guarding (short_cookie ∷ []) ≡ 0 ∷ 0 ∷ 117 ∷ 131 ∷ 52 ∷ 144 ∷ 7 ∷ [] }
     ensures none { instructions_for guarding (short_cookie ∷ []) ≡ [] }
-    ensures canceled { encoded_section (writing_on (encoder_after guarding (CancelStream 0)) 0) (short_cookie ∷ []) ≡ 0 ∷ 0 ∷ 117 ∷ 131 ∷ 52 ∷ 144 ∷ 7 ∷ [] }
+    ensures canceled { encoded_section (writing_on (encoder_after guarding (CancelStream 0)) 0)
+        (short_cookie ∷ []) ≡ 0 ∷ 0 ∷ 117 ∷ 131 ∷ 52 ∷ 144 ∷ 7 ∷ [] }
     ensures unasked { instructions_for (fresh 4096 100) (short_cookie ∷ []) ≡ InsertWithStaticName 5 (huffman_text (codes "id=1")) ∷ [] }
     ensures long { guarded_fields guarding (long_cookie ∷ short_cookie ∷ []) ≡ long_cookie ∷ flagged short_cookie true ∷ [] }
 {}
@@ -213,7 +224,8 @@ pub fn guarded_secrets()
 #[tactic(auto, unfolding(h3_field::specs::StaticTable::static_table, h3_field::specs::StaticTable::static_field, h3_field::specs::StaticTable::static_name, h3_huffman::specs::Huffman::huffman, h3_huffman::specs::Huffman::octets, h3_huffman::specs::Huffman::code_word, h3_huffman::specs::Huffman::bits))]
 pub fn shortest_strings()
     ensures plain { encoded_section (with_shortest 64 0) (x_a ∷ []) ≡ 0 ∷ 0 ∷ 35 ∷ 120 ∷ 45 ∷ 97 ∷ 1 ∷ 49 ∷ [] }
-    ensures coded { encoded_section (with_shortest 64 0) (plain_field (codes ":authority") (codes "www.example.com") ∷ []) ≡ 0 ∷ 0 ∷ 80 ∷ host_text }
+    ensures coded { encoded_section (with_shortest 64 0)
+        (plain_field (codes ":authority") (codes "www.example.com") ∷ []) ≡ 0 ∷ 0 ∷ 80 ∷ host_text }
     ensures inserts { flat_map encoder_bytes (instructions_for (with_shortest 64 10) (x_a ∷ [])) ≡ 67 ∷ 120 ∷ 45 ∷ 97 ∷ 1 ∷ 49 ∷ [] }
 {}
 

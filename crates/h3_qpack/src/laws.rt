@@ -53,8 +53,10 @@ pub fn no_table_passes_its_capacity()
 /// secrets, each field that is known to be one has its bit too. So each never-indexed field, and each guarded secret, is a literal with
 /// that bit (RFC 9204, section 4.5.4). None is inserted (section 7.1.3).
 pub fn never_indexed_fields_are_literals()
-    ensures bits { (s : EncoderHistory) (fields : List Field) → map has_bit_n (draft_of s fields).lines ≡ map (λ f. f.never_indexed || (s.choices.guards_secrets && is_secret f)) fields }
-    ensures inserted { (s : EncoderHistory) (fields : List Field) → AllByRecursion MayBeIndexed s.inserted → AllByRecursion MayBeIndexed (draft_of s fields).inserted }
+    ensures bits { (s : EncoderHistory) (fields : List Field)
+        → map has_bit_n (draft_of s fields).lines ≡ map (λ f. f.never_indexed || (s.choices.guards_secrets && is_secret f)) fields }
+    ensures inserted { (s : EncoderHistory) (fields : List Field) → AllByRecursion MayBeIndexed s.inserted
+        → AllByRecursion MayBeIndexed (draft_of s fields).inserted }
 {}
 
 /// Nothing that an encoder inserts, names or keeps rests on the value of a never-indexed field, or of a secret that it guards. If two lists
@@ -62,12 +64,14 @@ pub fn never_indexed_fields_are_literals()
 /// The two sections differ in the literal values of those fields alone, and in how these are coded. So no instruction and no later section
 /// tells of a secret (RFC 9204, section 7.1.3).
 pub fn secrets_leave_no_trace()
-    ensures instructions { (s : EncoderHistory) (fields others : List Field) → without_secrets s fields ≡ without_secrets s others → instructions_for s fields ≡ instructions_for s others }
+    ensures instructions { (s : EncoderHistory) (fields others : List Field) → without_secrets s fields ≡ without_secrets s others
+        → instructions_for s fields ≡ instructions_for s others }
     ensures count { (s : EncoderHistory) (fields others : List Field) → without_secrets s fields ≡ without_secrets s others →
         required_insert_count (draft_of s fields) ≡ required_insert_count (draft_of s others) }
     ensures lines { (s : EncoderHistory) (fields others : List Field) → without_secrets s fields ≡ without_secrets s others →
         map line_without_secret (draft_of s fields).lines ≡ map line_without_secret (draft_of s others).lines }
-    ensures sent { (s : EncoderHistory) (stream : ℕ) (fields others : List Field) → without_secrets s fields ≡ without_secrets s others → sent_section s stream fields ≡ sent_section s stream others }
+    ensures sent { (s : EncoderHistory) (stream : ℕ) (fields others : List Field) → without_secrets s fields ≡ without_secrets s others
+        → sent_section s stream fields ≡ sent_section s stream others }
     ensures inserted { (s : EncoderHistory) (stream : ℕ) (fields others : List Field) → without_secrets s fields ≡ without_secrets s others →
         having_inserted s stream fields ≡ having_inserted s stream others }
 {}
@@ -78,41 +82,54 @@ pub fn secrets_leave_no_trace()
 pub fn choices_change_what_they_say()
     ensures fields { (s : EncoderHistory) (fields : List Field) → s.choices.guards_secrets ≡ false → guarded_fields s fields ≡ fields }
     ensures strings { (bytes : List ℕ) → coded false bytes ≡ huffman_text bytes }
-    ensures guarded { (s : EncoderHistory) (stream : ℕ) (fields : List Field) → guarded_fields (writing_on s stream) fields ≡ guarded_fields s fields }
+    ensures guarded { (s : EncoderHistory) (stream : ℕ) (fields : List Field)
+        → guarded_fields (writing_on s stream) fields ≡ guarded_fields s fields }
     ensures stateless { (fields : List Field) → static_section no_choices fields ≡ section_bytes fields }
 {}
 
 /// A section on a stream whose cancellation was read names no entry, and nothing is inserted for it. Its bytes are those of static
 /// lines and literals with static or literal names, with the strings and the flags that the encoder chose.
 pub fn canceled_streams_use_no_table()
-    ensures bytes { (s : EncoderHistory) (stream : ℕ) (fields : List Field) → was_canceled s stream ≡ true → encoded_section (writing_on s stream) fields ≡ static_section s.choices fields }
-    ensures names { (s : EncoderHistory) (stream : ℕ) (fields : List Field) → was_canceled s stream ≡ true → (draft_of (writing_on s stream) fields).references ≡ [] }
-    ensures inserts { (s : EncoderHistory) (stream : ℕ) (fields : List Field) → was_canceled s stream ≡ true → instructions_for (writing_on s stream) fields ≡ [] }
-    ensures same { (s : EncoderHistory) (stream : ℕ) (fields : List Field) → was_canceled s stream ≡ true → encoder_state (sent_section s stream fields) ≡ encoder_state s }
+    ensures bytes { (s : EncoderHistory) (stream : ℕ) (fields : List Field) → was_canceled s stream ≡ true
+        → encoded_section (writing_on s stream) fields ≡ static_section s.choices fields }
+    ensures names { (s : EncoderHistory) (stream : ℕ) (fields : List Field) → was_canceled s stream ≡ true
+        → (draft_of (writing_on s stream) fields).references ≡ [] }
+    ensures inserts { (s : EncoderHistory) (stream : ℕ) (fields : List Field) → was_canceled s stream ≡ true
+        → instructions_for (writing_on s stream) fields ≡ [] }
+    ensures same { (s : EncoderHistory) (stream : ℕ) (fields : List Field) → was_canceled s stream ≡ true
+        → encoder_state (sent_section s stream fields) ≡ encoder_state s }
 {}
 
 /// An encoder without a table that has inserted nothing names no entry and inserts nothing, whether it is economical or not: so a table
 /// may come into use later.
 pub fn encoders_without_insertions_use_no_table()
-    ensures bytes { (s : EncoderHistory) (stream : ℕ) (fields : List Field) → HasNoTable s → s.inserted ≡ [] → encoded_section (writing_on s stream) fields ≡ static_section s.choices fields }
-    ensures inserts { (s : EncoderHistory) (stream : ℕ) (fields : List Field) → HasNoTable s → s.inserted ≡ [] → instructions_for (writing_on s stream) fields ≡ [] }
-    ensures still { (s : EncoderHistory) (stream : ℕ) (fields : List Field) → HasNoTable s → s.inserted ≡ [] → (sent_section s stream fields).inserted ≡ [] }
+    ensures bytes { (s : EncoderHistory) (stream : ℕ) (fields : List Field) → HasNoTable s → s.inserted ≡ []
+        → encoded_section (writing_on s stream) fields ≡ static_section s.choices fields }
+    ensures inserts { (s : EncoderHistory) (stream : ℕ) (fields : List Field) → HasNoTable s → s.inserted ≡ []
+        → instructions_for (writing_on s stream) fields ≡ [] }
+    ensures still { (s : EncoderHistory) (stream : ℕ) (fields : List Field) → HasNoTable s → s.inserted ≡ []
+        → (sent_section s stream fields).inserted ≡ [] }
 {}
 
 /// An encoder that is not economical and has inserted nothing names no entry and inserts nothing if no section may be blocked, whatever its
 /// capacity (RFC 9204, section 2.1.2).
 pub fn plain_encoders_of_limit_zero_use_no_table()
-    ensures bytes { (s : EncoderHistory) (stream : ℕ) (fields : List Field) → s.limit ≡ 0 → s.choices.economical ≡ false → s.inserted ≡ [] → encoded_section (writing_on s stream) fields ≡ static_section s.choices fields }
-    ensures inserts { (s : EncoderHistory) (stream : ℕ) (fields : List Field) → s.limit ≡ 0 → s.choices.economical ≡ false → s.inserted ≡ [] → instructions_for (writing_on s stream) fields ≡ [] }
-    ensures still { (s : EncoderHistory) (stream : ℕ) (fields : List Field) → s.limit ≡ 0 → s.choices.economical ≡ false → s.inserted ≡ [] → (sent_section s stream fields).inserted ≡ [] }
+    ensures bytes { (s : EncoderHistory) (stream : ℕ) (fields : List Field) → s.limit ≡ 0 → s.choices.economical ≡ false → s.inserted ≡ []
+        → encoded_section (writing_on s stream) fields ≡ static_section s.choices fields }
+    ensures inserts { (s : EncoderHistory) (stream : ℕ) (fields : List Field) → s.limit ≡ 0 → s.choices.economical ≡ false → s.inserted ≡ []
+        → instructions_for (writing_on s stream) fields ≡ [] }
+    ensures still { (s : EncoderHistory) (stream : ℕ) (fields : List Field) → s.limit ≡ 0 → s.choices.economical ≡ false → s.inserted ≡ []
+        → (sent_section s stream fields).inserted ≡ [] }
 {}
 
 /// An encoder that is not economical goes by its table alone. It names the newest equal entry that it may, and inserts whatever there is
 /// room for if one more section may be blocked. It inserts nothing ahead, and leaves no mark.
 pub fn plain_encoders_go_by_their_table()
     ensures names { (s : EncoderHistory) (d : Draft) (f : Field) → s.choices.economical ≡ false → found s d f ≡ held s d f }
-    ensures inserts { (s : EncoderHistory) (d : Draft) (f : Field) → s.choices.economical ≡ false → is_insertable s d f ≡ (nat_lt (blocks_out s) s.limit && finds_room s d f) }
-    ensures ahead { (s : EncoderHistory) (marks : List ℕ) (d : Draft) (f : Field) → s.choices.economical ≡ false → is_insertable_ahead s marks d f ≡ false }
+    ensures inserts { (s : EncoderHistory) (d : Draft) (f : Field) → s.choices.economical ≡ false
+        → is_insertable s d f ≡ (nat_lt (blocks_out s) s.limit && finds_room s d f) }
+    ensures ahead { (s : EncoderHistory) (marks : List ℕ) (d : Draft) (f : Field) → s.choices.economical ≡ false
+        → is_insertable_ahead s marks d f ≡ false }
     ensures marks { (s : EncoderHistory) (lines : List FieldLine) → s.choices.economical ≡ false → marks_after s lines ≡ s.marks }
 {}
 
@@ -122,18 +139,23 @@ pub fn cancellations_are_kept()
     ensures canceled { (s : EncoderHistory) (stream : ℕ) → was_canceled (encoder_after s (CancelStream stream)) stream ≡ true }
     ensures stays { (counts : Bool) (most announced limit : ℕ) (events : List SessionEvent) (s : Session) (i : DecoderInstruction) (stream : ℕ) → SessionRun (beginning counts most announced limit) events s →
         was_canceled s.encoder stream ≡ true → was_canceled (encoder_after s.encoder i) stream ≡ true }
-    ensures counted { (s : EncoderHistory) (count other : ℕ) → was_canceled (encoder_after s (Increment count)) other ≡ was_canceled s other }
-    ensures sent { (s : EncoderHistory) (stream other : ℕ) (fields : List Field) → was_canceled (sent_section s stream fields) other ≡ was_canceled s other }
+    ensures counted { (s : EncoderHistory) (count other : ℕ)
+        → was_canceled (encoder_after s (Increment count)) other ≡ was_canceled s other }
+    ensures sent { (s : EncoderHistory) (stream other : ℕ) (fields : List Field)
+        → was_canceled (sent_section s stream fields) other ≡ was_canceled s other }
     ensures few { (s : EncoderHistory) (i : DecoderInstruction) (most : ℕ) → s.canceled.most ≡ Some most → length s.canceled.kept ≤ most →
         ((encoder_after s i).canceled.most ≡ Some most) × (length (encoder_after s i).canceled.kept ≤ most) }
 {}
 
 /// If all are kept, a stream counts as canceled only once its cancellation was read.
 pub fn all_cancellations_are_kept()
-    ensures canceled { (s : EncoderHistory) (stream other : ℕ) → KeepsAll s.canceled → was_canceled (encoder_after s (CancelStream stream)) other ≡ ((stream == other) || was_canceled s other) }
-    ensures acknowledged { (s : EncoderHistory) (stream other : ℕ) → KeepsAll s.canceled → was_canceled (encoder_after s (Acknowledge stream)) other ≡ was_canceled s other }
+    ensures canceled { (s : EncoderHistory) (stream other : ℕ) → KeepsAll s.canceled
+        → was_canceled (encoder_after s (CancelStream stream)) other ≡ ((stream == other) || was_canceled s other) }
+    ensures acknowledged { (s : EncoderHistory) (stream other : ℕ) → KeepsAll s.canceled
+        → was_canceled (encoder_after s (Acknowledge stream)) other ≡ was_canceled s other }
     ensures stays { (s : EncoderHistory) (i : DecoderInstruction) → KeepsAll s.canceled → KeepsAll (encoder_after s i).canceled }
-    ensures kept { (c : Cancellations) (stream : ℕ) → KeepsAll c → with_canceled c stream ≡ record c { kept = insert_key nat_cmp c.kept stream } }
+    ensures kept { (c : Cancellations) (stream : ℕ) → KeepsAll c
+        → with_canceled c stream ≡ record c { kept = insert_key nat_cmp c.kept stream } }
 {}
 
 /// Over every schedule, no tracked section is of a stream that counts as canceled.
@@ -145,7 +167,8 @@ pub fn canceled_streams_are_not_tracked()
 /// Over every schedule, whether acknowledgments count or not, however small the encoder's table is to be, and whatever it
 /// chooses and whenever, what is under way fits what both ends have.
 pub fn every_session_is_sound()
-    ensures { (counts : Bool) (most announced limit : ℕ) (events : List SessionEvent) (s : Session) → SessionRun (beginning counts most announced limit) events s → IsSound s }
+    ensures { (counts : Bool) (most announced limit : ℕ) (events : List SessionEvent) (s : Session)
+        → SessionRun (beginning counts most announced limit) events s → IsSound s }
 {}
 
 /// Over every schedule, an acknowledgment that is read tells of no insertion that no increment told of before. What is known to be received
@@ -153,8 +176,12 @@ pub fn every_session_is_sound()
 pub fn acknowledgments_tell_nothing_new()
     ensures known { (counts : Bool) (most announced limit : ℕ) (events : List SessionEvent) (s : Session) (stream : ℕ) (rest : List DecoderInstruction) → SessionRun (beginning counts most announced limit) events s →
         s.decoder_instructions ≡ Acknowledge stream ∷ rest → (encoder_after s.encoder (Acknowledge stream)).known_received ≡ s.encoder.known_received }
-    ensures bytes { (s : EncoderHistory) (counts : Bool) (stream : ℕ) (fields : List Field) → encoded_section (writing_on (record s { counts_acknowledgments = counts }) stream) fields ≡ encoded_section (writing_on s stream) fields }
-    ensures instructions { (s : EncoderHistory) (counts : Bool) (stream : ℕ) (fields : List Field) → instructions_for (writing_on (record s { counts_acknowledgments = counts }) stream) fields ≡ instructions_for (writing_on s stream) fields }
+    ensures bytes { (s : EncoderHistory) (counts : Bool) (stream : ℕ) (fields : List Field)
+        → encoded_section (writing_on (record s { counts_acknowledgments = counts }) stream) fields ≡ encoded_section
+        (writing_on s stream) fields }
+    ensures instructions { (s : EncoderHistory) (counts : Bool) (stream : ℕ) (fields : List Field)
+        → instructions_for (writing_on (record s { counts_acknowledgments = counts }) stream) fields ≡ instructions_for
+        (writing_on s stream) fields }
 {}
 
 /// Over every schedule, a section that is tried once its insertions came decodes to its fields, and its encoded count is
@@ -208,8 +235,11 @@ pub fn sections_leave_their_counts()
 /// The lines of a section that an encoder writes name no entry above the section's required insert count, which is the greatest that they
 /// name (RFC 9204, section 2.1.2). If they name none it is 0, and the prefix is two bytes 0, as without a table.
 pub fn sections_stay_within_their_counts()
-    ensures lines { (s : EncoderHistory) (fields : List Field) → AllByRecursion (λ line. entry_number (length s.inserted) line ≤ required_insert_count (draft_of s fields)) (draft_of s fields).lines }
-    ensures prefix { (s : EncoderHistory) (fields : List Field) → required_insert_count (draft_of s fields) ≡ 0 → encoded_section s fields ≡ 0 ∷ 0 ∷ flat_map line_bytes (draft_of s fields).lines }
+    ensures lines { (s : EncoderHistory) (fields : List Field)
+        → AllByRecursion (λ line. entry_number (length s.inserted) line ≤ required_insert_count (draft_of s fields))
+        (draft_of s fields).lines }
+    ensures prefix { (s : EncoderHistory) (fields : List Field) → required_insert_count (draft_of s fields) ≡ 0
+        → encoded_section s fields ≡ 0 ∷ 0 ∷ flat_map line_bytes (draft_of s fields).lines }
 {}
 
 /// A decoder that checks no counts reads the lines of a section over its whole table, and without a table takes any prefix. One that checks
@@ -217,8 +247,10 @@ pub fn sections_stay_within_their_counts()
 pub fn counts_are_checked_if_asked()
     ensures table { (r : DecoderState) (count : ℕ) → r.checks_count ≡ false → table_for r count ≡ r.table }
     ensures prefix { (r : DecoderState) (p : EncodedPrefix) → r.checks_count ≡ false → is_allowed r p ≡ true }
-    ensures fields { (r : DecoderState) (bytes : List ℕ) (count : ℕ) (fields : List Field) → MeansFields (checking true r) bytes count fields → MeansFields (checking false r) bytes count fields }
-    ensures missing { (r : DecoderState) (bytes : List ℕ) (count : ℕ) → IsMissing (checking true r) bytes count → IsMissing (checking false r) bytes count }
+    ensures fields { (r : DecoderState) (bytes : List ℕ) (count : ℕ) (fields : List Field)
+        → MeansFields (checking true r) bytes count fields → MeansFields (checking false r) bytes count fields }
+    ensures missing { (r : DecoderState) (bytes : List ℕ) (count : ℕ) → IsMissing (checking true r) bytes count
+        → IsMissing (checking false r) bytes count }
     ensures instructions { (checks : Bool) (r : Option DecoderState) (instructions : List EncoderInstruction) →
         decoder_after_all (option_map (checking checks) r) instructions ≡ option_map (checking checks) (decoder_after_all r instructions) }
 {}
@@ -230,14 +262,16 @@ pub fn counts_are_checked_if_asked()
 pub fn encoded_sections_are_short()
     ensures short { (s : EncoderHistory) (fields : List Field) → length (encoded_section s fields) ≤ most_encoded fields }
     ensures empty { (s : EncoderHistory) → length (encoded_section s []) ≡ 2 }
-    ensures lines { (s : EncoderHistory) (fields : List Field) → s.choices.shortest_strings ≡ true → length (flat_map line_bytes (draft_of s fields).lines) + 12 * length fields ≤ section_size fields }
+    ensures lines { (s : EncoderHistory) (fields : List Field) → s.choices.shortest_strings ≡ true
+        → length (flat_map line_bytes (draft_of s fields).lines) + 12 * length fields ≤ section_size fields }
 {}
 
 /// With the shortest strings the encoding of a list of fields is no longer than the list's size (RFC 9114, section 4.2.2), or takes two
 /// bytes if the list is empty. So it is for every encoder whose table has a capacity below 2^30, whatever it did before and whatever its
 /// decoder announced, and so over every schedule whose decoder announced a capacity below 2^30.
 pub fn sections_are_no_longer_than_their_lists()
-    ensures history { (s : EncoderHistory) (fields : List Field) → s.choices.shortest_strings ≡ true → s.capacity < 2 ^ 30 → length (encoded_section s fields) ≤ max 2 (section_size fields) }
+    ensures history { (s : EncoderHistory) (fields : List Field) → s.choices.shortest_strings ≡ true → s.capacity < 2 ^ 30
+        → length (encoded_section s fields) ≤ max 2 (section_size fields) }
     ensures session { (counts : Bool) (most announced limit : ℕ) (events : List SessionEvent) (s : Session) (stream : ℕ) (fields : List Field) → SessionRun (beginning counts most announced limit) events s →
         s.encoder.announced < 2 ^ 30 → s.encoder.choices.shortest_strings ≡ true → length (encoded_section (writing_on s.encoder stream) fields) ≤ max 2 (section_size fields) }
 {}
@@ -275,7 +309,8 @@ pub fn tables_agree()
 
 /// What was read of the first bytes is read of all, and then what is left.
 pub fn pieces_do_not_matter()
-    ensures { (old mid new : DecoderState) (bytes more left rest : List ℕ) → HasRead old mid bytes left → HasRead mid new (left ++ more) rest → HasRead old new (bytes ++ more) rest }
+    ensures { (old mid new : DecoderState) (bytes more left rest : List ℕ) → HasRead old mid bytes left
+        → HasRead mid new (left ++ more) rest → HasRead old new (bytes ++ more) rest }
 {}
 
 /// What an encoder writes is read as its instructions, and what follows is left.
@@ -293,7 +328,8 @@ pub fn sections_are_their_value()
 
 /// A section has one meaning: one list of fields and one required insert count, or one count that is missing.
 pub fn sections_have_one_meaning()
-    ensures fields { (r : DecoderState) (bytes : List ℕ) (n m : ℕ) (fs gs : List Field) → MeansFields r bytes n fs → MeansFields r bytes m gs → (n ≡ m) × (fs ≡ gs) }
+    ensures fields { (r : DecoderState) (bytes : List ℕ) (n m : ℕ) (fs gs : List Field) → MeansFields r bytes n fs
+        → MeansFields r bytes m gs → (n ≡ m) × (fs ≡ gs) }
     ensures missing { (r : DecoderState) (bytes : List ℕ) (n m : ℕ) → IsMissing r bytes n → IsMissing r bytes m → n ≡ m }
     ensures either { (r : DecoderState) (bytes : List ℕ) (n m : ℕ) (fs : List Field) → MeansFields r bytes n fs → IsMissing r bytes m → ⊥ }
 {}
@@ -337,5 +373,6 @@ pub fn fronts_of_written_decoder_instructions()
         AreDecoderInstructions (take n (flat_map decoder_bytes all)) (decoder_instructions_in n all) (rest_in decoder_bytes n all) × (decoder_instruction (rest_in decoder_bytes n all) ≡ Unfinished) }
     ensures encoder { (s : EncoderHistory) (all : List DecoderInstruction) (n : ℕ) → AllByRecursion IsReply all → AreAccepted s (decoder_instructions_in n all) →
         listen s (take n (flat_map decoder_bytes all)) ≡ listened (encoder_after_all s (decoder_instructions_in n all)) (rest_in decoder_bytes n all) false }
-    ensures all { (all : List DecoderInstruction) (rest : List ℕ) → AllByRecursion IsReply all → AreDecoderInstructions (flat_map decoder_bytes all ++ rest) all rest }
+    ensures all { (all : List DecoderInstruction) (rest : List ℕ) → AllByRecursion IsReply all
+        → AreDecoderInstructions (flat_map decoder_bytes all ++ rest) all rest }
 {}

@@ -145,7 +145,8 @@ pub(crate) fn relative(
     base: usize,
     index: usize,
 ) -> Result<Entry<'_>, DecoderError>
-    ensures { MatchResult result (λ f. entry_at entries.now (base - index) ≡ Some f) (λ e. (entry_at entries.now (base - index) ≡ None) × (e ≡ InvalidIndex (RelativeIndex index))) }
+    ensures { MatchResult result (λ f. entry_at entries.now (base - index) ≡ Some f)
+        (λ e. (entry_at entries.now (base - index) ≡ None) × (e ≡ InvalidIndex (RelativeIndex index))) }
 {
     match entries.get(base.saturating_sub(index)) {
         Some(entry) => Ok(entry),
@@ -238,7 +239,8 @@ impl<'t> Lines<'t> {
     /// The entry at a distance below the base, if the section may name it.
     #[inline(always)]
     pub(crate) fn relative(&self, index: usize) -> Result<Entry<'t>, DecoderError>
-        ensures { MatchResult result (λ f. entry_at self.now.table (self.now.base - index) ≡ Some f) (λ e. (entry_at self.now.table (self.now.base - index) ≡ None) × (e ≡ InvalidIndex (RelativeIndex index))) }
+        ensures { MatchResult result (λ f. entry_at self.now.table (self.now.base - index) ≡ Some f)
+            (λ e. (entry_at self.now.table (self.now.base - index) ≡ None) × (e ≡ InvalidIndex (RelativeIndex index))) }
     {
         let number = self.base.saturating_sub(index);
         if number > self.most {
@@ -253,7 +255,8 @@ impl<'t> Lines<'t> {
     // RFC 9204 3.2.6: post-base index
     /// The entry at a distance from the base on, if the section may name it.
     pub(crate) fn post_base(&self, index: usize) -> Result<Entry<'t>, DecoderError>
-        ensures { MatchResult result (λ f. entry_at self.now.table (self.now.base + index + 1) ≡ Some f) (λ e. (entry_at self.now.table (self.now.base + index + 1) ≡ None) × (e ≡ InvalidIndex (PostbaseIndex index))) }
+        ensures { MatchResult result (λ f. entry_at self.now.table (self.now.base + index + 1) ≡ Some f)
+            (λ e. (entry_at self.now.table (self.now.base + index + 1) ≡ None) × (e ≡ InvalidIndex (PostbaseIndex index))) }
     {
         if self.base.saturating_add(index) >= self.most {
             return Err(DecoderError::InvalidIndex(vas::Error::PostbaseIndex(index)));

@@ -158,7 +158,8 @@ impl Session {
     /// The section is encoded, and waits to be decoded.
     fn encode(&mut self, stream: u64, fields: &[HeaderField]) -> SessionAnswer
         requires { section_size fields.now < 2 ^ 62 }
-        ensures { (w : ExchangeHistory) → self.old ≡ exchange_state w → (new : ExchangeHistory) × Encodes w stream fields.now result new × (self.new ≡ exchange_state new) }
+        ensures { (w : ExchangeHistory) → self.old ≡ exchange_state w → (new : ExchangeHistory) × Encodes w stream fields.now result new
+            × (self.new ≡ exchange_state new) }
     {
         if self.sections.reserve(1).is_err() {
             return SessionAnswer::Refused(Error::Encoder(EncoderError::OutOfMemory));
@@ -176,7 +177,8 @@ impl Session {
 
     /// More bytes come to the decoder, and what is whole is read.
     fn deliver_to_decoder(&mut self, count: usize) -> SessionAnswer
-        ensures { (w : ExchangeHistory) → self.old ≡ exchange_state w → (new : ExchangeHistory) × DeliversToDecoder w count result new × (self.new ≡ exchange_state new) }
+        ensures { (w : ExchangeHistory) → self.old ≡ exchange_state w → (new : ExchangeHistory) × DeliversToDecoder w count result new
+            × (self.new ≡ exchange_state new) }
     {
         let undelivered = self.encoder_stream.bytes.len() - self.encoder_stream.arrived;
         if count > undelivered {
@@ -199,7 +201,8 @@ impl Session {
 
     /// More bytes come to the encoder, and what is whole is read.
     fn deliver_to_encoder(&mut self, count: usize) -> SessionAnswer
-        ensures { (w : ExchangeHistory) → self.old ≡ exchange_state w → (new : ExchangeHistory) × DeliversToEncoder w count result new × (self.new ≡ exchange_state new) }
+        ensures { (w : ExchangeHistory) → self.old ≡ exchange_state w → (new : ExchangeHistory) × DeliversToEncoder w count result new
+            × (self.new ≡ exchange_state new) }
     {
         let undelivered = self.decoder_stream.bytes.len() - self.decoder_stream.arrived;
         if count > undelivered {
@@ -221,7 +224,8 @@ impl Session {
     /// The oldest section of a stream is decoded.
     fn decode(&mut self, stream: u64) -> SessionAnswer
         requires { stream < 2 ^ 62 }
-        ensures { (w : ExchangeHistory) → self.old ≡ exchange_state w → (new : ExchangeHistory) × Decodes w stream result new × (self.new ≡ exchange_state new) }
+        ensures { (w : ExchangeHistory) → self.old ≡ exchange_state w → (new : ExchangeHistory) × Decodes w stream result new
+            × (self.new ≡ exchange_state new) }
     {
         if is_given_up(&self.canceled, stream) {
             return SessionAnswer::Canceled;
@@ -243,7 +247,8 @@ impl Session {
     /// A stream is given up.
     fn cancel(&mut self, stream: u64) -> SessionAnswer
         requires { stream < 2 ^ 62 }
-        ensures { (w : ExchangeHistory) → self.old ≡ exchange_state w → (new : ExchangeHistory) × Cancels w stream result new × (self.new ≡ exchange_state new) }
+        ensures { (w : ExchangeHistory) → self.old ≡ exchange_state w → (new : ExchangeHistory) × Cancels w stream result new
+            × (self.new ≡ exchange_state new) }
     {
         if is_given_up(&self.canceled, stream) {
             return SessionAnswer::Canceled;
@@ -262,7 +267,8 @@ impl Session {
     /// One event.
     fn step(&mut self, event: &SessionEvent) -> SessionAnswer
         requires { IsEvent event.now }
-        ensures { (w : ExchangeHistory) → self.old ≡ exchange_state w → (new : ExchangeHistory) × Happens w event.now result new × (self.new ≡ exchange_state new) }
+        ensures { (w : ExchangeHistory) → self.old ≡ exchange_state w → (new : ExchangeHistory) × Happens w event.now result new
+            × (self.new ≡ exchange_state new) }
     {
         match event {
             SessionEvent::Encode(stream, fields) => self.encode(*stream, fields.as_slice()),
@@ -276,7 +282,8 @@ impl Session {
     /// An encoder that may use a table of that capacity, and a decoder that announced it. For a capacity above 0 the
     /// encoder's stream begins with the instruction for it.
     fn begin(alloc: Global, capacity: usize, blocked: usize) -> Result<Session, EncoderError>
-        ensures ok { IfOk result (λ session. (capacity < 2 ^ 30) × (blocked ≤ 65535) × (session ≡ exchange_state (start capacity blocked))) }
+        ensures ok { IfOk result
+            (λ session. (capacity < 2 ^ 30) × (blocked ≤ 65535) × (session ≡ exchange_state (start capacity blocked))) }
         ensures err { IfErr result (IsNoBeginning capacity blocked) }
     {
         let mut table = DynamicTable::new(alloc);

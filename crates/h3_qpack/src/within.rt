@@ -57,7 +57,9 @@ impl Count {
 impl<'t> Lines<'t> {
     /// Counts the fields of the lines, to the end of `buf`.
     fn count(&self, buf: &mut SliceCursor<'_>, name: &[u8]) -> Result<Count, DecoderError>
-        ensures ok { IfOk result (λ c. (fields : List Field) × (fields_in self.now.table self.now.base buf.old ≡ Some fields) × (c ≡ counted name.now fields) × (buf.new ≡ [])) }
+        ensures ok { IfOk result
+            (λ c. (fields : List Field) × (fields_in self.now.table self.now.base buf.old ≡ Some fields) × (c ≡ counted name.now fields)
+            × (buf.new ≡ [])) }
         ensures err { IfErr result (IsReasonFor (fields_in self.now.table self.now.base buf.old ≡ None) (λ count. ⊥)) }
         ensures memory { IfErr result (λ e. e ≡ OutOfMemory → LinesAskMemory self.now.table self.now.base buf.old) }
     {
@@ -82,7 +84,9 @@ impl<'t> Lines<'t> {
         dyn_ref: bool,
         name: &[u8],
     ) -> Result<LargeSection, DecoderError>
-        ensures ok { IfOk result (λ l. (fields : List Field) × (fields_in self.now.table self.now.base buf.old ≡ Some fields) × IsLarge name.now dyn_ref fields l × (buf.new ≡ [])) }
+        ensures ok { IfOk result
+            (λ l. (fields : List Field) × (fields_in self.now.table self.now.base buf.old ≡ Some fields) × IsLarge name.now dyn_ref fields l
+            × (buf.new ≡ [])) }
         ensures err { IfErr result (IsReasonFor (fields_in self.now.table self.now.base buf.old ≡ None) (λ count. ⊥)) }
         ensures memory { IfErr result (λ e. e ≡ OutOfMemory → LinesAskMemory self.now.table self.now.base buf.old) }
     {

@@ -49,7 +49,9 @@ fn put_insertion(
     requires missed { IsMissed table.now.table searched field.now }
     requires size { field_size field.now < 2 ^ 62 }
     ensures memory { IsOkUnless result OutOfMemory }
-    ensures ok { OnOk result (encoder_buf.new.items ≡ encoder_buf.old.items ++ encoder_bytes (insertion_for table.now.choices.shortest_strings table.now.table after field.now)) }
+    ensures ok { OnOk result
+        (encoder_buf.new.items ≡ encoder_buf.old.items ++ encoder_bytes
+        (insertion_for table.now.choices.shortest_strings table.now.table after field.now)) }
     ensures err { OnErr result (encoder_buf.new.items ≡ encoder_buf.old.items) }
 {
     let inserted = table.inserted();
@@ -87,7 +89,9 @@ fn put_entry(
     requires size { field_size field.now < 2 ^ 62 }
     ensures memory { IsOkUnless result OutOfMemory }
     ensures ok { OnOk result (table.new ≡ record table.old { table = with_entry table.old.table field.now }) }
-    ensures instructions { OnOk result (encoder_buf.new.items ≡ encoder_buf.old.items ++ encoder_bytes (insertion_for table.old.choices.shortest_strings table.old.table after field.now)) }
+    ensures instructions { OnOk result
+        (encoder_buf.new.items ≡ encoder_buf.old.items ++ encoder_bytes
+        (insertion_for table.old.choices.shortest_strings table.old.table after field.now)) }
     ensures err { OnErr result ((table.new ≡ table.old) × (encoder_buf.new.items ≡ encoder_buf.old.items)) }
 {
     let static_index = StaticTable::find_name(field.name());
@@ -121,7 +125,9 @@ fn put_inserted(
     ensures memory { IsOkUnless result OutOfMemory }
     ensures ok { OnOk result (table.new ≡ record table.old { table = with_entry table.old.table field.now }) }
     ensures line { OnOk result (lines.new.items ≡ lines.old.items ++ line_bytes (PostBaseField (table.old.table.inserted - base))) }
-    ensures instructions { OnOk result (encoder_buf.new.items ≡ encoder_buf.old.items ++ encoder_bytes (insertion_for table.old.choices.shortest_strings table.old.table after field.now)) }
+    ensures instructions { OnOk result
+        (encoder_buf.new.items ≡ encoder_buf.old.items ++ encoder_bytes
+        (insertion_for table.old.choices.shortest_strings table.old.table after field.now)) }
     ensures err { OnErr result ((table.new ≡ table.old) × (encoder_buf.new.items ≡ encoder_buf.old.items)) }
 {
     IndexedWithPostBase(table.inserted() - base).encode(lines)?;
@@ -143,7 +149,8 @@ fn put_entry_name(
     requires number { number < 2 ^ 62 }
     requires value { length value.now < 2 ^ 62 }
     ensures memory { IsOkUnless result OutOfMemory }
-    ensures ok { OnOk result (lines.new.items ≡ lines.old.items ++ line_bytes (entry_name_line base number (coded shortest value.now) never_indexed)) }
+    ensures ok { OnOk result
+        (lines.new.items ≡ lines.old.items ++ line_bytes (entry_name_line base number (coded shortest value.now) never_indexed)) }
 {
     if number <= base {
         LiteralWithNameRef::write_dynamic(base - number, value, never_indexed, shortest, lines)?;
@@ -170,7 +177,8 @@ fn put_chosen(
     ensures table { OnOk result (table.new ≡ encoder_state_with table.old field.now choice) }
     ensures section { OnOk result (section.new ≡ section_after table.old section.old choice) }
     ensures line { OnOk result (lines.new.items ≡ lines.old.items ++ line_bytes (line_for table.old section.old field.now choice)) }
-    ensures instructions { OnOk result (encoder_buf.new.items ≡ encoder_buf.old.items ++ flat_map encoder_bytes (instructions_after table.old field.now choice)) }
+    ensures instructions { OnOk result
+        (encoder_buf.new.items ≡ encoder_buf.old.items ++ flat_map encoder_bytes (instructions_after table.old field.now choice)) }
     ensures err { OnErr result ((table.new ≡ table.old) × (encoder_buf.new.items ≡ encoder_buf.old.items)) }
 {
     let inserted = table.inserted();
@@ -318,7 +326,8 @@ pub(crate) fn put_section(
     block: &mut Vec<u8>,
 ) -> Result<(), AllocError>
     requires { IsOver table.now.table section.now }
-    ensures ok { OnOk result (block.new.items ≡ block.old.items ++ (prefix_bytes table.now.announced section.now.newest section.now.base ++ lines.now)) }
+    ensures ok { OnOk result
+        (block.new.items ≡ block.old.items ++ (prefix_bytes table.now.announced section.now.newest section.now.base ++ lines.now)) }
     ensures err { OnErr result (block.new.items ≡ block.old.items) }
 {
     // (for the proof: its numbers are small)

@@ -1,10 +1,9 @@
 -- Streams by their bits.
-use Rattle.std.proofs.Common.{arith, ◌≡◌, ◌≢◌, ◌<◌, ℕ, ◌*◌, ◌/◌, ◌%◌, ◌^◌, Bool, true, false, ◌&&◌, refl, sym, ◌∙◌, ap, subst, bit_and, bit_or, w64, inl, inr}
-use Rattle.std.specs.Prelude.{◌==◌, nat_lt, Result, Ok, Err, OnOk, OnErr}
+use Rattle.std.proofs.Common.{arith, ◌≡◌, ◌≢◌, ◌<◌, ℕ, ◌*◌, ◌/◌, ◌%◌, ◌^◌, Bool, true, false, ◌&&◌, refl, sym, ◌∙◌, ap, subst, bit_and, bit_or, w64}
+use Rattle.std.specs.Prelude.{◌==◌}
 use Rattle.std.specs.Int.{bit_at, bit_not}
-use Rattle.std.proofs.lemmas.Bool.{cases_eq}
 use Rattle.std.proofs.lemmas.Grind.{common_steps}
-use Rattle.std.proofs.lemmas.Nat.Bits.{bit_at-zero, bit_at_set_same, bit_at_set_other, bit_at_clear_same, bit_at_clear_other}
+use Rattle.std.proofs.lemmas.Nat.Bits.{bit_at_set_same, bit_at_set_other, bit_at_clear_same, bit_at_clear_other}
 use Rattle.h3_requests.specs.Waiting.{is_in, HaveSameWords, IsOneTest, IsOneWord}
 
 -- one bit of a word is this, and the others are as before
@@ -69,24 +68,6 @@ cleared_in words later stream number bit id of_stream of_id of_word of_bit is =
 pub same_in : (words later : ℕ → ℕ) → HaveSameWords words later → (q : ℕ) → is_in later q ≡ is_in words q
 same_in words later same q = ap (λ w. (q % 4 == 0) && (bit_at w (q / 4 % 64) == 1)) (same (q / 256))
 
--- what passes passes still, where one more does
-pub still : (p r : ℕ → Bool) (id : ℕ) → IsOneTest id true p r → (q : ℕ) → p q ≡ true → r q ≡ true
-still p r id one q h = elim (cases_eq q id) [
-  | inl same ↦ ap r same ∙ one.own
-  | inr differs ↦ one.others q differs ∙ h
-]
-
--- of stream ids alone
-pub below : (p r : ℕ → Bool) (stream id most : ℕ) (is : Bool) → stream ≡ id → stream < most → IsOneTest id is p r → IsOneTest id is (λ q. p q && nat_lt q most) (λ q. r q && nat_lt q most)
-below p r stream id most is same few one =
-    let there : id < most = subst (λ s. s < most) same few in
-    let within : nat_lt id most ≡ true = grind (arith, common_steps, there) in
-    record { own = rw (one.own, within) (and_true is); others = λ q ne. ap (λ b. b && nat_lt q most) (one.others q ne) }
-  where
-    and_true : (b : Bool) → (b && true) ≡ b
-    and_true true = refl
-    and_true false = refl
-
 both : (a b : Bool) → (a && b) ≡ true → (a ≡ true) × (b ≡ true)
 both true b h = (refl, h)
 both false b h = absurd (cc)
@@ -95,25 +76,5 @@ both false b h = absurd (cc)
 pub of_request : (words : ℕ → ℕ) (id : ℕ) → is_in words id ≡ true → id % 4 ≡ 0
 of_request words id h = four id (both _ _ h).0
 
-pub has_word : (words : ℕ → ℕ) (stream number id : ℕ) → stream ≡ id → number ≡ stream / 256 → is_in words id ≡ true → words number ≢ 0
-has_word words stream number id of_stream of_word h none =
-    let there : words (id / 256) ≡ 0 = ap words (sym (of_word ∙ ap (λ s. s / 256) of_stream)) ∙ none in
-    let no_bit : (bit_at (words (id / 256)) (id / 4 % 64) == 1) ≡ false = rw (there, bit_at-zero (id / 4 % 64)) refl in
-    let both_ways : false ≡ true = sym no_bit ∙ (both _ _ h).1 in
-    absurd (cc)
-
 pub of_number : (stream id : ℕ) → stream ≡ id → stream % 4 ≡ 0 → id % 4 ≡ 0
 of_number stream id of_stream h = ap (λ s. s % 4) (sym of_stream) ∙ h
-
--- where memory was there for a place the stream has one,
-pub placed_if : {T E : Type 0} (r : Result T E) (words later : ℕ → ℕ) (stream number bit id : ℕ) → stream ≡ id → stream % 4 ≡ 0 → number ≡ stream / 256 → bit ≡ 1 * 2 ^ (stream / 4 % 64) % 2 ^ 64
-    → OnOk r (IsOneWord number (bit_or (words number) bit) words later) → OnOk r (is_in later id ≡ true)
-placed_if (Ok t) words later stream number bit id of_stream of_id of_word of_bit ok = (set_in words later stream number bit id of_stream (of_number stream id of_stream of_id) of_word of_bit ok).own
-placed_if (Err e) words later stream number bit id of_stream of_id of_word of_bit ok = tt
-
--- and those that had one have it still
-pub still_if : {T E : Type 0} (r : Result T E) (words later : ℕ → ℕ) (stream number bit id : ℕ) → stream ≡ id → stream % 4 ≡ 0 → number ≡ stream / 256 → bit ≡ 1 * 2 ^ (stream / 4 % 64) % 2 ^ 64
-    → OnOk r (IsOneWord number (bit_or (words number) bit) words later) → OnErr r (HaveSameWords words later) → (q : ℕ) → is_in words q ≡ true → is_in later q ≡ true
-still_if (Ok t) words later stream number bit id of_stream of_id of_word of_bit ok err =
-    still (is_in words) (is_in later) id (set_in words later stream number bit id of_stream (of_number stream id of_stream of_id) of_word of_bit ok)
-still_if (Err e) words later stream number bit id of_stream of_id of_word of_bit ok err = λ q h. same_in words later err q ∙ h

@@ -1,17 +1,15 @@
 -- Streams of classes by their bits: the words of a class stand behind those of the class before.
-use Rattle.std.proofs.Common.{arith, ◌≡◌, ◌≢◌, ◌<◌, ◌≤◌, ℕ, suc, ◌+◌, ◌-◌, ◌*◌, ◌/◌, ◌%◌, ◌^◌, Bool, true, false, if◌then◌else◌, ◌&&◌, ◌||◌, refl, sym, ◌∙◌, ap, subst, bit_and, bit_or, w64, inl, inr}
-use Rattle.std.specs.Prelude.{◌==◌, nat_lt, Option, Some, None, IfSome, IfNone, Result, Ok, Err, OnOk, OnErr}
+use Rattle.std.proofs.Common.{arith, ◌≡◌, ◌≢◌, ◌<◌, ◌≤◌, ℕ, suc, ◌+◌, ◌-◌, ◌*◌, ◌/◌, ◌%◌, ◌^◌, Bool, true, false, if◌then◌else◌, ◌&&◌, ◌||◌, refl, sym, ◌∙◌, ap, subst, bit_and, bit_or, w64}
+use Rattle.std.specs.Prelude.{◌==◌, nat_lt, Option, Some, None, Result, Ok, Err, OnOk, OnErr}
 use Rattle.std.specs.Int.{bit_at, bit_not}
-use Rattle.std.proofs.lemmas.Bool.{cases_Bool, cases_eq, cases_lt}
 use Rattle.std.proofs.lemmas.Grind.{common_steps}
 use Rattle.h3_requests.specs.FirstWord.{IsFirstWord}
 use Rattle.h3_requests.specs.Lesser.{lesser_of}
 use Rattle.h3_requests.specs.LesserLaws.{least_either}
-use Rattle.h3_requests.specs.Waiting.{is_any_below, is_in, word_at_number, words_in, HaveSameWords, IsClassFrom, IsFirstClass, IsOnePlace, IsOneTest, IsOneWord, KeepsOtherPlaces, PutIf}
+use Rattle.h3_requests.specs.Waiting.{is_any_below, is_in, word_at_number, words_in, HaveSameWords, IsOnePlace, IsOneTest, IsOneWord, KeepsOtherPlaces, PutIf}
 use Rattle.h3_requests.proofs.Bits.{cleared_in, of_number, of_request, same_in, set_in}
 use Rattle.h3_connection.specs.NextWaiting.{IsLeast}
 use Rattle.h3_connection.specs.NextWaitingLaws.{least_same}
-use Rattle.std.proofs.lemmas.Nat.Bits.{bit_at-zero}
 
 -- whether a stream of a class has its bit
 abbrev pub passes : (ℕ → ℕ) → ℕ → ℕ → Bool
@@ -149,75 +147,13 @@ past_all words class from past = λ q more. by_kind q more (q % 4 == 0) refl
         let late : nat_lt q (2 ^ 62) ≡ false = grind (arith, common_steps, far) in
         rw late (and_false (is_in (words_in words class) q))
 
--- a stream whose word has no bit does not pass
-empty_word : (words : ℕ → ℕ) (c q : ℕ) → words (word_at_number c (q / 256)) ≡ 0 → passes words c q ≡ false
-empty_word words c q none = rw (none, bit_at-zero (q / 4 % 64)) (by_kind (q % 4 == 0))
-  where
-    by_kind : (b : Bool) → ((b && false) && nat_lt q (2 ^ 62)) ≡ false
-    by_kind true = refl
-    by_kind false = refl
-
--- where no word has a bit from that of a class on nothing waits in it or behind it
-pub none_from : (words : ℕ → ℕ) (from : ℕ) → IsFirstWord words (from * (2 ^ 54 + 1)) None → IsClassFrom (passes words) from None
-none_from words from h = λ c q more few. empty_word words c q (h (word_at_number c (q / 256)) (omega (arith, more)))
-
-short_of : (words : ℕ → ℕ) (from number word : ℕ) → IsFirstWord words (from * (2 ^ 54 + 1)) (Some (number, word)) → (c q : ℕ) → from ≤ c → c < number / (2 ^ 54 + 1) → passes words c q ≡ false
-short_of words from number word h c q more less = by_most (nat_lt q (2 ^ 62)) refl
-  where
-    by_most : (m : Bool) → nat_lt q (2 ^ 62) ≡ m → passes words c q ≡ false
-    by_most true e =
-        let few : q < 2 ^ 62 = grind (arith, common_steps, e) in
-        empty_word words c q (h.4 (word_at_number c (q / 256)) (omega (arith, more)) (omega (arith, less, few)))
-    by_most false e = rw e (and_false (is_in (words_in words c) q))
-
--- between that class and the one of the first word nothing waits
-pub class_of_word : (words : ℕ → ℕ) (from number word : ℕ) → IsFirstWord words (from * (2 ^ 54 + 1)) (Some (number, word)) → number / (2 ^ 54 + 1) < 17
-    → IsClassFrom (passes words) from (Some (number / (2 ^ 54 + 1)))
-class_of_word words from number word h few = (omega (arith, h.0), few, λ c q more less. short_of words from number word h c q more less)
-
-pub class_past : (words : ℕ → ℕ) (from number word : ℕ) → IsFirstWord words (from * (2 ^ 54 + 1)) (Some (number, word)) → 17 ≤ number / (2 ^ 54 + 1) → IsClassFrom (passes words) from None
-class_past words from number word h past = λ c q more few. short_of words from number word h c q more (omega (arith, few, past))
-
 -- nothing waits in the classes below this one
 abbrev pub NoneBelow : (ℕ → ℕ → Bool) → ℕ → Type 0
 NoneBelow waits from = (class q : ℕ) → class < from → waits class q ≡ false
 
--- one class more was passed
-pub passed_one : (waits : ℕ → ℕ → Bool) (from class : ℕ) → NoneBelow waits from → IsClassFrom waits from (Some class) → IsLeast (waits class) 0 None → NoneBelow waits (class + 1)
-passed_one waits from class h k none c q less = elim (cases_lt c from) [
-  | inl low ↦ h c q low
-  | inr more ↦ elim (cases_lt c class) [
-    | inl short ↦ k.2 c q more short
-    | inr reached ↦ let here : c ≡ class = omega (arith, less, reached) in ap (λ n. waits n q) here ∙ none q (omega arith)
-  ]
-]
-
--- it is the first,
-pub first_there : (waits : ℕ → ℕ → Bool) (from class id : ℕ) → NoneBelow waits from → IsClassFrom waits from (Some class) → IsLeast (waits class) 0 (Some id) → IsFirstClass waits (Some class)
-first_there waits from class id h k found = (
-  (id, found.1),
-  λ c q less. elim (cases_lt c from) [
-    | inl low ↦ h c q low
-    | inr more ↦ k.2 c q more less
-  ],
-)
-
--- or there is none
-pub none_there : (waits : ℕ → ℕ → Bool) (from : ℕ) → NoneBelow waits from → IsClassFrom waits from None → IsFirstClass waits None
-none_there waits from h k = λ c q few. elim (cases_lt c from) [
-  | inl low ↦ h c q low
-  | inr more ↦ k c q more few
-]
-
-pub all_passed : (waits : ℕ → ℕ → Bool) (from : ℕ) → NoneBelow waits from → 17 ≤ from → IsFirstClass waits None
-all_passed waits from h past = λ c q few. h c q (omega (arith, few, past))
-
 -- of the classes below one more
 any_next : (waits : ℕ → ℕ → Bool) (class q : ℕ) → is_any_below (class + 1) waits q ≡ (is_any_below class waits q || waits class q)
 any_next waits class q = let next : class + 1 ≡ suc class = omega arith in ap (λ n. is_any_below n waits q) next
-
-pub least_none : (waits : ℕ → ℕ → Bool) (from : ℕ) → IsLeast (is_any_below 0 waits) from None
-least_none waits from = λ q more. refl
 
 pub least_next : (waits : ℕ → ℕ → Bool) (class from : ℕ) (first found : Option ℕ) → IsLeast (is_any_below class waits) from first → IsLeast (waits class) from found
     → IsLeast (is_any_below (class + 1) waits) from (lesser_of first found)

@@ -4,7 +4,7 @@ use Rattle.std.specs.Prelude.{◌&&◌, ◌==◌, ◌≢◌, Option, Some, None,
 use Rattle.std.proofs.lemmas.Bool.{cases_eq}
 use Rattle.std.proofs.lemmas.Grind.{common_steps}
 use Rattle.h3_requests.specs.FirstWord.{IsFirstWord}
-use Rattle.h3_requests.specs.Words.{comes_next, held_by, held_in, in_place, is_empty, is_less, waiting_of, with_bits}
+use Rattle.h3_requests.specs.Words.{comes_next, held_by, held_in, is_less, waiting_of, with_bits}
 use Rattle.h3_requests.specs.declared.waiting.near.NearWord.{NearWord}
 use Rattle.h3_requests.specs.declared.waiting.word.Word.{Word}
 
@@ -57,10 +57,6 @@ others row i q p is differs = elim (cases_eq (q % 16) i) [
       let same : nat_lt (q % 16) (i + 1) ≡ nat_lt (q % 16) i = grind (arith, common_steps, apart) in
       ap (λ t. if t then waiting_of (held_in row q) else 0) same
 ]
-
--- none has been passed at first
-pub none_passed : (row : List NearWord) (from : ℕ) → IsFirstWord (so_far row 0) from None
-none_passed row from = λ q there. let beyond : nat_lt (q % 16) 0 ≡ false = grind (arith, common_steps) in rw beyond refl
 
 -- A place is passed that has no word, or one that does not come first.
 pub passed : (row : List NearWord) (from i : ℕ) (p : NearWord) (first : Option (ℕ × ℕ)) → slice_get row i ≡ Some p → comes_next p i from first ≡ false

@@ -98,12 +98,6 @@ taken_out u v o p id below first second =
     takes_out (stored u o) (stored v p) id below (ap (λ y. either y (kept_at p id)) first.here ∙ second.here)
     (λ q differs. stored_alike u v o p q (first.others q differs) (second.others q differs))
 
--- or taken up from those that are over,
-pub taken_up : {X : Type 0} (u v o : Streams X) (id : ℕ) (x : X) → kept_at u id ≡ None → kept_at o id ≡ Some x → Sets u v id x → streams_of (stored v o) ≡ streams_of (stored u o)
-taken_up u v o id x was over put =
-    let at : stored v o id ≡ stored u o id = ap (λ y. either y (kept_at o id)) put.here ∙ sym (ap (λ y. either y (kept_at o id)) was ∙ over) in
-    listed.same_streams (stored u o) (stored v o) (at_each (stored u o) (stored v o) id at (λ q differs. stored_alike u v o o q (put.others q differs) refl))
-
 -- or is from now on among those that are over
 pub retired : {X : Type 0} (u v o p : Streams X) (id : ℕ) (x : X) → kept_at u id ≡ Some x → Sets o p id x → TakesOut u v id → streams_of (stored v p) ≡ streams_of (stored u o)
 retired u v o p id x was over gone =

@@ -1,13 +1,13 @@
 -- Streams of classes as the scheduler sees them, and a stream that goes from one class to another.
 use Rattle.std.proofs.Common.{arith, ◌≡◌, ◌≢◌, ◌<◌, ◌≤◌, ℕ, zero, suc, ◌+◌, ◌*◌, ◌/◌, ◌%◌, Bool, true, false, if◌then◌else◌, ◌&&◌, ◌||◌, refl, sym, ◌∙◌, ap, subst, inl, inr}
 use Rattle.std.specs.Prelude.{◌==◌, ◌^◌, not, nat_lt, Option, Some, None, IfSome, List}
-use Rattle.std.proofs.lemmas.Bool.{cases_eq, cases_lt}
+use Rattle.std.proofs.lemmas.Bool.{cases_eq}
 use Rattle.std.proofs.lemmas.Grind.{common_steps}
 use Rattle.h3_connection.specs.NextWaiting.{IsLeast}
 use Rattle.h3_connection.specs.NextWaitingLaws.{least_same}
 use Rattle.h3_scheduler.specs.Least as scheduler
 use Rattle.h3_scheduler.specs.Places.{takes_at, IsFirstUrgency, IsNext}
-use Rattle.h3_scheduler.specs.Streams.{alike, is_class, is_it}
+use Rattle.h3_scheduler.specs.Streams.{alike, is_it}
 use Rattle.h3_scheduler.specs.declared.round.Round.{Round}
 use Rattle.h3_blocked.specs.declared.counts.Blocked.{Blocked}
 use Rattle.h3_connection.specs.State.{RequestState, kept_at}
@@ -132,24 +132,6 @@ first_urgency s first few h =
       ),
       λ urgency incremental q less. ap (λ b. nat_lt urgency 8 && b) (h.1 (urgency * 2 + (if incremental then 1 else 0)) q (low_class urgency first incremental less)) ∙ and_false (nat_lt urgency 8),
     )
-
--- and none stands where nothing waits but in the class of those that are held
-short_class : (urgency : ℕ) (b : Bool) → urgency < 8 → urgency * 2 + (if b then 1 else 0) < 16
-short_class urgency true less = omega (arith, less)
-short_class urgency false less = omega (arith, less)
-
-none_below : (s : ReadyStreams) → ((c q : ℕ) → c < 16 → stands s c q ≡ false) → IsFirstUrgency (stands_in s) None
-none_below s h urgency incremental q = by_test (nat_lt urgency 8) refl
-  where
-    by_test : (b : Bool) → nat_lt urgency 8 ≡ b → (b && stands s (urgency * 2 + (if incremental then 1 else 0)) q) ≡ false
-    by_test true e = let less : urgency < 8 = grind (arith, common_steps, e) in h (urgency * 2 + (if incremental then 1 else 0)) q (short_class urgency incremental less)
-    by_test false e = refl
-
-pub no_urgency : (s : ReadyStreams) → IsFirstClass (stands s) None → IsFirstUrgency (stands_in s) None
-no_urgency s h = none_below s (λ c q less. h c q (omega (arith, less)))
-
-pub held_urgency : (s : ReadyStreams) (first : ℕ) → 16 ≤ first → IsFirstClass (stands s) (Some first) → IsFirstUrgency (stands_in s) None
-held_urgency s first most h = none_below s (λ c q less. h.1 c q (omega (arith, less, most)))
 
 -- the least of an urgency, not incremental and incremental
 pub least_at : (s : ReadyStreams) (urgency class from : ℕ) (incremental : Bool) (found : Option ℕ) → urgency < 8 → urgency * 2 + (if incremental then 1 else 0) ≡ class

@@ -1,24 +1,18 @@
 -- A piece of a body that is read among the streams of a connection.
-use Rattle.std.proofs.Common.{◌≡◌, ℕ, Bool, true, false, not, ◌&&◌, List, refl, sym, ap, subst, ◌∙◌}
-use Rattle.std.specs.Prelude.{◌||◌, Option, Some, None, IfSome, is_some, count_by, nat_lt, if◌then◌else◌, ◌==◌, length}
-use Rattle.std.specs.List.{concat}
+use Rattle.std.proofs.Common.{◌≡◌, ℕ, Bool, true, false, List, refl, sym, ap, subst, ◌∙◌}
+use Rattle.std.specs.Prelude.{Option, Some, None, IfSome, is_some, nat_lt, if◌then◌else◌}
 use Rattle.h3_blocked.specs.Counting.{above, Replaces}
 use Rattle.h3_blocked.specs.declared.counts.Blocked.{Blocked}
-use Rattle.h3_connection.specs.Calls.{Sets}
 use Rattle.h3_connection.specs.Incoming.{Incoming}
 use Rattle.h3_connection.specs.State.{RequestState, kept_at}
 use Rattle.h3_connection.specs.StreamSets.{Streams}
-use Rattle.h3_incoming.specs.BodyPlaces.{body_place, keeps_nothing, place_in, ReadsPiece}
-use Rattle.h3_incoming.specs.Placing.{is_session}
+use Rattle.h3_incoming.specs.BodyPlaces.{body_place, ReadsPiece}
 use Rattle.h3_incoming.specs.declared.body_place.BodyPlace.{BodyPlace}
-use Rattle.h3_messages.specs.Content.{is_exceeded}
 use Rattle.h3_requests.specs.Counted.{AreCounted}
 use Rattle.h3_requests.specs.Lending.{Writes}
 use Rattle.h3_requests.specs.Limited.{AreReceivers}
-use Rattle.h3_requests.specs.Over.{IsOver}
 use Rattle.h3_requests.specs.ReadingBodies.{are_too_many, place_at, place_unless, ReadsPieceAt}
 use Rattle.h3_requests.proofs.Counts.{kept_there, waits, waits_then}
-use Rattle.h3_requests.proofs.Ways.{over_settled}
 
 -- too many streams wait, by the counts and by the receivers of a history
 counted_so : (counts : Blocked) (s : Streams RequestState) (limit inserted : ℕ) (b : Bool) → AreCounted counts s → nat_lt limit (above inserted counts) ≡ b
@@ -30,28 +24,6 @@ pub none_where_many : (counts : Blocked) (model s : Streams RequestState) (limit
 none_where_many counts model s limit inserted id bytes same h is receivers are =
     let many = counted_so counts s limit inserted true h is receivers (subst (AreReceivers receivers) (sym same) are) in
     sym (ap (λ b. if b then None else place_at (kept_at model id) bytes) many)
-
--- Nothing is read of a stream that is over.
-by_flags : (x f o c d e : Bool) → (o || f) ≡ true → (((((x && not f) && not o) && c) && d) && e) ≡ false
-by_flags false f o c d e h = refl
-by_flags true true o c d e h = refl
-by_flags true false true c d e h = refl
-by_flags true false false c d e h = absurd (cc)
-
-over_keeps : (i : Incoming) → (i.is_over || is_some i.fault) ≡ true → keeps_nothing i ≡ false
-over_keeps i h =
-    by_flags ((length (concat i.unread) == 0) && not (is_some i.section)) (is_some i.fault) i.is_over (not (i.ended || i.was_reset)) (not (is_session i.place)) (not (is_exceeded i.content)) h
-
-over_none : (b : Bool) (o : Option RequestState) (bytes : List ℕ) → IfSome o IsOver → place_unless b o bytes ≡ None
-over_none true o bytes h = refl
-over_none false None bytes h = refl
-over_none false (Some r) bytes h = ap (λ b. if b then place_in r.incoming bytes else None) (over_keeps r.incoming (over_settled r h))
-
-pub none_where_over : (model s : Streams RequestState) (o : Option RequestState) (limit inserted id : ℕ) (bytes : List ℕ) → s ≡ model → kept_at s id ≡ o → IfSome o IsOver
-    → (receivers : Streams Incoming) → AreReceivers receivers model → None ≡ place_unless (are_too_many limit inserted receivers) (kept_at model id) bytes
-none_where_over model s o limit inserted id bytes same is over receivers are =
-    let there : kept_at model id ≡ o = ap (λ l. kept_at l id) (sym same) ∙ is in
-    sym (ap (λ q. place_unless (are_too_many limit inserted receivers) q bytes) there ∙ over_none (are_too_many limit inserted receivers) o bytes over)
 
 -- of one that is under way
 pub place_there : {under_way : Option RequestState} (counts : Blocked) (model s n : Streams RequestState) (limit inserted id : ℕ) (before x : RequestState) (bytes : List ℕ) (o : Option BodyPlace) → s ≡ model → AreCounted counts s

@@ -33,13 +33,6 @@ received_there (Ok x) model old new id before after change same writes there is 
     subst (λ l. IfSome (kept_at l id) (λ r. Sets l new id (receives change r))) same
     (subst (λ o. IfSome o (λ r. Sets old new id (receives change r))) (sym (kept_there old new id before after writes there)) (set_so old new id before after change writes there is))
 
--- the same by a call that is refused nothing,
-pub changed_there : {under_way : Option RequestState} (model old new : Streams RequestState) (id : ℕ) (before after : RequestState) (change : Incoming → Incoming) → old ≡ model
-    → Writes old new under_way id after → under_way ≡ Some before → after ≡ receives change before → IfSome (kept_at model id) (λ r. Sets model new id (receives change r))
-changed_there model old new id before after change same writes there is =
-    subst (λ l. IfSome (kept_at l id) (λ r. Sets l new id (receives change r))) same
-    (subst (λ o. IfSome o (λ r. Sets old new id (receives change r))) (sym (kept_there old new id before after writes there)) (set_so old new id before after change writes there is))
-
 -- or of both parts of it,
 pub altered_there : {under_way : Option RequestState} (model old new : Streams RequestState) (id : ℕ) (before after : RequestState) (change : RequestState → RequestState) → old ≡ model
     → Writes old new under_way id after → under_way ≡ Some before → after ≡ change before → IfSome (kept_at model id) (λ r. Sets model new id (change r))

@@ -1,16 +1,14 @@
 -- The greatest number that passes a test, found in parts.
-use Rattle.std.proofs.Common.{◌≡◌, ◌<◌, ◌≤◌, ℕ, zero, suc, ◌+◌, ◌-◌, ◌/◌, ◌%◌, ◌^◌, Bool, true, false, ◌||◌, ◌&&◌, List, [], ◌∷◌, length, refl, sym, ◌∙◌, ap, subst, inl, inr, arith, if◌then◌else◌, slice_get}
+use Rattle.std.proofs.Common.{◌≡◌, ◌<◌, ◌≤◌, ℕ, zero, suc, ◌+◌, ◌/◌, ◌%◌, ◌^◌, Bool, true, false, ◌||◌, ◌&&◌, List, [], ◌∷◌, length, refl, sym, ◌∙◌, ap, subst, inl, inr, arith, if◌then◌else◌, slice_get}
 use Rattle.std.specs.Prelude.{◌==◌, ◌⊎◌, not, Option, Some, None, IfSome, IsSome, is_some, nat_lt}
 use Rattle.std.specs.List.{range_with_len}
-use Rattle.std.specs.Ordering.{eq_by_cmp, nat_cmp}
-use Rattle.std.specs.Set.{is_member}
 use Rattle.std.proofs.lemmas.Bool.{cases_eq}
 use Rattle.std.proofs.lemmas.Grind.{common_steps}
 use Rattle.h3_connection.specs.State.{RequestState, kept_at}
 use Rattle.h3_connection.specs.StreamSets.{Streams, stream_at}
 use Rattle.h3_blocked.specs.SumLaws.{kept_is_at}
 use Rattle.h3_requests.specs.Done.{is_sought}
-use Rattle.h3_requests.specs.Greatest.{IsGreatest, IsOneOf, greater_of}
+use Rattle.h3_requests.specs.Greatest.{IsGreatest, greater_of}
 use Rattle.h3_requests.specs.Listed.{either, listed_at, put_first, streams_of}
 use Rattle.h3_requests.specs.Over.{AreMarked, IsOver, over_in, way_at}
 use Rattle.h3_requests.specs.Row.{held_by, held_in, in_place}
@@ -28,10 +26,6 @@ IsUpTo q (Some id) = q ≤ id
 pub record Found (passes : ℕ → Bool) (looked : ℕ → Type 0) (found : Option ℕ) : Type 0 where
   pub one : IfSome found (λ id. (passes id ≡ true) × (id < 2 ^ 64))
   pub all : (q : ℕ) → looked q → passes q ≡ true → IsUpTo q found
-
--- nothing was looked at that passes
-pub none_yet : (passes : ℕ → Bool) (looked : ℕ → Type 0) → ((q : ℕ) → looked q → passes q ≡ true → ⊥) → Found passes looked None
-none_yet passes looked none = record { one = tt; all = none }
 
 up_to : (q id : ℕ) (found : Option ℕ) → (q ≡ id) ⊎ IsUpTo q found → IsUpTo q (greater_of found (Some id))
 up_to q id None (inl same) = omega (arith, same)
@@ -83,10 +77,6 @@ all_looked passes looked (Some id) all h = (h.one.0, λ q above. by_test q (pass
     by_test : (q : ℕ) (t : Bool) → passes q ≡ t → id < q → t ≡ false
     by_test q true is above = let up : q ≤ id = h.all q (all q is) is in absurd (omega (arith, up, above))
     by_test q false is above = refl
-
-pub fits_found : (passes : ℕ → Bool) (looked : ℕ → Type 0) (found : Option ℕ) → Found passes looked found → IfSome found (λ id. id < 2 ^ 64)
-fits_found passes looked None h = tt
-fits_found passes looked (Some id) h = h.one.1
 
 -- the greater of two that fit does
 pub fits_both : (one other : Option ℕ) → IfSome one (λ id. id < 2 ^ 64) → IfSome other (λ id. id < 2 ^ 64) → IfSome (greater_of one other) (λ id. id < 2 ^ 64)
@@ -208,40 +198,6 @@ some_by (Some p) q some = refl
 -- and its place is there
 pub in_the_row : (places : List Place) (q : ℕ) → IsSome (held_in places q) → q / 4 % 128 < length places
 in_the_row places q is = within places (q / 4 % 128) (some_by (slice_get places (q / 4 % 128)) q is)
-
--- One that is sought in a map has its key among all of them,
-pub key_there : (undone : Bool) (streams : Streams RequestState) (keys : List ℕ) (q : ℕ) → is_some (kept_at streams q) ≡ is_member (eq_by_cmp nat_cmp) keys q → is_member (eq_by_cmp nat_cmp) keys q ≡ false
-    → is_sought undone (kept_at streams q) ≡ true → ⊥
-key_there undone streams keys q has none is = let wrong : false ≡ true = sym none ∙ sym has ∙ some_sought undone (kept_at streams q) is in cc
-
--- and where it is not among those that are left it was, or is the one that was taken
-pub key_next : (keys later : List ℕ) (id q : ℕ) → keys ≡ id ∷ later → is_member (eq_by_cmp nat_cmp) later q ≡ false → (q ≡ id) ⊎ (is_member (eq_by_cmp nat_cmp) keys q ≡ false)
-key_next keys later id q is none = by_test (eq_by_cmp nat_cmp q id) refl
-  where
-    by_test : (t : Bool) → eq_by_cmp nat_cmp q id ≡ t → (q ≡ id) ⊎ (is_member (eq_by_cmp nat_cmp) keys q ≡ false)
-    by_test true e = inl (grind (arith, common_steps, e))
-    by_test false e = inr (ap (λ l. is_member (eq_by_cmp nat_cmp) l q) is ∙ ap (λ t. t || is_member (eq_by_cmp nat_cmp) later q) e ∙ none)
-
--- Going down from the greatest that ever passed.
-pub goes_down : (marks : ℕ → ℕ) (top : ℕ) → nat_lt 0 (marks top) ≡ false → ((q : ℕ) → top < q → marks q ≡ 0) → (q : ℕ) → top - 1 < q → marks q ≡ 0
-goes_down marks top none above q there = elim (cases_eq q top) [
-  | inl same ↦ let zero_there : marks top ≡ 0 = grind (arith, common_steps, none) in ap marks same ∙ zero_there
-  | inr differs ↦ above q (omega (arith, there, differs))
-]
-
-pub marked_there : (marks : ℕ → ℕ) (top : ℕ) → nat_lt 0 (marks top) ≡ true → ((q : ℕ) → top < q → marks q ≡ 0) → IsGreatest (λ q. nat_lt 0 (marks q)) (Some top)
-marked_there marks top some above = (some, λ q there. ap (λ n. nat_lt 0 n) (above q there))
-
-pub nowhere_marked : (marks : ℕ → ℕ) → nat_lt 0 (marks 0) ≡ false → ((q : ℕ) → 0 < q → marks q ≡ 0) → IsGreatest (λ q. nat_lt 0 (marks q)) None
-nowhere_marked marks none above q = elim (cases_eq q 0) [
-  | inl same ↦ ap (λ n. nat_lt 0 (marks n)) same ∙ none
-  | inr differs ↦ ap (λ n. nat_lt 0 n) (above q (omega (arith, differs)))
-]
-
--- any that passes is one of them
-pub one_of_greatest : (passes : ℕ → Bool) (one : Option ℕ) → IsGreatest passes one → IsOneOf passes one
-one_of_greatest passes None h = h
-one_of_greatest passes (Some id) h = h.0
 
 -- Streams that are marked with the ways in which they are over are over, and one is there where its mark is not 0.
 pub all_over : (ways : ℕ → List Way) (groups marks codes : ℕ → ℕ) (model : Streams RequestState) → streams_of (over_in ways groups marks codes) ≡ model → AreMarked ways groups marks → (id : ℕ) → IfSome (kept_at model id) IsOver

@@ -1,13 +1,10 @@
 -- Which of the first request streams are there, by how many are.
 use Rattle.std.proofs.Common.{arith, ◌≡◌, ◌<◌, ◌≤◌, ◌*◌, ◌^◌, ◌∙◌, ℕ, zero, suc, Bool, true, false, refl, sym, ap, inl, inr}
-use Rattle.std.specs.Prelude.{◌+◌, ◌&&◌, is_some, nat_le}
+use Rattle.std.specs.Prelude.{◌&&◌, nat_le}
 use Rattle.std.proofs.lemmas.Bool.{cases_eq}
 use Rattle.std.proofs.lemmas.Grind.{common_steps}
 use Rattle.h3_connection.specs.FirstRequests.{count_below, first_pass}
 use Rattle.h3_connection.specs.FirstRequestLaws.{each_passes}
-use Rattle.h3_connection.specs.State.{RequestState, kept_at}
-use Rattle.h3_connection.specs.StreamSets.{Streams}
-use Rattle.h3_requests.specs.Seen.{AreSeen}
 
 and_false : (b : Bool) → (b && false) ≡ false
 and_false true = refl
@@ -19,16 +16,6 @@ one_fails test (suc count) n few fails = elim (cases_eq n count) [
   | inl same ↦ ap (λ b. b && first_pass test count) (ap (λ m. test (4 * m)) (sym same) ∙ fails)
   | inr differs ↦ ap (λ b. test (4 * count) && b) (one_fails test count n (omega (arith, few, differs)) fails) ∙ and_false (test (4 * count))
 ]
-
--- one more is there
-pub one_more : (seen : ℕ) (streams : Streams RequestState) → AreSeen seen streams → seen < 2 ^ 60 → is_some (kept_at streams (4 * seen)) ≡ true → AreSeen (seen + 1) streams
-one_more seen streams h few there = record {
-  few = omega (arith, few);
-  there = λ n below. elim (cases_eq n seen) [
-    | inl same ↦ ap (λ m. is_some (kept_at streams (4 * m))) same ∙ there
-    | inr differs ↦ h.there n (omega (arith, below, differs))
-  ];
-}
 
 -- by the first one that is not there
 pub all_below : (test : ℕ → Bool) (seen id : ℕ) → id ≤ 2 ^ 62 → ((n : ℕ) → n < seen → test (4 * n) ≡ true) → (seen < 2 ^ 60 → test (4 * seen) ≡ false) → nat_le id (4 * seen) ≡ first_pass test (count_below id)

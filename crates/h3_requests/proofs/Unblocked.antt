@@ -1,8 +1,6 @@
 -- The least stream that is unblocked, found in parts.
-use Rattle.std.proofs.Common.{◌≡◌, ◌<◌, ◌≤◌, ℕ, ◌+◌, ◌-◌, ◌^◌, Bool, true, false, ◌&&◌, List, refl, sym, ◌∙◌, ap, inl, inr, arith, if◌then◌else◌}
-use Rattle.std.specs.Prelude.{◌⊎◌, Option, Some, None, IfSome, IsSome, is_some, nat_le, nat_lt}
-use Rattle.std.specs.Ordering.{eq_by_cmp, nat_cmp}
-use Rattle.std.specs.Set.{is_member}
+use Rattle.std.proofs.Common.{◌≡◌, ◌<◌, ◌≤◌, ℕ, ◌+◌, ◌-◌, ◌^◌, Bool, true, false, ◌&&◌, refl, sym, ◌∙◌, ap, inl, inr, arith, if◌then◌else◌}
+use Rattle.std.specs.Prelude.{◌⊎◌, Option, Some, None, IfSome, IsSome, nat_le, nat_lt}
 use Rattle.std.proofs.lemmas.Bool.{cases_lt, le-ltb, lt-ltb}
 use Rattle.std.proofs.lemmas.Grind.{common_steps}
 use Rattle.std.proofs.lemmas.List.Sums.{sum_by-le-sum_by}
@@ -30,10 +28,6 @@ IsFrom q (Some id) = id ≤ q
 pub record Least (passes : ℕ → Bool) (looked : ℕ → Type 0) (found : Option ℕ) : Type 0 where
   pub one : IfSome found (λ id. (passes id ≡ true) × (id < 2 ^ 64))
   pub all : (q : ℕ) → looked q → passes q ≡ true → IsFrom q found
-
--- nothing was looked at that passes
-pub none_yet : (passes : ℕ → Bool) (looked : ℕ → Type 0) → ((q : ℕ) → looked q → passes q ≡ true → ⊥) → Least passes looked None
-none_yet passes looked none = record { one = tt; all = none }
 
 from_there : (q id : ℕ) (found : Option ℕ) → (q ≡ id) ⊎ IsFrom q found → IsFrom q (lesser_of found (Some id))
 from_there q id None (inl same) = omega (arith, same)
@@ -107,10 +101,6 @@ all_looked passes from looked (Some id) all h = (there_from from id (first_true 
         absurd (omega (arith, up, below))
     by_test q there false is below = refl
 
-pub fits_found : (passes : ℕ → Bool) (looked : ℕ → Type 0) (found : Option ℕ) → Least passes looked found → IfSome found (λ id. id < 2 ^ 64)
-fits_found passes looked None h = tt
-fits_found passes looked (Some id) h = h.one.1
-
 -- the lesser of two that fit does
 pub fits_both : (one other : Option ℕ) → IfSome one (λ id. id < 2 ^ 64) → IfSome other (λ id. id < 2 ^ 64) → IfSome (lesser_of one other) (λ id. id < 2 ^ 64)
 fits_both None other h k = k
@@ -144,11 +134,6 @@ under_way_alone inserted (Some x) b h = refl
 pub some_next : (inserted from q : ℕ) (o : Option RequestState) → is_next inserted from q o ≡ true → IsSome o
 some_next inserted from q None h = absurd (let wrong : false ≡ true = second_true (nat_le from q) false h in cc)
 some_next inserted from q (Some r) h = refl
-
--- and in a map its key is among all of them
-pub key_there : (inserted from : ℕ) (streams : Streams RequestState) (keys : List ℕ) (q : ℕ) → is_some (kept_at streams q) ≡ is_member (eq_by_cmp nat_cmp) keys q → is_member (eq_by_cmp nat_cmp) keys q ≡ false
-    → is_next inserted from q (kept_at streams q) ≡ true → ⊥
-key_there inserted from streams keys q has none is = let wrong : false ≡ true = sym none ∙ sym has ∙ some_next inserted from q (kept_at streams q) is in cc
 
 -- A stream that waits for more than these waits,
 fewer_wait : (n : ℕ) (r : RequestState) → counted n r ≤ counted 0 r

@@ -1,6 +1,6 @@
 -- A walk over words in the order of their numbers.
 use Rattle.std.proofs.Common.{arith, ◌≡◌, ◌<◌, ◌≤◌, ◌^◌, ℕ, Bool, true, false, List, [], ◌∷◌, cond, refl, sym, ◌∙◌, ap, subst}
-use Rattle.std.specs.Prelude.{◌&&◌, ◌≢◌, filter, Some, None, nat_lt}
+use Rattle.std.specs.Prelude.{◌&&◌, ◌≢◌, filter, Some, nat_lt}
 use Rattle.std.proofs.lemmas.Grind.{common_steps}
 use Rattle.std.proofs.lemmas.Map.{lookup-none}
 use Rattle.std.proofs.lemmas.Map.Entries.{lookup-filter-keys, none_past_head, none_below_head}
@@ -41,9 +41,6 @@ from_there from q h = grind (arith, common_steps, h)
 
 there_from : (from q : ℕ) → from ≤ q → is_le (nat_cmp from q) ≡ true
 there_from from q h = grind (arith, common_steps, h)
-
-is_from : ℕ → ℕ → Bool
-is_from from q = range_contains nat_cmp (Included from) Unbounded q
 
 all_behind : (k : ℕ) (p : ℕ → Bool) (es : List (ℕ × Word)) → AllByRecursion (λ y. nat_cmp k y ≡ Less) (keys_of es) → AllByRecursion (λ y. nat_cmp k y ≡ Less) (keys_of (filter (λ e. p e.0) es))
 all_behind k p [] h = h
@@ -112,7 +109,3 @@ first_found es from rest e later is some fits h = go (subst (Left es from) is h)
       fits,
       λ q there before. h.left q there ∙ ap waiting_of (lookup-none (is_at (nat_cmp q)) (e ∷ later) (none_below_head nat_cmp_total q e later h.sorted (less q e.0 before))),
     )
-
--- where none is left none has any
-pub none_found : (es : List (ℕ × Word)) (from : ℕ) (rest : List (ℕ × Word)) → rest ≡ [] → Left es from rest → IsFirstWord (waits_in es) from None
-none_found es from rest is h = λ q there. h.left q there ∙ ap (λ l. waits_in l q) is

@@ -1,6 +1,6 @@
 -- Streams that are over, and the ways in which they are.
-use Rattle.std.proofs.Common.{arith, Bor, ◌≡◌, ◌<◌, ◌≤◌, ℕ, zero, suc, ◌+◌, ◌-◌, Bool, true, false, List, [], ◌∷◌, ◌++◌, length, ◌^◌, get_or, length-append, refl, sym, ◌∙◌, ap, subst, min, inl, inr}
-use Rattle.std.specs.Prelude.{◌≢◌, ◌&&◌, ◌||◌, ◌==◌, not, Option, Some, None, if◌then◌else◌, is_some, option_copied, option_map, slice_get, IfSome, nat_lt}
+use Rattle.std.proofs.Common.{arith, ◌≡◌, ◌<◌, ◌≤◌, ℕ, zero, suc, ◌+◌, ◌-◌, Bool, true, false, List, [], ◌∷◌, ◌++◌, length, ◌^◌, get_or, length-append, refl, sym, ◌∙◌, ap, subst, min, inl, inr}
+use Rattle.std.specs.Prelude.{◌≢◌, ◌&&◌, ◌||◌, ◌==◌, not, Option, Some, None, if◌then◌else◌, is_some, option_map, slice_get, IfSome, nat_lt}
 use Rattle.std.proofs.lemmas.Bool.{cases_eq, lt-ltb}
 use Rattle.std.specs.BTreeMap.{is_at}
 use Rattle.std.specs.Map.{lookup}
@@ -8,26 +8,23 @@ use Rattle.std.specs.Ordering.{nat_cmp}
 use Rattle.std.proofs.Math.Seq.{get_or-append_seam}
 use Rattle.std.proofs.lemmas.Grind.{common_steps}
 use Rattle.std.proofs.lemmas.List.{get_or_append_left}
-use Rattle.std.proofs.lemmas.Option.{slice_get-get_or, slice_get_past, slice_get_read}
+use Rattle.std.proofs.lemmas.Option.{slice_get-get_or, slice_get_past}
 use Rattle.h3_blocked.specs.Counting.{waits_at}
 use Rattle.h3_blocked.specs.Sums.{TakesOut}
 use Rattle.h3_connection.specs.Calls.{Sets}
 use Rattle.h3_connection.specs.Incoming.{Incoming}
-use Rattle.h3_connection.specs.Refusals.{or_later}
 use Rattle.h3_connection.specs.State.{OutgoingState, RequestState, kept_at}
 use Rattle.h3_connection.specs.StreamSets.{Streams}
 use Rattle.h3_connection.specs.WaitingPieces.{bytes_of, without_front}
 use Rattle.h3_connection.specs.declared.event.Refusal.{Refusal}
 use Rattle.h3_connection.specs.declared.event.Refusal.TheVariants as refusal
-use Rattle.h3_outgoing.specs.Sent.{end_waits, is_sent_off, is_open, takes_head, takes_body, takes_end, taken_from}
-use Rattle.h3_requests.specs.HasBytes.{has_bytes}
+use Rattle.h3_outgoing.specs.Sent.{end_waits, is_sent_off, is_open, taken_from}
 use Rattle.h3_requests.specs.Listed.{streams_of}
 use Rattle.h3_requests.specs.Marks.{HaveSameMarks, IsOneMark}
 use Rattle.h3_requests.specs.Over.{AddsWays, AreAlike, AreMarked, HasWays, IsOver, IsPaired, IsWay, codeless, ended_way, over_in, over_so, reset_with, way_at, ways_in, ways_of, with_end_taken, without_code, ReceivesAlike, SendsAlike}
 use Rattle.h3_requests.specs.declared.over.Way.{Way}
 use Rattle.h3_requests.specs.declared.over.ways.Ways.{Ways}
 use Rattle.h3_connection.specs.declared.event.StreamFault.TheVariants.{Reset}
-use Rattle.h3_requests.specs.Refused.{refused_over, head_refused_at, body_refused_at, data_refused_at, end_refused_at, reset_refused_at, cancel_refused_at}
 use Rattle.h3_requests.proofs.Found.{few, found, sets, takes_out}
 use Rattle.h3_requests.proofs.Listed as listed
 
@@ -104,16 +101,8 @@ pub over_waits : (o : Option RequestState) → IfSome o IsOver → waits_at o �
 over_waits None h = refl
 over_waits (Some r) h = (parts r h).waits_for
 
--- no bytes wait on it,
-pub over_bytes : (r : RequestState) → IsOver r → has_bytes (Some r) ≡ false
-over_bytes r h = ap (λ pieces. nat_lt 0 (length (bytes_of pieces))) (parts r h).pieces
-
 pub over_pieces : (r : RequestState) → IsOver r → r.outgoing.pieces ≡ []
 over_pieces r h = (parts r h).pieces
-
--- nothing more comes on it, and nothing more is handed out of it,
-pub over_ended : (r : RequestState) → IsOver r → (r.incoming.ended || r.incoming.was_reset) ≡ true
-over_ended r h = (parts r h).ended
 
 pub over_settled : (r : RequestState) → IsOver r → (r.incoming.is_over || is_some r.incoming.fault) ≡ true
 over_settled r h = (parts r h).settled
@@ -129,18 +118,6 @@ closed_by o false false is_reset is_finished h = absurd (let off : false ≡ tru
 
 pub over_closed : (r : RequestState) → IsOver r → is_open r.outgoing ≡ false
 over_closed r h = closed_by r.outgoing r.outgoing.is_reset r.outgoing.is_finished refl refl (over_sent r h)
-
-takes_none : (a b : Bool) → a ≡ false → (a && b) ≡ false
-takes_none a b h = rw h refl
-
-pub over_takes_head : (r : RequestState) → IsOver r → takes_head r.outgoing ≡ false
-over_takes_head r h = takes_none _ _ (over_closed r h)
-
-pub over_takes_body : (r : RequestState) → IsOver r → takes_body r.outgoing ≡ false
-over_takes_body r h = takes_none _ _ (over_closed r h)
-
-pub over_takes_end : (r : RequestState) → IsOver r → takes_end r.outgoing ≡ false
-over_takes_end r h = takes_none _ _ (over_closed r h)
 
 none_taken : (count : ℕ) (o : OutgoingState) → o.pieces ≡ [] → taken_from o count ≡ o
 none_taken count o none =
@@ -260,19 +237,6 @@ over_there ways groups marks codes model number id way is same below marked h =
 pub none_marked : (ways : ℕ → List Way) (groups marks codes : ℕ → ℕ) → ((id : ℕ) → marks id ≡ 0) → streams_of (over_in ways groups marks codes) ≡ []
 none_marked ways groups marks codes none = listed.nothing (over_in ways groups marks codes) (λ id. rw (none id) refl)
 
--- and none is marked there
-pub nothing_marked : (ways : ℕ → List Way) (groups marks : ℕ → ℕ) → ((group : ℕ) → ways group ≡ []) → ((id : ℕ) → marks id ≡ 0) → AreMarked ways groups marks
-nothing_marked ways groups marks empty none = record {
-  over = λ group way. subst (λ l. IfSome (way_at l way) IsWay) (sym (empty group)) (nowhere IsWay way);
-  known = λ id. omega (arith, none id);
-  paired = λ group way. subst (λ l. IfSome (way_at l way) (IsPaired l way)) (sym (empty group)) (nowhere (IsPaired [] way) way);
-  few = λ group. omega (arith, ap length (empty group));
-}
-  where
-    nowhere : (P : Way → Type 0) (way : ℕ) → IfSome (way_at [] way) P
-    nowhere P zero = tt
-    nowhere P (suc n) = subst (λ o. IfSome o P) (sym (behind [] n)) tt
-
 -- the marks are the same, and the ways that they name, and the groups and the codes of what is marked
 pub same_marked : (ways others : ℕ → List Way) (groups regroups marks later codes recodes : ℕ → ℕ) → AreMarked ways groups marks → ((group : ℕ) → HasWays (ways group) (others group)) → HaveSameMarks marks later
     → ((q : ℕ) → marks q ≢ 0 → regroups q ≡ groups q) → ((q : ℕ) → marks q ≢ 0 → recodes q ≡ codes q) → streams_of (over_in others regroups later recodes) ≡ streams_of (over_in ways groups marks codes)
@@ -374,15 +338,6 @@ unmarked ways groups marks later codes model number id true view is below set sa
     subst (λ l. TakesOut l (streams_of (over_in ways groups later codes)) id) view (one_unmarked ways groups marks later codes number id is below (set refl))
 unmarked ways groups marks later codes model number id false view is below set same none =
     subst (λ l. TakesOut l (streams_of (over_in ways groups later codes)) id) view (none_unmarked ways groups marks later codes number id is below (same refl) (none refl))
-
--- what is lent of a row
-lent : (xs : List Way) (i : ℕ) (o : Option (Bor Way)) → is_some o ≡ nat_lt i (length xs) → IfSome o (λ x. x.now ≡ get_or xs i x.now) → option_copied o ≡ slice_get xs i
-lent xs i None is h = let past : length xs ≤ i = grind (arith, common_steps, is) in sym (slice_get_past xs i past)
-lent xs i (Some x) is h = let within : i < length xs = grind (arith, common_steps, is) in sym (slice_get_read xs (length xs) i x.now refl within h)
-
--- the way that is lent
-pub way_is : (ways : List Way) (way : ℕ) (o : Option (Bor Way)) → way ≢ 0 → is_some o ≡ nat_lt (way - 1) (length ways) → IfSome o (λ x. x.now ≡ get_or ways (way - 1) x.now) → option_copied o ≡ way_at ways way
-way_is ways way o some is h = lent ways (way - 1) o is h ∙ sym (way_found ways way some)
 
 -- a way more
 seen : (ways : List Way) (r : Way) (way : ℕ) → way ≤ length ways → way_at (ways ++ r ∷ []) way ≡ way_at ways way
@@ -488,11 +443,6 @@ at_first ways r t way is =
     let up : way ≡ suc (length ways) = omega (arith, is) in
     (grown (ways ++ r ∷ []) t).same way least ∙ ap (way_at (ways ++ r ∷ [])) up ∙ behind (ways ++ r ∷ []) (length ways) ∙ at_last ways r (length ways) refl
 
--- the number of a way is one more than its place
-pub at_place : (ways : List Way) (place way : ℕ) (r : Way) → way ≡ place + 1 → place < length ways → get_or ways place r ≡ r → way_at ways way ≡ Some r
-at_place ways place way r is within same =
-    rw is (let e : way_at ways (place + 1) ≡ slice_get ways place = grind (arith, common_steps) in e ∙ slice_get-get_or ways place r within ∙ ap Some same)
-
 over_each : (ways others : List Way) → ((way : ℕ) → IfSome (way_at ways way) IsWay) → HasWays ways others → ((way : ℕ) → length ways < way → IfSome (way_at others way) IsWay) → (way : ℕ) → IfSome (way_at others way) IsWay
 over_each ways others h has over way = by_test (nat_lt (length ways) way) refl
   where
@@ -582,37 +532,6 @@ pub over_advanced : (m : Streams RequestState) (id count : ℕ) (o : Option Requ
     → IfSome (kept_at m id) (λ r. Sets m m id (record r { outgoing = taken_from r.outgoing (min count (length (bytes_of r.outgoing.pieces))) }))
 over_advanced m id count None is h = rw is tt
 over_advanced m id count (Some r) is h = rw is (record { here = is ∙ ap Some (sym (over_taken r count h)); others = λ q differs. refl })
-
--- What refuses a call on a stream that is over, or that is not there.
-pub refused_head : (o : Option RequestState) → IfSome o IsOver → Some (refused_over o refusal.OutOfOrder) ≡ head_refused_at o
-refused_head None h = refl
-refused_head (Some r) h = rw (over_takes_head r h) refl
-
-pub refused_body : (o : Option RequestState) → IfSome o IsOver → Some (refused_over o refusal.OutOfOrder) ≡ body_refused_at o
-refused_body None h = refl
-refused_body (Some r) h = rw (over_takes_body r h) refl
-
--- and it comes before what refuses a trailer,
-pub refused_trailer : (o : Option RequestState) (later : Option Refusal) → IfSome o IsOver → Some (refused_over o refusal.OutOfOrder) ≡ or_later (body_refused_at o) later
-refused_trailer None later h = refl
-refused_trailer (Some r) later h = rw (over_takes_body r h) refl
-
--- or a body by its size
-pub refused_data : (o : Option RequestState) (size : ℕ) → IfSome o IsOver → Some (refused_over o refusal.OutOfOrder) ≡ data_refused_at o size
-refused_data None size h = refl
-refused_data (Some r) size h = rw (over_takes_body r h) refl
-
-pub refused_end : (o : Option RequestState) → IfSome o IsOver → Some (refused_over o refusal.OutOfOrder) ≡ end_refused_at o
-refused_end None h = refl
-refused_end (Some r) h = rw (over_takes_end r h) refl
-
-pub refused_reset : (o : Option RequestState) → IfSome o IsOver → Some (refused_over o refusal.Ended) ≡ reset_refused_at o
-refused_reset None h = refl
-refused_reset (Some r) h = rw (over_sent r h) refl
-
-pub refused_cancel : (o : Option RequestState) → IfSome o IsOver → Some (refused_over o refusal.Ended) ≡ cancel_refused_at o
-refused_cancel None h = refl
-refused_cancel (Some r) h = rw (over_settled r h) refl
 
 -- the way with the end taken is one of the ways
 pub next_way : (ways : ℕ → List Way) (groups marks : ℕ → ℕ) (group way : ℕ) (w : Way) → AreMarked ways groups marks → way_at (ways group) way ≡ Some w → end_waits w.stream.outgoing ≡ true

@@ -191,7 +191,8 @@ impl StreamMap {
     pub(crate) fn take_end(&mut self, id: StreamId) -> bool
         requires { under_way_at self.old id ≡ None }
         ensures told { result ≡ has_end (over_at self.old id) }
-        ensures taken { result ≡ true → IfSome (over_at self.old id) (λ r. Sets (streams_in self.old) (streams_in self.new) id (with_end_taken r)) }
+        ensures taken { result ≡ true
+            → IfSome (over_at self.old id) (λ r. Sets (streams_in self.old) (streams_in self.new) id (with_end_taken r)) }
         ensures same { result ≡ false → self.new ≡ self.old }
         ensures over { IfSome (over_at self.old id) IsOver }
         ensures distinct { HaveDistinctIds (streams_in self.new) }

@@ -240,8 +240,10 @@ impl WaitingStreams {
 
     // Takes bits out of a word.
     fn take_bits(&mut self, number: u64, bits: u64)
-        ensures waiting { IsOneWord number (bit_and (waiting_at self.old number) (bit_not w64 bits)) (waiting_at self.old) (waiting_at self.new) }
-        ensures places { IsOneWord number (bit_and (places_at self.old number) (bit_not w64 bits)) (places_at self.old) (places_at self.new) }
+        ensures waiting { IsOneWord number (bit_and (waiting_at self.old number) (bit_not w64 bits)) (waiting_at self.old)
+            (waiting_at self.new) }
+        ensures places { IsOneWord number (bit_and (places_at self.old number) (bit_not w64 bits)) (places_at self.old)
+            (places_at self.new) }
     {
         let Some(word) = self.words.near(number) else {
             self.take_far_bits(number, bits);
@@ -259,8 +261,10 @@ impl WaitingStreams {
     // The same wherever the word stands, and where it is not there.
     #[inline(never)]
     fn take_far_bits(&mut self, number: u64, bits: u64)
-        ensures waiting { IsOneWord number (bit_and (waiting_at self.old number) (bit_not w64 bits)) (waiting_at self.old) (waiting_at self.new) }
-        ensures places { IsOneWord number (bit_and (places_at self.old number) (bit_not w64 bits)) (places_at self.old) (places_at self.new) }
+        ensures waiting { IsOneWord number (bit_and (waiting_at self.old number) (bit_not w64 bits)) (waiting_at self.old)
+            (waiting_at self.new) }
+        ensures places { IsOneWord number (bit_and (places_at self.old number) (bit_not w64 bits)) (places_at self.old)
+            (places_at self.new) }
     {
         let there = self.words.get(number);
         if there.is_empty() {
@@ -360,7 +364,8 @@ impl WaitingStreams {
     // Takes places out of a word.
     fn take_places(&mut self, number: u64, bits: u64)
         ensures waiting { HaveSameWords (waiting_at self.old) (waiting_at self.new) }
-        ensures places { IsOneWord number (bit_and (places_at self.old number) (bit_not w64 bits)) (places_at self.old) (places_at self.new) }
+        ensures places { IsOneWord number (bit_and (places_at self.old number) (bit_not w64 bits)) (places_at self.old)
+            (places_at self.new) }
     {
         let Some(word) = self.words.near(number) else {
             self.take_far_places(number, bits);
@@ -379,7 +384,8 @@ impl WaitingStreams {
     #[inline(never)]
     fn take_far_places(&mut self, number: u64, bits: u64)
         ensures waiting { HaveSameWords (waiting_at self.old) (waiting_at self.new) }
-        ensures places { IsOneWord number (bit_and (places_at self.old number) (bit_not w64 bits)) (places_at self.old) (places_at self.new) }
+        ensures places { IsOneWord number (bit_and (places_at self.old number) (bit_not w64 bits)) (places_at self.old)
+            (places_at self.new) }
     {
         let there = self.words.get(number);
         if there.is_empty() {

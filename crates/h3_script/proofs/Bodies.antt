@@ -126,25 +126,6 @@ is_body line acting stream bytes h =
       id_is = d.1;
     }
 
--- the event of a line's words is that of the line
-pub words_say : (line : List ℕ) (e : Event) → SaysWords (words_of line) e → SaysEvent line e
-words_say line (does.OpenRequest side) h = h
-words_say line (does.Head side id head) h = h
-words_say line (does.Fields side id fields) h = absurd h
-words_say line (does.Body side id bytes) h = absurd h
-words_say line (does.Trailer side id trailer) h = h
-words_say line (does.TrailerFields side id fields) h = absurd h
-words_say line (does.Finish side id) h = h
-words_say line (does.Reset side id) h = h
-words_say line (does.Cancel side id) h = h
-words_say line (does.Goaway side number) h = h
-words_say line (does.Deliver side id count) h = h
-words_say line (does.DeliverEnd side id) h = h
-words_say line (does.DeliverReset side id) h = h
-words_say line (does.Pull side id) h = h
-words_say line (does.PullFields side id) h = h
-words_say line (does.Show side) h = h
-
 -- where the line has no piece of a body, its words say the event
 pub says_words : (line : List ℕ) → None ≡ body_of line → ((e : Event) × SaysEvent line e) → (e : Event) × SaysWords (words_of line) e
 says_words line none (does.OpenRequest side, h) = (does.OpenRequest side, h)

@@ -1,7 +1,7 @@
 -- The fields of a head's words.
-use Rattle.std.proofs.Common.{◌≡◌, ℕ, ◌+◌, ◌<◌, ◌≤◌, List, [], ◌∷◌, ◌++◌, length, take, drop, get_or, Option, Some, None, refl, sym, ◌∙◌, ap, subst, arith}
+use Rattle.std.proofs.Common.{◌≡◌, ℕ, ◌+◌, ◌<◌, List, [], ◌∷◌, ◌++◌, length, take, drop, get_or, Option, Some, None, refl, sym, ◌∙◌, ap, subst, arith}
 use Rattle.std.specs.Borrow.{Bor}
-use Rattle.std.proofs.lemmas.List.{take_more, drop_more, get_or-map, length-map, take_all}
+use Rattle.std.proofs.lemmas.List.{take_more, drop_more, get_or-map, length-map}
 use Rattle.http_header.specs.Token.{lowercase}
 use Rattle.http_header.specs.FieldName.{IsFieldName, IsHeaderName}
 use Rattle.http_header.specs.FieldValue.{FieldValue, plain_value, IsFieldValue}
@@ -56,9 +56,6 @@ pub record FieldsSoFar (words : List (List ℕ)) (i : ℕ) (m : Entries FieldVal
   pub front : AddsFields [] (take i words) m
   pub rest : (all : Entries FieldValue) → AddsFields [] words all → AddsFields m (drop i words) all
 
-pub fields_start : (words : List (List ℕ)) → FieldsSoFar words 0 []
-fields_start words = record { front = refl; rest = λ all h. h }
-
 more_fields : (a m b : Entries FieldValue) (words : List (List ℕ)) (word : List ℕ) → AddsFields a words m → AddsField m word b → AddsFields a (words ++ word ∷ []) b
 more_fields a m b [] word h f = (b, subst (λ x. AddsField x word b) h f, refl)
 more_fields a m b (w ∷ words) word (mid, g, h) f = (mid, g, more_fields mid m b words word h f)
@@ -88,10 +85,6 @@ field_next refs i d m lt h (all, whole) =
     let len : i < length words = omega (arith, length-map refs (λ (r : Bor (List ℕ)). r.now)) in
     let rest = subst (λ ws. AddsFields m ws all) (drop_more words i [] len) (h.rest all whole) in
     (rest.0, subst (λ w. AddsField m w rest.0) (word_at refs i d lt) rest.1)
-
-pub fields_end : (refs : List (Bor (List ℕ))) (i : ℕ) (m : Entries FieldValue) → length refs ≤ i → FieldsSoFar (texts refs) i m → AddsFields [] (texts refs) m
-fields_end refs i m le h =
-    subst (λ ws. AddsFields [] ws m) (take_all i (texts refs) (omega (arith, le, length-map refs (λ (r : Bor (List ℕ)). r.now)))) h.front
 
 -- the words add one list of fields
 pub fields_one : (a b c : Entries FieldValue) (words : List (List ℕ)) → AddsFields a words b → AddsFields a words c → b ≡ c

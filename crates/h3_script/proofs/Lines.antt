@@ -152,28 +152,6 @@ short_says ws (does.Pull side id) h = sym h
 short_says ws (does.PullFields side id) h = sym h
 short_says ws (does.Show side) h = sym h
 
-none_some : (found : Option Event) (e : Event) → None ≡ found → found ≡ Some e → ⊥
-none_some found e h k = let no : ◌≡◌ {A = Option Event} None (Some e) = h ∙ k in cc
-
--- where the words are not short, they are those of a head or a trailer
-pub says_section : (ws : List (List ℕ)) → None ≡ short_event ws → ((e : Event) × SaysWords ws e) → (e : Event) × IsSectionEvent ws e
-says_section ws h (does.OpenRequest side, k) = absurd (none_some _ _ h k)
-says_section ws h (does.Head side id head, k) = (does.Head side id head, k)
-says_section ws h (does.Fields side id fields, k) = absurd k
-says_section ws h (does.Body side id bytes, k) = absurd k
-says_section ws h (does.Trailer side id trailer, k) = (does.Trailer side id trailer, k)
-says_section ws h (does.TrailerFields side id fields, k) = absurd k
-says_section ws h (does.Finish side id, k) = absurd (none_some _ _ h k)
-says_section ws h (does.Reset side id, k) = absurd (none_some _ _ h k)
-says_section ws h (does.Cancel side id, k) = absurd (none_some _ _ h k)
-says_section ws h (does.Goaway side number, k) = absurd (none_some _ _ h k)
-says_section ws h (does.Deliver side id count, k) = absurd (none_some _ _ h k)
-says_section ws h (does.DeliverEnd side id, k) = absurd (none_some _ _ h k)
-says_section ws h (does.DeliverReset side id, k) = absurd (none_some _ _ h k)
-says_section ws h (does.Pull side id, k) = absurd (none_some _ _ h k)
-says_section ws h (does.PullFields side id, k) = absurd (none_some _ _ h k)
-says_section ws h (does.Show side, k) = absurd (none_some _ _ h k)
-
 -- a word is one command
 pub one_command : (word x y : List ℕ) → bytes_eq word x ≡ true → bytes_eq word y ≡ true → x ≡ y
 one_command word x y h k = sym ((bytes_eq-Decides word x).0 h) ∙ (bytes_eq-Decides word y).0 k

@@ -19,9 +19,6 @@ pub record LinesSoFar (most : ℕ) (lines : List (List ℕ)) (i : ℕ) (setup : 
   pub end_is : end ≡ lines_length (take i lines)
   pub within : end ≤ most + 1
 
-pub lines_start : (most : ℕ) (lines : List (List ℕ)) → LinesSoFar most lines 0 None [] 0
-lines_start most lines = record { says = tt; end_is = refl; within = omega arith }
-
 one_more : (b : Bool) (l : List ℕ) (xs ys zs : List (List ℕ)) → xs ≡ ys ++ zs → (if b then l ∷ xs else xs) ≡ (if b then l ∷ ys else ys) ++ zs
 one_more true l xs ys zs h = ap (λ t. l ∷ t) h
 one_more false l xs ys zs h = h
@@ -53,10 +50,6 @@ none_said (l ∷ ls) events h = absurd h
 some_said : (lines : List (List ℕ)) (setup : Setup) (events : List Event) → SaysSoFar lines (Some setup) events → 0 < length lines
 some_said [] setup events h = absurd h
 some_said (l ∷ ls) setup events h = omega arith
-
-no_event : (lines : List (List ℕ)) → lines ≡ [] → SayEvents lines []
-no_event [] h = tt
-no_event (l ∷ ls) h = cc
 
 events_more : (lines : List (List ℕ)) (line : List ℕ) (events : List Event) (event : Event) → SayEvents lines events → SaysEvent line event → SayEvents (lines ++ line ∷ []) (events ++ event ∷ [])
 events_more [] line [] event h e = (e, tt)

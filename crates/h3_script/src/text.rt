@@ -6,7 +6,7 @@ ghost use Rattle.h3_header.specs.Head.{head_fields};
 
 use bstr::BStr;
 use h3_connection::event::{Fault, Item, Malformation, PeerLimits, Pull, Refusal, TableSizes};
-use h3_field::HeaderField;
+use h3_field::{FieldBlock, HeaderField};
 use h3_header::Header;
 use h3_proto::error::Code;
 use h3_world::event::Answer;
@@ -206,10 +206,10 @@ fn list_item_text(alloc: Global, item: &ListItem) -> Result<String, AllocError>
     ensures { IfOk result (λ text. string_bytes text ≡ list_item_line item.now) }
 {
     match item {
-        ListItem::Interim(list) => fields_text(alloc, "interim", list.fields()),
-        ListItem::Head(list) => fields_text(alloc, "head", list.fields()),
+        ListItem::Interim(list) => list_text(alloc, "interim", list),
+        ListItem::Head(list) => list_text(alloc, "head", list),
         ListItem::Body(bytes) => bytes_text(alloc, "body ", bytes.as_slice()),
-        ListItem::Trailer(list) => fields_text(alloc, "trailer", list.fields()),
+        ListItem::Trailer(list) => list_text(alloc, "trailer", list),
         ListItem::TooLarge(size) => numbered(alloc, "too large ", *size),
         ListItem::Session(id) => numbered(alloc, "session ", id.into_inner()),
         ListItem::Raw(bytes) => bytes_text(alloc, "raw ", bytes.as_slice()),
@@ -222,6 +222,14 @@ fn section_text(alloc: Global, name: &str, section: &Header) -> Result<String, A
     ensures { IfOk result (λ text. string_bytes text ≡ section_line name.now (head_fields section.now)) }
 {
     let fields = section.fields(alloc)?;
+    fields_text(alloc, name, fields.as_slice())
+}
+
+/// The same of a list.
+fn list_text(alloc: Global, name: &str, list: &FieldBlock) -> Result<String, AllocError>
+    ensures { IfOk result (λ text. string_bytes text ≡ section_line name.now list.now) }
+{
+    let fields = list.to_fields(alloc)?;
     fields_text(alloc, name, fields.as_slice())
 }
 

@@ -1,20 +1,17 @@
 -- A connection is shut down: what is named, rejected and left to be done is known by what is stored.
-use Rattle.std.proofs.Common.{arith, ◌≡◌, ◌<◌, ◌≤◌, ◌+◌, ◌^◌, ◌∙◌, ℕ, zero, suc, Bool, true, false, List, [], ◌∷◌, length, if◌then◌else◌, refl, sym, ap, subst}
-use Rattle.std.specs.Prelude.{◌≢◌, ◌==◌, ◌*◌, ◌&&◌, ◌||◌, ◌-◌, not, nat_le, nat_lt, Option, Some, None, IfSome, is_some, option_map, unwrap_or}
+use Rattle.std.proofs.Common.{arith, ◌≡◌, ◌<◌, ◌≤◌, ◌+◌, ◌^◌, ◌∙◌, ℕ, Bool, true, false, [], ◌∷◌, length, if◌then◌else◌, refl, sym, ap, subst}
+use Rattle.std.specs.Prelude.{◌≢◌, ◌==◌, ◌&&◌, ◌||◌, ◌-◌, not, nat_le, nat_lt, Option, Some, None, IfSome, is_some, option_map, unwrap_or}
 use Rattle.std.specs.List.{list_all}
 use Rattle.std.proofs.lemmas.Grind.{common_steps}
 use Rattle.h3_proto.specs.declared.stream.Side.{Side}
 use Rattle.h3_proto.specs.declared.stream.Side.TheVariants.{Client, Server}
 use Rattle.h3_connection.specs.Delivering.{incoming_at}
-use Rattle.h3_connection.specs.Endpoint.{EndpointHistory, own_waiting}
+use Rattle.h3_connection.specs.Endpoint.{EndpointHistory}
 use Rattle.h3_connection.specs.EndsWaiting.{has_end}
 use Rattle.h3_connection.specs.Incoming.{nothing_came}
-use Rattle.h3_connection.specs.KeptGoaways.{keeps_last}
-use Rattle.h3_connection.specs.KeptGoawayLaws.{last_kept}
 use Rattle.h3_connection.specs.Lasts.{last_id}
 use Rattle.h3_connection.specs.NextWaiting.{has_waiting}
 use Rattle.h3_connection.specs.Outgoing.{is_sent_off, nothing_sent}
-use Rattle.h3_connection.specs.OwnIds.{control_id}
 use Rattle.h3_connection.specs.Pulling.{is_client}
 use Rattle.h3_connection.specs.Sending.{closed_or, does, goaway, outgoing_at, unless_closed}
 use Rattle.h3_connection.specs.SendingContracts.{DoesOrRefuses}
@@ -26,11 +23,10 @@ use Rattle.h3_connection.specs.declared.event.Refusal.TheVariants as refusal
 use Rattle.h3_outgoing.specs.HistoryLaws.{end_waiting, sent_off}
 use Rattle.h3_requests.specs.Done.{is_unfinished}
 use Rattle.h3_requests.specs.Greatest.{IsGreatest, IsOneOf}
-use Rattle.h3_connection.specs.FirstRequests.{count_below, first_pass}
 use Rattle.h3_requests.specs.HasBytes as stored
 use Rattle.h3_outgoing.specs.Sent as sent
 use Rattle.h3_connection.specs.FirstAbove.{first_above, greater}
-use Rattle.h3_connection.specs.Shutdown.{above_greatest, are_seen_below, bounded, first_unseen, goaway_below, goaway_once, is_done, is_drained, is_named, is_rejected, is_rejected_by, is_rejected_in, last_taken, takes_no_more, ShowsFirstUnseen}
+use Rattle.h3_connection.specs.Shutdown.{above_greatest, bounded, goaway_below, goaway_once, is_done, is_named, is_rejected, is_rejected_by, is_rejected_in, last_taken, ShowsFirstUnseen}
 use Rattle.h3_session.proofs.SendingCalls.{same_itself}
 use Rattle.h3_session.proofs.Taking.{found, request_waits}
 
@@ -66,40 +62,11 @@ once_closed s id code is =
     does_nothing (λ e. goaway_once e id) s (Some (refusal.Closed code)) (λ same. absurd (cc))
     (λ e h. closed_once (is_named (last_id e.own.goaways) id) (nat_lt id (2 ^ 62)) e.closed code e _ _ (sym h.closed ∙ is))
 
-named_once : (named below : Bool) (closed : Option ℕ) (e : EndpointHistory) (goes : Option Refusal × EndpointHistory) → closed ≡ None → named ≡ true → once named below closed e goes ≡ (None, e)
-named_once true below closed e goes is asked = ap (λ c. (closed_or c None, e)) is
-named_once false below closed e goes is asked = absurd (cc)
-
-pub once_named : (s : EndpointState) (id : ℕ) → s.closed ≡ None → is_named s.last_goaway id ≡ true → DoesOrRefuses (λ e. goaway_once e id) s s None
-once_named s id is named =
-    does_nothing (λ e. goaway_once e id) s None (λ same. absurd (cc))
-    (λ e h. named_once (is_named (last_id e.own.goaways) id) (nat_lt id (2 ^ 62)) e.closed e (goaway e id) (sym h.closed ∙ is) (ap (λ o. is_named o id) (sym h.last_goaway) ∙ named))
-
-far_once : (named below : Bool) (closed : Option ℕ) (e : EndpointHistory) (goes : Option Refusal × EndpointHistory) → closed ≡ None → named ≡ false → below ≡ false → once named below closed e goes ≡ (Some refusal.IdsUsedUp, e)
-far_once true below closed e goes is named far = absurd (cc)
-far_once false true closed e goes is named far = absurd (cc)
-far_once false false closed e goes is named far = ap (λ c. (closed_or c (Some refusal.IdsUsedUp), e)) is
-
 not_below : (id : ℕ) → 2 ^ 62 ≤ id → nat_lt id (2 ^ 62) ≡ false
 not_below id far = grind (arith, common_steps, far)
 
-pub once_far : (s : EndpointState) (id : ℕ) → s.closed ≡ None → is_named s.last_goaway id ≡ false → 2 ^ 62 ≤ id → DoesOrRefuses (λ e. goaway_once e id) s s (Some refusal.IdsUsedUp)
-once_far s id is named far =
-    does_nothing (λ e. goaway_once e id) s (Some refusal.IdsUsedUp) (λ same. absurd (cc))
-    (λ e h. far_once (is_named (last_id e.own.goaways) id) (nat_lt id (2 ^ 62)) e.closed e (goaway e id) (sym h.closed ∙ is) (ap (λ o. is_named o id) (sym h.last_goaway) ∙ named) (not_below id far))
-
-goes_once : (named below : Bool) (closed : Option ℕ) (e : EndpointHistory) (goes : Option Refusal × EndpointHistory) → named ≡ false → below ≡ true → once named below closed e goes ≡ goes
-goes_once true below closed e goes named is = absurd (cc)
-goes_once false true closed e goes named is = refl
-goes_once false false closed e goes named is = absurd (cc)
-
 below : (id : ℕ) → id < 2 ^ 62 → nat_lt id (2 ^ 62) ≡ true
 below id near = grind (arith, common_steps, near)
-
-pub once_below : (old new : EndpointState) (id : ℕ) (r : Option Refusal) → is_named old.last_goaway id ≡ false → id < 2 ^ 62 → DoesOrRefuses (λ e. goaway e id) old new r → DoesOrRefuses (λ e. goaway_once e id) old new r
-once_below old new id r named near does =
-    does_alike (λ e. goaway e id) (λ e. goaway_once e id) old new r
-    (λ e h. goes_once (is_named (last_id e.own.goaways) id) (nat_lt id (2 ^ 62)) e.closed e (goaway e id) (ap (λ o. is_named o id) (sym h.last_goaway) ∙ named) (below id near)) does
 
 -- No id that was named has more than 62 bits, so a number of 64 bits tells as much.
 within_bounds : (n : ℕ) → n < 2 ^ 64 → bounded n ≡ n
@@ -294,44 +261,11 @@ done_by_one s e (Some id) h one =
     let there : is_some (stream_at e.incoming id) ≡ true = was_seen s e id h ∙ some_unfinished (kept_at s.requests id) one in
     sym (one_fails (is_done e) e.incoming id there (done_seen s e id h there ∙ ap not one))
 
--- what waits on the own control stream
-control_waiting : (e : EndpointHistory) (control : List ℕ) → control ≡ own_waiting e (control_id e.side) → (length control == 0) ≡ (length (own_waiting e (control_id e.side)) == 0)
-control_waiting e control is = ap (λ bytes. length bytes == 0) is
-
-pub shows_control : (s : EndpointState) (e : EndpointHistory) → StandsFor s e → (length s.own.control == 0) ≡ (length (own_waiting e (control_id e.side)) == 0)
-shows_control s e h = control_waiting e s.own.control h.own.control
-
--- Whether no request is still to come: at a client,
-pub no_more_client : (s : EndpointState) (e : EndpointHistory) → StandsFor s e → s.side ≡ Client → is_some (last_id s.peer.goaways) ≡ takes_no_more e.side e
-no_more_client s e h is =
-    ap (λ p. is_some (last_id p.goaways)) h.peer ∙ ap (λ o. is_some o) (last_kept (keeps_last e.announced.choices) e.peer.goaways)
-    ∙ sym (ap (λ side. takes_no_more side e) (sym h.side ∙ is))
-
--- and at a server
-alike_pass : (one other : ℕ → Bool) (count : ℕ) → ((q : ℕ) → one q ≡ other q) → first_pass one count ≡ first_pass other count
-alike_pass one other zero same = refl
-alike_pass one other (suc n) same = ap (λ b. b && first_pass one n) (same (4 * n)) ∙ ap (λ b. other (4 * n) && b) (alike_pass one other n same)
-
-alike_below : (goaway : Option ℕ) (one other : ℕ → Bool) → ((q : ℕ) → one q ≡ other q) → are_seen_below goaway one ≡ are_seen_below goaway other
-alike_below None one other same = refl
-alike_below (Some id) one other same = alike_pass one other (count_below id) same
-
-pub no_more_server : (s : EndpointState) (e : EndpointHistory) → StandsFor s e → s.side ≡ Server → are_seen_below s.last_goaway (λ id. is_some (kept_at s.requests id)) ≡ takes_no_more e.side e
-no_more_server s e h is =
-    ap (λ o. are_seen_below o (λ id. is_some (kept_at s.requests id))) h.last_goaway
-    ∙ alike_below (last_id e.own.goaways) (λ id. is_some (kept_at s.requests id)) (λ id. is_some (stream_at e.incoming id)) (λ q. sym (was_seen s e q h))
-    ∙ sym (ap (λ side. takes_no_more side e) (sym h.side ∙ is))
-
 pub last_client : (s : EndpointState) (e : EndpointHistory) → StandsFor s e → s.side ≡ Client → 0 ≡ bounded (last_taken e.side e)
 last_client s e h is = sym (ap (λ side. bounded (last_taken side e)) (sym h.side ∙ is))
 
 pub last_server : (s : EndpointState) (e : EndpointHistory) (n : ℕ) → StandsFor s e → s.side ≡ Server → ShowsFirstUnseen s n → n ≡ bounded (last_taken e.side e)
 last_server s e n h is shows = shows e h ∙ sym (ap (λ side. bounded (last_taken side e)) (sym h.side ∙ is))
-
--- `is_drained`
-pub drained_by : (s : EndpointState) (e : EndpointHistory) (a b c : Bool) → a ≡ takes_no_more e.side e → b ≡ list_all (λ t. is_done e t.0) e.incoming → c ≡ (length (own_waiting e (control_id e.side)) == 0) → (a && b && c) ≡ is_drained e
-drained_by s e a b c first second third =
-    ap (λ x. x && b && c) first ∙ ap (λ x. takes_no_more e.side e && x && c) second ∙ ap (λ x. takes_no_more e.side e && list_all (λ t. is_done e t.0) e.incoming && x) third
 
 -- What no GOAWAY names is not rejected.
 pub not_rejected : (asked closed seen request : Bool) (side : Side) (named : Bool) → named ≡ false → (asked && not closed && not (is_client side) && named && request && not seen) ≡ false

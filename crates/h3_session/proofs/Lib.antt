@@ -21,7 +21,6 @@ pub mod Inserting
 pub mod SendingSections
 pub mod SendingHeads
 pub mod Remembering
-pub mod JudgedLists
 pub mod InvalidFields
 pub mod Lists
 pub mod ReadLists

@@ -14,8 +14,6 @@ use Rattle.h3_connection.specs.StreamSetLaws.{other_id, set-here, set-other}
 use Rattle.h3_connection.specs.declared.event.Refusal.{Refusal}
 use Rattle.h3_connection.specs.declared.order.PrioritySource.TheVariants.{Update}
 use Rattle.h3_session.proofs.Opened.{stands_same}
-use Rattle.h3_session.specs.Refused.{streams_of}
-use Rattle.h3_streams.specs.Placed.{StreamsState, placed}
 use Rattle.h3_session.specs.Prioritized.{having_waiting, looked_at, ChangesTurns, LooksAt, UsesOne}
 
 -- Other updates wait in both.
@@ -65,12 +63,6 @@ waiting_same s e h = ap (λ (p : Peer). p.updates.waiting) h.peer
 
 wait_in : (s n : EndpointState) → ChangesTurns s n → n.peer.updates.waiting ≡ s.peer.updates.waiting
 wait_in s n rest = ap (λ (v : EndpointState). v.peer.updates.waiting) rest
-
--- The one at a place waits no longer.
-pub removed_there : (s now : EndpointState) (x : StreamsState) (place : ℕ) → s ≡ now
-    → x ≡ record (streams_of s) { peer = record s.peer { updates = record s.peer.updates { waiting = remove s.peer.updates.waiting place } } }
-    → placed s x ≡ having_waiting now (remove now.peer.updates.waiting place)
-removed_there s now x place view same = ap (placed s) same ∙ ap (λ (v : EndpointState). having_waiting v (remove v.peer.updates.waiting place)) view
 
 pub still_within : (s n : EndpointState) (place : ℕ) → ChangesTurns s n → place < length s.peer.updates.waiting → place < length n.peer.updates.waiting
 still_within s n place rest within = subst (λ l. place < length l) (sym (wait_in s n rest)) within

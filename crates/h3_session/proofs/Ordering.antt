@@ -9,8 +9,6 @@ use Rattle.h3_scheduler.specs.Rounds.{is_in, round_at}
 use Rattle.h3_scheduler.specs.Streams.{is_class}
 use Rattle.h3_scheduler.specs.declared.round.Round.{Round}
 use Rattle.h3_scheduler.specs.declared.round.Rounds.{Rounds}
-use Rattle.h3_proto.specs.declared.stream.Side.{Side}
-use Rattle.h3_proto.specs.declared.stream.Side.TheVariants.{Client, Server}
 use Rattle.h3_connection.specs.ByPriority.{first_own, own_sends, places_of, sends_at, IsNextBehind, ShowsNextByPriority}
 use Rattle.h3_connection.specs.Endpoint.{EndpointHistory, bytes_waiting}
 use Rattle.h3_connection.specs.Order.{rounds_of, turn_over}
@@ -112,11 +110,6 @@ none_of (Some r) is = absurd (cc)
 pub advances_with_no_turns : (s u : EndpointState) (id count : ℕ) → is_some s.order.rounds ≡ false → TakesBytes s u id count → Advances s u id count
 advances_with_no_turns s u id count none takes = advances s s u id count (no_turns s id count (none_of s.order.rounds none)) takes
 
--- nor one of a stream that is not there, or of no bytes
-pub no_stream : (s : EndpointState) (id count : ℕ) → sender_in s id ≡ None → EndsTurn s s id count
-no_stream s id count was e h =
-    ap (λ o. record s { order = o }) (h.order ∙ sym (ap (order_after e id (min count (length (bytes_waiting e id)))) (not_found s e id h was)))
-
 zero_turned : (order : SendOrder) (id count bound : ℕ) (o : Outgoing) → count ≡ 0 → turned order id count o bound ≡ order
 zero_turned order id count bound o none = rw none refl
 
@@ -180,13 +173,6 @@ told_by : (s : EndpointState) (id : ℕ) (turn : Turn) (A : Type 0) (there : Opt
 told_by s id turn A None shown was is = absurd (cc)
 told_by s id turn A (Some w) shown was is = shown w was (cc)
 
-untold_by : (s : EndpointState) (id count : ℕ) (there : Option OutgoingState) → sender_in s id ≡ there → option_map turn_of there ≡ None → EndsTurn s s id count
-untold_by s id count None was is = no_stream s id count was
-untold_by s id count (Some w) was is = absurd (cc)
-
-pub untold_turn : (s : EndpointState) (id count : ℕ) → turn_in s id ≡ None → EndsTurn s s id count
-untold_turn s id count is = untold_by s id count (sender_in s id) refl is
-
 pub empty_turn : (s : EndpointState) (id count taken : ℕ) (turn : Turn) → turn_in s id ≡ Some turn → taken ≡ min count turn.1 → taken ≡ 0 → EndsTurn s s id count
 empty_turn s id count taken turn is all none =
     told_by s id turn (EndsTurn s s id count) (sender_in s id) (λ w was told. no_bytes s id count w was (ap (λ (t : Turn). min count t.1) told ∙ sym all ∙ none)) refl is
@@ -212,22 +198,6 @@ ended_turn s now id count until taken turn order view is all some bounds after =
 own_same : (s : EndpointState) (e : EndpointHistory) (held : Bool) (id : ℕ) → StandsFor s e → own_sends_in s held id ≡ (if own_sends e held id then Some id else None)
 own_same s e held id h =
     ap (λ l. if not held && nat_lt 0 (length l) then Some id else None) (ap (λ side. waiting_on s.own side id) h.side ∙ waiting_is s.own e id h.own)
-
--- their ids are four apart
-encoder_behind : (side : Side) → encoder_id side ≡ control_id side + 4
-encoder_behind Client = refl
-encoder_behind Server = refl
-
-decoder_behind : (side : Side) → decoder_id side ≡ control_id side + 8
-decoder_behind Client = refl
-decoder_behind Server = refl
-
-pub first_in_turn : (s : EndpointState) (control : ℕ) → control ≡ control_id s.side
-    → first_own_in s ≡ or_else (own_sends_in s s.order.control_is_held control) (or_else (own_sends_in s s.order.encoder_is_held (control + 4)) (own_sends_in s s.order.decoder_is_held (control + 8)))
-first_in_turn s control is =
-    ap (λ n. or_else (own_sends_in s s.order.control_is_held (control_id s.side)) (or_else (own_sends_in s s.order.encoder_is_held n) (own_sends_in s s.order.decoder_is_held (decoder_id s.side)))) (encoder_behind s.side)
-    ∙ ap (λ n. or_else (own_sends_in s s.order.control_is_held (control_id s.side)) (or_else (own_sends_in s s.order.encoder_is_held (control_id s.side + 4)) (own_sends_in s s.order.decoder_is_held n))) (decoder_behind s.side)
-    ∙ sym (ap (λ n. or_else (own_sends_in s s.order.control_is_held n) (or_else (own_sends_in s s.order.encoder_is_held (n + 4)) (own_sends_in s s.order.decoder_is_held (n + 8)))) is)
 
 first_by : (a b c : Bool) (x y z : ℕ) → or_else (if a then Some x else None) (or_else (if b then Some y else None) (if c then Some z else None)) ≡ (if a then Some x else (if b then Some y else (if c then Some z else None)))
 first_by true b c x y z = refl

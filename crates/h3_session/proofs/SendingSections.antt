@@ -71,17 +71,6 @@ unlearned_after : (e : EndpointHistory) (id : ℕ) (fields : List Field) → (e.
     → e.peer.settings ≡ None → (e.encoder.capacity ≡ 0) × ((draft_of (writing_on e.encoder id) fields).inserted ≡ [])
 unlearned_after e id fields h none = ((h none).0, nothing_inserted e.encoder id fields (h none).0 (h none).1)
 
--- No field was encoded.
-pub nothing_encoded : (s : EncoderHistory) (id : ℕ) (fields : List Field) (x : StreamsState) → x.encoding.encoder ≡ encoder_state s → StopsEncoding s id fields x x
-nothing_encoded s id fields x is = record {
-  same = refl;
-  unread = refl;
-  front = 0;
-  within = omega arith;
-  stores = is ∙ ap encoder_state (sym (none_inserted s id));
-  written = sym (append-nil x.own.encoder);
-}
-
 -- A section stands behind the room for its frame's head.
 pub behind_room : (block before section : List ℕ) → block ≡ before ++ section → length before ≡ 9 → drop 9 block ≡ section
 behind_room block before section is room =

@@ -16,7 +16,7 @@ use Rattle.h3_connection.specs.State.{EndpointState, OwnState, RequestState, Sta
 use Rattle.h3_connection.specs.declared.event.Refusal.{Refusal}
 use Rattle.h3_connection.specs.declared.event.Refusal.TheVariants as refusal
 use Rattle.h3_session.proofs.OrderingCalls.{there_same}
-use Rattle.h3_session.proofs.SendingCalls.{acts, lacks, refuses}
+use Rattle.h3_session.proofs.SendingCalls.{acts, refuses}
 use Rattle.h3_session.proofs.SendingStands.{update_stands_for}
 use Rattle.h3_session.specs.Prioritized.{send_refused}
 use Rattle.h3_session.specs.Refused.{streams_of}
@@ -63,14 +63,6 @@ pub update_refused : (s : EndpointState) (id : ℕ) (p : PriorityParameters) (r 
 update_refused s id p r is =
     refuses (λ e. send_priority_refusal e id) (after_update id p) s r (λ e h. sym (send_refused_is s e id h) ∙ is)
     (rule_first s.closed s.side (is_request_stream id) (is_some (kept_at s.requests id)) (has_come_in (kept_at s.requests id)) r is)
-
-update_lacks_here : (s : EndpointState) (id : ℕ) (p : PriorityParameters) → send_refused s id ≡ None → SendsPriority s s id p (Err refusal.OutOfMemory)
-update_lacks_here s id p is = lacks (λ e. send_priority_refusal e id) (after_update id p) s (λ e h. sym (send_refused_is s e id h) ∙ is)
-
-pub update_lacks : (s now : EndpointState) (x : StreamsState) (id : ℕ) (p : PriorityParameters) → s ≡ now → send_refused now id ≡ None → x ≡ streams_of s
-    → SendsPriority now (placed s x) id p (Err refusal.OutOfMemory)
-update_lacks s now x id p view is same =
-    subst (λ v. SendsPriority now v id p (Err refusal.OutOfMemory)) (sym (ap (placed s) same ∙ view)) (update_lacks_here now id p is)
 
 -- How many GOAWAY frames stand before it changes no byte of it.
 abbrev written : EndpointState → ℕ → PriorityParameters → OwnState

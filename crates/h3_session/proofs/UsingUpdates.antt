@@ -1,5 +1,5 @@
 -- What an update said is used of a stream that is open, or dropped, or waits on.
-use Rattle.std.proofs.Common.{◌≡◌, ℕ, true, false, ◌||◌, if◌then◌else◌, [], ◌∷◌, Option, Some, None, Ok, Err, refl, ap, sym, subst, ◌∙◌}
+use Rattle.std.proofs.Common.{◌≡◌, ℕ, true, false, ◌||◌, if◌then◌else◌, [], ◌∷◌, Option, Some, None, Ok, refl, ap, sym, subst, ◌∙◌}
 use Rattle.std.specs.Prelude.{not, is_some, option_map}
 use Rattle.h3_priority.specs.Priority.{PriorityParameters}
 use Rattle.h3_connection.specs.Endpoint.{EndpointHistory}
@@ -49,10 +49,3 @@ is_used s n id p (Some r) was going said e h =
           (subst (λ (a : Option Refusal × EndpointHistory). StandsFor n a.1) here (said.done e h (λ memory. absurd (cc))).1),
       refl,
     )
-
--- Memory is refused, so nothing changed.
-pub is_refused : (s n : EndpointState) (id : ℕ) (p : PriorityParameters) (r : Refusal) (there : Option RequestState) → kept_at s.requests id ≡ there
-    → option_map (λ r. stored.is_sent r.outgoing) there ≡ Some false → IsSaid s n id Update p (Err r) → UsesOne s n id p (Err r)
-is_refused s n id p r None was going said = absurd (cc)
-is_refused s n id p r (Some x) was going said =
-    (said.same (λ none. absurd (cc)), λ e h. ap is_some (found s e id x.outgoing h (ap (option_map (λ r. r.outgoing)) was)).there)

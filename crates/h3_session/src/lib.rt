@@ -29,7 +29,7 @@ pub use h3_connection::setup::{Announced, Limits, NewError};
 pub use h3_field::{FieldBlock, FieldRef, Fields, HeaderField};
 pub use h3_header::{Header, HeaderError, Protocol};
 pub use h3_incoming::answer::{MessageKind, Plain};
-pub use h3_incoming::{BlockPull, BodyPlace, FieldList, FieldsItem, FieldsPull, Told};
+pub use h3_incoming::{BlockPull, BodyPlace, FieldsItem, FieldsPull, Told};
 pub use h3_priority::priority::Priority;
 pub use h3_proto::config::{Choices, Config};
 pub use h3_proto::error::Code;

@@ -10,11 +10,11 @@ use Rattle.h3_qpack.specs.EncoderHistory.{using_table}
 use Rattle.h3_qpack.specs.EncoderState.{EncoderState, encoder_state}
 use Rattle.h3_connection.specs.declared.arrival.Arrival.{Arrival}
 use Rattle.h3_connection.specs.declared.arrival.Arrival.TheVariants.{BytesCame}
-use Rattle.h3_connection.specs.Codes.{missing_settings, settings_error}
+use Rattle.h3_connection.specs.Codes.{settings_error}
 use Rattle.h3_connection.specs.Control.{are_refused, if_learned, is_table_usable, lacks_settings, read_held, settings_alone, taken_peer, then_decoder, with_table}
 use Rattle.h3_connection.specs.KeptGoawayLaws.{peer_twice, reads_alike}
 use Rattle.h3_connection.specs.StrictConnection.{is_strict, kinds_of, settings_refused}
-use Rattle.h3_connection.specs.StrictConnectionLaws.{held_missing, held_refused, held_taken, still_first}
+use Rattle.h3_connection.specs.StrictConnectionLaws.{held_refused, held_taken, still_first}
 use Rattle.h3_wire.specs.FirstFrames.{begins_other}
 use Rattle.h3_connection.specs.Delivering.{unidirectional_at}
 use Rattle.h3_connection.specs.Endpoint.{EndpointHistory, limit_of, kind_of}
@@ -130,9 +130,6 @@ missing_as s x e own b h are unknown is =
     ∙ ap (λ a. is_strict a && begins_other e.peer.unread) are
     ∙ ap (λ l. is_strict own && begins_other l) (sym unread)
     ∙ sym is
-
-pub first_missing : (x : StreamsState) (side : Side) (own : Announced) (id : ℕ) → x.peer.settings ≡ None → true ≡ (is_strict own && begins_other x.peer.unread) → ReadsHeld x x side own id (Some missing_settings)
-first_missing x side own id unknown lacks s e r on = subst (Reads s (Some missing_settings) x) (sym (held_missing e (missing_as s x e own true r.stands r.own_is unknown lacks))) (refl, r.stands)
 
 -- what is found where none does, and the settings are taken
 taken_found : (s : EndpointState) (x : StreamsState) (e : EndpointHistory) (side : Side) (own : Announced) (id : ℕ) → IsRead s x e side own id Control → x.peer.settings ≡ None

@@ -56,13 +56,6 @@ pub control_held : (x new : StreamsState) (side : Side) (own : Announced) (id : 
 control_held x new side own id bytes p left first is stops s e r =
     Stops.Held (ap (λ o. is_second o id) (sym r.stands.control_on) ∙ sym first) (stops s (held_as e id (Control, bytes)) (held_read s x e side own id bytes p r is) refl)
 
-pub control_unheld : (x : StreamsState) (side : Side) (own : Announced) (id : ℕ) (bytes back : List ℕ) (p : Peer) (left : Left) → false ≡ is_second x.control_on id
-    → back ≡ bytes → p ≡ x.peer → left ≡ record { id = id; bytes = back; early = None }
-    → (s : EndpointState) (e : EndpointHistory) → IsRead s x e side own id Control → Stops Control s x (record x { control_on = Some id; peer = p }) e id bytes (left_arrivals left)
-control_unheld x side own id bytes back p left first same kept is s e r =
-    let with_id : record x { control_on = Some id; peer = p } ≡ record x { control_on = Some id } = ap (λ q. record x { control_on = Some id; peer = q }) kept in
-    Stops.Unheld (ap (λ o. is_second o id) (sym r.stands.control_on) ∙ sym first) (ap left_arrivals is ∙ ap (λ l. BytesCame id l ∷ []) same) with_id
-
 -- Further settings do nothing.
 known_after : (o q : Option (List (ℕ × ℕ))) (e : EndpointHistory) (fault : Option ℕ) → is_some o ≡ true → then_decoder o q (if_learned o q e) fault ≡ (e, fault)
 known_after None q e fault h = absurd (cc)

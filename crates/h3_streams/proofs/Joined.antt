@@ -1,6 +1,6 @@
 -- Streams that stand in two lists, of which the first counts.
 use Rattle.std.proofs.Common.{◌≡◌, ℕ, List, [], ◌∷◌, ◌++◌, length, Option, Some, None, true, false, Bool, cond, refl, ap, sym, subst, ◌∙◌}
-use Rattle.std.specs.Prelude.{unwrap_or, IsSome, IfNone, is_some, OnErr, Result, Ok, Err}
+use Rattle.std.specs.Prelude.{unwrap_or, IfNone, is_some, OnErr, Result, Ok, Err}
 use Rattle.std.specs.List.{concat}
 use Rattle.h3_connection.specs.Keeping.{is_settled_peer, is_settled_session}
 use Rattle.std.specs.BTreeMap.{is_at}
@@ -92,9 +92,6 @@ stream_first xs ys id role h = ap (λ o. unwrap_or o untold) (plain_first xs ys 
 
 pub stream_second : (xs ys : Streams Unidirectional) (id : ℕ) → kept_at xs id ≡ None → peer_stream (xs ++ ys) id ≡ peer_stream ys id
 stream_second xs ys id none = ap (λ o. unwrap_or o untold) (in_second xs ys id none)
-
-pub plain_some : (xs : Streams Unidirectional) (id : ℕ) (role : PlainRole) → IsPlain role (kept_at xs id) → IsSome (kept_at xs id)
-plain_some xs id role h = ap is_some (some_plain role (kept_at xs id) h).1
 
 unsettled : (role : PlainRole) (o : Option Unidirectional) → IsPlain role o → is_settled_peer o ≡ false
 unsettled role None h = absurd h

@@ -16,4 +16,3 @@ pub mod Held
 mod Rows
 mod Joined
 mod PlacedLaws
-mod ReadingOn

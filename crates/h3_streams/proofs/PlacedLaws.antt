@@ -17,7 +17,7 @@ use Rattle.h3_field.specs.Instruction.{DecoderInstruction, decoder_bytes, Encode
 use Rattle.h3_connection.specs.Listeners.{Decoding, Encoding}
 use Rattle.h3_unidirectional.specs.OwnLaws.{replies_stand, instructions_stand}
 use Rattle.h3_qpack.specs.EncoderHistory.{EncoderHistory}
-use Rattle.h3_streams.specs.Placed.{Answers, KeepsAll, Pulls, StreamsState, placed}
+use Rattle.h3_streams.specs.Placed.{Answers, Pulls, StreamsState, placed}
 
 -- a pull leaves a stream as it is that told to be the connection's
 pull_told : (o : Unidirectional) (r : Role) → is_critical r ≡ true → is_critical o.role ≡ true → is_critical (pull_unidirectional o r).1.role ≡ true
@@ -248,8 +248,3 @@ stands_map s x e new h each =
       told_encoder = h.reached.told_encoder;
       told_decoder = h.reached.told_decoder;
     })
-
--- Each stream of it is as it was.
-pub stands_kept : (s : EndpointState) (x y : StreamsState) (e : EndpointHistory) → StandsFor (placed s x) e → KeepsAll x y → StandsFor (placed s y) e
-stands_kept s x y e h keeps =
-    subst (λ w. StandsFor (placed s w) e) (sym keeps.rest) (stands_map s x e y.unidirectional h (λ q. keeps.streams.each q ∙ h.unidirectional q))

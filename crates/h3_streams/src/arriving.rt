@@ -79,8 +79,12 @@ impl ConnectionStreams {
         id: StreamId,
         bytes: Bytes,
     ) -> Result<Option<Code>, Left>
-        ensures ok { IfOk result (λ fault. (s : EndpointState) (e : EndpointHistory) → IsDue s self.old e side own.now id → Reads s fault self.new (bytes_at e id bytes PeerUnidirectional)) }
-        ensures err { IfErr result (λ left. (s : EndpointState) (e : EndpointHistory) → IsDue s self.old e side own.now id → StopsAt s self.new e (BytesCame id bytes ∷ []) (left_arrivals left)) }
+        ensures ok { IfOk result
+            (λ fault. (s : EndpointState) (e : EndpointHistory) → IsDue s self.old e side own.now id
+            → Reads s fault self.new (bytes_at e id bytes PeerUnidirectional)) }
+        ensures err { IfErr result
+            (λ left. (s : EndpointState) (e : EndpointHistory) → IsDue s self.old e side own.now id
+            → StopsAt s self.new e (BytesCame id bytes ∷ []) (left_arrivals left)) }
     {
         if !self.has_room(id, bytes.len()) {
             return Err(Left::of(id, bytes));
@@ -99,7 +103,9 @@ impl ConnectionStreams {
     /// The end of a stream of the peer came. It returns the fault that this is, if the connection needs the stream. If an allocation fails,
     /// nothing has changed.
     pub fn end(&mut self, alloc: Global, id: StreamId) -> Result<Option<Code>, AllocError>
-        ensures ok { IfOk result (λ fault. (s : EndpointState) (e : EndpointHistory) → StandsFor (placed s self.old) e → Reads s fault self.new (end_at e id PeerUnidirectional)) }
+        ensures ok { IfOk result
+            (λ fault. (s : EndpointState) (e : EndpointHistory) → StandsFor (placed s self.old) e
+            → Reads s fault self.new (end_at e id PeerUnidirectional)) }
         ensures err { OnErr result (KeepsAll self.old self.new) }
     {
         let Ok(is_critical) = self.unidirectional.close(alloc, id, None) else {
@@ -116,7 +122,9 @@ impl ConnectionStreams {
         id: StreamId,
         code: u64,
     ) -> Result<Option<Code>, AllocError>
-        ensures ok { IfOk result (λ fault. (s : EndpointState) (e : EndpointHistory) → StandsFor (placed s self.old) e → Reads s fault self.new (reset_at e id code PeerUnidirectional)) }
+        ensures ok { IfOk result
+            (λ fault. (s : EndpointState) (e : EndpointHistory) → StandsFor (placed s self.old) e
+            → Reads s fault self.new (reset_at e id code PeerUnidirectional)) }
         ensures err { OnErr result (KeepsAll self.old self.new) }
     {
         let Ok(is_critical) = self.unidirectional.close(alloc, id, Some(code)) else {

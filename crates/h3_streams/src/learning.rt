@@ -54,8 +54,12 @@ pub(crate) fn read_first(
     own: &Announced,
 ) -> Result<Option<Code>, AllocError>
     requires unknown { peer.old.settings ≡ None }
-    ensures ok { IfOk result (λ fault. kept_found (keeps_last own.now.choices) (found_first side own.now peer.old (read_peer (kinds_of own.now) own.now.choices.unfinished_limit side peer.old)) ≡ (peer.new, fault)) }
-    ensures err { OnErr result (KeepsPart (kinds_of own.now) (keeps_last own.now.choices) own.now.choices.unfinished_limit side peer.old peer.new) }
+    ensures ok { IfOk result
+        (λ fault. kept_found (keeps_last own.now.choices)
+        (found_first side own.now peer.old (read_peer (kinds_of own.now) own.now.choices.unfinished_limit side peer.old)) ≡
+        (peer.new, fault)) }
+    ensures err { OnErr result
+        (KeepsPart (kinds_of own.now) (keeps_last own.now.choices) own.now.choices.unfinished_limit side peer.old peer.new) }
     ensures taken { OnErr result (settings_refused side own.now peer.new.settings ≡ false) }
     ensures learns { Learns encoding.old encoding.new out.old.items out.new.items (settings_taken side own.now peer.new.settings) }
 {

@@ -55,8 +55,12 @@ impl ConnectionStreams {
         id: StreamId,
         bytes: Bytes,
     ) -> Result<Option<Code>, Left>
-        ensures ok { IfOk result (λ fault. (s : EndpointState) (e : EndpointHistory) (side : Side) → IsRead s self.old e side own.now id Encoder → Reads s fault self.new (heard_as e id Encoder bytes)) }
-        ensures err { IfErr result (λ left. (s : EndpointState) (e : EndpointHistory) (side : Side) → IsRead s self.old e side own.now id Encoder → Stops Encoder s self.old self.new e id bytes (left_arrivals left)) }
+        ensures ok { IfOk result
+            (λ fault. (s : EndpointState) (e : EndpointHistory) (side : Side) → IsRead s self.old e side own.now id Encoder
+            → Reads s fault self.new (heard_as e id Encoder bytes)) }
+        ensures err { IfErr result
+            (λ left. (s : EndpointState) (e : EndpointHistory) (side : Side) → IsRead s self.old e side own.now id Encoder
+            → Stops Encoder s self.old self.new e id bytes (left_arrivals left)) }
     {
         if is_second(self.encoder_on, id) {
             return Ok(Some(Code::H3_STREAM_CREATION_ERROR));
@@ -81,8 +85,12 @@ impl ConnectionStreams {
         id: StreamId,
         bytes: Bytes,
     ) -> Result<Option<Code>, Left>
-        ensures ok { IfOk result (λ fault. (s : EndpointState) (e : EndpointHistory) (side : Side) → IsRead s self.old e side own.now id Decoder → Reads s fault self.new (heard_as e id Decoder bytes)) }
-        ensures err { IfErr result (λ left. (s : EndpointState) (e : EndpointHistory) (side : Side) → IsRead s self.old e side own.now id Decoder → Stops Decoder s self.old self.new e id bytes (left_arrivals left)) }
+        ensures ok { IfOk result
+            (λ fault. (s : EndpointState) (e : EndpointHistory) (side : Side) → IsRead s self.old e side own.now id Decoder
+            → Reads s fault self.new (heard_as e id Decoder bytes)) }
+        ensures err { IfErr result
+            (λ left. (s : EndpointState) (e : EndpointHistory) (side : Side) → IsRead s self.old e side own.now id Decoder
+            → Stops Decoder s self.old self.new e id bytes (left_arrivals left)) }
     {
         if is_second(self.decoder_on, id) {
             return Ok(Some(Code::H3_STREAM_CREATION_ERROR));
@@ -110,8 +118,12 @@ impl ConnectionStreams {
         id: StreamId,
         bytes: Bytes,
     ) -> Result<Option<Code>, Left>
-        ensures ok { IfOk result (λ fault. (s : EndpointState) (e : EndpointHistory) → IsRead s self.old e side own.now id Control → Reads s fault self.new (heard_as e id Control bytes)) }
-        ensures err { IfErr result (λ left. (s : EndpointState) (e : EndpointHistory) → IsRead s self.old e side own.now id Control → Stops Control s self.old self.new e id bytes (left_arrivals left)) }
+        ensures ok { IfOk result
+            (λ fault. (s : EndpointState) (e : EndpointHistory) → IsRead s self.old e side own.now id Control
+            → Reads s fault self.new (heard_as e id Control bytes)) }
+        ensures err { IfErr result
+            (λ left. (s : EndpointState) (e : EndpointHistory) → IsRead s self.old e side own.now id Control
+            → Stops Control s self.old self.new e id bytes (left_arrivals left)) }
     {
         if is_second(self.control_on, id) {
             return Ok(Some(Code::H3_STREAM_CREATION_ERROR));

@@ -21,7 +21,8 @@ impl ConnectionStreams {
     /// its session, or by the reader of the control, encoder or decoder stream. It takes no memory.
     #[tactic(auto, using(crate::proofs::Held::held_stands))]
     pub fn held(&self, own: &Announced, id: StreamId) -> usize
-        ensures { (s : EndpointState) (e : EndpointHistory) → StandsFor (placed s self.now) e → e.announced ≡ own.now → result ≡ counted (held_of_peer e id) }
+        ensures { (s : EndpointState) (e : EndpointHistory) → StandsFor (placed s self.now) e → e.announced ≡ own.now
+            → result ≡ counted (held_of_peer e id) }
     {
         let control = held_by(self.control_on, id, self.peer.held(own.kinds()));
         let encoder = held_by(self.encoder_on, id, self.decoding.unread_len());

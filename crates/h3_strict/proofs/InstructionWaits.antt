@@ -24,9 +24,6 @@ LacksSo waiting read = (bytes more : List ℕ) → Lacks (waiting bytes) more (r
 not_whole : {A : Type 0} (v : A) (rest : List ℕ) → Unfinished ≡ Whole v rest → ⊥
 not_whole v rest e = absurd (cc)
 
-not_bad : {A : Type 0} (v : A) (rest : List ℕ) → Bad ≡ Whole v rest → ⊥
-not_bad v rest e = absurd (cc)
-
 -- an integer that is not whole lacks a byte
 one_missing : (bytes : List ℕ) → missing (unfinished_wait bytes) ≡ 1
 one_missing [] = refl

@@ -2,7 +2,6 @@
 use Rattle.std.proofs.Common.{◌≡◌, false, refl}
 use Rattle.h3_proto.specs.declared.stream.Side.{Side}
 use Rattle.h3_proto.specs.declared.stream.Side.TheVariants.{Client, Server}
-use Rattle.h3_connection.specs.Announcing.{section_of}
 use Rattle.h3_connection.specs.OwnIds.{other}
 use Rattle.h3_connection.specs.declared.setup.Announced.{Announced}
 use Rattle.h3_world.specs.Setup.{IsMade, IsMadeSetup, JudgesPlainly, Setup, announced_at, refuses_sessions}
@@ -44,7 +43,3 @@ unlimited_plainly setup none Server = (none Server, refl)
 pub unlimited_strictly : (setup : Setup) → AsksForStrict setup → JudgesStrictly (unlimited_setup setup)
 unlimited_strictly setup strict Client = (strict Client, refl)
 unlimited_strictly setup strict Server = (strict Server, refl)
-
-pub same_section : (setup : Setup) (side : Side) → section_of (announced_at (unlimited_setup setup) side) ≡ section_of (announced_at setup side)
-same_section setup Client = refl
-same_section setup Server = refl

@@ -109,9 +109,6 @@ no_end_yet o unsent takes = by_tests (sent.is_unended o) (is_unsent o.parts) uns
     by_tests true false e k = cc
     by_tests false b e k = cc
 
-parts_of : (o p : Outgoing) (l : List OwnPart) → o.parts ≡ l → is_unsent l ≡ true → is_unsent o.parts ≡ true
-parts_of o p l is h = ap is_unsent is ∙ h
-
 module _ (setup : Setup) (w : World) (ends : Ends) (known : ℕ → Bool) (i : ℕ) (head : Head) (fields : List Field) (h : Stands (plain_setup setup) w (plain_ends ends)) (t : Tallies setup w ends known)
     (strict : (side : Side) → (announced_at setup side).choices.strict_messages ≡ true) where
   pub strict_end : (s : Side) → (end_at ends s).announced.choices.strict_messages ≡ true

@@ -9,7 +9,6 @@ use Rattle.h3_messages.specs.declared.content.Asked.{Asked}
 use Rattle.h3_messages.specs.declared.content.Asked.TheVariants as asked
 use Rattle.h3_messages.specs.declared.content.Content.{Content}
 use Rattle.h3_proto.specs.declared.stream.Side.{Side}
-use Rattle.h3_proto.specs.declared.stream.Side.TheVariants.{Client, Server}
 use Rattle.h3_connection.specs.Endpoint.{EndpointHistory}
 use Rattle.h3_connection.specs.Outgoing.{Outgoing, is_unsent, takes_body, takes_end, takes_head}
 use Rattle.h3_connection.specs.Outgoing as sent
@@ -26,7 +25,7 @@ use Rattle.h3_connection.specs.declared.event.Refusal.TheVariants as refusal
 use Rattle.h3_connection.specs.declared.setup.Announced.{Announced}
 use Rattle.h3_world.specs.Flow.{Part, Section, own_part}
 use Rattle.h3_world.specs.Flow.Part.{Body, End, Head as HeadPart, Interim, Trailer}
-use Rattle.h3_strict.specs.Tallies.{asked_in, awaited_of, has_head}
+use Rattle.h3_strict.specs.Tallies.{asked_in, has_head}
 use Rattle.h3_strict.specs.Unbroken.{AreUnbroken, IsAwaited, content_along}
 
 -- What the rules of a call say that was not refused.
@@ -210,10 +209,6 @@ asked_awaited (Interim s ∷ parts) = asked_awaited parts
 asked_awaited (Body bytes end ∷ parts) = asked_awaited parts
 asked_awaited (Trailer s ∷ parts) = asked_awaited parts
 asked_awaited (End ∷ parts) = asked_awaited parts
-
-pub may_be_awaited : (writer : Side) (request : List Part) → IsAwaited (other writer) (awaited_of writer request)
-may_be_awaited Client request = refl
-may_be_awaited Server request = asked_awaited request
 
 -- a trailer that comes not too early
 pub trailer_is_late : (content : Content) → early_trailer content ≡ None → (takes_trailer content ≡ true) × (may_end content ≡ true)

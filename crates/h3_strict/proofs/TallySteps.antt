@@ -210,10 +210,6 @@ at_flow Server Server id i e = (refl, same_number i id e)
 at_flow Client Server id i e = absurd (cc)
 at_flow Server Client id i e = absurd (cc)
 
-is_server_on : (s : Side) (i : ℕ) → is_on s i s i ≡ true
-is_server_on Client i = grind (arith, common_steps)
-is_server_on Server i = grind (arith, common_steps)
-
 -- One end sends a part on a stream: what it is then, what its sender counts, and what stays.
 pub record SendsPart (w v : World) (ends next : Ends) (s : Side) (i : ℕ) (part : Part) (p : Outgoing) : Type 0 where
   pub flows : (writer : Side) (id : ℕ) → flow v writer id ≡ (if is_on writer id s i then appended (flow w s i) part else flow w writer id)

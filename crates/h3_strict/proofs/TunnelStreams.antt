@@ -59,10 +59,6 @@ no_trailer_marked Client Tunnel h = refl
 no_trailer_marked Server Tunnel h = refl
 no_trailer_marked side content h = absurd (cc)
 
-either_or : (a b : Bool) → (a || b) ≡ true → (a ≡ true) ⊎ (b ≡ true)
-either_or true b h = inl refl
-either_or false b h = inr h
-
 or_left : (a b : Bool) → a ≡ true → (a || b) ≡ true
 or_left true b h = refl
 or_left false b h = absurd (cc)

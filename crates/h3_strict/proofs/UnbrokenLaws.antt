@@ -58,13 +58,6 @@ pub unbroken_more : (reader : Side) (own : Announced) (awaited : Content) (parts
 unbroken_more reader own awaited [] part h more = (more, tt)
 unbroken_more reader own awaited (q ∷ qs) part h more = (h.0, unbroken_more reader own (content_behind_part reader awaited q) qs part h.1 more)
 
--- some of the parts, from the front
-pub unbroken_front : (reader : Side) (own : Announced) (awaited : Content) (parts : List Part) (n : ℕ) → AreUnbroken reader own awaited parts → AreUnbroken reader own awaited (take n parts)
-unbroken_front reader own awaited [] zero h = tt
-unbroken_front reader own awaited [] (suc n) h = tt
-unbroken_front reader own awaited (q ∷ qs) zero h = tt
-unbroken_front reader own awaited (q ∷ qs) (suc n) h = (h.0, unbroken_front reader own (content_behind_part reader awaited q) qs n h.1)
-
 -- a part that is next is there
 pub next_within : (parts : List Part) (out : ℕ) (part : Part) → slice_get parts out ≡ Some part → out + 1 ≤ length parts
 next_within [] out part next = cc

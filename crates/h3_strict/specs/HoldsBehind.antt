@@ -29,10 +29,6 @@ use Rattle.h3_strict.specs.WorldSteps.{KeepsNone, WorldStep}
 abbrev pub having_read : EndpointHistory → Arrival → List Arrival → EndpointHistory
 having_read e a kept = record (read_arrival (unkept e) a).0 { kept = kept }
 
--- the end once nothing is kept of what it read
-abbrev pub keeping_just : EndpointHistory → List Arrival → EndpointHistory
-keeping_just e kept = record e { kept = kept }
-
 pub record HoldsBehind (setup : Setup) (P : World → Ends → Type 0) : Type 0 where
   pub first : P (empty_world (plain_setup setup)) (new_ends setup)
   pub announced : (w : World) (ends : Ends) → P w ends → (side : Side) → (end_at ends side).announced ≡ announced_at setup side

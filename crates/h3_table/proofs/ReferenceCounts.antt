@@ -68,10 +68,6 @@ held_set first (suc count) (suc place) v ts us lt there others =
     rw (others first (omega arith))
     (ap (λ ns. reference_count first ts ∷ ns) (held_set (first + 1) count place v ts us (omega (arith, lt)) (ap (λ n. reference_count n us) same ∙ there) (λ n ne. others n (λ e. ne (e ∙ sym same)))))
 
--- one section names it as its oldest
-pub one_holds : (number : ℕ) (t : TrackedSection) → reference_count number (t ∷ []) ≡ (if t.oldest == number then 1 else 0)
-one_holds number t = grind (arith, common_steps, sum_by-cons (λ (t : TrackedSection). if t.oldest == number then 1 else 0) t [])
-
 -- Sections that hold an entry up to a number stand in the way.
 pub stands_in_way : (number last : ℕ) (ts : List TrackedSection) → number ≤ last → reference_count number ts ≢ 0 → is_free_to last ts ≡ false
 stands_in_way number last [] le ne = absurd (ne refl)
@@ -109,10 +105,6 @@ pub there_later : (evicted made later : ℕ) (ts : List TrackedSection) → made
     → AllByRecursion (λ s. (evicted < s.oldest) × (s.oldest ≤ later)) ts
 there_later evicted made later [] le h = tt
 there_later evicted made later (t ∷ ts) le h = ((h.0.0, omega (arith, h.0.1, le)), there_later evicted made later ts le h.1)
-
-pub below_next : (evicted made : ℕ) (ts : List TrackedSection) → AllByRecursion (λ s. (evicted < s.oldest) × (s.oldest ≤ made)) ts → AllByRecursion (λ s. s.oldest < evicted + 1 + (made - evicted)) ts
-below_next evicted made [] h = tt
-below_next evicted made (t ∷ ts) h = (omega (arith, h.0.0, h.0.1), below_next evicted made ts h.1)
 
 pub above_evicted : (evicted made : ℕ) (ts : List TrackedSection) → AllByRecursion (λ s. (evicted < s.oldest) × (s.oldest ≤ made)) ts → AllByRecursion (λ s. evicted < s.oldest) ts
 above_evicted evicted made [] h = tt

@@ -293,7 +293,8 @@ impl FieldQueue {
         requires place { length self.old.fields < self.old.places }
         requires room { IfNone block (length name.now + length value.now ≤ self.old.room) }
         requires empty { IfSome block (λ b. b.items ≡ []) }
-        requires fits { IfSome block (λ b. section_size self.old.fields + (length name.now + length value.now) ≤ vec_capacity b + 32 * length self.old.fields) }
+        requires fits { IfSome block
+            (λ b. section_size self.old.fields + (length name.now + length value.now) ≤ vec_capacity b + 32 * length self.old.fields) }
         requires small { length name.now + length value.now < 2 ^ 32 }
         requires few { section_size self.old.fields < 2 ^ 32 }
         requires written { self.old.written + 2 ^ 32 < 2 ^ 128 }

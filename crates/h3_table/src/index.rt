@@ -87,7 +87,8 @@ impl Index {
     pub fn add(&mut self, slot: usize, number: usize)
         requires room { HasRoom self.old }
         requires slot { slot < 256 }
-        ensures { (evicted : ℕ) (slots : List ℕ) → IsIndexed self.old evicted slots → number ≡ evicted + 1 + length slots → IsIndexed self.new evicted (slots ++ slot ∷ []) }
+        ensures { (evicted : ℕ) (slots : List ℕ) → IsIndexed self.old evicted slots → number ≡ evicted + 1 + length slots
+            → IsIndexed self.new evicted (slots ++ slot ∷ []) }
     {
         self.links.push_back_reserved(self.heads[slot]);
         self.heads[slot] = number;
@@ -95,7 +96,8 @@ impl Index {
 
     /// Evicts the oldest entries, so many.
     pub fn evict_oldest(&mut self, count: usize)
-        ensures { (evicted : ℕ) (slots : List ℕ) → IsIndexed self.old evicted slots → count ≤ length slots → IsIndexed self.new (evicted + count) (drop count slots) }
+        ensures { (evicted : ℕ) (slots : List ℕ) → IsIndexed self.old evicted slots → count ≤ length slots
+            → IsIndexed self.new (evicted + count) (drop count slots) }
     {
         drop_front(&mut self.links, count);
     }

@@ -1,7 +1,7 @@
 -- What an encoder writes behind all bytes it writes behind those that wait.
 use Rattle.std.proofs.Common.{◌≡◌, ℕ, ◌-◌, List, length, drop}
 use Rattle.h3_field.specs.Field.{Field}
-use Rattle.h3_qpack.specs.Drafting.{IsSent, IsCutOff}
+use Rattle.h3_qpack.specs.Drafting.{IsSent}
 use Rattle.h3_qpack.specs.EncoderHistory.{EncoderHistory}
 use Rattle.h3_qpack.specs.EncoderState.{EncoderState}
 use Rattle.h3_unidirectional.specs.WaitingLaws.{behind_all}
@@ -16,8 +16,3 @@ sent_behind s stream fields count t before encoded items waits after front h =
       encoded_is = h.encoded_is;
       instructions_are = behind_all waits items after _ front h.instructions_are;
     }
-
-pub cut_off_behind : (s by : EncoderHistory) (fields : List Field) (t : EncoderState) (items waits after : List ℕ) → drop (length items - length waits) items ≡ waits
-    → IsCutOff s by fields t items after → IsCutOff s by fields t waits (drop (length items - length waits) after)
-cut_off_behind s by fields t items waits after front h =
-    record { front = h.front; within = h.within; are_bytes = h.are_bytes; stores = h.stores; instructions_are = behind_all waits items after _ front h.instructions_are }

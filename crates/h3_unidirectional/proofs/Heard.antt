@@ -93,13 +93,6 @@ from_front most old new front split goes_on =
 pub no_hearing : (most : ℕ) (d : Decoding) → HearsFront most d d
 no_hearing most d = from_front most d d [] refl (λ more. refl)
 
--- one front behind the other
-pub then_hears : (most : ℕ) (old mid new : Decoding) → HearsFront most old mid → HearsFront most mid new → HearsFront most old new
-then_hears most old mid new a b =
-    from_front most old new (a.front ++ b.front)
-    (a.split ∙ ap (λ l. a.front ++ l) b.split ∙ sym (append_assoc a.front b.front new.unread))
-    (λ more. ap (hear_up_to most old.decoder) (append_assoc a.front b.front more) ∙ a.goes_on (b.front ++ more) ∙ b.goes_on more)
-
 -- the bytes of whole instructions within the limit
 read_front : (most : ℕ) (old new : DecoderState) (front : List ℕ) (is : List EncoderInstruction) → IsWithin most front → ((more : List ℕ) → AreInstructions (front ++ more) is more) → decoder_after_all (Some old) is ≡ Some new
     → (more : List ℕ) → hear_up_to most old (front ++ more) ≡ hear_up_to most new more

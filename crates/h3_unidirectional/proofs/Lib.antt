@@ -11,7 +11,6 @@ mod Waits
 mod Unfinished
 mod Heads
 mod Behind
-mod OwnLaws
 mod PeerLaws
 mod UpdatePlaces
 mod UpdateTexts

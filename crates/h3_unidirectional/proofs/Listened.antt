@@ -23,7 +23,7 @@ use Rattle.h3_connection.specs.ExcessiveInstructions.{exceeds, listen_up_to, lis
 use Rattle.h3_connection.specs.LimitedListeningLaws.{listens_no_longer, listens_within, listen_unlimited, listen_short, listen_cut}
 use Rattle.h3_connection.specs.Listeners.{Encoding, Listens, fault_if, listening_fault}
 use Rattle.h3_unidirectional.specs.Faults.{IsReplyFaultOf, UnlessMemory}
-use Rattle.h3_unidirectional.specs.Fronts.{ListensFront, StopsListening}
+use Rattle.h3_unidirectional.specs.Fronts.{ListensFront}
 use Rattle.h3_unidirectional.specs.Windows.{window, is_longer, ListeningEnds, ListensWindow, IsRefusedAt}
 use Rattle.h3_unidirectional.proofs.Excess.{IsWithin, longer_beyond, told_beyond, wait_tells, unfinished_before}
 use Rattle.h3_unidirectional.proofs.Heard.{dropped}
@@ -97,14 +97,6 @@ from_front most s after old new front state split goes_on =
 -- nothing is read
 pub no_listening : (most : ℕ) (s : EncoderHistory) (e : Encoding) → e.encoder ≡ encoder_state s → ListensFront most s e e
 no_listening most s e is = from_front most s s e e [] is refl (λ more. refl)
-
--- one front behind the other
-pub then_listens : (most : ℕ) (s : EncoderHistory) (old mid new : Encoding) → ListensFront most s old mid → ((t : EncoderHistory) → mid.encoder ≡ encoder_state t → ListensFront most t mid new) → ListensFront most s old new
-then_listens most s old mid new a each =
-    let b = each a.after a.state in
-    from_front most s b.after old new (a.front ++ b.front) b.state
-    (a.split ∙ ap (λ l. a.front ++ l) b.split ∙ sym (append_assoc a.front b.front new.unread))
-    (λ more. ap (listen_up_to most s) (append_assoc a.front b.front more) ∙ a.goes_on (b.front ++ more) ∙ b.goes_on more)
 
 -- the bytes of whole instructions within the limit
 read_front : (most : ℕ) (s : EncoderHistory) (front : List ℕ) (is : List DecoderInstruction) → IsWithin most front → ((more : List ℕ) → AreDecoderInstructions (front ++ more) is more) → AreAccepted s is
@@ -236,23 +228,6 @@ kept_refused (Err e) most old new left h kept refused =
     (λ here s is.
     let same = kept_is most s old new.encoder left new.unread (h s is) kept in
     listens_refused most s old new (kept_front most old new left h kept s is) (subst (IsRefusedAt most new.encoder) same here)) refused
-
--- where memory is refused, they stand
-pub listening_stopped : (most : ℕ) (s : EncoderHistory) (old new : Encoding) → ListensFront most s old new → StopsListening most s old new
-listening_stopped most s old new h =
-    record {
-      after = h.after;
-      state = h.state;
-      part = record {
-        front = h.front;
-        rest = new.unread;
-        cut = h.split;
-        good = ap (listening_fault most) h.listened;
-        encoder = ap (λ (x : Listened). x.encoder) (sym h.listened);
-        left_is = ap (λ (x : Listened). x.left ++ new.unread) (sym h.listened);
-      };
-      resumes = λ more. sym (ap (λ l. listen_up_to most s (l ++ more)) h.split ∙ ap (listen_up_to most s) (append_assoc h.front new.unread more) ∙ h.goes_on (new.unread ++ more));
-    }
 
 error_none : {E : Type 0} (r : Result (Option ℕ) E) (P : Option ℕ → Type 0) → is_ok r ≡ false → IfOk r P
 error_none (Ok fault) P e = absurd (cc)

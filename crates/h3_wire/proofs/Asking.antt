@@ -39,9 +39,6 @@ truth_apart e = absurd (cc)
 no_piece : {A : Type 0} (piece : List ℕ) (pieces : List (List ℕ)) → piece ∷ pieces ≡ [] → A
 no_piece piece pieces e = absurd (cc)
 
-error_apart : {A T : Type 0} (e : FrameStreamError) (v : T) → Ok v ≡ Err e → A
-error_apart e v h = absurd (cc)
-
 module _ {S : Type 0} (answers : S → Answer → S → Type 0) (one : IsFunction answers) where
   -- one read of a stream
   pub same_asks : (old new new' : Buffered S) (told told' : Result Received FrameStreamError) → Asks answers old told new → Asks answers old told' new'

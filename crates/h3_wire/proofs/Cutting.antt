@@ -1,11 +1,10 @@
 -- A HEADERS frame that lies in one piece.
-use Rattle.std.proofs.Common.{◌≡◌, ℕ, ◌+◌, ◌<◌, true, List, ◌++◌, length, take, drop, arith, ◌∙◌, ap, ap₂}
+use Rattle.std.proofs.Common.{◌≡◌, ℕ, ◌+◌, ◌<◌, List, ◌++◌, length, take, drop, arith, ◌∙◌, ap, ap₂}
 use Rattle.std.proofs.lemmas.List.{take_at, drop_at, drop-append-le, length-drop}
 use Rattle.h3_coding.specs.VarintLaws.{shorter}
 use Rattle.h3_wire.specs.declared.proto.frame.Frame.TheVariants as frame
-use Rattle.h3_wire.specs.Frames.{Whole, IsHeadersFrame, frame_by, has_head}
+use Rattle.h3_wire.specs.Frames.{Whole, IsHeadersFrame, frame_by}
 use Rattle.h3_wire.proofs.FrameRows.{at_headers}
-use Rattle.h3_wire.proofs.Tries.{head_is_whole}
 use Rattle.h3_wire.specs.declared.frame.kinds.FrameKinds.{FrameKinds}
 
 -- a head has bytes
@@ -14,9 +13,6 @@ head_some bytes head size h =
     let first = shorter 1 bytes h.read.0 h.read.1 in
     let second = shorter size h.read.0 (drop head bytes) h.read.2 in
     omega (arith, first, second, length-drop head bytes)
-
-pub head_there : (bytes : List ℕ) (head size : ℕ) → IsHeadersFrame bytes head size → has_head bytes ≡ true
-head_there bytes head size h = head_is_whole 1 size bytes h.read.0 (drop head bytes) h.read.1 h.read.2
 
 pub headers_at : (kinds : FrameKinds) (bytes : List ℕ) (head size : ℕ) → IsHeadersFrame bytes head size → frame_by kinds bytes ≡ Whole (frame.Headers (take size (drop head bytes))) (drop size (drop head bytes))
 headers_at kinds bytes head size h = at_headers kinds size bytes h.read.0 (drop head bytes) h.read.1 h.read.2 (omega (arith, h.there, length-drop head bytes))

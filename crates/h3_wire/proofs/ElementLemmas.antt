@@ -1,5 +1,5 @@
 -- What the elements of a list of pieces stand for, one more, one less, and one that was changed.
-use Rattle.std.proofs.Common.{◌≡◌, ℕ, zero, suc, ◌+◌, ◌-◌, ◌<◌, ◌≤◌, true, false, nat_le, List, [], ◌∷◌, ◌++◌, length, take, drop, get_or, append-nil, append_assoc, length-append, ap, ap₂, sym, refl, subst, ◌∙◌, arith, Option, Some, if◌then◌else◌}
+use Rattle.std.proofs.Common.{◌≡◌, ℕ, zero, suc, ◌+◌, ◌-◌, ◌<◌, ◌≤◌, true, false, nat_le, List, [], ◌∷◌, ◌++◌, length, take, drop, get_or, append-nil, append_assoc, length-append, ap, ap₂, sym, refl, subst, ◌∙◌, arith, Some}
 use Rattle.std.specs.Prelude.{map, slice_set, slice_range, All}
 use Rattle.std.specs.List.{concat, range_with_len}
 use Rattle.std.proofs.lemmas.Grind.{flat_map-append}
@@ -124,9 +124,6 @@ first_size-within unread e pieces some =
     let less = first_within unread e in
     omega (arith, same, less)
 
-pub first_size-behind : {T : Type 0} (unread : T → List ℕ) (e : Element T) (pieces : List (List ℕ)) → 0 < length (all_of unread e) → first_size (cuts unread e ++ pieces) ≡ first_size (cuts unread e)
-first_size-behind unread e pieces some = first_size-is (cuts unread e ++ pieces) ∙ ap length (first_bytes-behind unread e pieces some) ∙ sym (first_size-is (cuts unread e))
-
 each-size : (bytes : List ℕ) → length (each bytes) ≡ length bytes
 each-size [] = refl
 each-size (b ∷ bytes) = let rest = each-size bytes in omega (arith, rest)
@@ -156,15 +153,6 @@ several unread (x ∷ y ∷ es) more filled =
     let size = length-append (cuts unread x) (cuts unread y ++ all_cuts unread es) in
     let others = length-append (cuts unread y) (all_cuts unread es) in
     lt-leb (length (all_cuts unread (x ∷ y ∷ es))) 1 (omega (arith, first, second, size, others))
-
--- What is taken of the first piece.
-pub chunk_behind : (max : ℕ) (pieces others new : List (List ℕ)) (b : List ℕ) → max < first_size pieces → (Some b, new) ≡ chunk_of max pieces → (Some b, new ++ others) ≡ chunk_of max (pieces ++ others)
-chunk_behind max [] others new b less e = absurd (omega (arith, less))
-chunk_behind max (p ∷ pieces) others new b less e =
-    let longer = lt-leb (length p) max less in
-    let here : chunk_of max (p ∷ pieces) ≡ (Some (take max p), drop max p ∷ pieces) = ap (λ c. if c then (Some p, pieces) else (Some (take max p), drop max p ∷ pieces)) longer in
-    let there : chunk_of max ((p ∷ pieces) ++ others) ≡ (Some (take max p), drop max p ∷ pieces ++ others) = ap (λ c. if c then (Some p, pieces ++ others) else (Some (take max p), drop max p ∷ pieces ++ others)) longer in
-    ap (λ (r : Option (List ℕ) × List (List ℕ)). (r.0, r.1 ++ others)) (e ∙ here) ∙ sym there
 
 -- a front of the bytes that lie together
 pub chunk_more : (c all more : List ℕ) → 0 < length all → IsChunkOf c all → IsChunkOf c (all ++ more)

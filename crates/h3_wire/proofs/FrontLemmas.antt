@@ -24,11 +24,6 @@ front_room-none unread None [] some = absurd (omega (arith, some))
 front_room-none unread None (p ∷ pieces) some = refl
 front_room-none unread (Some x) pieces some = refl
 
-pub front_room-some : {T : Type 0} (unread : T → List ℕ) (front : Option T) (pieces : List (List ℕ)) → held unread front ++ pieces ≡ [] → front_room front pieces ≡ 1
-front_room-some unread None [] none = refl
-front_room-some unread None (p ∷ pieces) none = let size : length (p ∷ pieces) ≡ 0 = ap length none in absurd (omega (arith, size))
-front_room-some unread (Some x) pieces none = let size : length (unread x ∷ pieces) ≡ 0 = ap length none in absurd (omega (arith, size))
-
 -- where there is no piece, there is none in the queue
 pub none_behind : {T : Type 0} (unread : T → List ℕ) (front : Option T) (pieces : List (List ℕ)) → held unread front ++ pieces ≡ [] → pieces ≡ []
 none_behind unread None pieces none = none

@@ -1,27 +1,17 @@
 -- Whether bytes begin with a frame that is not SETTINGS, by the numbers that are read of them.
-use Rattle.std.proofs.Common.{◌≡◌, ℕ, ◌<◌, Bool, true, false, not, ◌&&◌, ◌==◌, List, ◌++◌, Some, None, refl, sym, ap, ◌∙◌}
+use Rattle.std.proofs.Common.{◌≡◌, ℕ, ◌<◌, Bool, true, false, not, ◌&&◌, ◌==◌, List, ◌++◌, Some, refl, sym, ap, ◌∙◌}
 use Rattle.std.specs.Prelude.{is_some}
 use Rattle.std.specs.List.{concat}
 use Rattle.h3_coding.specs.Varint.{varint_at}
 use Rattle.h3_wire.specs.FirstFrames.{begins_other, is_other}
 use Rattle.h3_wire.specs.UnknownSize.{AreLetGo, unknown_size}
 use Rattle.h3_wire.proofs.LettingGo.{tests, unknown_head}
-use Rattle.h3_wire.proofs.SparedPieces.{none_in_front, size_with_more}
+use Rattle.h3_wire.proofs.SparedPieces.{size_with_more}
 use Rattle.h3_wire.specs.declared.frame.kinds.FrameKinds.{FrameKinds}
-
-and_right : (b : Bool) → (b && false) ≡ false
-and_right true = refl
-and_right false = refl
 
 and_true : (b : Bool) → (b && true) ≡ b
 and_true true = refl
 and_true false = refl
-
-pub nothing_begins : (bytes : List ℕ) → varint_at bytes ≡ None → false ≡ begins_other bytes
-nothing_begins bytes none = sym (ap is_other none)
-
-pub type_begins : (kind : ℕ) (bytes mid : List ℕ) → varint_at bytes ≡ Some (kind, mid) → varint_at mid ≡ None → false ≡ begins_other bytes
-type_begins kind bytes mid is none = sym (ap is_other is ∙ ap (λ o. not (kind == 4) && is_some o) none ∙ and_right (not (kind == 4)))
 
 pub head_begins : (kind number : ℕ) (bytes mid behind : List ℕ) → varint_at bytes ≡ Some (kind, mid) → varint_at mid ≡ Some (number, behind) → not (kind == 4) ≡ begins_other bytes
 head_begins kind number bytes mid behind is there = sym (ap is_other is ∙ ap (λ o. not (kind == 4) && is_some o) there ∙ and_true (not (kind == 4)))
@@ -36,6 +26,3 @@ unknown_begins kinds bytes size is =
 -- so where some of one were let go
 pub spared_begins : (known_to : FrameKinds) (front kept : List (List ℕ)) (size gone : ℕ) → AreLetGo known_to size gone front → 0 < size → true ≡ begins_other (concat (front ++ kept))
 spared_begins known_to front kept size gone h some = unknown_begins _ (concat (front ++ kept)) size (size_with_more _ front kept size (h.unknown some))
-
-pub kept_begins : (known_to : FrameKinds) (front kept : List (List ℕ)) (size gone : ℕ) → AreLetGo known_to size gone front → size ≡ 0 → begins_other (concat kept) ≡ begins_other (concat (front ++ kept))
-kept_begins known_to front kept size gone h none = ap begins_other (none_in_front known_to size gone front kept h none)

@@ -1,6 +1,5 @@
 -- Pieces joined, one more and one less.
 use Rattle.std.proofs.Common.{◌≡◌, ℕ, ◌+◌, ◌-◌, ◌<◌, List, [], ◌∷◌, ◌++◌, length, take, drop, get_or, append-nil, append_assoc, length-append, ap, sym, refl, subst, ◌∙◌, inl, inr, arith, Option, Some, None}
-use Rattle.std.specs.Prelude.{map, slice_set}
 use Rattle.std.specs.List.{concat}
 use Rattle.std.proofs.lemmas.List.Folds.{concat-append}
 use Rattle.std.proofs.lemmas.List.{drop-drop, drop_more, drop_at, drop_all, drop-append-le, length-drop, take_all, take_at}
@@ -52,11 +51,6 @@ concat-with_piece pieces [] = sym (append-nil (concat pieces))
 concat-with_piece pieces (byte ∷ bytes) =
     concat-append pieces ((byte ∷ bytes) ∷ []) ∙ ap (λ l. concat pieces ++ l) (append-nil (byte ∷ bytes))
 
--- and an empty one is not
-pub with_piece-none : (pieces : List (List ℕ)) (x : List ℕ) → length x ≡ 0 → with_piece pieces x ≡ pieces
-with_piece-none pieces [] h = refl
-with_piece-none pieces (byte ∷ bytes) h = absurd (omega arith)
-
 -- the first piece, and the others
 pub first_is : (pieces others : List (List ℕ)) (first : List ℕ) → (Some first, others) ≡ first_of pieces → pieces ≡ first ∷ others
 first_is [] others first e = let none : Some first ≡ None = ap (λ (x : Option (List ℕ) × List (List ℕ)). x.0) e in absurd (cc)
@@ -64,17 +58,6 @@ first_is (p ∷ pieces) others first e =
     let same : Some first ≡ Some p = ap (λ (x : Option (List ℕ) × List (List ℕ)). x.0) e in
     let behind : others ≡ pieces = ap (λ (x : Option (List ℕ) × List (List ℕ)). x.1) e in
     cc
-
-pub none_first : (pieces others : List (List ℕ)) → (None, others) ≡ first_of pieces → pieces ≡ []
-none_first [] others e = refl
-none_first (p ∷ pieces) others e = let some : None ≡ Some p = ap (λ (x : Option (List ℕ) × List (List ℕ)). x.0) e in absurd (cc)
-
--- the first piece is cut in two, of which one is left in its place
-pub first_cut : (items : List (List ℕ)) (first front rest : List ℕ) → 0 < length items → first ≡ get_or items 0 first → front ++ rest ≡ first
-    → concat (map (λ b. b) items) ≡ front ++ concat (map (λ b. b) (slice_set items 0 rest))
-first_cut [] first front rest some is e = absurd (omega arith)
-first_cut (x ∷ xs) first front rest some is e =
-    ap (λ l. l ++ concat (map (λ b. b) xs)) (sym is ∙ sym e) ∙ append_assoc front rest (concat (map (λ b. b) xs))
 
 -- the rest of a piece is what lies together in front of what follows it
 pub chunk_here : (p more : List ℕ) (f : ℕ) → f < length p → IsChunkOf (take (length p - f) (drop f p)) (drop f (p ++ more))

@@ -1,5 +1,5 @@
 -- However bytes are cut, they read alike.
-use Rattle.std.proofs.Common.{◌≡◌, Bool, true, false, ℕ, zero, suc, ◌<◌, ◌≤◌, ◌^◌, List, [], ◌∷◌, ◌++◌, length, arith, sym, ◌∙◌, ap, subst, refl, inl, inr}
+use Rattle.std.proofs.Common.{◌≡◌, Bool, true, false, ℕ, zero, suc, ◌<◌, ◌≤◌, List, [], ◌∷◌, ◌++◌, length, arith, sym, ◌∙◌, ap, subst, refl, inl, inr}
 use Rattle.std.proofs.lemmas.List.{nil_from_length}
 use Rattle.std.proofs.lemmas.Bool.{lt-ltb}
 use Rattle.h3_wire.specs.declared.proto.frame.PayloadLen.{PayloadLen}
@@ -11,9 +11,6 @@ use Rattle.h3_wire.specs.declared.frame.payload_left.PayloadLeft.TheVariants as 
 use Rattle.h3_wire.specs.Frames.{Front, Whole, Unknown, Refused, Unfinished, frame_at, plain_frames}
 use Rattle.h3_wire.specs.FrameLaws.{frame_by-more, frame_by-shorter, frame_by-nil}
 use Rattle.h3_wire.specs.Fronts.{IsFinished, IsShorter, with_more, IsKnown}
-use Rattle.h3_wire.specs.Encoded.{frame_encoding}
-use Rattle.h3_wire.specs.EncodedLaws.{written_headers}
-use Rattle.h3_wire.proofs.WrittenFrames.{written_data}
 use Rattle.h3_wire.specs.Known.{known}
 use Rattle.h3_wire.specs.KnownLaws.{cases_front, known-unknown, known-other, unknown_shorter}
 use Rattle.h3_wire.specs.Streams.{payload_behind, is_open, TakesPayload}
@@ -128,16 +125,6 @@ reads_more_within (suc n) (payload.Bytes zero) (b ∷ bytes) more h =
 -- **However the bytes are cut, they read alike.**
 pub reads-more : (p : PayloadLeft) (bytes more : List ℕ) → reads p (bytes ++ more) ≡ then_more (reads p bytes) more
 reads-more p bytes more = reads_more_within (length bytes) p bytes more (omega arith)
-
--- a HEADERS frame as it is written
-pub reads_headers : (section rest : List ℕ) → length section < 2 ^ 62 → reads (payload.Bytes 0) (frame_encoding 1 section ++ rest) ≡ Framed (frame.Headers section) (reads (payload.Bytes 0) rest)
-reads_headers section rest h = reads-whole _ _ rest (written_headers plain_frames section rest h)
-
--- a DATA frame as it is written
-pub reads_data : (bytes rest : List ℕ) → length bytes < 2 ^ 62 → reads (payload.Bytes 0) (frame_encoding 0 bytes ++ rest) ≡ Framed (frame.Data (record { 0 = length bytes })) (bytes_then bytes (reads (payload.Bytes 0) rest))
-reads_data bytes rest h =
-    reads-whole _ _ (bytes ++ rest) (written_data plain_frames bytes rest h)
-    ∙ ap (Framed (frame.Data (record { 0 = length bytes }))) (reads-bytes bytes (payload.Bytes (length bytes)) (payload.Bytes 0) rest (omega arith, ap payload.Bytes (omega arith)))
 
 -- no payload is under way
 abbrev holds : Bool → Type 0

@@ -1,5 +1,5 @@
 -- What a read leaves of all the bytes that are left.
-use Rattle.std.proofs.Common.{◌≡◌, inl, inr, ℕ, ◌<◌, Bool, true, false, List, [], ◌∷◌, ◌++◌, length, arith, sym, ◌∙◌, ap, ap₂, refl, append_assoc, append-nil, length-append, Result, Ok, Err, Option, Some, None}
+use Rattle.std.proofs.Common.{◌≡◌, inl, inr, ℕ, Bool, true, false, List, [], ◌∷◌, ◌++◌, sym, ◌∙◌, ap, ap₂, refl, append_assoc, append-nil, Result, Ok, Err, Option, Some, None}
 use Rattle.std.specs.List.{concat}
 use Rattle.h3_wire.specs.declared.quic.Poll.{Poll}
 use Rattle.h3_wire.specs.declared.quic.Poll.TheVariants.{Ready, Pending}
@@ -67,20 +67,6 @@ reading rest answers polls (Ready (Err incoming.Unknown)) old new open_here h = 
 reading rest answers polls (Ready (Err (incoming.ConnectionErrorIncoming code))) old new open_here h = still rest answers old new (Ready (Err (incoming.ConnectionErrorIncoming code))) open_here h.1 (polls old.source new.source (Ready (Err (incoming.ConnectionErrorIncoming code))) h.1) h.2 h.0
 reading rest answers polls (Ready (Err (incoming.StreamTerminated code))) old new open_here h = still rest answers old new (Ready (Err (incoming.StreamTerminated code))) open_here h.1 (polls old.source new.source (Ready (Err (incoming.StreamTerminated code))) h.1) h.2 h.0
 reading rest answers polls Pending old new open_here h = still rest answers old new Pending open_here h.0 (polls old.source new.source Pending h.0) h.2 h.1
-
--- a piece makes what comes shorter
-pub comes_less : {S : Type 0} (rest : S → List ℕ) (answers : S → Answer → S → Type 0) → ((s t : S) (answer : Answer) → answers s answer t → Polls answer (rest s) (rest t))
-    → (old new : Buffered S) → old.is_eos ≡ false → ReadsMore answers (Ready (Ok false)) old new → length (coming new.is_eos (rest new.source)) < length (coming old.is_eos (rest old.source))
-comes_less rest answers polls old new open_here h =
-    let p = polls old.source new.source (Ready (Ok (Some h.0))) h.1 in
-    rw (h.2 ∙ open_here, open_here) (omega (arith, ap length p.1, length-append h.0 (rest new.source), p.0))
-
--- an error but want of memory is the source's
-pub answered : {S : Type 0} (answers : S → Answer → S → Type 0) (e : StreamErrorIncoming) (old new : Buffered S) → (e ≡ incoming.OutOfMemory → ⊥) → ReadsMore answers (Ready (Err e)) old new → answers old.source (Ready (Err e)) new.source
-answered answers incoming.OutOfMemory old new other h = absurd (other refl)
-answered answers incoming.Unknown old new other h = h.1
-answered answers (incoming.ConnectionErrorIncoming code) old new other h = h.1
-answered answers (incoming.StreamTerminated code) old new other h = h.1
 
 -- no error tells the end
 pub error_keeps : {S : Type 0} (answers : S → Answer → S → Type 0) (e : StreamErrorIncoming) (old new : Buffered S) → ReadsMore answers (Ready (Err e)) old new → new.is_eos ≡ old.is_eos

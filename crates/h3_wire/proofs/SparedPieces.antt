@@ -1,5 +1,5 @@
 -- Pieces in front of a buffer that were let go.
-use Rattle.std.proofs.Common.{◌≡◌, true, false, ℕ, zero, suc, ◌+◌, ◌-◌, ◌<◌, ◌≤◌, List, [], ◌∷◌, ◌++◌, length, drop, arith, refl, sym, subst, ◌∙◌, ap, length-append, append_assoc, append-nil, if◌then◌else◌, OnOk, OnErr, Option, Some, None, Result, Ok, Err}
+use Rattle.std.proofs.Common.{◌≡◌, true, false, ℕ, zero, suc, ◌+◌, ◌-◌, ◌<◌, ◌≤◌, List, [], ◌∷◌, ◌++◌, length, drop, arith, refl, sym, subst, ◌∙◌, ap, length-append, append-nil, if◌then◌else◌, OnOk, OnErr, Option, Some, None, Result, Ok, Err}
 use Rattle.std.specs.List.{concat}
 use Rattle.std.specs.Prelude.{MatchOption}
 use Rattle.std.proofs.lemmas.Bool.{le-ltb}
@@ -18,7 +18,7 @@ use Rattle.h3_wire.proofs.Gives.{gives_fewer}
 use Rattle.h3_wire.specs.KnownLaws.{known-other, known-unknown}
 use Rattle.h3_wire.specs.Fronts.{IsKnown}
 use Rattle.h3_wire.specs.PieceLaws.{concat-without, rest_is, rest_same, rest_then, ending_rest}
-use Rattle.h3_wire.specs.Pieces.{without, with_piece, first_of, IsRest, ending}
+use Rattle.h3_wire.specs.Pieces.{without, with_piece, IsRest, ending}
 use Rattle.h3_wire.specs.Tries.{Decoding, Counts, Expects, no_try, finds_less, passes, needed, counted}
 use Rattle.h3_wire.proofs.Tries.{too_few, expects_next}
 use Rattle.h3_wire.specs.UnknownSize.{unknown_size, size_by, Sparing, AreLetGo, IsKnownTo, IsPassing, IsSpared, choices_for, is_longer, is_under_way, let_go_by, no_kinds, suits}
@@ -27,21 +27,6 @@ use Rattle.h3_wire.specs.UnreadFrames.{UnreadFrames, IsStillUnderWay, IsPassed}
 use Rattle.h3_wire.proofs.LettingGo.{unknown_head, unknown_more, unknown_waits, unknown_whole, unknown_has_head}
 use Rattle.h3_wire.proofs.SuitingKinds.{expects_within, known_more, let_go, unknown_suits}
 use Rattle.h3_wire.specs.declared.frame.kinds.FrameKinds.{FrameKinds}
-
-abbrev first_in : Option (List ℕ) × List (List ℕ) → Option (List ℕ)
-first_in x = x.0
-
-abbrev others_in : Option (List ℕ) × List (List ℕ) → List (List ℕ)
-others_in x = x.1
-
-abbrev bytes_in : Option (List ℕ) → List ℕ
-bytes_in None = []
-bytes_in (Some bytes) = bytes
-
--- a piece behind those that are kept is one behind all
-pub with_piece_behind : (front pieces : List (List ℕ)) (bytes : List ℕ) → front ++ with_piece pieces bytes ≡ with_piece (front ++ pieces) bytes
-with_piece_behind front pieces [] = refl
-with_piece_behind front pieces (b ∷ bytes) = sym (append_assoc front pieces ((b ∷ bytes) ∷ []))
 
 past_piece : (n : ℕ) (p : List ℕ) (pieces : List (List ℕ)) → 0 < n → length p ≤ n → without n (p ∷ pieces) ≡ without (n - length p) pieces
 past_piece zero p pieces some h = absurd (omega (arith, some))
@@ -188,18 +173,6 @@ counts_past kinds r old mid new p c = passes old.decoder new (concat old.pieces)
 
 pub pieces_past : (kinds : FrameKinds) (old mid : UnreadFrames) (new : List (List ℕ)) → IsPassed kinds old mid → new ≡ ending (length (concat new)) mid.pieces → new ≡ ending (length (concat new)) old.pieces
 pieces_past kinds old mid new p e = rest_is (length (concat new)) old.pieces new refl (rest_then old.pieces mid.pieces new p.rest (ending_rest (length (concat new)) mid.pieces new e))
-
--- a first piece, and none
-pub some_first : (piece : List ℕ) (rest pieces : List (List ℕ)) → (Some piece, rest) ≡ first_of pieces → pieces ≡ piece ∷ rest
-some_first piece rest [] e = let wrong : Some piece ≡ None = ap first_in e in absurd (cc)
-some_first piece rest (p ∷ pieces) e =
-    let same : piece ≡ p = ap (λ x. bytes_in (first_in x)) e in
-    let behind : rest ≡ pieces = ap others_in e in
-    cc
-
-pub none_first : (rest pieces : List (List ℕ)) → (None, rest) ≡ first_of pieces → (pieces ≡ []) × (rest ≡ [])
-none_first rest [] e = (refl, ap others_in e)
-none_first rest (p ∷ pieces) e = let wrong : None ≡ Some p = ap first_in e in absurd (cc)
 
 -- what is decoded makes the bytes fewer
 pub decoded_fits : (kinds : FrameKinds) (r : Result (Option (Frame PayloadLen)) FrameStreamError) (front old new : List (List ℕ)) (most : ℕ) → Gives kinds r (concat old) (concat new) → length (concat (front ++ old)) < most → length (concat (front ++ new)) < most

@@ -1,8 +1,7 @@
 -- What taking a frame off the buffer says of all the bytes that are left.
 use Rattle.std.proofs.Common.{◌≡◌, ℕ, ◌≤◌, List, [], ◌++◌, length, arith, sym, ◌∙◌, ap, ap₂, subst, append-nil, length-append, Result, Ok, Err, Option, Some, None}
 use Rattle.std.specs.List.{concat}
-use Rattle.h3_wire.specs.declared.quic.Poll.{Poll}
-use Rattle.h3_wire.specs.declared.quic.Poll.TheVariants.{Ready, Pending}
+use Rattle.h3_wire.specs.declared.quic.Poll.TheVariants.{Ready}
 use Rattle.h3_wire.specs.declared.proto.frame.PayloadLen.{PayloadLen}
 use Rattle.h3_wire.specs.declared.proto.frame.Frame.{Frame}
 use Rattle.h3_wire.specs.declared.frame.errors.FrameStreamError.{FrameStreamError}
@@ -11,7 +10,7 @@ use Rattle.h3_wire.specs.Source.{Answer, coming}
 use Rattle.h3_wire.specs.Frames.{Whole, frame_at, plain_frames}
 use Rattle.h3_wire.proofs.Gives.{whole_behind, refused_behind, same_behind, gives_fewer}
 use Rattle.h3_wire.specs.Known.{known, Gives, IsWaiting, refusal}
-use Rattle.h3_wire.specs.Streams.{Buffered, Framing, left, Tells, PollsFrame}
+use Rattle.h3_wire.specs.Streams.{Buffered, Framing, left, PollsFrame}
 
 -- What was read, and what comes behind it, before and after a frame was taken.
 pub record Taken {S : Type 0} (rest : S → List ℕ) (old new : Framing S) (read behind : List ℕ) : Type 0 where
@@ -46,24 +45,6 @@ polls_end rest old new read behind t g none =
     let after : left rest new ≡ concat new.pieces = t.after ∙ ap (λ l. concat new.pieces ++ l) none ∙ append-nil (concat new.pieces) in
     let before : left rest old ≡ read = t.before ∙ ap (λ l. read ++ l) none ∙ append-nil read in
     (after ∙ g.0 ∙ ap known (sym before), subst (λ l. IsWaiting (frame_at l)) (sym after) g.1, after)
-
--- an error of the source takes nothing
-pub polls_failed : {S : Type 0} (rest : S → List ℕ) (answers : S → Answer → S → Type 0) (old new : Framing S) (mid : Buffered S) (before : Buffered S) (e : FrameStreamError) → left rest new ≡ left rest old → Tells rest answers (Err e) before mid → new.source ≡ mid.source → new.payload ≡ old.payload
-    → PollsFrame rest answers (Ready (Err e)) old new
-polls_failed rest answers old new mid before (stream.Proto e) same t s p = absurd t
-polls_failed rest answers old new mid before stream.OutOfMemory same t s p = (ap known same, p)
-polls_failed rest answers old new mid before (stream.Quic e) same t s p = (ap known same, (t.0, subst (λ x. answers t.0 (Ready (Err e)) x) (sym s) t.1), p)
-polls_failed rest answers old new mid before stream.UnexpectedEnd same t s p = absurd t
-
--- a front that was looked at earlier says the same of the whole
-pub polls_on : {S : Type 0} (rest : S → List ℕ) (answers : S → Answer → S → Type 0) (start old new : Framing S) (r : Poll (Result (Option (Frame PayloadLen)) FrameStreamError)) → known (left rest old) ≡ known (left rest start) → old.payload ≡ start.payload → PollsFrame rest answers r old new → PollsFrame rest answers r start new
-polls_on rest answers start old new (Ready (Ok (Some f))) k p h = (ap frame_at (sym k) ∙ h.0, h.1)
-polls_on rest answers start old new (Ready (Ok None)) k p h = (sym k ∙ h.0, h.1, h.2, h.3 ∙ p)
-polls_on rest answers start old new (Ready (Err (stream.Proto e))) k p h = (h.0 ∙ k, h.1, h.2 ∙ p)
-polls_on rest answers start old new (Ready (Err (stream.Quic e))) k p h = (h.0 ∙ k, h.1, h.2 ∙ p)
-polls_on rest answers start old new (Ready (Err stream.UnexpectedEnd)) k p h = (h.0 ∙ k, h.1, h.2, h.3, h.4 ∙ p)
-polls_on rest answers start old new (Ready (Err stream.OutOfMemory)) k p h = (h.0 ∙ k, h.1 ∙ p)
-polls_on rest answers start old new Pending k p h = (h.0 ∙ k, h.1, h.2, h.3 ∙ p)
 
 pub taken : {S : Type 0} (rest : S → List ℕ) (now inside new : Framing S) (mid took : Buffered S) → inside ≡ now → concat mid.pieces ++ coming mid.is_eos (rest mid.source) ≡ left rest inside
     → took.source ≡ mid.source → took.is_eos ≡ mid.is_eos → concat new.pieces ≡ concat took.pieces → new.source ≡ took.source → new.is_eos ≡ took.is_eos

@@ -32,15 +32,6 @@ too_few kinds None tries bytes h few =
     (known-other kinds bytes (subst IsKnown (sym here) tt), subst IsWaiting (sym here) tt)
 too_few kinds (Some least) tries bytes h few = still_waiting kinds least tries bytes h few
 
-few_in_all : (b : Bool) (size tries : ℕ) → FewTries b size tries → tries ≤ 16
-few_in_all false size tries h = omega (arith, h.1)
-few_in_all true size tries h = h
-
--- no frame is tried more than 17 times
-pub one_more_fits : (kinds : FrameKinds) (expected : Option ℕ) (tries : ℕ) (bytes : List ℕ) → Awaits kinds expected tries bytes → one_more expected tries ≤ 17
-one_more_fits kinds None tries bytes h = omega arith
-one_more_fits kinds (Some least) tries bytes h = omega (arith, few_in_all _ _ tries h.4)
-
 cases_head : (b : Bool) → (b ≡ true) ⊎ (b ≡ false)
 cases_head true = inl refl
 cases_head false = inr refl

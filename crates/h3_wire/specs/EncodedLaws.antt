@@ -9,7 +9,7 @@ use Rattle.h3_coding.specs.VarintLaws.{reads_shortest}
 use Rattle.h3_proto.specs.Pairs.{payload_of}
 use Rattle.h3_proto.specs.Settings.{settings_of}
 use Rattle.h3_wire.specs.Encoded.{head_encoding, frame_encoding, update_payload}
-use Rattle.h3_wire.specs.Frames.{Whole, Unknown, one_number, settings_frame, frame_of, update_frame, with_head, frame_by, is_session, is_update}
+use Rattle.h3_wire.specs.Frames.{Whole, Unknown, one_number, settings_frame, frame_of, with_head, frame_by, is_session, is_update}
 use Rattle.h3_wire.specs.FrameLaws.{at_head, no_update}
 use Rattle.h3_wire.specs.Update.{Update, is_update_type, type_of_update}
 use Rattle.h3_wire.specs.declared.proto.frame.Frame.TheVariants as frame
@@ -64,10 +64,6 @@ pub update_type_fits : (is_push : Bool) → type_of_update is_push < 2 ^ 62
 update_type_fits true = lit< tt
 update_type_fits false = lit< tt
 
-pub update_is_type : (is_push : Bool) → is_update_type (type_of_update is_push) ≡ true
-update_is_type true = refl
-update_is_type false = refl
-
 update_plain : (is_push : Bool) → (type_of_update is_push == 0) ≡ false
 update_plain true = refl
 update_plain false = refl
@@ -75,22 +71,6 @@ update_plain false = refl
 update_session : (kinds : FrameKinds) (is_push : Bool) → is_session kinds (type_of_update is_push) ≡ false
 update_session kinds true = refl
 update_session kinds false = refl
-
-tells_push : (is_push : Bool) → (type_of_update is_push == 0xf0701) ≡ is_push
-tells_push true = refl
-tells_push false = refl
-
-pub written_update : (kinds : FrameKinds) (u : Update) (rest : List ℕ) → kinds.updates ≡ true → u.id < 2 ^ 62 → length (update_payload u) < 2 ^ 62
-    → frame_by kinds (frame_encoding (type_of_update u.is_push) (update_payload u) ++ rest) ≡ Whole (frame.PriorityUpdate u) rest
-written_update kinds u rest on h k =
-    let kind = type_of_update u.is_push in
-    let payload = update_payload u in
-    let all : length payload ≤ length (payload ++ rest) = omega (arith, length-append payload rest) in
-    let known : is_update kinds kind ≡ true = ap (λ b. b && is_update_type kind) on ∙ update_is_type u.is_push in
-    let here : frame_by kinds (frame_encoding kind payload ++ rest) ≡ update_frame kind (varint_at payload) rest =
-    ap (frame_by kinds) (append_assoc (head_encoding kind (length payload)) payload rest) ∙ written_head kinds kind (length payload) (payload ++ rest) (update_type_fits u.is_push) k
-    ∙ rw (update_session kinds u.is_push, update_plain u.is_push, le-ltb (length (payload ++ rest)) (length payload) all, take_at payload rest (length payload) refl, drop_at payload rest (length payload) refl, known) refl in
-    here ∙ ap (λ o. update_frame kind o rest) (reads_shortest u.id u.value h) ∙ ap (λ b. Whole (frame.PriorityUpdate (record { is_push = b; id = u.id; value = u.value })) rest) (tells_push u.is_push)
 
 -- By the others it is an unknown frame.
 update_unknown : (is_push : Bool) (payload rest : List ℕ) → frame_of (type_of_update is_push) payload rest ≡ Unknown (type_of_update is_push) rest

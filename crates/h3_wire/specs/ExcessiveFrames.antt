@@ -38,10 +38,6 @@ abbrev pub tells_too_much : FrameKinds → ℕ → Option (ℕ × ℕ) → Bool
 tells_too_much kinds most None = false
 tells_too_much kinds most (Some h) = (is_kept_whole h.0 || is_update kinds h.0) && nat_lt most h.1
 
-abbrev pub tells_type : ℕ → Option (ℕ × ℕ) → Bool
-tells_type kind None = false
-tells_type kind (Some h) = h.0 == kind
-
 -- the length alone
 abbrev pub number_said : Option (ℕ × ℕ) → ℕ
 number_said None = 0

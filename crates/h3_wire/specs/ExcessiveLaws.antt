@@ -1,12 +1,12 @@
 -- What holds of frames that are longer than their reader takes, and of the unknown ones in front of them.
 use Rattle.std.proofs.Common.{◌≡◌, ℕ, ◌+◌, ◌-◌, ◌<◌, ◌≤◌, Bool, true, false, ◌&&◌, ◌||◌, ◌==◌, List, [], ◌∷◌, ◌++◌, length, take, drop, nat_lt, nat_le, if◌then◌else◌, arith, ap, sym, subst, ◌∙◌, refl, inl, inr, ◌⊎◌, Option, Some, None, Result, Ok, Err, zero, suc}
-use Rattle.std.proofs.lemmas.Bool.{and_parts, and_right, or_parts, or_right, true≢false, le-ltb, le-leb, lt-ltb, eqb-true, leb-true, leb-false, ne_eqb}
+use Rattle.std.proofs.lemmas.Bool.{and_parts, and_right, or_parts, true≢false, le-ltb, le-leb, lt-ltb, eqb-true, leb-true, leb-false, ne_eqb}
 use Rattle.h3_coding.specs.Varint.{varint_at}
 use Rattle.h3_coding.specs.VarintLaws.{cases_number, reads_more}
 use Rattle.h3_proto.specs.Config.{is_limit}
 use Rattle.h3_proto.specs.Settings.{settings_of}
 use Rattle.h3_proto.specs.declared.frame.SettingsError.{SettingsError}
-use Rattle.h3_wire.specs.ExcessiveFrames.{begins_section, head_said, is_excessive_by, is_kept_whole, is_long_update, is_of_type, is_too_long, length_said, says_long_update, says_too_much, is_excessive, tells_too_much, tells_type}
+use Rattle.h3_wire.specs.ExcessiveFrames.{begins_section, head_said, is_excessive_by, is_kept_whole, is_long_update, is_of_type, is_too_long, length_said, says_long_update, says_too_much, tells_too_much}
 use Rattle.h3_wire.specs.FrameLaws.{at_no_kind, at_no_number, at_head, no_update}
 use Rattle.h3_wire.specs.Fronts.{IsFinished, IsKept, IsKnown}
 use Rattle.h3_wire.specs.Frames.{Front, Whole, Unknown, Refused, Unfinished, alone, one_number, settings_frame, promise_frame, is_http2, frame_of, frame_known, update_frame, with_head, frame_by, is_session, is_update}
@@ -17,10 +17,6 @@ use Rattle.h3_wire.specs.declared.proto.frame.PayloadLen.{PayloadLen}
 use Rattle.h3_wire.specs.declared.proto.frame.Frame.{Frame}
 use Rattle.h3_wire.specs.declared.proto.frame.Frame.TheVariants as frame
 use Rattle.h3_wire.specs.declared.frame.kinds.FrameKinds.{FrameKinds}
-
--- **With no limit nothing is too long.**
-pub none_excessive : (most : ℕ) (bytes : List ℕ) → is_limit most ≡ false → is_excessive most bytes ≡ false
-none_excessive most bytes none = ap (λ b. b && says_too_much most (varint_at bytes)) none
 
 -- **What is too long is told by what the head says.**
 excess_by : (kinds : FrameKinds) (most : ℕ) (bytes : List ℕ) → is_excessive_by kinds most bytes ≡ (is_limit most && tells_too_much kinds most (head_said (varint_at bytes)))
@@ -61,10 +57,6 @@ none_excessive_by kinds most bytes none = excess_by kinds most bytes ∙ ap (λ 
 -- What is too long is so by a limit.
 pub excessive_limited : (kinds : FrameKinds) (most : ℕ) (bytes : List ℕ) → is_excessive_by kinds most bytes ≡ true → is_limit most ≡ true
 excessive_limited kinds most bytes e = (and_parts (is_limit most) (tells_too_much kinds most (head_said (varint_at bytes))) (sym (excess_by kinds most bytes) ∙ e)).0
-
--- Where no updates are known, and where they are, a frame of RFC 9114 is too long alike.
-pub excess_with : (kinds : FrameKinds) (most : ℕ) (bytes : List ℕ) → is_excessive most bytes ≡ true → is_excessive_by kinds most bytes ≡ true
-excess_with kinds most bytes e = or_right (kinds.updates && (is_limit most && says_long_update kinds most (varint_at bytes))) (is_excessive most bytes) e
 
 -- What is kept has a type from 1 to 13,
 kept_within : (kind : ℕ) → is_kept_whole kind ≡ true → (0 < kind) × (kind < 14)
@@ -263,17 +255,6 @@ pub waiting_says : (kinds : FrameKinds) (kind number : ℕ) (bytes mid behind : 
     → length behind < number → Some (kind, number) ≡ head_said (varint_at (known_by kinds bytes))
 waiting_says kinds kind number bytes mid behind none other update e k short = whole_says kinds kind number bytes mid behind (stays_unknown kinds kind number bytes mid behind none other update e k short) e k
 
--- **What is too long, and what is a field section, is told by it.**
-pub excess_told : (kinds : FrameKinds) (most : ℕ) (bytes : List ℕ) (o : Option (ℕ × ℕ)) → is_limit most ≡ true → o ≡ head_said (varint_at bytes) → tells_too_much kinds most o ≡ is_excessive_by kinds most bytes
-excess_told kinds most bytes o limit e = ap (tells_too_much kinds most) e ∙ sym (excess_by kinds most bytes ∙ ap (λ b. b && tells_too_much kinds most (head_said (varint_at bytes))) limit)
-
-pub section_told : (bytes : List ℕ) (o : Option (ℕ × ℕ)) → o ≡ head_said (varint_at bytes) → tells_type 1 o ≡ begins_section bytes
-section_told bytes o e = ap (tells_type 1) e ∙ by_kind (varint_at bytes)
-  where
-    by_kind : (x : Option (ℕ × List ℕ)) → tells_type 1 (head_said x) ≡ is_of_type 1 x
-    by_kind None = refl
-    by_kind (Some p) = refl
-
 -- A head that is not there is of no frame that is too long,
 pub none_told : (kinds : FrameKinds) (most : ℕ) (bytes : List ℕ) → varint_at bytes ≡ None → is_excessive_by kinds most bytes ≡ false
 none_told kinds most bytes e =
@@ -352,13 +333,6 @@ excessive_more kinds most bytes more there = elim (cases_number bytes) [
     by_number kind mid e (inr (number, behind, k)) =
         said_of kinds most kind number (bytes ++ more) (mid ++ more) (behind ++ more) (reads_more kind bytes mid more e) (reads_more number mid behind more k)
         ∙ sym (said_of kinds most kind number bytes mid behind e k)
-
--- What is too long has its type, and no byte behind it matters.
-pub section_more : (kinds : FrameKinds) (most : ℕ) (bytes more : List ℕ) → is_excessive_by kinds most bytes ≡ true → begins_section (bytes ++ more) ≡ begins_section bytes
-section_more kinds most bytes more e = elim (cases_number bytes) [
-  | inl none ↦ absurd (true≢false (sym e ∙ none_told kinds most bytes none))
-  | inr (kind, mid, k) ↦ ap (is_of_type 1) (reads_more kind bytes mid more k) ∙ sym (ap (is_of_type 1) k)
-]
 
 -- DATA is never too long.
 pub no_data : (kinds : FrameKinds) (most : ℕ) (bytes rest : List ℕ) (len : PayloadLen) → frame_by kinds bytes ≡ Whole (frame.Data len) rest → is_excessive_by kinds most bytes ≡ true → ⊥

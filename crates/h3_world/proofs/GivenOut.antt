@@ -26,9 +26,6 @@ pub record IsOldest (id : ℕ) (section : EncodedSection) (rest : List EncodedSe
 same_id : (a b : ℕ) → (a == b) ≡ true → a ≡ b
 same_id a b e = grind (arith, common_steps, e)
 
-self : (a : ℕ) → (a == a) ≡ true
-self a = grind (arith, common_steps)
-
 first : (x y : EncodedSection) (xs ys : List EncodedSection) → ◌≡◌ {A = List EncodedSection} (x ∷ xs) (y ∷ ys) → (x ≡ y) × (xs ≡ ys)
 first x y xs ys e = (ap (λ l. head_or l x) e, ap tail e)
   where

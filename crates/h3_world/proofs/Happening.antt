@@ -50,9 +50,6 @@ use Rattle.h3_world.proofs.SoundFlows.{flow_sound}
 use Rattle.h3_world.proofs.StepsSound.{unsettled, waits_message}
 use Rattle.h3_world.proofs.WithinLimits.{within_limits}
 
-differ : true ≡ false → ⊥
-differ e = cc
-
 -- the own streams are no request streams
 request_not_own : (side : Side) (id : ℕ) → is_request_stream id ≡ true → is_own side id ≡ false
 request_not_own Client id h = grind (arith, common_steps, h)

@@ -41,9 +41,6 @@ sent_other_kept setup w side id fields kind there h =
       sections = λ i. ap sections_left (flows i);
     })
 
-first_party : (w : World) (side : Side) (id : ℕ) (f : Flow) (v : World) → party (with_flow v (other side) id f) side ≡ party v side
-first_party w side id f v = party-with_flow v (other side) side id f
-
 flow_first : (v : World) (side : Side) (id i : ℕ) (f : Flow) → IsThere v id → flow (with_flow v (other side) id f) side i ≡ flow v side i
 flow_first v Client id i f there = flow-with_other v Server id i f there
 flow_first v Server id i f there = flow-with_other v Client id i f there

@@ -80,10 +80,6 @@ pub record LearnsLimits (setup : Setup) (old new : World) (side : Side) (is : Li
   pub faults : (i : ℕ) → (flow new side i).fault ≡ (flow old side i).fault
   pub sections : (i : ℕ) → sections_left (flow new side i) ≡ sections_left (flow old side i)
 
--- the session whose encoder learned, and whether it did
-abbrev pub if_limited : Session → Limits → Session
-if_limited s limits = if has_table s.encoder.most_capacity limits then with_table s limits.table limits.blocked else s
-
 pub learned_kept : (setup : Setup) (old new : World) (side : Side) (is : List DecoderInstruction) → HasSession setup old side → LearnsLimits setup old new side is → HasSession setup new side
 learned_kept setup old new side is h l = by_test (has_table most limits) refl
   where

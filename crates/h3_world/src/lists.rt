@@ -3,11 +3,11 @@ ghost use Rattle.std.specs.Prelude.{◌≡◌};
 
 use bytes::Bytes;
 use h3_connection::event::Fault;
-use h3_field::HeaderField;
+use h3_field::{FieldBlock, HeaderField};
 use h3_proto::webtransport::SessionId;
 use std::marker::Model;
 
-/// The fields of a header section or trailer, in their order (RFC 9110, section 5.2). A contract sees the list.
+/// The fields of a header section or trailer that is sent, in their order (RFC 9110, section 5.2). A contract sees the list.
 #[derive(Drop)]
 pub struct FieldLines {
     fields: Vec<HeaderField>,
@@ -43,13 +43,13 @@ impl FieldLines {
 #[derive(Drop)]
 pub enum ListItem {
     /// A header section with a status from 100 to 199, which is not the last one.
-    Interim(FieldLines),
+    Interim(FieldBlock),
     /// The header section of a request, or the final one of a response.
-    Head(FieldLines),
+    Head(FieldBlock),
     /// The next piece of the content, as the pieces came that were delivered.
     Body(Bytes),
     /// The trailer, after which nothing but the end comes.
-    Trailer(FieldLines),
+    Trailer(FieldBlock),
     /// In the place of a header section or trailer whose size is above the local limit on sections: that size.
     TooLarge(u64),
     /// The stream is one of this WebTransport session, and no message.

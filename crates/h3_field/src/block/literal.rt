@@ -109,7 +109,8 @@ impl LiteralWithNameRef {
         alloc: Global,
         buf: &mut SliceCursor<'_>,
     ) -> Result<LiteralWithNameRef, ParseError>
-        ensures own { begins 64 127 buf.old ≡ true → AnswersLine named_line (behind (integer 4 buf.old)) (named buf.old) buf.old buf.new result }
+        ensures own { begins 64 127 buf.old ≡ true
+            → AnswersLine named_line (behind (integer 4 buf.old)) (named buf.old) buf.old buf.new result }
         ensures other { begins 64 127 buf.old ≡ false → (result ≡ Err (InvalidPrefix (slice_index buf.old 0))) × (buf.new ≡ buf.old) }
         ensures rest { IsEndOf buf.old buf.new }
     {
@@ -124,7 +125,8 @@ impl LiteralWithNameRef {
         buf: &mut SliceCursor<'_>,
         spare: usize,
     ) -> Result<LiteralWithNameRef, ParseError>
-        ensures own { begins 64 127 buf.old ≡ true → AnswersLine named_line (behind (integer 4 buf.old)) (named buf.old) buf.old buf.new result }
+        ensures own { begins 64 127 buf.old ≡ true
+            → AnswersLine named_line (behind (integer 4 buf.old)) (named buf.old) buf.old buf.new result }
         ensures other { begins 64 127 buf.old ≡ false → (result ≡ Err (InvalidPrefix (slice_index buf.old 0))) × (buf.new ≡ buf.old) }
         ensures rest { IsEndOf buf.old buf.new }
         ensures room { IfOk result (λ line. HasRoom spare (line_value line)) }
@@ -179,7 +181,8 @@ impl LiteralWithNameRef {
         buf: &mut SliceCursor<'_>,
         value: &mut ShortString,
     ) -> Option<(NameRef, bool)>
-        ensures some { IfSome result (λ head. AnswersLine (short_named_line value.new) AtInteger (named buf.old) buf.old buf.new (Ok head)) }
+        ensures some { IfSome result
+            (λ head. AnswersLine (short_named_line value.new) AtInteger (named buf.old) buf.old buf.new (Ok head)) }
         ensures none { IfNone result (buf.new ≡ buf.old) }
     {
         let Some(head) = take_index_and_short(4, buf, value) else {
@@ -263,7 +266,8 @@ impl LiteralWithNameRef {
         requires index { index < 2 ^ 62 }
         requires value { length value.now < 2 ^ 62 }
         ensures memory { IsOkUnless result OutOfMemory }
-        ensures ok { OnOk result (buf.new.items ≡ buf.old.items ++ line_bytes (RelativeName index (coded shortest value.now) never_indexed)) }
+        ensures ok { OnOk result
+            (buf.new.items ≡ buf.old.items ++ line_bytes (RelativeName index (coded shortest value.now) never_indexed)) }
         ensures err { OnErr result (buf.new.items ≡ buf.old.items) }
     {
         put_index_and_string(
@@ -312,7 +316,8 @@ impl LiteralWithPostBaseNameRef {
         alloc: Global,
         buf: &mut SliceCursor<'_>,
     ) -> Result<LiteralWithPostBaseNameRef, ParseError>
-        ensures own { begins 0 15 buf.old ≡ true → AnswersLine post_base_named_line (behind (integer 3 buf.old)) (post_base_named buf.old) buf.old buf.new result }
+        ensures own { begins 0 15 buf.old ≡ true
+            → AnswersLine post_base_named_line (behind (integer 3 buf.old)) (post_base_named buf.old) buf.old buf.new result }
         ensures other { begins 0 15 buf.old ≡ false → (result ≡ Err (InvalidPrefix (slice_index buf.old 0))) × (buf.new ≡ buf.old) }
         ensures rest { IsEndOf buf.old buf.new }
     {
@@ -327,7 +332,8 @@ impl LiteralWithPostBaseNameRef {
         buf: &mut SliceCursor<'_>,
         spare: usize,
     ) -> Result<LiteralWithPostBaseNameRef, ParseError>
-        ensures own { begins 0 15 buf.old ≡ true → AnswersLine post_base_named_line (behind (integer 3 buf.old)) (post_base_named buf.old) buf.old buf.new result }
+        ensures own { begins 0 15 buf.old ≡ true
+            → AnswersLine post_base_named_line (behind (integer 3 buf.old)) (post_base_named buf.old) buf.old buf.new result }
         ensures other { begins 0 15 buf.old ≡ false → (result ≡ Err (InvalidPrefix (slice_index buf.old 0))) × (buf.new ≡ buf.old) }
         ensures rest { IsEndOf buf.old buf.new }
         ensures room { IfOk result (λ line. HasRoom spare line.value) }
@@ -360,7 +366,8 @@ impl LiteralWithPostBaseNameRef {
     /// Takes the line from the front, and reads its value into `value`, with no memory: the post-base index of its name, and the bit N.
     /// None: the value may be long, or the read is refused. Then nothing is taken.
     pub fn decode_short(buf: &mut SliceCursor<'_>, value: &mut ShortString) -> Option<(usize, bool)>
-        ensures some { IfSome result (λ head. AnswersLine (short_post_base_named_line value.new) AtInteger (post_base_named buf.old) buf.old buf.new (Ok head)) }
+        ensures some { IfSome result
+            (λ head. AnswersLine (short_post_base_named_line value.new) AtInteger (post_base_named buf.old) buf.old buf.new (Ok head)) }
         ensures none { IfNone result (buf.new ≡ buf.old) }
     {
         let Some(head) = take_index_and_short(3, buf, value) else {
@@ -396,7 +403,8 @@ impl LiteralWithPostBaseNameRef {
         requires index { index < 2 ^ 62 }
         requires value { length value.now < 2 ^ 62 }
         ensures memory { IsOkUnless result OutOfMemory }
-        ensures ok { OnOk result (buf.new.items ≡ buf.old.items ++ line_bytes (PostBaseName index (coded shortest value.now) never_indexed)) }
+        ensures ok { OnOk result
+            (buf.new.items ≡ buf.old.items ++ line_bytes (PostBaseName index (coded shortest value.now) never_indexed)) }
         ensures err { OnErr result (buf.new.items ≡ buf.old.items) }
     {
         put_index_and_string(3, bit_n(never_indexed), index as u64, value, shortest, buf)
@@ -489,7 +497,9 @@ impl Literal {
         requires name { length name.now < 2 ^ 62 }
         requires value { length value.now < 2 ^ 62 }
         ensures memory { IsOkUnless result OutOfMemory }
-        ensures ok { OnOk result (buf.new.items ≡ buf.old.items ++ line_bytes (line.Literal (coded shortest name.now) (coded shortest value.now) never_indexed)) }
+        ensures ok { OnOk result
+            (buf.new.items ≡ buf.old.items ++ line_bytes
+            (line.Literal (coded shortest name.now) (coded shortest value.now) never_indexed)) }
         ensures err { OnErr result (buf.new.items ≡ buf.old.items) }
     {
         put_two_strings(4, 2 + bit_n(never_indexed), name, value, shortest, buf)

@@ -108,7 +108,8 @@ impl HeaderPrefix {
         max_table_size: usize,
     ) -> Result<(usize, usize), ParseError>
         requires { total_inserted ≤ 2 ^ 62 }
-        ensures { MatchResult result (λ p. IsPrefix max_table_size total_inserted self p.0 p.1) (λ e. HasNoPrefix max_table_size total_inserted self e) }
+        ensures { MatchResult result (λ p. IsPrefix max_table_size total_inserted self p.0 p.1)
+            (λ e. HasNoPrefix max_table_size total_inserted self e) }
     {
         if max_table_size == 0 {
             return Ok((0, 0));

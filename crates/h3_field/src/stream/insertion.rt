@@ -52,7 +52,8 @@ impl InsertWithNameRef {
         alloc: Global,
         buf: &mut SliceCursor<'_>,
     ) -> Result<Option<InsertWithNameRef>, ParseError>
-        ensures own { begins 128 255 buf.old ≡ true → AnswersInstruction named_insertion (behind (integer 6 buf.old)) (name_reference buf.old) buf.old buf.new result }
+        ensures own { begins 128 255 buf.old ≡ true
+            → AnswersInstruction named_insertion (behind (integer 6 buf.old)) (name_reference buf.old) buf.old buf.new result }
         ensures other { begins 128 255 buf.old ≡ false → (result ≡ Err (InvalidPrefix (slice_index buf.old 0))) × (buf.new ≡ buf.old) }
         ensures rest { IsEndOf buf.old buf.new }
     {
@@ -67,7 +68,8 @@ impl InsertWithNameRef {
         buf: &mut SliceCursor<'_>,
         spare: usize,
     ) -> Result<Option<InsertWithNameRef>, ParseError>
-        ensures own { begins 128 255 buf.old ≡ true → AnswersInstruction named_insertion (behind (integer 6 buf.old)) (name_reference buf.old) buf.old buf.new result }
+        ensures own { begins 128 255 buf.old ≡ true
+            → AnswersInstruction named_insertion (behind (integer 6 buf.old)) (name_reference buf.old) buf.old buf.new result }
         ensures other { begins 128 255 buf.old ≡ false → (result ≡ Err (InvalidPrefix (slice_index buf.old 0))) × (buf.new ≡ buf.old) }
         ensures rest { IsEndOf buf.old buf.new }
         ensures room { IfOk result (λ read. IfSome read (λ insertion. HasRoom spare (inserted_value insertion))) }
@@ -119,7 +121,8 @@ impl InsertWithNameRef {
         requires index { index < 2 ^ 62 }
         requires value { length value.now < 2 ^ 62 }
         ensures memory { IsOkUnless result OutOfMemory }
-        ensures ok { OnOk result (buf.new.items ≡ buf.old.items ++ encoder_bytes (instruction.InsertWithStaticName index (coded shortest value.now))) }
+        ensures ok { OnOk result
+            (buf.new.items ≡ buf.old.items ++ encoder_bytes (instruction.InsertWithStaticName index (coded shortest value.now))) }
         ensures err { OnErr result (buf.new.items ≡ buf.old.items) }
     {
         put_index_and_string(6, 3, index as u64, value, shortest, buf)
@@ -135,7 +138,8 @@ impl InsertWithNameRef {
         requires index { index < 2 ^ 62 }
         requires value { length value.now < 2 ^ 62 }
         ensures memory { IsOkUnless result OutOfMemory }
-        ensures ok { OnOk result (buf.new.items ≡ buf.old.items ++ encoder_bytes (instruction.InsertWithEntryName index (coded shortest value.now))) }
+        ensures ok { OnOk result
+            (buf.new.items ≡ buf.old.items ++ encoder_bytes (instruction.InsertWithEntryName index (coded shortest value.now))) }
         ensures err { OnErr result (buf.new.items ≡ buf.old.items) }
     {
         put_index_and_string(6, 2, index as u64, value, shortest, buf)
@@ -164,7 +168,8 @@ impl InsertWithoutNameRef {
         alloc: Global,
         buf: &mut SliceCursor<'_>,
     ) -> Result<Option<InsertWithoutNameRef>, ParseError>
-        ensures own { begins 64 127 buf.old ≡ true → AnswersInstruction literal_insertion AtString (literal_name buf.old) buf.old buf.new result }
+        ensures own { begins 64 127 buf.old ≡ true
+            → AnswersInstruction literal_insertion AtString (literal_name buf.old) buf.old buf.new result }
         ensures other { begins 64 127 buf.old ≡ false → (result ≡ Err (InvalidPrefix (slice_index buf.old 0))) × (buf.new ≡ buf.old) }
         ensures rest { IsEndOf buf.old buf.new }
     {
@@ -202,7 +207,9 @@ impl InsertWithoutNameRef {
         requires name { length name.now < 2 ^ 62 }
         requires value { length value.now < 2 ^ 62 }
         ensures memory { IsOkUnless result OutOfMemory }
-        ensures ok { OnOk result (buf.new.items ≡ buf.old.items ++ encoder_bytes (instruction.InsertLiteral (coded shortest name.now) (coded shortest value.now))) }
+        ensures ok { OnOk result
+            (buf.new.items ≡ buf.old.items ++ encoder_bytes
+            (instruction.InsertLiteral (coded shortest name.now) (coded shortest value.now))) }
         ensures err { OnErr result (buf.new.items ≡ buf.old.items) }
     {
         put_two_strings(6, 1, name, value, shortest, buf)

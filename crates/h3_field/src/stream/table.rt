@@ -56,7 +56,8 @@ impl DynamicTableSizeUpdate {
     /// Takes the instruction from the front, or answers `None` if it is not whole. Then, and on a refusal, nothing is taken.
     #[tactic(auto, using(crate::specs::EndLaws::none_dropped))]
     pub fn decode(buf: &mut SliceCursor<'_>) -> Result<Option<DynamicTableSizeUpdate>, ParseError>
-        ensures own { begins 32 63 buf.old ≡ true → AnswersInstruction capacity_setting AtInteger (capacity buf.old) buf.old buf.new result }
+        ensures own { begins 32 63 buf.old ≡ true
+            → AnswersInstruction capacity_setting AtInteger (capacity buf.old) buf.old buf.new result }
         ensures other { begins 32 63 buf.old ≡ false → (result ≡ Err (InvalidPrefix (slice_index buf.old 0))) × (buf.new ≡ buf.old) }
         ensures rest { IsEndOf buf.old buf.new }
     {

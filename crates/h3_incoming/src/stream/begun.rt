@@ -39,7 +39,8 @@ pub(super) fn begun_by(
     content: Content,
     frame: Frame<PayloadLen>,
 ) -> Begun
-    ensures is { (own : Announced) (id : ℕ) (r : DecoderState) (i : Incoming) → i.content ≡ content → at_frame side own id r side i place frame ≡ begun_as side own id r i result }
+    ensures is { (own : Announced) (id : ℕ) (r : DecoderState) (i : Incoming) → i.content ≡ content
+        → at_frame side own id r side i place frame ≡ begun_as side own id r i result }
     ensures begins { IsBegunBy place content frame result }
     ensures section { IsSectionOf frame result }
     ensures empty { (is_body place && is_empty_data frame) ≡ is_empty result }
@@ -126,7 +127,8 @@ fn begun_by_trailer(content: Content, section: Bytes) -> Begun
 
 // At a server a session may stand in the place of a message.
 fn begun_by_session(side: Side, place: Place, session: SessionId) -> Begun
-    ensures is { (own : Announced) (id : ℕ) (r : DecoderState) (i : Incoming) → at_frame side own id r side i place (Frame.WebTransportStream session) ≡ begun_as side own id r i result }
+    ensures is { (own : Announced) (id : ℕ) (r : DecoderState) (i : Incoming)
+        → at_frame side own id r side i place (Frame.WebTransportStream session) ≡ begun_as side own id r i result }
     ensures begins { (content : Content) → IsBegunBy place content (Frame.WebTransportStream session) result }
     ensures section { IsSectionOf (Frame.WebTransportStream session) result }
     ensures empty { is_empty result ≡ false }

@@ -28,7 +28,8 @@ impl IncomingStream {
     )
         requires open { 0 < self.old.body_left }
         requires goes_on { self.old.is_over ≡ false }
-        ensures answer { is_memory (O.told out.new) ≡ false → Gives (at_payload id self.old) (O.told out.new) self.new replies.old.items replies.new.items }
+        ensures answer { is_memory (O.told out.new) ≡ false
+            → Gives (at_payload id self.old) (O.told out.new) self.new replies.old.items replies.new.items }
         ensures memory { is_memory (O.told out.new) ≡ true → (self.new ≡ self.old) × (replies.new.items ≡ replies.old.items) }
         ensures none { O.listed out.new ≡ None }
     {

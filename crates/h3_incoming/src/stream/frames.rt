@@ -38,7 +38,8 @@ fn begin_session<O: Answer>(
     session: SessionId,
     out: &mut O,
 )
-    ensures is { (i : Incoming) → at_session announced.now (record i { place = place.old }) session ≡ just (O.told out.new) (record i { place = place.new }) }
+    ensures is { (i : Incoming)
+        → at_session announced.now (record i { place = place.old }) session ≡ just (O.told out.new) (record i { place = place.new }) }
     ensures told { is_memory (O.told out.new) ≡ false }
     ensures none { O.listed out.new ≡ None }
 {
@@ -70,7 +71,8 @@ impl IncomingStream {
         requires waits { self.old.waits_for ≡ 0 }
         ensures answer { is_memory (O.told out.new) ≡ false
             → Gives (between_frames side announced.now id decoder.now self.old) (O.told out.new) self.new replies.old.items replies.new.items }
-        ensures memory { is_memory (O.told out.new) ≡ true → Resumes announced.now self.old self.new × (replies.new.items ≡ replies.old.items) }
+        ensures memory { is_memory (O.told out.new) ≡ true → Resumes announced.now self.old self.new
+            × (replies.new.items ≡ replies.old.items) }
         ensures list { Lists (O.listed out.new) (fields_next announced.now decoder.now self.old) }
     {
         // nothing is there of a frame: so ends most of what is pulled

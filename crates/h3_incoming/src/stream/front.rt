@@ -44,10 +44,13 @@ pub(super) fn front(
     content: Content,
     announced: &Announced,
 ) -> Result<Found, AllocError>
-    ensures finds { IfOk result (λ f. Finds (kinds_of announced.now) side place content f (concat unread.old.pieces) (concat unread.new.pieces)) }
-    ensures within { IfOk result (λ f. IsWithin (kinds_of announced.now) announced.now.choices.unfinished_limit (is_body place) f (concat unread.old.pieces)) }
+    ensures finds { IfOk result
+        (λ f. Finds (kinds_of announced.now) side place content f (concat unread.old.pieces) (concat unread.new.pieces)) }
+    ensures within { IfOk result
+        (λ f. IsWithin (kinds_of announced.now) announced.now.choices.unfinished_limit (is_body place) f (concat unread.old.pieces)) }
     ensures between { IfOk result (λ f. LeavesBetween f unread.new) }
-    ensures err { OnErr result (PassesFrames (kinds_of announced.now) (is_body place) (concat unread.old.pieces) (concat unread.new.pieces)) }
+    ensures err { OnErr result
+        (PassesFrames (kinds_of announced.now) (is_body place) (concat unread.old.pieces) (concat unread.new.pieces)) }
     ensures rest { IsRest unread.old.pieces unread.new.pieces }
 {
     loop {
@@ -71,12 +74,17 @@ fn front_one(
     content: Content,
     announced: &Announced,
 ) -> Result<Option<Found>, AllocError>
-    ensures finds { IfOk result (λ o. IfSome o (λ f. Finds (kinds_of announced.now) side place content f (concat unread.old.pieces) (concat unread.new.pieces))) }
-    ensures within { IfOk result (λ o. IfSome o (λ f. IsWithin (kinds_of announced.now) announced.now.choices.unfinished_limit (is_body place) f (concat unread.old.pieces))) }
+    ensures finds { IfOk result
+        (λ o. IfSome o (λ f. Finds (kinds_of announced.now) side place content f (concat unread.old.pieces) (concat unread.new.pieces))) }
+    ensures within { IfOk result
+        (λ o. IfSome o (λ f. IsWithin (kinds_of announced.now) announced.now.choices.unfinished_limit (is_body place) f
+        (concat unread.old.pieces))) }
     ensures between { IfOk result (λ o. IfSome o (λ f. LeavesBetween f unread.new)) }
-    ensures on { IfOk result (λ o. IfNone o (PassesFrames (kinds_of announced.now) (is_body place) (concat unread.old.pieces) (concat unread.new.pieces))) }
+    ensures on { IfOk result
+        (λ o. IfNone o (PassesFrames (kinds_of announced.now) (is_body place) (concat unread.old.pieces) (concat unread.new.pieces))) }
     ensures less { IfOk result (λ o. IfNone o (length (concat unread.new.pieces) < length (concat unread.old.pieces))) }
-    ensures err { OnErr result (PassesFrames (kinds_of announced.now) (is_body place) (concat unread.old.pieces) (concat unread.new.pieces)) }
+    ensures err { OnErr result
+        (PassesFrames (kinds_of announced.now) (is_body place) (concat unread.old.pieces) (concat unread.new.pieces)) }
     ensures rest { IsRest unread.old.pieces unread.new.pieces }
 {
     if is_excessive(unread, announced) {
@@ -102,7 +110,8 @@ fn front_one(
 // and length in the first piece do not tell it.
 #[inline(always)]
 fn is_excessive(unread: &FrameBuffer, announced: &Announced) -> bool
-    ensures { result ≡ is_excessive_by (kinds_of announced.now) announced.now.choices.unfinished_limit (known_by (kinds_of announced.now) (concat unread.now.pieces)) }
+    ensures { result ≡ is_excessive_by (kinds_of announced.now) announced.now.choices.unfinished_limit
+        (known_by (kinds_of announced.now) (concat unread.now.pieces)) }
 {
     let most = announced.choices.unfinished_limit;
     match unread.is_first_excessive(most) {
@@ -134,7 +143,8 @@ fn next_begun(
 // The same, if `FrameBuffer::next_first` reads it. `None` changes nothing.
 #[inline(always)]
 fn first_begun(unread: &mut FrameBuffer, place: Place, content: Content) -> Option<Option<Begun>>
-    ensures gives { (kinds : FrameKinds) (side : Side) → IfSome result (λ o. GivesBegun kinds side place content (Ok o) (concat unread.old.pieces) (concat unread.new.pieces)) }
+    ensures gives { (kinds : FrameKinds) (side : Side)
+        → IfSome result (λ o. GivesBegun kinds side place content (Ok o) (concat unread.old.pieces) (concat unread.new.pieces)) }
     ensures between { IfSome result (λ o. IfSome o (λ b. AreBetween unread.new)) }
     ensures same { IsNone result → unread.new ≡ unread.old }
     ensures pieces { unread.new.pieces ≡ ending (length (concat unread.new.pieces)) unread.old.pieces }

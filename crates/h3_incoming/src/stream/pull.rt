@@ -34,7 +34,8 @@ impl IncomingStream {
     )
         ensures answer { is_memory (O.told out.new) ≡ false
             → Gives (pull_stream side announced.now id decoder.now self.old) (O.told out.new) self.new replies.old.items replies.new.items }
-        ensures memory { is_memory (O.told out.new) ≡ true → Resumes announced.now self.old self.new × (replies.new.items ≡ replies.old.items) }
+        ensures memory { is_memory (O.told out.new) ≡ true → Resumes announced.now self.old self.new
+            × (replies.new.items ≡ replies.old.items) }
         ensures list { Lists (O.listed out.new) (fields_next announced.now decoder.now self.old) }
     {
         self.pull_item(alloc, side, announced, id, decoder, replies, out);
@@ -54,7 +55,8 @@ impl IncomingStream {
     )
         ensures answer { is_memory (O.told out.new) ≡ false
             → Gives (pull_stream side announced.now id decoder.now self.old) (O.told out.new) self.new replies.old.items replies.new.items }
-        ensures memory { is_memory (O.told out.new) ≡ true → Resumes announced.now self.old self.new × (replies.new.items ≡ replies.old.items) }
+        ensures memory { is_memory (O.told out.new) ≡ true → Resumes announced.now self.old self.new
+            × (replies.new.items ≡ replies.old.items) }
         ensures list { Lists (O.listed out.new) (fields_next announced.now decoder.now self.old) }
     {
         if let Some(fault) = self.fault() {

@@ -64,7 +64,8 @@ impl IncomingStream {
     // What came of a payload after the type and length of its frame.
     fn begin_payload(&mut self, alloc: Global, bytes: &[u8]) -> Option<BodyPlace>
         requires clear { keeps_nothing self.old ≡ true }
-        ensures place { result ≡ (if is_body self.old.place then place_behind self.old.content (length bytes.now) (data_at bytes.now) else None) }
+        ensures place { result ≡
+            (if is_body self.old.place then place_behind self.old.content (length bytes.now) (data_at bytes.now) else None) }
         ensures some { IfSome result (λ p. IfSome (data_at bytes.now) (λ d.
             self.new ≡ record self.old { unread = []; body_left = d.0 - p.len; content = left_behind self.old.content d.0 })) }
         ensures none { IsNone result → self.new ≡ self.old }

@@ -91,7 +91,9 @@ impl IncomingStream {
             → is_memory (O.told out.new) ≡ false
             → Gives (read_section side announced.now id r (past_section self.old) (acknowledgment id count) fields) (O.told out.new) self.new replies.old.items replies.new.items }
         ensures memory { is_memory (O.told out.new) ≡ true → (self.new ≡ self.old) × (replies.new.items ≡ replies.old.items) }
-        ensures list { (dyn_ref : Bool) (fields : List Field) → IsBlockWithin (section_of announced.now) (codes ":status") dyn_ref fields decoded block → IfSome (O.listed out.new) (λ l. l ≡ fields) }
+        ensures list { (dyn_ref : Bool) (fields : List Field)
+            → IsBlockWithin (section_of announced.now) (codes ":status") dyn_ref fields decoded block
+            → IfSome (O.listed out.new) (λ l. l ≡ fields) }
     {
         let acknowledges = names_entries(&decoded);
         match judge(
@@ -159,7 +161,8 @@ impl IncomingStream {
         replies: &mut Vec<u8>,
         out: &mut O,
     )
-        ensures answer { is_memory (O.told out.new) ≡ false → Gives (malformed id why self.old []) (O.told out.new) self.new replies.old.items replies.new.items }
+        ensures answer { is_memory (O.told out.new) ≡ false
+            → Gives (malformed id why self.old []) (O.told out.new) self.new replies.old.items replies.new.items }
         ensures memory { is_memory (O.told out.new) ≡ true → (self.new ≡ self.old) × (replies.new.items ≡ replies.old.items) }
         ensures none { O.listed out.new ≡ None }
     {
@@ -185,7 +188,8 @@ impl IncomingStream {
     // The section needs so many insertions. One that waited already names what is not there.
     fn miss_entries<O: Answer>(&mut self, count: usize, out: &mut O)
         requires { is_some self.old.section ≡ true }
-        ensures answer { (side : Side) (own : Announced) (id : ℕ) (r : DecoderState) → decoded side own id r self.old (Missing count) ≡ just (O.told out.new) self.new }
+        ensures answer { (side : Side) (own : Announced) (id : ℕ) (r : DecoderState)
+            → decoded side own id r self.old (Missing count) ≡ just (O.told out.new) self.new }
         ensures memory { is_memory (O.told out.new) ≡ false }
         ensures none { O.listed out.new ≡ None }
     {

@@ -25,7 +25,9 @@ impl IncomingStream {
 
     // Those that were not read.
     fn held_unread(&self, announced: &Announced) -> usize
-        ensures { result ≡ (if begins_frame self.now then held_length (kinds_of announced.now) (concat self.now.unread) else length (concat self.now.unread)) }
+        ensures { result ≡
+            (if begins_frame self.now then held_length (kinds_of announced.now) (concat self.now.unread) else length
+            (concat self.now.unread)) }
     {
         if self.begins_frame() {
             return self.unread.held(announced.kinds());

@@ -63,8 +63,11 @@ impl RequestStreams {
         later: Option<Refusal>,
     ) -> Result<SectionRoom, Refusal>
         ensures room { IfOk result (λ room. room ≡ id) }
-        ensures taken { OnOk result (or_later (body_refused_at (kept_at self.old id)) (or_later later (early_trailer_at (kept_at self.old id))) ≡ None) }
-        ensures why { IfErr result (λ r. r ≡ unwrap_or (or_later (body_refused_at (kept_at self.old id)) (or_later later (early_trailer_at (kept_at self.old id)))) OutOfMemory) }
+        ensures taken { OnOk result
+            (or_later (body_refused_at (kept_at self.old id)) (or_later later (early_trailer_at (kept_at self.old id))) ≡ None) }
+        ensures why { IfErr result
+            (λ r. r ≡ unwrap_or (or_later (body_refused_at (kept_at self.old id)) (or_later later (early_trailer_at (kept_at self.old id))))
+            OutOfMemory) }
         ensures same { AllSame self.old self.new }
     {
         let Some(stream) = self.streams.get_mut(id) else {
@@ -94,7 +97,8 @@ impl RequestStreams {
     /// whose final header section was not sent, or whose trailer section or end was. Next is more content than the header section said, and
     /// last a failed allocation. An `Err` changes nothing, and returns the body.
     pub fn send_data(&mut self, id: StreamId, body: Bytes) -> Result<(), (Refusal, Bytes)>
-        ensures ok { OnOk result (IfSome (kept_at self.old id) (λ r. Sets self.old self.new id (record r { outgoing = has_body r.outgoing body }))) }
+        ensures ok { OnOk result
+            (IfSome (kept_at self.old id) (λ r. Sets self.old self.new id (record r { outgoing = has_body r.outgoing body }))) }
         ensures taken { OnOk result (data_refused_at (kept_at self.old id) (length body) ≡ None) }
         ensures why { IfErr result (λ e. e.0 ≡ unwrap_or (data_refused_at (kept_at self.old id) (length body)) OutOfMemory) }
         ensures err { IfErr result (λ e. (e.1 ≡ body) × AllSame self.old self.new) }
@@ -126,7 +130,8 @@ impl RequestStreams {
     // RFC 9114 4.1: a body in its place, sent
     /// The same of a body of so many bytes, which the caller holds: its frame is announced, and none of its bytes is given.
     pub fn send_data_of(&mut self, id: StreamId, len: usize) -> Result<(), Refusal>
-        ensures ok { OnOk result (IfSome (kept_at self.old id) (λ r. Sets self.old self.new id (record r { outgoing = has_body r.outgoing (held len) }))) }
+        ensures ok { OnOk result
+            (IfSome (kept_at self.old id) (λ r. Sets self.old self.new id (record r { outgoing = has_body r.outgoing (held len) }))) }
         ensures taken { OnOk result (data_refused_at (kept_at self.old id) len ≡ None) }
         ensures why { IfErr result (λ r. r ≡ unwrap_or (data_refused_at (kept_at self.old id) len) OutOfMemory) }
         ensures err { OnErr result (AllSame self.old self.new) }
@@ -159,7 +164,8 @@ impl RequestStreams {
     /// The message is whole. It needs no memory. It refuses first a stream that is not there, then one whose final header section was not
     /// sent, or whose sending has ended. The last is one whose header section said more content than was sent. An `Err` changes nothing.
     pub fn finish_stream(&mut self, id: StreamId) -> Result<(), Refusal>
-        ensures ok { OnOk result (IfSome (kept_at self.old id) (λ r. Sets self.old self.new id (record r { outgoing = has_ended r.outgoing }))) }
+        ensures ok { OnOk result
+            (IfSome (kept_at self.old id) (λ r. Sets self.old self.new id (record r { outgoing = has_ended r.outgoing }))) }
         ensures rule { call_refused result ≡ end_refused_at (kept_at self.old id) }
         ensures absent { kept_at self.old id ≡ None → self.new ≡ self.old }
         ensures err { OnErr result (AllSame self.old self.new) }
@@ -185,7 +191,8 @@ impl RequestStreams {
     /// Sending ends here: what waits is dropped. It needs no memory. Refused are, in this order, a stream that is not there, and one
     /// of which nothing is left to be sent. An `Err` changes nothing.
     pub fn reset_stream(&mut self, id: StreamId) -> Result<(), Refusal>
-        ensures ok { OnOk result (IfSome (kept_at self.old id) (λ r. Sets self.old self.new id (record r { outgoing = was_cut_off r.outgoing }))) }
+        ensures ok { OnOk result
+            (IfSome (kept_at self.old id) (λ r. Sets self.old self.new id (record r { outgoing = was_cut_off r.outgoing }))) }
         ensures rule { call_refused result ≡ reset_refused_at (kept_at self.old id) }
         ensures absent { kept_at self.old id ≡ None → self.new ≡ self.old }
         ensures err { OnErr result (AllSame self.old self.new) }
@@ -213,8 +220,10 @@ impl RequestStreams {
         id: StreamId,
         replies: &mut Vec<u8>,
     ) -> Result<(), Refusal>
-        ensures ok { OnOk result (IfSome (kept_at self.old id) (λ r. Sets self.old self.new id (record r { incoming = given_up_once r.incoming Canceled }))) }
-        ensures replies { OnOk result (IfSome (kept_at self.old id) (λ r. replies.new.items ≡ replies.old.items ++ encodings (cancellation id r.incoming.fault))) }
+        ensures ok { OnOk result
+            (IfSome (kept_at self.old id) (λ r. Sets self.old self.new id (record r { incoming = given_up_once r.incoming Canceled }))) }
+        ensures replies { OnOk result
+            (IfSome (kept_at self.old id) (λ r. replies.new.items ≡ replies.old.items ++ encodings (cancellation id r.incoming.fault))) }
         ensures taken { OnOk result (cancel_refused_at (kept_at self.old id) ≡ None) }
         ensures why { IfErr result (λ r. r ≡ unwrap_or (cancel_refused_at (kept_at self.old id)) OutOfMemory) }
         ensures absent { kept_at self.old id ≡ None → (self.new ≡ self.old) × (replies.new.items ≡ replies.old.items) }

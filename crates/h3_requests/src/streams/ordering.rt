@@ -106,7 +106,8 @@ impl RequestStreams {
         precedence: &Precedence,
     ) -> Result<(), Refusal>
         requires { IsSome (kept_at self.old id) }
-        ensures ok { OnOk result (IfSome (kept_at self.old id) (λ r. Sets self.old self.new id (record r { outgoing = preceding precedence.now r.outgoing }))) }
+        ensures ok { OnOk result
+            (IfSome (kept_at self.old id) (λ r. Sets self.old self.new id (record r { outgoing = preceding precedence.now r.outgoing }))) }
         ensures why { IfErr result (λ r. r ≡ OutOfMemory) }
         ensures err { OnErr result (AllSame self.old self.new) }
     {

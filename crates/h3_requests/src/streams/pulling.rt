@@ -34,7 +34,8 @@ use std::alloc::Global;
 impl RequestStreams {
     /// How many streams wait for more insertions than these (RFC 9204, section 2.1.2). No stream is looked at for it.
     pub fn waiting(&self, inserted: usize) -> usize
-        ensures { (receivers : Streams Incoming) → AreReceivers receivers self.now → result ≡ count_by (λ s. nat_lt inserted s.1.waits_for) receivers }
+        ensures { (receivers : Streams Incoming) → AreReceivers receivers self.now
+            → result ≡ count_by (λ s. nat_lt inserted s.1.waits_for) receivers }
     {
         self.blocked.above(inserted)
     }
@@ -67,13 +68,15 @@ impl RequestStreams {
         replies: &mut Vec<u8>,
         out: &mut O,
     )
-        ensures absent { kept_at self.old id ≡ None → (O.told out.new ≡ unopened_answer side) × (self.new ≡ self.old) × (replies.new.items ≡ replies.old.items) }
+        ensures absent { kept_at self.old id ≡ None → (O.told out.new ≡ unopened_answer side) × (self.new ≡ self.old)
+            × (replies.new.items ≡ replies.old.items) }
         ensures there { is_some (kept_at self.new id) ≡ is_some (kept_at self.old id) }
         ensures answer { is_memory (O.told out.new) ≡ false → IfSome (kept_at self.old id) (λ before. IfSome (kept_at self.new id) (λ after.
             PullsWithin side announced.now id decoder.now self.old self.new before after (O.told out.new) replies.old.items replies.new.items)) }
         ensures memory { is_memory (O.told out.new) ≡ true → IfSome (kept_at self.old id) (λ before. IfSome (kept_at self.new id) (λ after.
             ResumesThere announced.now self.old self.new id before after)) × (replies.new.items ≡ replies.old.items) }
-        ensures settled { IfSome (kept_at self.old id) (λ before. is_settled_request (Some before.incoming) ≡ true → is_memory (O.told out.new) ≡ false) }
+        ensures settled { IfSome (kept_at self.old id)
+            (λ before. is_settled_request (Some before.incoming) ≡ true → is_memory (O.told out.new) ≡ false) }
         ensures list { Lists (O.listed out.new) (fields_at announced.now decoder.now (kept_at self.old id)) }
     {
         let limit = announced.limits.blocked;

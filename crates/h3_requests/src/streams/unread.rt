@@ -11,7 +11,8 @@ use h3_proto::stream::StreamId;
 impl RequestStreams {
     /// How many bytes came on a stream and are held, at most the greatest `usize`; 0 if the stream is not there. It takes no memory.
     pub fn held(&self, announced: &Announced, id: StreamId) -> usize
-        ensures { result ≡ counted (held_of_request announced.now (unwrap_or (option_map (λ r. r.incoming) (kept_at self.now id)) nothing_came)) }
+        ensures { result ≡ counted
+            (held_of_request announced.now (unwrap_or (option_map (λ r. r.incoming) (kept_at self.now id)) nothing_came)) }
     {
         match self.streams.get_alike(id) {
             Some(stream) => stream.incoming().held(announced),

@@ -42,7 +42,8 @@ impl Bounds {
     // Nothing waits on the streams of this word.
     #[inline(always)]
     fn pass(&mut self, number: u64)
-        ensures { (word : Bits) (before after : ℕ → Bits) → word.waiting ≡ 0 → AreWithin self.old before → IsOneSet number word before after → AreWithin self.new after }
+        ensures { (word : Bits) (before after : ℕ → Bits) → word.waiting ≡ 0 → AreWithin self.old before → IsOneSet number word before after
+            → AreWithin self.new after }
     {
         if number != self.lowest {
             return;
@@ -52,7 +53,8 @@ impl Bounds {
 
     // Something waits on streams of this word.
     fn widen(&mut self, number: u64)
-        ensures { (word : Bits) (before after : ℕ → Bits) → AreWithin self.old before → IsOneSet number word before after → AreWithin self.new after }
+        ensures { (word : Bits) (before after : ℕ → Bits) → AreWithin self.old before → IsOneSet number word before after
+            → AreWithin self.new after }
     {
         if self.lowest > self.highest {
             self.lowest = number;

@@ -137,7 +137,8 @@ impl Endpoint {
     // What a datagram is for this stream, whose payload begins at this byte.
     #[tactic(auto, using(crate::proofs::Datagrams::is_early, crate::proofs::Datagrams::is_dropped, crate::proofs::Datagrams::is_taken))]
     fn datagram_for(&self, id: StreamId, from: usize) -> DatagramRead
-        ensures { result ≡ datagram_at self.now.kept self.now.peer.settings id from (option_map (λ r. r.incoming) (kept_at self.now.requests id)) }
+        ensures { result ≡ datagram_at self.now.kept self.now.peer.settings id from
+            (option_map (λ r. r.incoming) (kept_at self.now.requests id)) }
     {
         if !self.requests.contains(id) {
             return DatagramRead::Early(id);

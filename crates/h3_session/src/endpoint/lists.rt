@@ -1,5 +1,5 @@
 //! Lists of fields that an endpoint sends as they are, with no header made of them.
-ghost use Rattle.std.specs.Prelude.{◌≡◌, ◌≢◌, ◌<◌, ◌≤◌, true, false, None, Some, IfOk, IfErr, IfSome, OnErr, OnOk, length, if◌then◌else◌};
+ghost use Rattle.std.specs.Prelude.{◌≡◌, ◌≢◌, ◌<◌, ◌≤◌, true, false, None, Some, IfOk, IfErr, IfSome, OnOk, length, if◌then◌else◌};
 ghost use Rattle.h3_header.specs.Head.{Head};
 ghost use Rattle.h3_header.specs.HeadRead.{IsHead, head_by};
 ghost use Rattle.h3_connection.specs.Answers.{call_refused};
@@ -22,10 +22,12 @@ use h3_connection::event::{Malformation, Refusal};
 use h3_connection::place::SendPlace;
 use h3_field::{Fields, HeaderField};
 use h3_header::MOST_NAMES;
-use h3_incoming::outline::{ListRead, Outline, malformation_by, read_list, read_survey};
+use h3_incoming::outline::{
+    ListRead, Outline, malformation_by, read_list, read_survey, read_unless,
+};
 use h3_messages::{Seen, Survey, invalid_field};
 use h3_proto::stream::{Side, StreamId};
-use std::alloc::{AllocError, Global};
+use std::alloc::Global;
 
 impl Endpoint {
     /// Sends a list of fields as a header section of a stream: the fields go out in their order, from their own memory, and no header is
@@ -229,30 +231,12 @@ fn judge_place(
     ensures err { IfErr result (λ e. e ≢ refusal.OutOfMemory → head_list_refusal side (head_by any_protocol fields.now) ≡ Some e) }
     ensures memory { IfErr result (λ e. e ≡ refusal.OutOfMemory → 24576 < length fields.now) }
 {
-    let Ok(read) = read_unless(known, alloc, fields, any_protocol) else {
+    let Ok(read) = read_unless(known, alloc, &Fields::of(fields), any_protocol) else {
         return Err(Refusal::OutOfMemory);
     };
     match read {
         ListRead::Malformed(why) => Err(Refusal::Malformed(why)),
         ListRead::Head(outline) => place_behind(side, &outline),
-    }
-}
-
-// What a list reads as, which may be known.
-#[inline(always)]
-fn read_unless(
-    known: Option<ListRead>,
-    alloc: Global,
-    fields: &[HeaderField],
-    any_protocol: bool,
-) -> Result<ListRead, AllocError>
-    requires { IfSome known (λ read. read ≡ list_read (head_by any_protocol fields.now)) }
-    ensures ok { IfOk result (λ read. read ≡ list_read (head_by any_protocol fields.now)) }
-    ensures err { OnErr result (24576 < length fields.now) }
-{
-    match known {
-        Some(read) => Ok(read),
-        None => read_list(alloc, &Fields::of(fields), any_protocol),
     }
 }
 

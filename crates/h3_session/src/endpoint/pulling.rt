@@ -65,14 +65,16 @@ fn pull_stream<O: Answer>(
     streams: &mut ConnectionStreams,
     out: &mut O,
 )
-    ensures absent { kept_at requests.old id ≡ None → (O.told out.new ≡ unopened_answer side) × (requests.new ≡ requests.old) × (streams.new.own.decoder ≡ streams.old.own.decoder) }
+    ensures absent { kept_at requests.old id ≡ None → (O.told out.new ≡ unopened_answer side) × (requests.new ≡ requests.old)
+        × (streams.new.own.decoder ≡ streams.old.own.decoder) }
     ensures there { is_some (kept_at requests.new id) ≡ is_some (kept_at requests.old id) }
     ensures answer { is_memory (O.told out.new) ≡ false → IfSome (kept_at requests.old id) (λ before. IfSome (kept_at requests.new id) (λ after.
         PullsWithin side announced.now id streams.old.decoding.decoder requests.old requests.new before after (O.told out.new) streams.old.own.decoder streams.new.own.decoder)) }
     ensures memory { is_memory (O.told out.new) ≡ true → IfSome (kept_at requests.old id) (λ before. IfSome (kept_at requests.new id) (λ after.
         ResumesThere announced.now requests.old requests.new id before after)) × (streams.new.own.decoder ≡ streams.old.own.decoder) }
     ensures rest { streams.new ≡ record streams.old { own = record streams.old.own { decoder = streams.new.own.decoder } } }
-    ensures settled { IfSome (kept_at requests.old id) (λ before. is_settled_request (Some before.incoming) ≡ true → is_memory (O.told out.new) ≡ false) }
+    ensures settled { IfSome (kept_at requests.old id)
+        (λ before. is_settled_request (Some before.incoming) ≡ true → is_memory (O.told out.new) ≡ false) }
     ensures list { Lists (O.listed out.new) (fields_at announced.now streams.old.decoding.decoder (kept_at requests.old id)) }
 {
     let replies = &mut streams.own.decoder;
@@ -124,9 +126,9 @@ impl Endpoint {
         ensures pulls { PullsNext self.old self.new id (pull_of result) }
         ensures list { ListsNext self.old id (list_of result) }
     {
-        let mut out = FieldsPull::Pending;
+        let mut out = BlockPull::new(self.alloc);
         self.pull_into(id, &mut out);
-        out
+        out.into_pull()
     }
 
     /// The same, with the fields of a header section or trailer in a block of memory that serves again. `out` keeps the memory of its last
@@ -245,13 +247,15 @@ impl Endpoint {
 
     fn pull_stored<O: Answer>(&mut self, id: StreamId, out: &mut O)
         ensures rest { ChangesRequests self.old self.new }
-        ensures absent { kept_at self.old.requests id ≡ None → (O.told out.new ≡ unopened_answer self.old.side) × (self.new.requests ≡ self.old.requests) × (self.new.own.decoder ≡ self.old.own.decoder) }
+        ensures absent { kept_at self.old.requests id ≡ None → (O.told out.new ≡ unopened_answer self.old.side)
+            × (self.new.requests ≡ self.old.requests) × (self.new.own.decoder ≡ self.old.own.decoder) }
         ensures there { is_some (kept_at self.new.requests id) ≡ is_some (kept_at self.old.requests id) }
         ensures answer { is_memory (O.told out.new) ≡ false → IfSome (kept_at self.old.requests id) (λ before. IfSome (kept_at self.new.requests id) (λ after.
             PullsWithin self.old.side self.old.announced id self.old.decoding.decoder self.old.requests self.new.requests before after (O.told out.new) self.old.own.decoder self.new.own.decoder)) }
         ensures memory { is_memory (O.told out.new) ≡ true → IfSome (kept_at self.old.requests id) (λ before. IfSome (kept_at self.new.requests id) (λ after.
             ResumesThere self.old.announced self.old.requests self.new.requests id before after)) × (self.new.own.decoder ≡ self.old.own.decoder) }
-        ensures settled { IfSome (kept_at self.old.requests id) (λ before. is_settled_request (Some before.incoming) ≡ true → is_memory (O.told out.new) ≡ false) }
+        ensures settled { IfSome (kept_at self.old.requests id)
+            (λ before. is_settled_request (Some before.incoming) ≡ true → is_memory (O.told out.new) ≡ false) }
         ensures list { Lists (O.listed out.new) (fields_at self.old.announced self.old.decoding.decoder (kept_at self.old.requests id)) }
     {
         let alloc = self.alloc;
@@ -277,7 +281,8 @@ impl Endpoint {
 
     fn cancel_open(&mut self, id: StreamId) -> Result<(), Refusal>
         ensures rest { ChangesRequests self.old self.new }
-        ensures ok { OnOk result (CancelsAt self.old.requests self.new.requests self.old.own.decoder self.new.own.decoder id (kept_at self.old.requests id)) }
+        ensures ok { OnOk result
+            (CancelsAt self.old.requests self.new.requests self.old.own.decoder self.new.own.decoder id (kept_at self.old.requests id)) }
         ensures taken { OnOk result (cancel_refused_at (kept_at self.old.requests id) ≡ None) }
         ensures why { IfErr result (λ r. r ≡ unwrap_or (cancel_refused_at (kept_at self.old.requests id)) OutOfMemory) }
         ensures err { OnErr result (AllSame self.old.requests self.new.requests × (self.new.own.decoder ≡ self.old.own.decoder)) }

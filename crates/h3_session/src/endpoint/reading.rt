@@ -146,7 +146,8 @@ impl Endpoint {
 
     fn read_end(&mut self, id: StreamId) -> Result<Option<Code>, AllocError>
         ensures rest { SameRequests self.old self.new }
-        ensures ok { IfOk result (λ fault. (e : EndpointHistory) → StandsFor self.old e → Finds fault self.new (end_at e id PeerUnidirectional)) }
+        ensures ok { IfOk result
+            (λ fault. (e : EndpointHistory) → StandsFor self.old e → Finds fault self.new (end_at e id PeerUnidirectional)) }
         ensures err { OnErr result ((e : EndpointHistory) → StandsFor self.old e → StandsFor self.new e) }
     {
         self.streams.end(self.alloc, id)
@@ -154,7 +155,8 @@ impl Endpoint {
 
     fn read_reset(&mut self, id: StreamId, code: u64) -> Result<Option<Code>, AllocError>
         ensures rest { SameRequests self.old self.new }
-        ensures ok { IfOk result (λ fault. (e : EndpointHistory) → StandsFor self.old e → Finds fault self.new (reset_at e id code PeerUnidirectional)) }
+        ensures ok { IfOk result
+            (λ fault. (e : EndpointHistory) → StandsFor self.old e → Finds fault self.new (reset_at e id code PeerUnidirectional)) }
         ensures err { OnErr result ((e : EndpointHistory) → StandsFor self.old e → StandsFor self.new e) }
     {
         self.streams.reset(self.alloc, id, code)

@@ -103,7 +103,9 @@ impl Endpoint {
     fn append_body(&mut self, id: StreamId, body: Bytes, sent: u64) -> Result<(), (Refusal, Bytes)>
         ensures rest { OnOk result (self.new ≡ record self.old { requests = self.new.requests; sent = sent }) }
         ensures same { OnErr result (self.new ≡ record self.old { requests = self.new.requests }) }
-        ensures ok { OnOk result (IfSome (kept_at self.old.requests id) (λ r. Sets self.old.requests self.new.requests id (record r { outgoing = has_body r.outgoing body }))) }
+        ensures ok { OnOk result
+            (IfSome (kept_at self.old.requests id)
+            (λ r. Sets self.old.requests self.new.requests id (record r { outgoing = has_body r.outgoing body }))) }
         ensures taken { OnOk result (data_refused_at (kept_at self.old.requests id) (length body) ≡ None) }
         ensures why { IfErr result (λ e. e.0 ≡ unwrap_or (data_refused_at (kept_at self.old.requests id) (length body)) OutOfMemory) }
         ensures err { IfErr result (λ e. (e.1 ≡ body) × AllSame self.old.requests self.new.requests) }
@@ -135,7 +137,9 @@ impl Endpoint {
     fn append_body_of(&mut self, id: StreamId, len: usize, sent: u64) -> Result<(), Refusal>
         ensures rest { OnOk result (self.new ≡ record self.old { requests = self.new.requests; sent = sent }) }
         ensures same { OnErr result (self.new ≡ record self.old { requests = self.new.requests }) }
-        ensures ok { OnOk result (IfSome (kept_at self.old.requests id) (λ r. Sets self.old.requests self.new.requests id (record r { outgoing = has_body r.outgoing (held len) }))) }
+        ensures ok { OnOk result
+            (IfSome (kept_at self.old.requests id)
+            (λ r. Sets self.old.requests self.new.requests id (record r { outgoing = has_body r.outgoing (held len) }))) }
         ensures taken { OnOk result (data_refused_at (kept_at self.old.requests id) len ≡ None) }
         ensures why { IfErr result (λ r. r ≡ unwrap_or (data_refused_at (kept_at self.old.requests id) len) OutOfMemory) }
         ensures err { OnErr result (AllSame self.old.requests self.new.requests) }
@@ -189,7 +193,9 @@ impl Endpoint {
     // The message on a stream is whole if its stream takes an end, with one look-up.
     fn finish_stream(&mut self, id: StreamId) -> Result<(), Refusal>
         ensures rest { self.new ≡ record self.old { requests = self.new.requests } }
-        ensures ok { OnOk result (IfSome (kept_at self.old.requests id) (λ r. Sets self.old.requests self.new.requests id (record r { outgoing = has_ended r.outgoing }))) }
+        ensures ok { OnOk result
+            (IfSome (kept_at self.old.requests id)
+            (λ r. Sets self.old.requests self.new.requests id (record r { outgoing = has_ended r.outgoing }))) }
         ensures rule { call_refused result ≡ end_refused_at (kept_at self.old.requests id) }
         ensures err { OnErr result (AllSame self.old.requests self.new.requests) }
     {
@@ -210,7 +216,9 @@ impl Endpoint {
     // Sending on a stream ends if something is left to be sent on it, with one look-up.
     fn reset_stream(&mut self, id: StreamId) -> Result<(), Refusal>
         ensures rest { self.new ≡ record self.old { requests = self.new.requests } }
-        ensures ok { OnOk result (IfSome (kept_at self.old.requests id) (λ r. Sets self.old.requests self.new.requests id (record r { outgoing = was_cut_off r.outgoing }))) }
+        ensures ok { OnOk result
+            (IfSome (kept_at self.old.requests id)
+            (λ r. Sets self.old.requests self.new.requests id (record r { outgoing = was_cut_off r.outgoing }))) }
         ensures rule { call_refused result ≡ reset_refused_at (kept_at self.old.requests id) }
         ensures err { OnErr result (AllSame self.old.requests self.new.requests) }
     {
@@ -368,7 +376,8 @@ fn write_goaway(
     alloc: Global,
     id: VarInt,
 ) -> Result<(), AllocError>
-    ensures ok { OnOk result (streams.new ≡ record streams.old { own = record streams.old.own { control = streams.old.own.control ++ goaway_encoding id } }) }
+    ensures ok { OnOk result
+        (streams.new ≡ record streams.old { own = record streams.old.own { control = streams.old.own.control ++ goaway_encoding id } }) }
     ensures err { OnErr result (streams.new ≡ streams.old) }
 {
     streams.own.goaway(alloc, id)

@@ -1,11 +1,11 @@
 //! The answer of a pull with lists, as an event has it.
 ghost use Rattle.std.specs.Prelude.{◌≡◌};
 ghost use Rattle.h3_incoming.specs.FieldsPulls.{list_of, pull_of};
-ghost use Rattle.h3_world.specs.Lists.{item_of as event_item, list_in, list_of as event_list, pull_of as event_pull};
+ghost use Rattle.h3_world.specs.Lists.{list_in, list_of as event_list, pull_of as event_pull};
 ghost use Rattle.h3_incoming.specs.declared.fields.FieldsPull.TheVariants as answer;
 
 use h3_incoming::{FieldsItem, FieldsPull};
-use h3_world::lists::{FieldLines, ListItem, ListPull};
+use h3_world::lists::{ListItem, ListPull};
 
 /// The item.
 fn item(pulled: FieldsItem) -> ListItem
@@ -13,10 +13,10 @@ fn item(pulled: FieldsItem) -> ListItem
     ensures list { list_of (answer.Item pulled) ≡ list_in result }
 {
     match pulled {
-        FieldsItem::Interim(list) => ListItem::Interim(FieldLines::of(list.into_fields())),
-        FieldsItem::Head(list) => ListItem::Head(FieldLines::of(list.into_fields())),
+        FieldsItem::Interim(list) => ListItem::Interim(list),
+        FieldsItem::Head(list) => ListItem::Head(list),
         FieldsItem::Body(bytes) => ListItem::Body(bytes),
-        FieldsItem::Trailer(list) => ListItem::Trailer(FieldLines::of(list.into_fields())),
+        FieldsItem::Trailer(list) => ListItem::Trailer(list),
         FieldsItem::TooLarge(size) => ListItem::TooLarge(size),
         FieldsItem::Session(session) => ListItem::Session(session),
         FieldsItem::Raw(bytes) => ListItem::Raw(bytes),

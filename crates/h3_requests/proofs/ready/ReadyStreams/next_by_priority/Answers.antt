@@ -4,8 +4,8 @@ use Rattle.h3_connection.specs.NextWaiting.{IsLeast}
 use Rattle.h3_scheduler.specs.Least as scheduler
 use Rattle.h3_scheduler.specs.Rounds.{round_at, within}
 use Rattle.h3_scheduler.specs.TurnLaws.{next_in_another, next_in_round}
-use Rattle.h3_requests.specs.Ready.{stands, stands_in}
-use Rattle.h3_requests.proofs.Ordered.{first_urgency, held_urgency, least_at, lesser_there, no_urgency}
+use Rattle.h3_requests.specs.Ready.{stands_in}
+use Rattle.h3_requests.proofs.Ordered.{first_urgency, least_at, lesser_there}
 use Rattle.h3_requests.proofs.ready.ReadyStreams.next_by_priority.Goals as goal
 
 pub returns-then-is_some : goal.returns-then-is_some

@@ -1,6 +1,6 @@
 use Rattle.std.proofs.Common.{ap, sym, ◌∙◌}
 use Rattle.h3_field.specs.Waiting.{goes_on}
-use Rattle.h3_unidirectional.proofs.Listened.{listens_ends, listening_stopped}
+use Rattle.h3_unidirectional.proofs.Listened.{listens_ends}
 use Rattle.h3_unidirectional.proofs.Unfinished.{still_listens}
 use Rattle.h3_unidirectional.proofs.encoding.Encoding.read.Goals as goal
 
