@@ -9,3 +9,16 @@ pub mod Reading
 pub mod Shown
 pub mod Datagrams
 pub mod NamedFields
+pub mod FrontsShown
+pub mod CarriedOver
+pub mod ProgramCalls
+pub mod ProgramRuns
+pub mod Unordered
+pub mod UnorderedReading
+pub mod UnorderedSteps
+pub mod UnorderedMemory
+pub mod QuietCalls
+pub mod MadeHandles
+pub mod ProgramMoves
+pub mod ProgramReads
+pub mod ProgramHistories

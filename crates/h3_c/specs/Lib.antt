@@ -1,3 +1,4 @@
+pub mod Asked
 pub mod Bits
 pub mod Closing
 pub mod Configs
@@ -20,3 +21,5 @@ pub mod Unblocked
 pub mod Shutdown
 pub mod Showing
 pub mod Reads
+pub mod Programs
+pub mod WorkedPrograms

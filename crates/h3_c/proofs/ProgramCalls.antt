@@ -1,0 +1,298 @@
+-- What each call of a program is to a schedule: the call of an endpoint that its event names, or nothing.
+use Rattle.std.proofs.Common.{◌≡◌, ◌⊎◌, inl, inr, ℕ, Bool, true, false, List, [], ◌∷◌, refl, sym, ap, subst, ◌∙◌, Option, Some, None, Result, Ok, Err}
+use Rattle.std.specs.Prelude.{◌^◌, option_map}
+use Rattle.h3_field.specs.Field.{Field}
+use Rattle.h3_proto.specs.declared.stream.Side.{Side}
+use Rattle.h3_proto.specs.declared.stream.Side.TheVariants.{Client, Server}
+use Rattle.h3_priority.specs.Priority.{PriorityParameters}
+use Rattle.h3_connection.specs.Answers.{call_refused}
+use Rattle.h3_connection.specs.ByPriority.{Holds, hold, set_priority}
+use Rattle.h3_connection.specs.Endpoint.{EndpointHistory}
+use Rattle.h3_connection.specs.EndsWaiting.{end_taken}
+use Rattle.h3_connection.specs.OwnIds.{other}
+use Rattle.h3_connection.specs.Prioritizing.{set_initial_priority}
+use Rattle.h3_connection.specs.ReceivingContracts.{PullsNext}
+use Rattle.h3_connection.specs.SendingContracts.{Cancels, DoesOrRefuses, Finishes, GoesAway, Opens, Resets}
+use Rattle.h3_connection.specs.State.{EndpointState, StandsFor}
+use Rattle.h3_connection.specs.declared.event.Refusal.{Refusal}
+use Rattle.h3_incoming.specs.FieldsPulls.{list_of as fields_of_pull, pull_of as pull_of_fields}
+use Rattle.h3_incoming.specs.declared.fields.FieldsItem.TheVariants as came
+use Rattle.h3_incoming.specs.declared.fields.FieldsPull.{FieldsPull}
+use Rattle.h3_incoming.specs.declared.fields.FieldsPull.TheVariants as pulled
+use Rattle.h3_world.specs.Lists.{list_of, pull_of}
+use Rattle.h3_world.specs.declared.event.Answer.{Answer}
+use Rattle.h3_world.specs.declared.event.Answer.TheVariants as answer
+use Rattle.h3_world.specs.declared.event.Event.{Event}
+use Rattle.h3_world.specs.declared.event.Event.TheVariants as event
+use Rattle.h3_session.specs.Acting.{Acts, ByOne, PullsList, SendsShared}
+use Rattle.h3_session.specs.Acting.{Tells as TellsCall}
+use Rattle.h3_session.specs.Listing.{ListsNext}
+use Rattle.h3_session.specs.Running.{body_answer, done_answer, opened_answer}
+use Rattle.h3_session.specs.SendingLists.{SendsFieldList, SendsTrailerList, order_refusal, place_refusal}
+use Rattle.h3_c.specs.Asked.{Tells, TellsSent, is_left_out, pull_listed}
+use Rattle.h3_c.specs.Does.{CallOfC, Does}
+use Rattle.h3_c.specs.Does.{CallOfC as call}
+use Rattle.h3_c.specs.Exported.{Calls, CallsList, CallsOn, LacksList, OnStream, OpensRequest, Pulls, SendsCut}
+use Rattle.h3_c.specs.Given.{fields_given}
+use Rattle.h3_c.specs.Numbers.{TellsList, argument, body_told, call_told}
+use Rattle.h3_c.specs.Ordering.{IfGiven, flag_given, priority_given}
+use Rattle.h3_c.specs.Programs.{Act, Call, Comes, HasNone, Handles, IsEvent, IsRefused, LacksList as NoList, LearnsOf, event_of, handle_at, is_list}
+use Rattle.h3_c.specs.Seen.{Seen}
+use Rattle.h3_c.specs.declared.items.PulledItem.{PulledItem}
+use Rattle.h3_c.specs.declared.numbers.Told.{Told}
+use Rattle.h3_c.proofs.FrontsShown.{below_or_not}
+use Rattle.h3_c.proofs.ProgramMoves.{ActsSo, Moves, StaysAt, StaysSo, stays_same}
+use Rattle.h3_c.proofs.QuietCalls.{does_same, end_taken_same, hold_same, set_initial_same, set_priority_same}
+use Rattle.h3_c.proofs.Unordered.{unordered}
+use Rattle.h3_c.proofs.UnorderedSteps.{IsOfC}
+
+-- what an act comes to
+pub record Made (act : Act) (h g : Handles) : Type 0 where
+  pub events : List Event
+  pub answers : List Answer
+  pub comes : Comes act h g events answers
+  pub moves : Moves h g events answers
+
+-- an event
+pub made_event : (act : Act) (h g : Handles) (e : Event) (n : Told) (a : Answer) → event_of act ≡ Some (e, n) → LearnsOf act g a → IsOfC e
+    → Acts e h.client.endpoint h.server.endpoint a g.client.endpoint g.server.endpoint → Made act h g
+made_event act h g e n a is learns of acts = record { events = e ∷ []; answers = a ∷ []; comes = IsEvent is learns; moves = ActsSo of acts }
+
+-- no event
+pub made_none : (act : Act) (h g : Handles) → StaysAt h.client g.client → StaysAt h.server g.server → Comes act h g [] [] → Made act h g
+made_none act h g client server comes = record { events = []; answers = []; comes = comes; moves = StaysSo client server }
+
+made_at : (act : Act) (side : Side) (h g : Handles) → StaysAt (handle_at h side) (handle_at g side) → handle_at g (other side) ≡ handle_at h (other side) → Comes act h g [] [] → Made act h g
+made_at act Client h g here there comes = made_none act h g here (stays_same h.server g.server there) comes
+made_at act Server h g here there comes = made_none act h g (stays_same h.client g.client there) here comes
+
+pub same_handles : (side : Side) (h g : Handles) → handle_at g side ≡ handle_at h side → handle_at g (other side) ≡ handle_at h (other side) → g ≡ h
+same_handles Client h g here there = ap (λ v. let x : Handles = record { client = v; server = g.server } in x) here ∙ ap (λ v. let x : Handles = record { client = h.client; server = v } in x) there
+same_handles Server h g here there = ap (λ v. let x : Handles = record { client = v; server = g.server } in x) there ∙ ap (λ v. let x : Handles = record { client = h.client; server = v } in x) here
+
+by_side : (side : Side) (calls : EndpointState → EndpointState → Answer → Type 0) (h g : Handles) (a : Answer) → calls (handle_at h side).endpoint (handle_at g side).endpoint a → handle_at g (other side) ≡ handle_at h (other side)
+    → ByOne side calls h.client.endpoint h.server.endpoint a g.client.endpoint g.server.endpoint
+by_side Client calls h g a called there = (called, ap (λ (v : Seen). v.endpoint) there)
+by_side Server calls h g a called there = (called, ap (λ (v : Seen). v.endpoint) there)
+
+-- what numbers tell
+call_tells : (n : Told) (r : Result Unit Refusal) → n ≡ call_told r → Tells answer.Done n (done_answer r)
+call_tells n (Ok done) is = (is, refl)
+call_tells n (Err r) is = is
+
+body_tells : (n : Told) (r : Result Unit (Refusal × List ℕ)) → n ≡ body_told r → Tells answer.Done n (body_answer r)
+body_tells n (Ok done) is = (is, refl)
+body_tells n (Err (r, bytes)) is = is
+
+opened_tells : (v w : Seen) (before id : ℕ) (n : Told) (o : OpensRequest n v w before id) → Tells (answer.Opened id) n (opened_answer o.calls.answer)
+opened_tells v w before id n o = by o.calls.answer o.calls.is (λ opened is. o.calls.done.id opened is)
+  where
+    by : (r : Result ℕ Refusal) → n ≡ call_told r → ((opened : ℕ) → r ≡ Ok opened → opened ≡ v.endpoint.next_id) → Tells (answer.Opened id) n (opened_answer r)
+    by (Ok opened) is next = (is, ap answer.Opened (next opened refl ∙ sym (o.id_is is)))
+    by (Err r) is next = is
+
+sent_tells : (w : Seen) (cut : Option (List Field)) (fields : List Field) (n : Told) (does : Result Unit Refusal → Type 0) (v : Seen) → cut ≡ Some fields → (c : CallsList fields n v w does)
+    → TellsSent w.endpoint.announced.choices cut n (done_answer c.answer)
+sent_tells w cut fields n does v is c = subst (λ o. TellsSent w.endpoint.announced.choices o n (done_answer c.answer)) (sym is) (by c.answer c.is)
+  where
+    by : (r : Result Unit Refusal) → TellsList r w.endpoint.announced.choices fields n → TellsSent w.endpoint.announced.choices (Some fields) n (done_answer r)
+    by (Ok done) tells = (tells, refl)
+    by (Err r) tells = tells
+
+-- what was pulled
+pulled_listed : (p : FieldsPull) → pull_of_fields p ≡ pull_of (pull_listed p)
+pulled_listed (pulled.Item (came.Interim fields)) = refl
+pulled_listed (pulled.Item (came.Head fields)) = refl
+pulled_listed (pulled.Item (came.Body bytes)) = refl
+pulled_listed (pulled.Item (came.Trailer fields)) = refl
+pulled_listed (pulled.Item (came.TooLarge size)) = refl
+pulled_listed (pulled.Item (came.Session session)) = refl
+pulled_listed (pulled.Item (came.Raw bytes)) = refl
+pulled_listed (pulled.Item came.End) = refl
+pulled_listed pulled.Pending = refl
+pulled_listed (pulled.Waiting count) = refl
+pulled_listed (pulled.Fault fault) = refl
+pulled_listed pulled.NoMessages = refl
+
+list_listed : (p : FieldsPull) → fields_of_pull p ≡ list_of (pull_listed p)
+list_listed (pulled.Item (came.Interim fields)) = refl
+list_listed (pulled.Item (came.Head fields)) = refl
+list_listed (pulled.Item (came.Body bytes)) = refl
+list_listed (pulled.Item (came.Trailer fields)) = refl
+list_listed (pulled.Item (came.TooLarge size)) = refl
+list_listed (pulled.Item (came.Session session)) = refl
+list_listed (pulled.Item (came.Raw bytes)) = refl
+list_listed (pulled.Item came.End) = refl
+list_listed pulled.Pending = refl
+list_listed (pulled.Waiting count) = refl
+list_listed (pulled.Fault fault) = refl
+list_listed pulled.NoMessages = refl
+
+pub listed_pulls : (id : ℕ) (n : Told) (v w : Seen) (item : PulledItem) → Pulls id n v w item → PullsList v.endpoint w.endpoint id (pull_listed w.last)
+listed_pulls id n v w item k =
+    record {
+      pulls = subst (λ p. PullsNext v.endpoint w.endpoint id p) (pulled_listed w.last) k.pulled;
+      list = subst (λ l. ListsNext v.endpoint id l) (list_listed w.last) k.list;
+    }
+
+-- The calls whose events are told by what the endpoint stands for.
+pub data ByHistory : CallOfC → Type 0 where
+  ClosesBoth : (id stop_before stop reset_before reset : ℕ) (n : Told) → ByHistory (call.CloseStream id stop_before stop reset_before reset n)
+  GivesNoticeOf : (n : Told) → ByHistory (call.ShutdownNotice n)
+  ShutsDownOf : (n : Told) → ByHistory (call.Shutdown n)
+
+module _ (side : Side) (h g : Handles) (there : handle_at g (other side) ≡ handle_at h (other side)) where
+  quiet : (c : CallOfC) → event_of (Call side c) ≡ None → StaysAt (handle_at h side) (handle_at g side) → Made (Call side c) h g
+  quiet c none stays = made_at (Call side c) side h g stays there (HasNone refl none)
+
+  looks_at : (c : CallOfC) → event_of (Call side c) ≡ None → handle_at g side ≡ handle_at h side → Made (Call side c) h g
+  looks_at c none same = quiet c none (stays_same (handle_at h side) (handle_at g side) same)
+
+  -- of what it owns another part alone is another one
+  looks : (c : CallOfC) → event_of (Call side c) ≡ None → (handle_at g side).endpoint ≡ (handle_at h side).endpoint → Made (Call side c) h g
+  looks c none same = quiet c none (λ e stands. record { after = e; stands = subst (λ s. StandsFor s e) (sym same) stands; same = refl })
+
+  refused : (c : CallOfC) (e : Event) (n : Told) → event_of (Call side c) ≡ Some (e, n) → (n ≡ argument) × (handle_at g side ≡ handle_at h side) → Made (Call side c) h g
+  refused c e n is r = made_at (Call side c) side h g (stays_same (handle_at h side) (handle_at g side) r.1) there (IsRefused is (inl r.0))
+
+  -- a call that answers whether it was done
+  calls : (c : CallOfC) (e : Event) (n : Told) (id : ℕ) (does : EndpointState → EndpointState → Result Unit Refusal → Type 0) → event_of (Call side c) ≡ Some (e, n) → IsOfC e
+      → ((a : Answer) → Tells answer.Done n a → LearnsOf (Call side c) g a)
+      → ((a : Answer) → ByOne side (TellsCall done_answer does) h.client.endpoint h.server.endpoint a g.client.endpoint g.server.endpoint → Acts e h.client.endpoint h.server.endpoint a g.client.endpoint g.server.endpoint)
+      → CallsOn call_told id n (handle_at h side) (handle_at g side) (λ r. does (handle_at h side).endpoint (handle_at g side).endpoint r) → Made (Call side c) h g
+  calls c e n id does is of learns acts on = elim (below_or_not id (2 ^ 62)) [
+    | inl below ↦ (let k = on.known below in
+        let one = by_side side (TellsCall done_answer does) h g (done_answer k.answer) (record { result = k.answer; given_is = refl; called = k.done }) there in
+        made_event (Call side c) h g e n (done_answer k.answer) is (learns (done_answer k.answer) (call_tells n k.answer k.is)) of (acts (done_answer k.answer) one))
+    | inr above ↦ refused c e n is (on.unknown above)
+  ]
+
+  -- a list
+  sends : (c : CallOfC) (e : List Field → Event) (n : Told) (id : ℕ) (cut : Option (List Field)) (place : EndpointHistory → Option Refusal) (does : List Field → EndpointState → EndpointState → Result Unit Refusal → Type 0)
+      → event_of (Call side c) ≡ option_map (λ fields. (e fields, n)) cut
+      → ((fields : List Field) → (is_list (e fields) ≡ true) × IsOfC (e fields))
+      → ((a : Answer) → TellsSent (handle_at g side).endpoint.announced.choices cut n a → LearnsOf (Call side c) g a)
+      → ((fields : List Field) (a : Answer) → ByOne side (TellsCall done_answer (does fields)) h.client.endpoint h.server.endpoint a g.client.endpoint g.server.endpoint → Acts (e fields) h.client.endpoint h.server.endpoint a g.client.endpoint g.server.endpoint)
+      → OnStream id n (handle_at h side) (handle_at g side) (SendsCut cut place n (handle_at h side) (handle_at g side) (λ fields r. does fields (handle_at h side).endpoint (handle_at g side).endpoint r)) → Made (Call side c) h g
+  sends c e n id None place does is list learns acts on = elim (below_or_not id (2 ^ 62)) [
+    | inl below ↦ looks_at c is (on.known below).1
+    | inr above ↦ looks_at c is (on.unknown above).1
+  ]
+  sends c e n id (Some fields) place does is list learns acts on = elim (below_or_not id (2 ^ 62)) [
+    | inl below ↦ by (on.known below)
+    | inr above ↦ refused c (e fields) n is (on.unknown above)
+  ]
+    where
+      by : LacksList place fields n (handle_at h side) (handle_at g side) ⊎ CallsList fields n (handle_at h side) (handle_at g side) (λ r. does fields (handle_at h side).endpoint (handle_at g side).endpoint r) → Made (Call side c) h g
+      by (inl lacks) = made_at (Call side c) side h g (stays_same (handle_at h side) (handle_at g side) lacks.same) there (NoList is (list fields).0 lacks.told (same_handles side h g lacks.same there))
+      by (inr k) =
+          let one = by_side side (TellsCall done_answer (does fields)) h g (done_answer k.answer) (record { result = k.answer; given_is = refl; called = k.done }) there in
+          made_event (Call side c) h g (e fields) n (done_answer k.answer) is
+          (learns (done_answer k.answer) (sent_tells (handle_at g side) (Some fields) fields n _ (handle_at h side) refl k)) (list fields).1 (acts fields (done_answer k.answer) one)
+
+  opens : (before id : ℕ) (n : Told) → Does (call.OpenRequest before id n) (handle_at h side) (handle_at g side) → Made (Call side (call.OpenRequest before id n)) h g
+  opens before id n o =
+      let a = opened_answer o.calls.answer in
+      made_event (Call side (call.OpenRequest before id n)) h g (event.OpenRequest side) n a refl (opened_tells (handle_at h side) (handle_at g side) before id n o) tt
+      (by_side side (TellsCall opened_answer Opens) h g a (record { result = o.calls.answer; given_is = refl; called = o.calls.done }) there)
+
+  sends_body : (id : ℕ) (bytes : List ℕ) (n : Told) → Does (call.SendBody id bytes n) (handle_at h side) (handle_at g side) → Made (Call side (call.SendBody id bytes n)) h g
+  sends_body id bytes n on = elim (below_or_not id (2 ^ 62)) [
+    | inl below ↦ (let k = on.known below in
+        let a = body_answer k.answer in
+        made_event (Call side (call.SendBody id bytes n)) h g (event.Body side id bytes) n a refl (body_tells n k.answer k.is) tt
+        (by_side side (SendsShared id bytes) h g a (inl (record { result = k.answer; given_is = refl; called = k.done })) there))
+    | inr above ↦ refused (call.SendBody id bytes n) (event.Body side id bytes) n refl (on.unknown above)
+  ]
+
+  pulls : (id : ℕ) (before item : PulledItem) (n : Told) → Does (call.Pull id before item n) (handle_at h side) (handle_at g side) → Made (Call side (call.Pull id before item n)) h g
+  pulls id before item n on = elim (below_or_not id (2 ^ 62)) [
+    | inl below ↦ (let k = on.0.known below in
+        let last = (handle_at g side).last in
+        let a = answer.Listed (pull_listed last) in
+        let one = listed_pulls id n (handle_at h side) (handle_at g side) item k in
+        made_event (Call side (call.Pull id before item n)) h g (event.PullFields side id) n a refl (k.done, k.given_so, refl) tt
+        (by_side side (TellsCall answer.Listed (λ s t l. PullsList s t id l)) h g a (record { result = pull_listed last; given_is = refl; called = one }) there))
+    | inr above ↦ refused (call.Pull id before item n) (event.PullFields side id) n refl (on.0.unknown above)
+  ]
+
+  -- what goes first
+  done_so : (c : CallOfC) (n : Told) (act : EndpointHistory → Option Refusal × EndpointHistory) → event_of (Call side c) ≡ None → ((e : EndpointHistory) → (act e).0 ≡ None → unordered (act e).1 ≡ unordered e)
+      → Calls call_told n (handle_at h side) (handle_at g side) (λ (r : Result Unit Refusal). DoesOrRefuses act (handle_at h side).endpoint (handle_at g side).endpoint (call_refused r)) → Made (Call side c) h g
+  done_so c n act none alike k = quiet c none (does_same act (handle_at h side).endpoint (handle_at g side).endpoint (call_refused k.answer) k.done alike)
+
+  prioritizes : (c : CallOfC) → event_of (Call side c) ≡ None → (id urgency incremental : ℕ) (n : Told) (act : PriorityParameters → EndpointHistory → Option Refusal × EndpointHistory)
+      → ((p : PriorityParameters) (e : EndpointHistory) → (act p e).0 ≡ None → unordered (act p e).1 ≡ unordered e)
+      → OnStream id n (handle_at h side) (handle_at g side) (IfGiven (priority_given urgency incremental) n (handle_at h side) (handle_at g side)
+      (λ p. Calls call_told n (handle_at h side) (handle_at g side) (λ (r : Result Unit Refusal). DoesOrRefuses (act p) (handle_at h side).endpoint (handle_at g side).endpoint (call_refused r)))) → Made (Call side c) h g
+  prioritizes c none id urgency incremental n act alike on = elim (below_or_not id (2 ^ 62)) [
+    | inl below ↦ by (priority_given urgency incremental) (on.known below)
+    | inr above ↦ looks_at c none (on.unknown above).1
+  ]
+    where
+      by : (o : Option PriorityParameters) → IfGiven o n (handle_at h side) (handle_at g side) (λ p. Calls call_told n (handle_at h side) (handle_at g side) (λ (r : Result Unit Refusal). DoesOrRefuses (act p) (handle_at h side).endpoint (handle_at g side).endpoint (call_refused r))) → Made (Call side c) h g
+      by None given = looks_at c none given.1
+      by (Some p) k = done_so c n (act p) none (alike p) k
+
+  holds : (id held : ℕ) (n : Told) → Does (call.Hold id held n) (handle_at h side) (handle_at g side) → Made (Call side (call.Hold id held n)) h g
+  holds id held n on = elim (below_or_not id (2 ^ 62)) [
+    | inl below ↦ by (flag_given held) (on.known below)
+    | inr above ↦ looks_at (call.Hold id held n) refl (on.unknown above).1
+  ]
+    where
+      by : (o : Option Bool) → IfGiven o n (handle_at h side) (handle_at g side) (λ is. Calls call_told n (handle_at h side) (handle_at g side) (λ r. Holds (handle_at h side).endpoint (handle_at g side).endpoint id is r)) → Made (Call side (call.Hold id held n)) h g
+      by None given = looks_at (call.Hold id held n) refl given.1
+      by (Some is) k = done_so (call.Hold id held n) n (λ e. hold e id is) refl (hold_same id is) k
+
+  -- QUIC took a FIN
+  ends : (id : ℕ) (n : Told) → Does (call.EndTaken id n) (handle_at h side) (handle_at g side) → Made (Call side (call.EndTaken id n)) h g
+  ends id n on = elim (below_or_not id (2 ^ 62)) [
+    | inl below ↦ (let k = on.known below in quiet (call.EndTaken id n) refl (λ e stands. record { after = (end_taken e id).1; stands = (k.taken e stands).1; same = end_taken_same e id }))
+    | inr above ↦ looks_at (call.EndTaken id n) refl (on.unknown above).1
+  ]
+
+  never : {P : Type 0} → true ≡ false → P
+  never h = absurd (cc)
+
+  pub call_made : (c : CallOfC) → is_left_out c ≡ false → Does c (handle_at h side) (handle_at g side) → Made (Call side c) h g ⊎ ByHistory c
+  call_made (call.OpenRequest before id n) out d = inl (opens before id n d)
+  call_made (call.NextRequestId before id n) out d = inl (looks_at _ refl d.0)
+  call_made (call.OpenRequestAt id n) out d = inl (never out)
+  call_made (call.SendHead id sizes flags bytes n) out d = inl (sends (call.SendHead id sizes flags bytes n) (λ fields. event.Fields side id fields) n id (fields_given sizes flags bytes) (λ e. place_refusal e id) (λ fields s t r. SendsFieldList s t id fields r) refl (λ fields. (refl, tt)) (λ a tells. tells) (λ fields a acts. acts) d)
+  call_made (call.SendTrailer id sizes flags bytes n) out d = inl (sends (call.SendTrailer id sizes flags bytes n) (λ fields. event.TrailerFields side id fields) n id (fields_given sizes flags bytes) (λ e. order_refusal e id) (λ fields s t r. SendsTrailerList s t id fields r) refl (λ fields. (refl, tt)) (λ a tells. tells) (λ fields a acts. acts) d)
+  call_made (call.SendBody id bytes n) out d = inl (sends_body id bytes n d)
+  call_made (call.SendBodyOf id len n) out d = inl (never out)
+  call_made (call.Finish id n) out d = inl (calls (call.Finish id n) (event.Finish side id) n id (λ s t r. Finishes s t id r) refl tt (λ a tells. tells) (λ a acts. acts) d)
+  call_made (call.Reset id n) out d = inl (calls (call.Reset id n) (event.Reset side id) n id (λ s t r. Resets s t id r) refl tt (λ a tells. tells) (λ a acts. acts) d)
+  call_made (call.Cancel id n) out d = inl (calls (call.Cancel id n) (event.Cancel side id) n id (λ s t r. Cancels s t id r) refl tt (λ a tells. tells) (λ a acts. acts) d)
+  call_made (call.CloseStream id stop_before stop reset_before reset n) out d = inr (ClosesBoth id stop_before stop reset_before reset n)
+  call_made (call.Goaway id n) out d = inl (calls (call.Goaway id n) (event.Goaway side id) n id (λ s t r. GoesAway s t id r) refl tt (λ a tells. tells) (λ a acts. acts) d)
+  call_made (call.ShutdownNotice n) out d = inr (GivesNoticeOf n)
+  call_made (call.Shutdown n) out d = inr (ShutsDownOf n)
+  call_made (call.FirstUnseen id n) out d = inl (looks_at _ refl d.0)
+  call_made (call.IsDrained drained n) out d = inl (looks_at _ refl d.0)
+  call_made (call.NextToSend from before id n) out d = inl (looks_at _ refl d.0)
+  call_made (call.NextByPriority before id n) out d = inl (never out)
+  call_made (call.SetPriority id urgency incremental n) out d = inl (prioritizes (call.SetPriority id urgency incremental n) refl id urgency incremental n (λ p e. set_priority e id p) (λ p. set_priority_same id p) d)
+  call_made (call.SetInitialPriority id urgency incremental n) out d = inl (prioritizes (call.SetInitialPriority id urgency incremental n) refl id urgency incremental n (λ p e. set_initial_priority e id p) (λ p. set_initial_same id p) d)
+  call_made (call.SendPriority id urgency incremental n) out d = inl (never out)
+  call_made (call.PriorityOf id urgency_before urgency incremental_before incremental n) out d = inl (looks_at _ refl d.0)
+  call_made (call.Hold id held n) out d = inl (holds id held n d)
+  call_made (call.Outgoing id before buffer count_before count past_before past fin_before fin n) out d = inl (looks_at _ refl d.0)
+  call_made (call.Advance id count n) out d = inl (never out)
+  call_made (call.EndTaken id n) out d = inl (ends id n d)
+  call_made (call.Read id bytes fin used before item n) out d = inl (never out)
+  call_made (call.Deliver id bytes n) out d = inl (never out)
+  call_made (call.DeliverEnd id n) out d = inl (never out)
+  call_made (call.DeliverReset id code n) out d = inl (never out)
+  call_made (call.Pull id before item n) out d = inl (pulls id before item n d)
+  call_made (call.NextUnblocked from before id n) out d = inl (looks_at _ refl d.0)
+  call_made (call.ItemFields sizes_before sizes flags_before flags before bytes n) out d = inl (looks_at _ refl d.0)
+  call_made (call.ItemBytes from before buffer count_before count n) out d = inl (looks_at _ refl d.0)
+  call_made (call.DatagramHead id before buffer count_before count n) out d = inl (looks_at _ refl d.0)
+  call_made (call.ReadDatagram bytes id_before id from_before from n) out d = inl (never out)
+  call_made (call.Stream id before state n) out d = inl (looks_at _ refl d.0)
+  call_made (call.StreamKind id before kind n) out d = inl (looks_at _ refl d.0)
+  call_made (call.Connection state n) out d = inl (looks_at _ refl d.0)
+  call_made (call.NextEvent kind_before kind number_before number n) out d = inl (looks _ refl (ap (λ (v : Seen). v.endpoint) d.rest))
+  call_made (call.PeerSetting setting before value n) out d = inl (looks_at _ refl d.0)

@@ -1,0 +1,257 @@
+-- The calls whose events are told by what the endpoint stands for: those that shut a connection down, and the one that closes a stream both ways.
+use Rattle.std.proofs.Common.{◌≡◌, ◌⊎◌, inl, inr, ℕ, Bool, true, false, List, [], ◌∷◌, refl, sym, ap, subst, ◌∙◌, Option, Some, None, Result, Ok, Err}
+use Rattle.std.specs.Prelude.{◌≢◌, ◌^◌, nat_lt}
+use Rattle.h3_proto.specs.declared.stream.Side.{Side}
+use Rattle.h3_proto.specs.declared.stream.Side.TheVariants.{Client, Server}
+use Rattle.h3_connection.specs.Answers.{call_refused}
+use Rattle.h3_connection.specs.Calls.{IsSame}
+use Rattle.h3_connection.specs.Endpoint.{EndpointHistory, is_critical_id}
+use Rattle.h3_connection.specs.Lasts.{last_id}
+use Rattle.h3_connection.specs.Outgoing.{is_sent_off}
+use Rattle.h3_connection.specs.OwnIds.{other}
+use Rattle.h3_connection.specs.Refusals.{refusal_to_stop}
+use Rattle.h3_connection.specs.Sending.{cancel, closed_or, does, goaway, is_open, outgoing_at, reset, reset_refusal, unless_closed}
+use Rattle.h3_connection.specs.SendingContracts.{DoesOrRefuses}
+use Rattle.h3_connection.specs.Shutdown.{goaway_once, is_named, last_taken, notice_id}
+use Rattle.h3_connection.specs.State.{StandsFor}
+use Rattle.h3_connection.specs.declared.event.Refusal.{Refusal}
+use Rattle.h3_connection.specs.declared.event.Refusal.TheVariants as refusal
+use Rattle.h3_world.specs.Ends.{Ends, answered, done, end_at, with_end}
+use Rattle.h3_world.specs.Headline.{is_out_of_memory}
+use Rattle.h3_world.specs.declared.event.Answer.{Answer}
+use Rattle.h3_world.specs.declared.event.Answer.TheVariants as answer
+use Rattle.h3_world.specs.declared.event.Event.{Event}
+use Rattle.h3_world.specs.declared.event.Event.TheVariants as event
+use Rattle.h3_memory.specs.Refused.{AnswerOf, EndsStep}
+use Rattle.h3_session.specs.Closing.{ClosesStream, unless_ended}
+use Rattle.h3_session.specs.Running.{answer_of}
+use Rattle.h3_session.specs.declared.endpoint.closing.ClosedStream.{ClosedStream}
+use Rattle.h3_c.specs.Bits.{bit}
+use Rattle.h3_c.specs.Closing.{GivesFrames}
+use Rattle.h3_c.specs.Does.{Does}
+use Rattle.h3_c.specs.Does.{CallOfC as call}
+use Rattle.h3_c.specs.Exported.{Calls}
+use Rattle.h3_c.specs.Numbers.{call_told, ok}
+use Rattle.h3_c.specs.Programs.{Act, Call, Closes, Comes, GoesAway, Handles, HasNone, event_of, handle_at}
+use Rattle.h3_c.specs.Seen.{Seen}
+use Rattle.h3_c.specs.declared.numbers.Told.{Told}
+use Rattle.h3_c.proofs.FrontsShown.{below_or_not}
+use Rattle.h3_c.proofs.ProgramCalls.{ByHistory, ClosesBoth, GivesNoticeOf, Made, ShutsDownOf}
+use Rattle.h3_c.proofs.ProgramMoves.{CallsAreSteps, Left, leaves, run_unordered}
+use Rattle.h3_c.proofs.QuietCalls.{stands_unchanged}
+use Rattle.h3_c.proofs.Unordered.{unordered}
+use Rattle.h3_c.proofs.UnorderedSteps.{both_unordered}
+
+-- what an act comes to, by the ends that both handles stand for
+pub record MadeAt (act : Act) (h g : Handles) (ends : Ends) : Type 0 where
+  pub events : List Event
+  pub answers : List Answer
+  pub comes : Comes act h g events answers
+  pub left : Left ends g events answers
+
+pub at_ends : CallsAreSteps → {act : Act} {h g : Handles} (ends : Ends) → StandsFor h.client.endpoint ends.client → StandsFor h.server.endpoint ends.server → Made act h g → MadeAt act h g ends
+at_ends law ends client server made = record { events = made.events; answers = made.answers; comes = made.comes; left = leaves law ends client server made.moves }
+
+-- an end that is done, or refused
+done_is : (ends : Ends) (side : Side) (success : Answer) (x : Option Refusal × EndpointHistory) → done ends side success x ≡ (answer_of success x.0, with_end ends side x.1)
+done_is ends side success (None, e) = refl
+done_is ends side success (Some r, e) = refl
+
+closed_some : (closed : Option ℕ) (r : Refusal) → closed_or closed (Some r) ≡ None → ⊥
+closed_some (Some code) r is = let never : Some (refusal.Closed code) ≡ None = is in absurd (cc)
+closed_some None r is = let never : Some r ≡ None = is in absurd (cc)
+
+-- no sending that is ended lacks memory
+not_memory : (closed : Option ℕ) (critical is_there over : Bool) → is_out_of_memory (answer_of answer.Done (closed_or closed (refusal_to_stop critical is_there over))) ≡ false
+not_memory (Some code) critical is_there over = refl
+not_memory None true is_there over = refl
+not_memory None false false over = refl
+not_memory None false true true = refl
+not_memory None false true false = refl
+
+does_refusal : (r : Option Refusal) (e new : EndpointHistory) → (does r e new).0 ≡ r
+does_refusal None e new = refl
+does_refusal (Some r) e new = refl
+
+reset_answers : (e : EndpointHistory) (id : ℕ) → is_out_of_memory (answer_of answer.Done (reset e id).0) ≡ false
+reset_answers e id =
+    ap (λ r. is_out_of_memory (answer_of answer.Done r)) (does_refusal (reset_refusal e id) e _) ∙ not_memory e.closed (is_critical_id e id) (is_open e id) (is_sent_off (outgoing_at e id))
+
+step_of : (ends new : Ends) (e : Event) (a : Answer) → is_out_of_memory a ≡ false → a ≡ (answered ends e).0 → new ≡ (answered ends e).1 → EndsStep ends e a new
+step_of ends new e a memory is next = subst (λ b. AnswerOf b ends e a new) (sym memory) (is, next)
+
+module _ (side : Side) (h g : Handles) (there : handle_at g (other side) ≡ handle_at h (other side)) (ends : Ends) (client : StandsFor h.client.endpoint ends.client) (server : StandsFor h.server.endpoint ends.server) where
+  stands : StandsFor (handle_at h side).endpoint (end_at ends side)
+  stands = by side client server
+    where
+      by : (s : Side) → StandsFor h.client.endpoint ends.client → StandsFor h.server.endpoint ends.server → StandsFor (handle_at h s).endpoint (end_at ends s)
+      by Client client server = client
+      by Server client server = server
+
+  -- one end is another one
+  with_stands : (s : Side) → handle_at g (other s) ≡ handle_at h (other s) → (after : EndpointHistory) → StandsFor (handle_at g s).endpoint after
+      → StandsFor g.client.endpoint (with_end ends s after).client × StandsFor g.server.endpoint (with_end ends s after).server
+  with_stands Client same after stands = (stands, subst (λ (v : Seen). StandsFor v.endpoint ends.server) (sym same) server)
+  with_stands Server same after stands = (subst (λ (v : Seen). StandsFor v.endpoint ends.client) (sym same) client, stands)
+
+  same_end : (s : Side) (after : EndpointHistory) → unordered after ≡ unordered (end_at ends s) → both_unordered (with_end ends s after) ≡ both_unordered ends
+  same_end Client after is = ap (λ e. let x : Ends = record { client = e; server = unordered ends.server } in x) is
+  same_end Server after is = ap (λ e. let x : Ends = record { client = unordered ends.client; server = e } in x) is
+
+  -- no event
+  none_left : (after : EndpointHistory) → StandsFor (handle_at g side).endpoint after → unordered after ≡ unordered (end_at ends side) → Left ends g [] []
+  none_left after stands is =
+      let s = with_stands side there after stands in
+      record { new = with_end ends side after; run = same_end side after is; client_stands = s.0; server_stands = s.1 }
+
+  unchanged : (refused : Option Refusal) → (refused ≢ None → IsSame (handle_at h side).endpoint (handle_at g side).endpoint) → (r : Refusal) → refused ≡ Some r → Left ends g [] []
+  unchanged refused same r is =
+      none_left (end_at ends side) (stands_unchanged (handle_at h side).endpoint (handle_at g side).endpoint (end_at ends side) (same (λ none. let never : Some r ≡ None = sym is ∙ none in absurd (cc))) stands) refl
+
+  -- a GOAWAY that is written
+  goes_away : (id : ℕ) → (goaway (end_at ends side) id).0 ≡ None → StandsFor (handle_at g side).endpoint (goaway (end_at ends side) id).1 → Left ends g (event.Goaway side id ∷ []) (answer.Done ∷ [])
+  goes_away id none stands =
+      let after = (goaway (end_at ends side) id).1 in
+      let new = with_end ends side after in
+      let is = done_is ends side answer.Done (goaway (end_at ends side) id) in
+      let s = with_stands side there after stands in
+      let step = step_of ends new (event.Goaway side id) answer.Done refl (sym (ap (λ x. x.0) is ∙ ap (λ r. answer_of answer.Done r) none)) (sym (ap (λ x. x.1) is)) in
+      record {
+        new = new;
+        run = run_unordered (event.Goaway side id ∷ []) (answer.Done ∷ []) ends new (tt, tt) (new, step, refl);
+        client_stands = s.0;
+        server_stands = s.1;
+      }
+
+  -- what shuts down
+  shuts : (c : call) (n : Told) (id : ℕ) → event_of (Call side c) ≡ None → (c ≡ call.ShutdownNotice n) ⊎ (c ≡ call.Shutdown n) → n ≡ ok
+      → (goaway_once (end_at ends side) id).0 ≡ None → StandsFor (handle_at g side).endpoint (goaway_once (end_at ends side) id).1 → MadeAt (Call side c) h g ends
+  shuts c n id none is done nothing stands = by (is_named (last_id (end_at ends side).own.goaways) id) refl
+    where
+      e : EndpointHistory
+      e = end_at ends side
+
+      act_is : (c ≡ call.ShutdownNotice n) ⊎ (c ≡ call.Shutdown n) → (Call side c ≡ Call side (call.ShutdownNotice n)) ⊎ (Call side c ≡ Call side (call.Shutdown n))
+      act_is (inl x) = inl (ap (λ c. Call side c) x)
+      act_is (inr x) = inr (ap (λ c. Call side c) x)
+
+      below : (b : Bool) → nat_lt id (2 ^ 62) ≡ b → is_named (last_id (end_at ends side).own.goaways) id ≡ false → MadeAt (Call side c) h g ends
+      below true fits new =
+          let goes : goaway_once (end_at ends side) id ≡ goaway (end_at ends side) id = rw (new, fits) refl in
+          record {
+            events = event.Goaway side id ∷ [];
+            answers = answer.Done ∷ [];
+            comes = GoesAway id (act_is is) done;
+            left = goes_away id (sym (ap (λ x. x.0) goes) ∙ nothing) (subst (λ x. StandsFor (handle_at g side).endpoint x.1) goes stands);
+          }
+      below false fits new =
+          let goes : goaway_once (end_at ends side) id ≡ (unless_closed (end_at ends side) (Some refusal.IdsUsedUp), end_at ends side) = rw (new, fits) refl in
+          absurd (closed_some (end_at ends side).closed refusal.IdsUsedUp (sym (ap (λ x. x.0) goes) ∙ nothing))
+
+      by : (b : Bool) → is_named (last_id (end_at ends side).own.goaways) id ≡ b → MadeAt (Call side c) h g ends
+      by true named =
+          let goes : goaway_once (end_at ends side) id ≡ (unless_closed (end_at ends side) None, end_at ends side) = rw (named) refl in
+          record { events = []; answers = []; comes = HasNone refl none; left = none_left (end_at ends side) (subst (λ x. StandsFor (handle_at g side).endpoint x.1) goes stands) refl }
+      by false new = below (nat_lt id (2 ^ 62)) refl new
+
+  pub shuts_down : (c : call) (n : Told) (id : EndpointHistory → ℕ) → event_of (Call side c) ≡ None → (c ≡ call.ShutdownNotice n) ⊎ (c ≡ call.Shutdown n)
+      → Calls call_told n (handle_at h side) (handle_at g side) (λ (r : Result Unit Refusal). DoesOrRefuses (λ e. goaway_once e (id e)) (handle_at h side).endpoint (handle_at g side).endpoint (call_refused r))
+      → MadeAt (Call side c) h g ends
+  shuts_down c n id none is k = by k.answer k.is k.done
+    where
+      by : (r : Result Unit Refusal) → n ≡ call_told r → DoesOrRefuses (λ e. goaway_once e (id e)) (handle_at h side).endpoint (handle_at g side).endpoint (call_refused r) → MadeAt (Call side c) h g ends
+      by (Ok done) told d =
+          let x = d.done (end_at ends side) stands (λ memory. let never : None ≡ Some refusal.OutOfMemory = memory in absurd (cc)) in
+          shuts c n (id (end_at ends side)) none is told (sym x.0) x.1
+      by (Err r) told d = record { events = []; answers = []; comes = HasNone refl none; left = unchanged (Some r) d.same r refl }
+
+  -- what closes a stream: canceled, and then reset
+  ends_both : (id : ℕ) → (canceled : Option Refusal) → (canceled ≡ None) ⊎ (canceled ≡ Some refusal.Ended) → (cancel (end_at ends side) id).0 ≡ canceled
+      → StandsFor (handle_at g side).endpoint (reset (cancel (end_at ends side) id).1 id).1
+      → Left ends g (event.Cancel side id ∷ event.Reset side id ∷ []) (answer_of answer.Done canceled ∷ answer_of answer.Done (reset (cancel (end_at ends side) id).1 id).0 ∷ [])
+  ends_both id canceled may is after_stands =
+      let one = cancel (end_at ends side) id in
+      let mid = with_end ends side one.1 in
+      let last = with_end ends side (reset one.1 id).1 in
+      let s = with_stands side there (reset one.1 id).1 after_stands in
+      let first = done_is ends side answer.Done one in
+      let memory : is_out_of_memory (answer_of answer.Done canceled) ≡ false = clear canceled may in
+      let step = step_of ends mid (event.Cancel side id) (answer_of answer.Done canceled) memory (sym (ap (λ x. x.0) first ∙ ap (λ r. answer_of answer.Done r) is)) (sym (ap (λ x. x.1) first)) in
+      let two = step_of mid last (event.Reset side id) (answer_of answer.Done (reset one.1 id).0) (reset_answers one.1 id) (sym (ap (λ x. x.0) (second side one.1))) (sym (ap (λ x. x.1) (second side one.1))) in
+      record {
+        new = last;
+        run = run_unordered (event.Cancel side id ∷ event.Reset side id ∷ []) (answer_of answer.Done canceled ∷ answer_of answer.Done (reset one.1 id).0 ∷ []) ends last (tt, (tt, tt)) (mid, step, (last, two, refl));
+        client_stands = s.0;
+        server_stands = s.1;
+      }
+    where
+      clear : (r : Option Refusal) → (r ≡ None) ⊎ (r ≡ Some refusal.Ended) → is_out_of_memory (answer_of answer.Done r) ≡ false
+      clear r (inl none) = ap (λ x. is_out_of_memory (answer_of answer.Done x)) none
+      clear r (inr ended) = ap (λ x. is_out_of_memory (answer_of answer.Done x)) ended
+
+      second : (s : Side) (e : EndpointHistory) → answered (with_end ends s e) (event.Reset s id) ≡ (answer_of answer.Done (reset e id).0, with_end ends s (reset e id).1)
+      second Client e = done_is (with_end ends Client e) Client answer.Done (reset e id)
+      second Server e = done_is (with_end ends Server e) Server answer.Done (reset e id)
+
+-- why a direction that is over refuses nothing
+ended_or_none : (o : Option Refusal) → unless_ended o ≡ None → (o ≡ None) ⊎ (o ≡ Some refusal.Ended)
+ended_or_none None is = inl refl
+ended_or_none (Some refusal.Ended) is = inr refl
+ended_or_none (Some (refusal.Closed code)) is = absurd (cc)
+ended_or_none (Some (refusal.Connection code)) is = absurd (cc)
+ended_or_none (Some refusal.NotReceiving) is = absurd (cc)
+ended_or_none (Some refusal.AfterEnd) is = absurd (cc)
+ended_or_none (Some refusal.Kept) is = absurd (cc)
+ended_or_none (Some refusal.NotClient) is = absurd (cc)
+ended_or_none (Some (refusal.GoingAway id)) is = absurd (cc)
+ended_or_none (Some refusal.IdsUsedUp) is = absurd (cc)
+ended_or_none (Some refusal.NotOpen) is = absurd (cc)
+ended_or_none (Some refusal.OutOfOrder) is = absurd (cc)
+ended_or_none (Some refusal.WrongSide) is = absurd (cc)
+ended_or_none (Some refusal.PseudoInTrailer) is = absurd (cc)
+ended_or_none (Some (refusal.Malformed why)) is = absurd (cc)
+ended_or_none (Some (refusal.TooLarge size)) is = absurd (cc)
+ended_or_none (Some refusal.Critical) is = absurd (cc)
+ended_or_none (Some refusal.NotRequestId) is = absurd (cc)
+ended_or_none (Some (refusal.Raised id)) is = absurd (cc)
+ended_or_none (Some refusal.OutOfMemory) is = absurd (cc)
+
+does_none : (r : Option Refusal) (e new : EndpointHistory) → (does r e new).0 ≡ None → (r ≡ None) × ((does r e new).1 ≡ new)
+does_none None e new is = (refl, refl)
+does_none (Some r) e new is = absurd (let never : Some r ≡ None = is in cc)
+
+module _ (side : Side) (h g : Handles) (there : handle_at g (other side) ≡ handle_at h (other side)) (ends : Ends) (client : StandsFor h.client.endpoint ends.client) (server : StandsFor h.server.endpoint ends.server) where
+  pub closes_both : (id stop_before stop reset_before reset_stream : ℕ) (n : Told) → Does (call.CloseStream id stop_before stop reset_before reset_stream n) (handle_at h side) (handle_at g side)
+      → MadeAt (Call side (call.CloseStream id stop_before stop reset_before reset_stream n)) h g ends
+  closes_both id stop_before stop reset_before reset_stream n d = elim (below_or_not id (2 ^ 62)) [
+    | inl below ↦ (let k = d.0.known below in by k.answer k.is k.done.0 k.done.1)
+    | inr above ↦ record {
+      events = [];
+      answers = [];
+      comes = HasNone refl refl;
+      left = none_left side h g there ends client server (end_at ends side) (subst (λ (v : Seen). StandsFor v.endpoint (end_at ends side)) (sym (d.0.unknown above).1) (stands side h g there ends client server)) refl;
+    }
+  ]
+    where
+      by : (r : Result ClosedStream Refusal) → n ≡ call_told r → ClosesStream (handle_at h side).endpoint (handle_at g side).endpoint id r → GivesFrames r stop_before stop reset_before reset_stream
+          → MadeAt (Call side (call.CloseStream id stop_before stop reset_before reset_stream n)) h g ends
+      by (Ok frames) told closed given =
+          let e = end_at ends side in
+          let here = stands side h g there ends client server in
+          let x = closed.closes.done e here (λ memory. let never : None ≡ Some refusal.OutOfMemory = memory in absurd (cc)) in
+          let y = does_none (unless_ended (cancel e id).0) e (reset (cancel e id).1 id).1 (sym x.0) in
+          let may = ended_or_none (cancel e id).0 y.0 in
+          let sends = closed.sends e here in
+          record {
+            events = event.Cancel side id ∷ event.Reset side id ∷ [];
+            answers = answer_of answer.Done (cancel e id).0 ∷ answer_of answer.Done (reset (cancel e id).1 id).0 ∷ [];
+            comes = Closes (cancel e id).0 (reset (cancel e id).1 id).0 refl told may (given.1 ∙ ap (λ (f : ClosedStream). bit f.reset_stream) sends);
+            left = ends_both side h g there ends client server id (cancel e id).0 may refl (subst (λ z. StandsFor (handle_at g side).endpoint z) y.1 x.1);
+          }
+      by (Err r) told closed given =
+          record { events = []; answers = []; comes = HasNone refl refl; left = unchanged side h g there ends client server (Some r) closed.closes.same r refl }
+
+  pub by_history : (c : call) → ByHistory c → Does c (handle_at h side) (handle_at g side) → MadeAt (Call side c) h g ends
+  by_history _ (ClosesBoth id stop_before stop reset_before reset_stream n) d = closes_both id stop_before stop reset_before reset_stream n d
+  by_history _ (GivesNoticeOf n) d = shuts_down side h g there ends client server (call.ShutdownNotice n) n (λ e. notice_id e.side) refl (inl refl) d
+  by_history _ (ShutsDownOf n) d = shuts_down side h g there ends client server (call.Shutdown n) n (λ e. last_taken e.side e) refl (inr refl) d

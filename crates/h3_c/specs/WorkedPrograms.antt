@@ -1,0 +1,100 @@
+-- A worked pair of programs: a client sends a request and a server answers it, as on the first page of the documents, and what these calls stand for.
+use Rattle.std.specs.Prelude.{ℕ, true, List, [], ◌∷◌, ◌++◌, codes, Option, Some, None}
+use Rattle.h3_field.specs.Field.{Field, plain_field}
+use Rattle.h3_header.specs.Head.{head_fields}
+use Rattle.h3_proto.specs.declared.stream.Side.TheVariants.{Client, Server}
+use Rattle.h3_connection.specs.Endpoint.{bytes_waiting}
+use Rattle.h3_incoming.specs.declared.fields.FieldsItem.TheVariants as came
+use Rattle.h3_incoming.specs.declared.fields.FieldsPull.{FieldsPull}
+use Rattle.h3_incoming.specs.declared.fields.FieldsPull.TheVariants as pulled
+use Rattle.h3_world.specs.Ends.{ends_after, new_ends}
+use Rattle.h3_world.specs.WorkedHeads.{home, no_tables}
+use Rattle.h3_world.specs.declared.event.Answer.{Answer}
+use Rattle.h3_world.specs.declared.event.Answer.TheVariants as answer
+use Rattle.h3_world.specs.declared.event.Event.{Event}
+use Rattle.h3_world.specs.declared.event.Event.TheVariants as event
+use Rattle.h3_headline.specs.Messages.{MessageContent}
+use Rattle.h3_headline.specs.Messages.MessageContent.{Byte, FieldSection}
+use Rattle.h3_headline.specs.Messages.SectionKind.{OfHead}
+use Rattle.h3_c.specs.Asked.{pull_listed}
+use Rattle.h3_c.specs.Does.CallOfC.{EndTaken, Finish, NextToSend, OpenRequest, Pull, SendBody, SendHead}
+use Rattle.h3_c.specs.Items.{shown}
+use Rattle.h3_c.specs.Numbers.{ok}
+use Rattle.h3_c.specs.Programs.{Act, Bytes, Call, End, event_of}
+use Rattle.h3_c.specs.Rows.{row_of, sizes_of}
+use Rattle.h3_c.specs.declared.numbers.Told.{Told}
+
+-- the events that acts stand for, where none is refused
+abbrev pub event_if : Option (Event × Told) → List Event → List Event
+event_if None events = events
+event_if (Some (e, n)) events = e ∷ events
+
+abbrev pub schedule_of : List Act → List Event
+schedule_of [] = []
+schedule_of (act ∷ acts) = event_if (event_of act) (schedule_of acts)
+
+abbrev pub request : List Field
+request = head_fields home
+
+abbrev pub response : List Field
+response = plain_field (codes ":status") (codes "200") ∷ []
+
+-- The client opens a stream, and sends a request of 21 bytes without a body. h3_next_to_send names the stream, and what h3_outgoing shows goes over,
+-- with the end behind it
+abbrev pub asking_events : List Event
+asking_events = event.OpenRequest Client ∷ event.Fields Client 0 request ∷ event.Finish Client 0 ∷ []
+
+abbrev pub request_bytes : List ℕ
+request_bytes = bytes_waiting (ends_after (new_ends no_tables) asking_events).client 0
+
+-- What is pulled, and shown to C.
+abbrev pub pulls : FieldsPull → Act
+pulls p = Call Server (Pull 0 (shown pulled.Pending) (shown p) ok)
+
+abbrev pub pulls_back : FieldsPull → Act
+pulls_back p = Call Client (Pull 0 (shown pulled.Pending) (shown p) ok)
+
+abbrev pub asking : List Act
+asking =
+    Call Client (OpenRequest 0 0 ok) ∷ Call Client (SendHead 0 (sizes_of request) [] (row_of request) ok) ∷ Call Client (Finish 0 ok) ∷
+    Call Client (NextToSend 0 0 0 ok) ∷ Bytes Client 0 request_bytes ok ∷ End Client 0 ok ∷ Call Client (EndTaken 0 ok) ∷
+    pulls (pulled.Item (came.Head request)) ∷ pulls (pulled.Item came.End) ∷ []
+
+-- the server answers: a frame of five bytes and one of four
+abbrev pub answering_events : List Event
+answering_events = event.Fields Server 0 response ∷ event.Body Server 0 (codes "hi") ∷ event.Finish Server 0 ∷ []
+
+abbrev pub response_bytes : List ℕ
+response_bytes =
+    bytes_waiting (ends_after (new_ends no_tables) (asking_events ++ event.Deliver Client 0 21 ∷ answering_events)).server 0
+
+abbrev pub answering : List Act
+answering =
+    Call Server (SendHead 0 (sizes_of response) [] (row_of response) ok) ∷ Call Server (SendBody 0 (codes "hi") ok) ∷ Call Server (Finish 0 ok) ∷
+    Call Server (NextToSend 0 0 0 ok) ∷ Bytes Server 0 response_bytes ok ∷ End Server 0 ok ∷ Call Server (EndTaken 0 ok) ∷
+    pulls_back (pulled.Item (came.Head response)) ∷ pulls_back (pulled.Item (came.Body (codes "hi"))) ∷ pulls_back (pulled.Item came.End) ∷ []
+
+abbrev pub exchange : List Act
+exchange = asking ++ answering
+
+-- the schedule that this is, and the answers that C learns
+abbrev pub exchange_events : List Event
+exchange_events =
+    event.OpenRequest Client ∷ event.Fields Client 0 request ∷ event.Finish Client 0 ∷ event.Deliver Client 0 21 ∷ event.DeliverEnd Client 0 ∷
+    event.PullFields Server 0 ∷ event.PullFields Server 0 ∷ event.Fields Server 0 response ∷ event.Body Server 0 (codes "hi") ∷ event.Finish Server 0 ∷
+    event.Deliver Server 0 9 ∷ event.DeliverEnd Server 0 ∷ event.PullFields Client 0 ∷ event.PullFields Client 0 ∷ event.PullFields Client 0 ∷ []
+
+abbrev pub listed_answer : FieldsPull → Answer
+listed_answer p = answer.Listed (pull_listed p)
+
+abbrev pub exchange_answers : List Answer
+exchange_answers =
+    answer.Opened 0 ∷ answer.Done ∷ answer.Done ∷ answer.Delivered 21 ∷ answer.Done ∷
+    listed_answer (pulled.Item (came.Head request)) ∷ listed_answer (pulled.Item came.End) ∷ answer.Done ∷ answer.Done ∷ answer.Done ∷
+    answer.Delivered 9 ∷ answer.Done ∷ listed_answer (pulled.Item (came.Head response)) ∷ listed_answer (pulled.Item (came.Body (codes "hi"))) ∷ listed_answer (pulled.Item came.End) ∷ []
+
+abbrev pub request_sent : List MessageContent
+request_sent = FieldSection OfHead true request ∷ []
+
+abbrev pub response_sent : List MessageContent
+response_sent = FieldSection OfHead true response ∷ Byte 104 ∷ Byte 105 ∷ []

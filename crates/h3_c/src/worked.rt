@@ -1,0 +1,17 @@
+//! A worked pair of programs: these laws compute. The bytes and answers were worked out from the standards.
+ghost use Rattle.std.specs.Prelude.{◌≡◌};
+ghost use Rattle.h3_proto.specs.declared.stream.Side.TheVariants.{Client, Server};
+ghost use Rattle.h3_world.specs.Ends.{answers_of_ends, new_ends};
+ghost use Rattle.h3_world.specs.WorkedHeads.{no_tables};
+ghost use Rattle.h3_headline.specs.Messages.{pulled, sent};
+ghost use Rattle.h3_c.specs.WorkedPrograms.{exchange, exchange_answers, exchange_events, request_sent, response_sent, schedule_of};
+
+/// A request and its response by the calls of h3.h: which schedule they are, what two endpoints answer to it, and what each side is given.
+pub fn requests_are_answered()
+    ensures events { schedule_of exchange ≡ exchange_events }
+    ensures answers { answers_of_ends (new_ends no_tables) exchange_events ≡ exchange_answers }
+    ensures asked { sent Client 0 exchange_events exchange_answers ≡ request_sent }
+    ensures heard { pulled Server 0 exchange_events exchange_answers ≡ request_sent }
+    ensures answered { sent Server 0 exchange_events exchange_answers ≡ response_sent }
+    ensures back { pulled Client 0 exchange_events exchange_answers ≡ response_sent }
+{}
