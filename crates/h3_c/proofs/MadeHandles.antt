@@ -8,9 +8,8 @@ use Rattle.h3_connection.specs.declared.setup.Announced.{Announced}
 use Rattle.h3_connection.specs.declared.setup.NewError.{NewError}
 use Rattle.h3_connection.specs.declared.setup.NewError.TheVariants as new_error
 use Rattle.h3_world.specs.MadeLaws.{is_made}
-use Rattle.h3_world.specs.Setup.{IsMade, IsMadeSetup}
+use Rattle.h3_world.specs.Setup.{IsMade, IsMadeSetup, Setup}
 use Rattle.h3_world.specs.TakesLaws.{setup_made}
-use Rattle.h3_world.specs.declared.setup.Setup.{Setup}
 use Rattle.h3_c.specs.Configs.{IsMade as OwnsMade, Makes, announced_of, config_of, limits_of, made_told}
 use Rattle.h3_c.specs.Numbers.{new_told, ok}
 use Rattle.h3_c.specs.Programs.{AreMade, Handles, IsMadeFor}

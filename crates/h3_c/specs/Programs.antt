@@ -10,14 +10,13 @@ use Rattle.h3_connection.specs.declared.setup.Announced.{Announced}
 use Rattle.h3_incoming.specs.BodyPlaces.{piece_of}
 use Rattle.h3_incoming.specs.declared.body_place.BodyPlace.{BodyPlace}
 use Rattle.h3_world.specs.Delivering.{reset_code}
-use Rattle.h3_world.specs.Setup.{takes_settings}
+use Rattle.h3_world.specs.Setup.{Setup, takes_settings}
 use Rattle.h3_world.specs.declared.event.Answer.{Answer}
 use Rattle.h3_world.specs.declared.event.Answer.TheVariants as answer
 use Rattle.h3_world.specs.declared.event.Event.{Event}
 use Rattle.h3_world.specs.declared.event.Event.TheVariants as event
 use Rattle.h3_world.specs.declared.lists.ListItem.TheVariants as listed
 use Rattle.h3_world.specs.declared.lists.ListPull.TheVariants as list
-use Rattle.h3_world.specs.declared.setup.Setup.{Setup}
 use Rattle.h3_session.specs.Running.{answer_of}
 use Rattle.h3_c.specs.Asked.{Learns, Tells, asked, is_left_out, pull_listed}
 use Rattle.h3_c.specs.Bits.{bit}

@@ -34,14 +34,8 @@
 //! - Limits on what is unfinished: if each takes what is sent to it they change nothing (`limits_that_take_what_is_sent_change_nothing`). A
 //!   limit takes it if it is at least four times what its side announces (`limits_above_what_is_announced_take_what_is_sent`). So two such
 //!   sides run in a world (`two_limited_endpoints_run_in_a_world`, `two_strict_limited_endpoints_run_in_a_world`). A side without a limit
-<<<<<<< HEAD
 //!   takes every list (`sides_without_limits_take_all`).
-=======
-//!   takes every list (`sides_without_limits_take_all`). Sides that are not strict and have none refuse nothing more than the world of a
-//!   connection (`plain_sides_refuse_nothing_more`).
-//! - What `Setup::new` answers may be given to `run` (`setups_are_made`), and what a schedule within its bounds sends may be sent
-//!   (`schedules_within_bounds_may_be_sent`).
->>>>>>> 07f0c0a3
+//! - What a schedule within its bounds sends may be sent (`schedules_within_bounds_may_be_sent`).
 //! - Lists: a header section and a trailer are sent as the lists of their fields are (`heads_are_sent_as_their_lists`).
 //! - Datagrams: what is written in front of a payload reads back as the id of its stream (`datagrams_read_back`).
 //! - Shutting down: no request below the last GOAWAY is rejected (`nothing_below_a_goaway_is_rejected`). What is drained stays drained
@@ -128,13 +122,13 @@ pub fn calls_are_steps_of_two_endpoints()
 {}
 
 ghost use Rattle.std.specs.List.{AllByRecursion};
-ghost use Rattle.h3_world.specs.Few.{AreFew};
+ghost use Rattle.h3_world.specs.Small.{AreSmall};
 ghost use Rattle.h3_world.specs.Sendable.{IsSendable};
 ghost use Rattle.h3_session.specs.Typed.{IsTyped};
 
 /// The events of a schedule within the bounds of `run` may be sent: what the laws of two endpoints ask for.
 pub fn schedules_within_bounds_may_be_sent()
-    ensures { (setup : Setup) (events : List Event) → AllByRecursion IsTyped events → AreFew setup events → AllByRecursion (IsSendable setup) events }
+    ensures { (setup : Setup) (events : List Event) → AllByRecursion IsTyped events → AreSmall setup events → AllByRecursion (IsSendable setup) events }
 {}
 
 ghost use Rattle.std.specs.Prelude.{Result};

@@ -5,7 +5,7 @@ use Rattle.h3_c.proofs.laws.each_program_gets_what_the_other_sent.Goals as goal
 
 pub returns : goal.returns
 returns c = λ setup h g acts made happen.
-    let on = acts_run c.calls_are_steps_of_two_endpoints.ensures acts h g (new_ends setup) (handle_stands made.client) (handle_stands made.server) happen in (
+    let on = acts_run c.calls_are_steps_of_two_endpoints.ensures.steps acts h g (new_ends setup) (handle_stands made.client) (handle_stands made.server) happen in (
       on.events,
       on.answers,
       on.stand,
