@@ -1,5 +1,5 @@
 -- What is handed out exactly has the names and values that were sent, and a header that was sent is handed out as that header.
-use Rattle.std.proofs.Common.{◌≡◌, ℕ, suc, Bool, true, false, if◌then◌else◌, List, [], ◌∷◌, ◌++◌, length, refl, ap, ◌∙◌}
+use Rattle.std.proofs.Common.{◌≡◌, ℕ, Bool, true, false, if◌then◌else◌, List, [], ◌∷◌, ◌++◌, refl, ap, ◌∙◌}
 use Rattle.std.specs.Prelude.{map}
 use Rattle.std.specs.List.{AllByRecursion}
 use Rattle.h3_field.specs.Field.{Field, flagged, plain_field}
@@ -12,8 +12,8 @@ use Rattle.h3_world.specs.declared.event.Answer.{Answer}
 use Rattle.h3_world.specs.declared.event.Answer.TheVariants as answer
 use Rattle.h3_world.specs.declared.event.Event.{Event}
 use Rattle.h3_world.specs.declared.event.Event.TheVariants as event
-use Rattle.h3_headline.specs.Exactly.{IsAllOf, IsExactly, IsReadBack, Reader}
-use Rattle.h3_headline.specs.Messages.{Is, IsFrontOf, MessageContent, if_done, is_on, plainly, sent, sent_in, values_of}
+use Rattle.h3_headline.specs.Exactly.{IsExactly, IsReadBack, Reader}
+use Rattle.h3_headline.specs.Messages.{Is, MessageContent, if_done, is_on, plainly, sent, sent_in, values_of}
 use Rattle.h3_headline.specs.Messages.MessageContent.{Byte, FieldSection, Foreign, TooLarge}
 use Rattle.h3_headline.specs.ValuesLaws.{values_read}
 
@@ -58,19 +58,6 @@ is_plainly r (TooLarge n) Foreign back is = absurd is
 is_plainly r (Byte b) (FieldSection k l fields) back is = absurd is
 is_plainly r (Byte b) (TooLarge size) back is = absurd is
 is_plainly r (Byte b) Foreign back is = absurd is
-
--- **A front.**
-pub front_plainly : (r : Reader) (given sending : List MessageContent) → AllByRecursion IsReadBack sending → IsFrontOf (IsExactly r) given sending → IsFrontOf (Is r.most) given sending
-front_plainly r [] sending back is = tt
-front_plainly r (c ∷ given) (d ∷ sending) back is = (is_plainly r c d back.0 is.0, front_plainly r given sending back.1 is.1)
-front_plainly r (c ∷ given) [] back is = absurd is
-
--- **All of it is as long.**
-pub all_as_long : (r : Reader) (given sending : List MessageContent) → IsAllOf (IsExactly r) given sending → length given ≡ length sending
-all_as_long r [] [] is = refl
-all_as_long r (c ∷ given) (d ∷ sending) is = ap suc (all_as_long r given sending is.1)
-all_as_long r [] (d ∷ sending) is = absurd is
-all_as_long r (c ∷ given) [] is = absurd is
 
 -- The headers of events are read back.
 back_joined : (l m : List MessageContent) → AllByRecursion IsReadBack l → AllByRecursion IsReadBack m → AllByRecursion IsReadBack (l ++ m)
