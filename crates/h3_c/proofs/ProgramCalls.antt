@@ -292,6 +292,7 @@ module _ (side : Side) (h g : Handles) (there : handle_at g (other side) ≡ han
   call_made (call.DatagramHead id before buffer count_before count n) out d = inl (looks_at _ refl d.0)
   call_made (call.ReadDatagram bytes id_before id from_before from n) out d = inl (never out)
   call_made (call.Stream id before state n) out d = inl (looks_at _ refl d.0)
+  call_made (call.FrameLeft id before left n) out d = inl (looks_at _ refl d.0)
   call_made (call.StreamKind id before kind n) out d = inl (looks_at _ refl d.0)
   call_made (call.Connection state n) out d = inl (looks_at _ refl d.0)
   call_made (call.NextEvent kind_before kind number_before number n) out d = inl (looks _ refl (ap (λ (v : Seen). v.endpoint) d.rest))

@@ -4,6 +4,7 @@
 -- call is named. h3_new and h3_free have no endpoint on both sides, and h3_version, h3_config_default and the calls for capsules and
 -- priorities have none: see their exports.
 use Rattle.std.specs.Prelude.{◌≡◌, ℕ, List}
+use Rattle.h3_connection.specs.FrameLeft.{ShowsFrameLeft}
 use Rattle.h3_connection.specs.ReceivingContracts.{Delivers, DeliversEnd, DeliversReset}
 use Rattle.h3_connection.specs.SendingContracts.{SendsBody, Finishes, Resets, Cancels, GoesAway}
 use Rattle.h3_connection.specs.Shutdown.{GivesNotice, ShutsDown}
@@ -74,6 +75,7 @@ pub data CallOfC : Type 0 where
   ReadDatagram : (bytes : List ℕ) (id_before id from_before from : ℕ) (n : Told) → CallOfC
   -- what can be read
   Stream : (id : ℕ) (before state : StreamState) (n : Told) → CallOfC
+  FrameLeft : (id before left : ℕ) (n : Told) → CallOfC
   StreamKind : (id before kind : ℕ) (n : Told) → CallOfC
   Connection : (state : ConnectionState) (n : Told) → CallOfC
   NextEvent : (kind_before kind number_before number : ℕ) (n : Told) → CallOfC
@@ -129,6 +131,7 @@ Does (DatagramHead id before buffer count_before count n) v w =
     × Unwritten id ((buffer ≡ before) × (count ≡ count_before))
 Does (ReadDatagram bytes id_before id from_before from n) v w = ReadsOne v w bytes n id_before id from_before from
 Does (Stream id before state n) v w = (w ≡ v) × OnStream id n v w ((n ≡ ok) × ShowsStream v id state) × Unwritten id (state ≡ before)
+Does (FrameLeft id before left n) v w = (w ≡ v) × OnStream id n v w ((n ≡ ok) × ShowsFrameLeft v.endpoint id left) × Unwritten id (left ≡ before)
 Does (StreamKind id before kind n) v w = (w ≡ v) × OnStream id n v w (ShowsKind v id n before kind) × Unwritten id (kind ≡ before)
 Does (Connection state n) v w = (w ≡ v) × (n ≡ ok) × ShowsConnection v state
 Does (NextEvent kind_before kind number_before number n) v w = ReportsEvent v w n kind_before kind number_before number

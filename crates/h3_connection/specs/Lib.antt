@@ -66,6 +66,7 @@ pub mod SendingContracts
 pub mod ReceivingContracts
 pub mod ReadingContracts
 pub mod Unread
+pub mod FrameLeft
 pub mod NextWaiting
 pub mod NextWaitingLaws
 pub mod EndsWaiting

@@ -17,6 +17,7 @@ pub mod TellingPriorities
 pub mod UsingUpdates
 pub mod LookingAtUpdates
 pub mod Held
+pub mod FramesLeft
 pub mod Inserting
 pub mod SendingSections
 pub mod SendingHeads

@@ -25,6 +25,7 @@ mod copying;
 mod datagrams;
 mod ending;
 mod events;
+mod frame_left;
 mod heads;
 mod kinds;
 mod lacking;

@@ -38,4 +38,5 @@ pub mod Starting
 pub mod Codes
 pub mod ExcessiveFrames
 pub mod FirstFrames
+pub mod FrameLeft
 pub mod ExcessiveLaws

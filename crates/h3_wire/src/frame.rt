@@ -26,6 +26,7 @@ mod decoder;
 mod errors;
 mod excess;
 mod first;
+mod frame_left;
 mod kinds;
 mod let_go;
 mod payload_left;

@@ -1,6 +1,7 @@
 //! What can be read.
 ghost use Rattle.std.specs.Prelude.{◌≡◌, ◌≤◌, ◌^◌};
 ghost use Rattle.h3_connection.specs.Endpoint.{EndpointHistory};
+ghost use Rattle.h3_connection.specs.FrameLeft.{ShowsFrameLeft};
 ghost use Rattle.h3_connection.specs.Lasts.{last_id};
 ghost use Rattle.h3_connection.specs.State.{StandsFor};
 ghost use Rattle.h3_c.specs.Exported.{OnStream};
@@ -31,6 +32,18 @@ impl Connection {
             is_reset: self.endpoint.is_reset(id) as u32,
             tries: self.endpoint.block_tries(id) as u32,
         };
+        OK
+    }
+
+    /// How many bytes of a frame's payload are still to come on a stream.
+    pub(crate) fn frame_left(&self, id: u64, left: &mut u64) -> Told
+        ensures shows { OnStream id result self.now self.now ((result ≡ ok) × ShowsFrameLeft self.now.endpoint id left.new) }
+        ensures unwritten { 2 ^ 62 ≤ id → left.new ≡ left.old }
+    {
+        let Ok(id) = StreamId::try_from(id) else {
+            return ARGUMENT;
+        };
+        *left = self.endpoint.frame_left(id);
         OK
     }
 

@@ -1,7 +1,7 @@
 //! What C calls: what can be read.
 ghost use Rattle.std.specs.Prelude.{IsSome};
 ghost use Rattle.h3_c.specs.Does.{Does};
-ghost use Rattle.h3_c.specs.Does.CallOfC.{Connection, PeerSetting, Stream};
+ghost use Rattle.h3_c.specs.Does.CallOfC.{Connection, FrameLeft, PeerSetting, Stream};
 ghost use Rattle.h3_c.specs.Exported.{Steps};
 ghost use Rattle.h3_c.specs.Numbers.{number};
 
@@ -24,6 +24,25 @@ pub extern "C" fn h3_raw_stream(
 {
     let connection = opened(alloc, handle);
     let told = connection.stream(id, state);
+    *out = kept(connection);
+    told.number
+}
+
+/// How many bytes of a frame's payload are still to come.
+#[unsafe(no_mangle)]
+pub extern "C" fn h3_raw_frame_left(
+    alloc: Global,
+    handle: Handle,
+    id: u64,
+    left: &mut u64,
+    out: &mut Handle,
+) -> u32
+    requires { IsSome handle.value }
+    ensures there { IsSome out.new.value }
+    ensures goes { Steps handle.value out.new.value (Does (FrameLeft id left.old left.new (number result 0))) }
+{
+    let connection = opened(alloc, handle);
+    let told = connection.frame_left(id, left);
     *out = kept(connection);
     told.number
 }

@@ -1,5 +1,6 @@
 //! What is left of a stream to be read.
 ghost use Rattle.std.specs.Prelude.{◌≡◌, true, Some};
+ghost use Rattle.h3_connection.specs.FrameLeft.{frame_left_of_request};
 ghost use Rattle.h3_connection.specs.declared.event.StreamFault.TheVariants.{Reset};
 ghost use Rattle.h3_incoming.specs.Left.{is_drained};
 
@@ -31,6 +32,21 @@ impl IncomingStream {
         ensures { result ≡ self.now.content }
     {
         self.content
+    }
+
+    /// How many bytes are still to come of the payload of the DATA frame that is under way, or else of the frame that is next. 0 while the
+    /// type and length of that one are not whole, once all of it came, and if no frame is next: a field section waits to be decoded, or a
+    /// session is there.
+    pub fn frame_left(&self) -> usize
+        ensures { result ≡ frame_left_of_request self.now }
+    {
+        if self.body_left > 0 {
+            return self.body_left.saturating_sub(self.unread.len());
+        }
+        if self.begins_frame() {
+            return self.unread.frame_left();
+        }
+        0
     }
 
     /// Whether nothing is left of it: no bytes, no field section and no payload under way. It waits for nothing then. It is true only of

@@ -1,5 +1,7 @@
 //! What stands of a request stream, by its id.
 ghost use Rattle.std.specs.Prelude.{◌≡◌, ◌≤◌, Some, false, is_some, option_copied, option_map, unwrap_or};
+ghost use Rattle.h3_connection.specs.FrameLeft.{frame_left_of_request};
+ghost use Rattle.h3_connection.specs.Incoming.{nothing_came};
 ghost use Rattle.h3_connection.specs.Keeping.{is_settled_request};
 ghost use Rattle.h3_connection.specs.Prioritizing.{takes_no_response};
 ghost use Rattle.h3_connection.specs.State.{kept_at};
@@ -40,6 +42,16 @@ impl RequestStreams {
         match self.streams.get_alike(id) {
             Some(stream) => Some(stream.incoming().frames()),
             None => None,
+        }
+    }
+
+    /// How many bytes are still to come of the payload of the frame that is under way on a stream; 0 if the stream is not there.
+    pub fn frame_left(&self, id: StreamId) -> usize
+        ensures { result ≡ frame_left_of_request (unwrap_or (option_map (λ r. r.incoming) (kept_at self.now id)) nothing_came) }
+    {
+        match self.streams.get_alike(id) {
+            Some(stream) => stream.incoming().frame_left(),
+            None => 0,
         }
     }
 

@@ -4,6 +4,7 @@ ghost use Rattle.std.specs.List.{concat};
 ghost use Rattle.h3_wire.specs.declared.frame.kinds.FrameKinds.{FrameKinds};
 ghost use Rattle.h3_wire.specs.ExcessiveFrames.{begins_section, is_excessive_by};
 ghost use Rattle.h3_wire.specs.FirstFrames.{begins_other};
+ghost use Rattle.h3_wire.specs.FrameLeft.{left_of_frame};
 ghost use Rattle.h3_wire.specs.Known.{Gives, known_by};
 ghost use Rattle.h3_wire.specs.MessageFrames.{any_frame};
 ghost use Rattle.h3_wire.specs.Pieces.{chunk_of, ending, first_of, with_piece};
@@ -212,6 +213,14 @@ impl FrameBuffer {
         ensures { result ≡ begins_other (concat self.now.pieces) }
     {
         self.unread.begins_other()
+    }
+
+    /// How many bytes of the payload are still to come of the frame at the front: 0 while its type and length are not whole, and 0 once it
+    /// is. It is to be asked when a frame may begin there. Nothing is taken.
+    pub fn frame_left(&self) -> usize
+        ensures { result ≡ left_of_frame (concat self.now.pieces) }
+    {
+        self.unread.frame_left()
     }
 
     /// The first piece's first bytes, `max` or all of it, when no frame is under way at the front. Nothing is copied. An `Err` changes

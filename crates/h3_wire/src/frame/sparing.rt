@@ -7,6 +7,7 @@ ghost use Rattle.h3_wire.specs.declared.frame.kinds.FrameKinds.{FrameKinds};
 ghost use Rattle.h3_wire.specs.Frames.{plain_frames};
 ghost use Rattle.h3_wire.specs.ExcessiveFrames.{SaysLength, begins_section, head_said, is_excessive_by, number_said};
 ghost use Rattle.h3_wire.specs.FirstFrames.{begins_other};
+ghost use Rattle.h3_wire.specs.FrameLeft.{left_of_frame};
 ghost use Rattle.h3_wire.specs.Known.{Gives, known_by};
 ghost use Rattle.h3_wire.specs.MessageFrames.{any_frame};
 ghost use Rattle.h3_wire.specs.Pieces.{IsRest, chunk_of, ending, first_of, with_piece};
@@ -17,7 +18,7 @@ use super::decoder::{FrameDecoder, MessageFrame};
 use super::errors::FrameStreamError;
 use super::kinds::FrameKinds;
 use super::let_go::LetGo;
-use super::{excess, first};
+use super::{excess, first, frame_left};
 use crate::buf::BufList;
 use crate::proto::frame::{Frame, FrameHead, PayloadLen, is_update_type};
 use bytes::{Buf, Bytes};
@@ -286,6 +287,17 @@ impl FrameBytes {
             return true;
         }
         first::begins_other(&self.kept)
+    }
+
+    /// How many bytes of the payload are still to come of the frame at the front: 0 while its type and length are not whole, and 0 once it
+    /// is. A frame has to begin there.
+    pub(super) fn frame_left(&self) -> usize
+        ensures { result ≡ left_of_frame (concat self.now.pieces) }
+    {
+        if self.passing > 0 {
+            return self.passing.saturating_sub(self.len());
+        }
+        frame_left::frame_left(&self.kept)
     }
 
     /// Whether an unknown frame is under way at the front. A frame has to begin there.
