@@ -1021,6 +1021,14 @@ typedef struct {
 /* The state of a stream. Refused: H3_ARGUMENT (id not below 2^62). */
 static inline uint32_t h3_stream(h3_endpoint *endpoint, uint64_t id, h3_stream_state *state);
 
+/* *left: how many bytes are still to come of the payload of a frame (RFC 9114, section 7.1). On a
+ * request stream it is the DATA frame that is under way, or else the frame that is next to be
+ * pulled, and on the peer's control stream the frame that is under way. 0 before the type and
+ * length of that frame came, once all of it came, of every other stream, and once the connection
+ * has a fault. What H3_KEPT took counts as to come until it is read. Refused: H3_ARGUMENT (id not
+ * below 2^62). */
+static inline uint32_t h3_frame_left(h3_endpoint *endpoint, uint64_t id, uint64_t *left);
+
 /* The types of unidirectional streams (RFC 9114, section 6.2; RFC 9204, section 4.2). */
 enum h3_stream_type {
   H3_STREAM_UNTOLD = 0,  /* too few bytes came: its type, or the id after it, is not whole */
@@ -1159,6 +1167,7 @@ uint32_t h3_raw_datagram_head(h3_endpoint endpoint, uint64_t id, uint8_t *buffer
 uint32_t h3_raw_read_datagram(h3_endpoint endpoint, const uint8_t *bytes, size_t len, uint64_t *id,
                               size_t *from, uint64_t *detail, h3_endpoint *out);
 uint32_t h3_raw_stream(h3_endpoint endpoint, uint64_t id, h3_stream_state *state, h3_endpoint *out);
+uint32_t h3_raw_frame_left(h3_endpoint endpoint, uint64_t id, uint64_t *left, h3_endpoint *out);
 uint32_t h3_raw_stream_kind(h3_endpoint endpoint, uint64_t id, uint32_t *type, h3_endpoint *out);
 uint32_t h3_raw_connection(h3_endpoint endpoint, h3_state *state, h3_endpoint *out);
 uint32_t h3_raw_next_event(h3_endpoint endpoint, uint32_t *kind, uint64_t *number, h3_endpoint *out);
@@ -1453,6 +1462,11 @@ static inline uint32_t h3_stream(h3_endpoint *endpoint, uint64_t id, h3_stream_s
   if (!endpoint || !endpoint->at) return H3_NO_ENDPOINT;
   if (!state) return H3_ARGUMENT;
   return h3_raw_stream(*endpoint, id, state, endpoint);
+}
+static inline uint32_t h3_frame_left(h3_endpoint *endpoint, uint64_t id, uint64_t *left) {
+  if (!endpoint || !endpoint->at) return H3_NO_ENDPOINT;
+  if (!left) return H3_ARGUMENT;
+  return h3_raw_frame_left(*endpoint, id, left, endpoint);
 }
 static inline uint32_t h3_stream_kind(h3_endpoint *endpoint, uint64_t id, uint32_t *type) {
   if (!endpoint || !endpoint->at) return H3_NO_ENDPOINT;

@@ -430,6 +430,12 @@ class endpoint {
     h3_stream(&raw_, id, &state);
     return state;
   }
+  /* How many bytes of a frame's payload are still to come. */
+  std::uint64_t frame_left(std::uint64_t id) noexcept {
+    std::uint64_t left = 0;
+    h3_frame_left(&raw_, id, &left);
+    return left;
+  }
   /* The h3_stream_type of a unidirectional stream of the peer. */
   std::optional<std::uint32_t> stream_kind(std::uint64_t id) noexcept {
     std::uint32_t type;

@@ -22,6 +22,13 @@ func (e *Endpoint) Stream(id uint64) StreamState {
 	return StreamState{uint64(s.waiting), uint64(s.unread), s.has_outgoing == 1, s.is_finished == 1, s.is_reset == 1, int(s.tries)}
 }
 
+// FrameLeft is how many bytes of the payload of the frame under way are still to come on a request stream or the peer's control stream.
+func (e *Endpoint) FrameLeft(id uint64) uint64 {
+	var left C.uint64_t
+	C.h3_frame_left(&e.raw, C.uint64_t(id), &left)
+	return uint64(left)
+}
+
 // StreamType is the type of a unidirectional stream (RFC 9114, section 6.2), as h3_stream_type.
 type StreamType int
 

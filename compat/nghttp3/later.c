@@ -8,7 +8,7 @@ EXPORT nghttp3_ssize nghttp3_conn_read_stream2(nghttp3_conn *connection, int64_t
   return (void)now, nghttp3_conn_read_stream(connection, id, bytes, length, fin);
 }
 
-/* ---- calls of 1.8, of a connection that is not changed: but for the note which stream was found last ---- */
+/* ---- calls of 1.8, of a connection that is not changed: but for the note which stream was found last, and bytes that were kept ---- */
 
 static nghttp3_conn *noting(const nghttp3_conn *connection) { return (nghttp3_conn *)(uintptr_t)connection; }
 
@@ -20,6 +20,10 @@ EXPORT int nghttp3_conn_is_stream_writable2(const nghttp3_conn *connection, int6
 
 EXPORT int nghttp3_conn_get_stream_priority2_versioned(const nghttp3_conn *connection, int version, nghttp3_pri *to, int64_t id) {
   return nghttp3_conn_get_stream_priority_versioned(noting(connection), version, to, id);
+}
+
+EXPORT uint64_t nghttp3_conn_get_frame_payload_left2(const nghttp3_conn *connection, int64_t id) {
+  return nghttp3_conn_get_frame_payload_left(noting(connection), id);
 }
 
 /* ---- what a stream is ---- */

@@ -477,6 +477,18 @@ static APART nghttp3_ssize read_other(nghttp3_conn *connection, int64_t id, cons
   return read_there(connection, s, bytes, length, fin);
 }
 
+/* How many bytes of the payload are to come of the frame that is under way on a request stream, or on the peer's control stream. A type and
+ * length that were kept go to the endpoint first. */
+EXPORT uint64_t nghttp3_conn_get_frame_payload_left(nghttp3_conn *connection, int64_t id) {
+  uint64_t left = 0;
+  stream *s = is_request(id) ? stream_find(connection, id) : NULL;
+  if (!s && id != connection->peer_control) return 0;
+  if (s && s->head_length > 0 && endpoint_deliver(connection, id, s->head, s->head_length, false) == 0)
+    s->head_length = 0, s->may_be_held = true;
+  h3_frame_left(&connection->endpoint, (uint64_t)id, &left);
+  return left;
+}
+
 EXPORT nghttp3_ssize nghttp3_conn_read_stream(nghttp3_conn *connection, int64_t id, const uint8_t *bytes, size_t length, int fin) {
   stream *s = connection->found;
   return s && s->id == id ? read_there(connection, s, bytes, length, fin) : read_other(connection, id, bytes, length, fin);

@@ -1,7 +1,7 @@
 #!/usr/bin/env bash
 # C programs over build/c (scripts/c/lib.sh), by the machine's C compiler alone: the calls of crates/h3_cases and hostile lists of calls
 # through the header, each allocation refused in turn, large input with none refused, two endpoints under random schedules, what is held of
-# a stream and of small pieces, unknown frames, long instructions, wrong arguments, buffers that no call uses later, bytes that are read where they lie, bodies that the caller holds, pulled
+# a stream and of small pieces, what is to come of a frame, unknown frames, long instructions, wrong arguments, buffers that no call uses later, bytes that are read where they lie, bodies that the caller holds, pulled
 # lists, datagrams and capsules, the frames of WebSockets, and the program of docs/GUIDE.md. Once as they are, and once with the sanitizers of addresses, leaks and undefined behaviour where the compiler has them
 # (large input, memory: once). Then h3.hpp, by C++17 and C++20; the binary interface (scripts/c/abi.py); how programs find the library
 # (scripts/c/test-install.sh); the packages for Go, Rust and Python (scripts/c/test-bindings.sh), and what `make dist` packs
@@ -122,6 +122,7 @@ checks() {
   compile sizes sizes "${refusing[@]}"
   compile schedules schedules
   compile unread unread
+  compile frame_left frame_left
   compile small_pieces small_pieces "${wrapped[@]}"
   compile unknown unknown "${wrapped[@]}"
   compile instructions instructions
@@ -154,6 +155,7 @@ checks() {
     run sizes "$out/sizes"
     run schedules "$out/schedules" 0 1000
     run unread "$out/unread"
+    run frame_left "$out/frame_left"
     run "small pieces" "$out/small_pieces"
     run unknown "$out/unknown"
     run instructions "$out/instructions"

@@ -58,6 +58,7 @@ checks() { # SONAME, the folder of the header, Debian's library
   run calls "${python[@]}" $tests/calls.py
   run priorities "${python[@]}" $tests/priorities.py
   run "byte scripts" "${python[@]}" $tests/byte_scripts.py
+  run "frames left" "${python[@]}" $tests/frames_left.py
   run cuts "${python[@]}" $tests/cuts.py 0 60
   run steps "${python[@]}" $tests/steps.py
   run tables "${python[@]}" $tests/tables.py

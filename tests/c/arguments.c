@@ -42,6 +42,7 @@ static void of_none(h3_endpoint *e) {
   IS(h3_cancel(e, 0, &detail), H3_NO_ENDPOINT);
   IS(h3_close_stream(e, 0, &fin, &fin, &detail), H3_NO_ENDPOINT);
   IS(h3_stream_kind(e, 2, &fin), H3_NO_ENDPOINT);
+  IS(h3_frame_left(e, 2, &id), H3_NO_ENDPOINT);
   IS(h3_goaway(e, 0, &detail), H3_NO_ENDPOINT);
   IS(h3_shutdown_notice(e, &detail), H3_NO_ENDPOINT);
   IS(h3_shutdown(e, &detail), H3_NO_ENDPOINT);
@@ -112,6 +113,7 @@ static void of_pointers(h3_endpoint *e, uint64_t id) {
   IS(h3_item_bytes(e, 0, b, 4, NULL), H3_ARGUMENT);
   IS(h3_stream(e, id, NULL), H3_ARGUMENT);
   IS(h3_stream_kind(e, 3, NULL), H3_ARGUMENT);
+  IS(h3_frame_left(e, 3, NULL), H3_ARGUMENT);
   IS(h3_close_stream(e, id, NULL, &fin, NULL), H3_ARGUMENT);
   IS(h3_close_stream(e, id, &fin, NULL, NULL), H3_ARGUMENT);
   IS(h3_connection(e, NULL), H3_ARGUMENT);

@@ -480,6 +480,12 @@ class Endpoint:
         self._plain_call("h3_raw_stream", _number(id), byref(state))
         return StreamState(state.waiting, state.unread, state.has_outgoing == 1, state.is_finished == 1, state.is_reset == 1, state.tries)
 
+    def frame_left(self, id: int) -> int:
+        """How many bytes of the payload of the frame under way are still to come on a request stream or the peer's control stream."""
+        left = c_uint64()
+        self._plain_call("h3_raw_frame_left", _number(id), byref(left))
+        return left.value
+
     def stream_kind(self, id: int) -> StreamType | None:
         """The type of a unidirectional stream of the peer, by what came on it. None: it is another stream."""
         kind = c_uint32()

@@ -170,6 +170,7 @@ DECLARATIONS: dict[str, tuple[Any, list[Any]]] = {
     "h3_raw_datagram_head": (c_uint32, [Handle, c_uint64, BUFFER, c_size_t, SIZE_OUT, U64_OUT, OUT]),
     "h3_raw_read_datagram": (c_uint32, [Handle, BYTES, c_size_t, U64_OUT, SIZE_OUT, U64_OUT, OUT]),
     "h3_raw_stream": (c_uint32, [Handle, c_uint64, POINTER(RawStream), OUT]),
+    "h3_raw_frame_left": FINDS_NUMBER,
     "h3_raw_stream_kind": (c_uint32, [Handle, c_uint64, U32_OUT, OUT]),
     "h3_raw_connection": (c_uint32, [Handle, POINTER(RawConnection), OUT]),
     "h3_raw_next_event": (c_uint32, [Handle, U32_OUT, U64_OUT, OUT]),

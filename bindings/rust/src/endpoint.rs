@@ -606,6 +606,17 @@ impl Endpoint {
         })
     }
 
+    /// How many bytes of the payload of the frame under way are still to come on a request stream or the peer's control stream.
+    ///
+    /// # Errors
+    ///
+    /// [`Error::Argument`]: the id is 2^62 or more.
+    pub fn frame_left(&mut self, id: u64) -> Result<u64, Error> {
+        let mut left = 0;
+        self.call(|handle, _, out| unsafe { raw::h3_raw_frame_left(handle, id, &mut left, out) })?;
+        Ok(left)
+    }
+
     /// The type of a unidirectional stream of the peer, by what came on it. `None`: it is another stream.
     pub fn stream_kind(&mut self, id: u64) -> Option<StreamType> {
         let mut kind = 0;

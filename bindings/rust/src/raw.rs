@@ -115,6 +115,7 @@ extern "C" {
     pub(crate) fn h3_raw_datagram_head(endpoint: Handle, id: u64, buffer: *mut u8, room: usize, n: *mut usize, detail: *mut u64, out: *mut Handle) -> u32;
     pub(crate) fn h3_raw_read_datagram(endpoint: Handle, bytes: *const u8, len: usize, id: *mut u64, from: *mut usize, detail: *mut u64, out: *mut Handle) -> u32;
     pub(crate) fn h3_raw_stream(endpoint: Handle, id: u64, state: *mut RawStream, out: *mut Handle) -> u32;
+    pub(crate) fn h3_raw_frame_left(endpoint: Handle, id: u64, left: *mut u64, out: *mut Handle) -> u32;
     pub(crate) fn h3_raw_stream_kind(endpoint: Handle, id: u64, kind: *mut u32, out: *mut Handle) -> u32;
     pub(crate) fn h3_raw_connection(endpoint: Handle, state: *mut RawConnection, out: *mut Handle) -> u32;
     pub(crate) fn h3_raw_next_event(endpoint: Handle, kind: *mut u32, number: *mut u64, out: *mut Handle) -> u32;

@@ -1,13 +1,12 @@
 #!/usr/bin/env python3
-"""exports.py: the drop-in has each symbol that Debian's library has, but for those of LEFT_OUT, and no other."""
+"""exports.py: the drop-in has each symbol that Debian's library has, but for those of standalone QPACK, and no other."""
 import os
 import subprocess
 import sys
 
 from library import IS_VERSION_1_17
 
-LEFT_OUT = {"nghttp3_conn_get_frame_payload_left", *(["nghttp3_conn_get_frame_payload_left2"] if IS_VERSION_1_17 else [])}
-QPACK_CALLS = 27 if IS_VERSION_1_17 else 22  # of standalone QPACK: all that begin so, and all left out
+QPACK_CALLS = 27 if IS_VERSION_1_17 else 22  # all that begin so, and all left out
 PREFIX = "nghttp3_qpack_"
 
 
@@ -18,9 +17,9 @@ def symbols(path):
 
 def main():
     native, ours = symbols(os.environ["NATIVE"]), symbols(os.environ["OURS"])
-    left_out = LEFT_OUT | {it for it in native if it.startswith(PREFIX)}
+    left_out = {it for it in native if it.startswith(PREFIX)}
     wrong = sorted((native - left_out) ^ ours)
-    if wrong or not LEFT_OUT <= native or len(left_out) != len(LEFT_OUT) + QPACK_CALLS:
+    if wrong or len(left_out) != QPACK_CALLS:
         print(f"failed exports: {', '.join(wrong) or 'other calls are left out than README.md says'}")
         sys.exit(1)
     print(f"ok exports: {len(ours)} calls of {len(native)}")

@@ -88,6 +88,7 @@ CALLS = {
     "conn_shutdown_stream_write": (None, STREAM), "conn_shutdown_stream_read": (c_int, STREAM),
     "conn_submit_request": (c_int, [*FIELDS, POINTER(Reader), c_void_p]), "conn_submit_response": (c_int, [*FIELDS, POINTER(Reader)]),
     "conn_submit_info": (c_int, FIELDS), "conn_submit_trailers": (c_int, FIELDS), "conn_set_stream_user_data": (c_int, [*STREAM, c_void_p]),
+    "conn_get_frame_payload_left": (c_uint64, STREAM), "conn_get_frame_payload_left2": (c_uint64, STREAM),
     "conn_submit_shutdown_notice": (c_int, [c_void_p]), "conn_shutdown": (c_int, [c_void_p]), "conn_is_drained": (c_int, [c_void_p]),
     "conn_set_max_client_streams_bidi": (None, [c_void_p, c_uint64]), "conn_set_max_concurrent_streams": (None, [c_void_p, c_size_t]),
     "conn_get_stream_priority_versioned": (c_int, [c_void_p, c_int, POINTER(Priority), c_int64]),
@@ -111,7 +112,7 @@ OF_0_8 = {"conn_get_stream_priority", "conn_set_stream_priority", "http_parse_pr
 OF_1_8 = {"conn_update_ack_offset", "conn_is_drained", "conn_get_stream_priority_versioned", "conn_set_server_stream_priority_versioned",
           "conn_set_client_stream_priority", "pri_parse_priority_versioned"}
 OF_1_17 = {"conn_read_stream2", "conn_is_stream_flushed", "conn_is_stream_writable2", "conn_get_stream_user_data", "conn_is_drained2",
-           "conn_get_stream_priority2_versioned", "get_uvarint", "get_varint", "get_uvarintlen", "put_uvarint", "put_uvarintlen"}
+           "conn_get_stream_priority2_versioned", "conn_get_frame_payload_left2", "get_uvarint", "get_varint", "get_uvarintlen", "put_uvarint", "put_uvarintlen"}
 NOT_THERE = (OF_0_8 if IS_VERSION_1 else OF_1_8) | (set() if IS_VERSION_1_17 else OF_1_17)
 
 
