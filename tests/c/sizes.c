@@ -345,6 +345,8 @@ static void deliveries(void) {
   WANT(h3_priority(&ends[1], 0, &urgency, &incremental) == H3_NOT_OPEN, "h3_priority", 0, 0);
   DONE(h3_stream_kind(&ends[0], 3, &type), "h3_stream_kind", 3);
   WANT(type == H3_STREAM_CONTROL, "another type of stream", 3, type);
+  DONE(h3_frame_left(&ends[0], 3, &value), "h3_frame_left", 3);
+  WANT(value == 0, "a frame is under way", 3, value);
   WANT(id == 0 && drained == 1, "an endpoint without requests is not drained", 3, id);
   drop();
 }
