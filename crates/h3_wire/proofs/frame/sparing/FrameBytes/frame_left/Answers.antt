@@ -9,6 +9,6 @@ pub returns-then-self-gt0 : goal.returns-then-self-gt0
 returns-then-self-gt0 c =
     let i = c.self.inside in
     let all : length (concat (i.let_go.pieces ++ i.kept.pieces)) ≡ length (concat c.args.self.now.pieces) = ap (λ (s : Sparing). length (concat s.pieces)) c.self.view_is in
-    ap (λ n. i.passing - n) (c.len.ensures ∙ sym all)
+    c.saturating_sub.ensures ∙ ap (λ n. i.passing - n) (c.len.ensures ∙ sym all)
     ∙ spared_left i.known_to i.let_go.pieces i.kept.pieces i.passing i.gone c.self.invariant.0 c.if-self-gt0.true
     ∙ ap (λ (s : Sparing). left_of_frame (concat s.pieces)) c.self.view_is
