@@ -5,6 +5,7 @@ use Rattle.std.specs.Prelude.{Option, Some, None, is_some, option_map, unwrap_or
 use Rattle.h3_proto.specs.declared.stream.Side.{Side}
 use Rattle.h3_proto.specs.declared.stream.Side.TheVariants.{Client, Server}
 use Rattle.h3_connection.specs.Delivering.{closed_refusal}
+use Rattle.h3_connection.specs.FrameLeft.{frame_left_of_request}
 use Rattle.h3_connection.specs.Incoming.{nothing_came}
 use Rattle.h3_connection.specs.Keeping.{is_settled_request}
 use Rattle.h3_connection.specs.Prioritizing.{takes_no_response}
@@ -15,6 +16,7 @@ use Rattle.h3_connection.specs.declared.event.Refusal.TheVariants as refusal
 use Rattle.h3_connection.specs.StreamSets.{Streams}
 use Rattle.h3_connection.specs.declared.event.StreamFault.{StreamFault}
 use Rattle.h3_connection.specs.declared.event.StreamFault.TheVariants.{Canceled, Malformed, Reset}
+use Rattle.h3_incoming.specs.LeftLaws.{nothing_left}
 use Rattle.h3_requests.specs.Changing.{receiver_refusal}
 use Rattle.h3_requests.specs.Over.{AreAlike, codeless, without_code}
 use Rattle.h3_connection.specs.StrictConnection.{kinds_of}
@@ -99,3 +101,13 @@ pub held_is : (own : Announced) (streams model : Streams RequestState) (id : ℕ
     → counted (held_of_request own (unwrap_or (option_map (λ r. r.incoming) a) nothing_came)) ≡ counted (held_of_request own (unwrap_or (option_map (λ r. r.incoming) (kept_at model id)) nothing_came))
 held_is own streams model id a view alike =
     held_of own a ∙ ap (λ o. unwrap_or o 0) (part_is (λ r. counted (held_of_request own r.incoming)) (λ r. refl) streams model id a view alike) ∙ sym (held_of own (kept_at model id))
+
+left_of : (o : Option RequestState) → frame_left_of_request (unwrap_or (option_map (λ r. r.incoming) o) nothing_came) ≡ unwrap_or (option_map (λ r. frame_left_of_request r.incoming) o) 0
+left_of None = sym nothing_left
+left_of (Some r) = refl
+
+-- and how much of a frame is still to come
+pub left_is : (streams model : Streams RequestState) (id : ℕ) (a : Option RequestState) → streams ≡ model → AreAlike a (kept_at streams id)
+    → frame_left_of_request (unwrap_or (option_map (λ r. r.incoming) a) nothing_came) ≡ frame_left_of_request (unwrap_or (option_map (λ r. r.incoming) (kept_at model id)) nothing_came)
+left_is streams model id a view alike =
+    left_of a ∙ ap (λ o. unwrap_or o 0) (part_is (λ r. frame_left_of_request r.incoming) (λ r. refl) streams model id a view alike) ∙ sym (left_of (kept_at model id))
