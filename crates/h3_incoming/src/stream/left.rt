@@ -40,7 +40,7 @@ impl IncomingStream {
     pub fn frame_left(&self) -> usize
         ensures { result ≡ frame_left_of_request self.now }
     {
-        if self.body_left > 0 {
+        if self.is_in_payload() {
             return self.body_left.saturating_sub(self.unread.len());
         }
         if self.begins_frame() {
