@@ -477,14 +477,19 @@ static APART nghttp3_ssize read_other(nghttp3_conn *connection, int64_t id, cons
   return read_there(connection, s, bytes, length, fin);
 }
 
-/* How many bytes of the payload are to come of the frame that is under way on a request stream, or on the peer's control stream. A type and
- * length that were kept go to the endpoint first. */
+/* The endpoint gets the type and length of a DATA frame that were kept, without a byte of its payload: it has nothing to tell then. */
+static void give_head(nghttp3_conn *connection, stream *s) {
+  reading now;
+  read_on(connection, s, (input){s->head, s->head_length, false}, false, &now);
+  if (now.answer == H3_OK || now.answer == H3_KEPT) s->head_length = 0, s->may_be_held = true;
+}
+
+/* How many bytes of its payload are to come of the frame that is under way on a request stream, or on the peer's control stream. */
 EXPORT uint64_t nghttp3_conn_get_frame_payload_left(nghttp3_conn *connection, int64_t id) {
   uint64_t left = 0;
   stream *s = is_request(id) ? stream_find(connection, id) : NULL;
   if (!s && id != connection->peer_control) return 0;
-  if (s && s->head_length > 0 && endpoint_deliver(connection, id, s->head, s->head_length, false) == 0)
-    s->head_length = 0, s->may_be_held = true;
+  if (s && s->head_length > 0) give_head(connection, s);
   h3_frame_left(&connection->endpoint, (uint64_t)id, &left);
   return left;
 }
