@@ -2,7 +2,6 @@ pub mod Finding
 pub mod Replying
 pub mod Judging
 pub mod Left
-pub mod LeftLaws
 pub mod Trying
 pub mod Placing
 pub mod Gives

@@ -1,5 +1,7 @@
 -- What a stream has is what one has that is like it but for the code of a reset.
 use Rattle.std.proofs.Common.{◌≡◌, ℕ, ◌+◌, Bool, true, false, [], refl, sym, ◌∙◌, ap, if◌then◌else◌}
+use Rattle.h3_coding.specs.VarintLaws.{none_at_end}
+use Rattle.h3_wire.specs.FrameLeft.{left_behind_type}
 use Rattle.h3_wire.specs.UnknownSize.{is_under_way}
 use Rattle.std.specs.Prelude.{Option, Some, None, is_some, option_map, unwrap_or, ◌||◌}
 use Rattle.h3_proto.specs.declared.stream.Side.{Side}
@@ -16,7 +18,6 @@ use Rattle.h3_connection.specs.declared.event.Refusal.TheVariants as refusal
 use Rattle.h3_connection.specs.StreamSets.{Streams}
 use Rattle.h3_connection.specs.declared.event.StreamFault.{StreamFault}
 use Rattle.h3_connection.specs.declared.event.StreamFault.TheVariants.{Canceled, Malformed, Reset}
-use Rattle.h3_incoming.specs.LeftLaws.{nothing_left}
 use Rattle.h3_requests.specs.Changing.{receiver_refusal}
 use Rattle.h3_requests.specs.Over.{AreAlike, codeless, without_code}
 use Rattle.h3_connection.specs.StrictConnection.{kinds_of}
@@ -101,6 +102,10 @@ pub held_is : (own : Announced) (streams model : Streams RequestState) (id : ℕ
     → counted (held_of_request own (unwrap_or (option_map (λ r. r.incoming) a) nothing_came)) ≡ counted (held_of_request own (unwrap_or (option_map (λ r. r.incoming) (kept_at model id)) nothing_came))
 held_is own streams model id a view alike =
     held_of own a ∙ ap (λ o. unwrap_or o 0) (part_is (λ r. counted (held_of_request own r.incoming)) (λ r. refl) streams model id a view alike) ∙ sym (held_of own (kept_at model id))
+
+-- of a frame nothing is to come where nothing came
+pub nothing_left : 0 ≡ frame_left_of_request nothing_came
+nothing_left = ap left_behind_type (sym none_at_end)
 
 left_of : (o : Option RequestState) → frame_left_of_request (unwrap_or (option_map (λ r. r.incoming) o) nothing_came) ≡ unwrap_or (option_map (λ r. frame_left_of_request r.incoming) o) 0
 left_of None = sym nothing_left

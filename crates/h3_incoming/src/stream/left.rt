@@ -40,7 +40,7 @@ impl IncomingStream {
     pub fn frame_left(&self) -> usize
         ensures { result ≡ frame_left_of_request self.now }
     {
-        if self.is_in_payload() {
+        if self.body_left > 0 {
             return self.body_left.saturating_sub(self.unread.len());
         }
         if self.begins_frame() {

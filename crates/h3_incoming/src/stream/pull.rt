@@ -98,7 +98,7 @@ impl IncomingStream {
     }
 
     // Whether a payload of DATA is under way.
-    pub(super) fn is_in_payload(&self) -> bool
+    fn is_in_payload(&self) -> bool
         ensures { result ≡ nat_lt 0 self.now.body_left }
     {
         self.body_left > 0

@@ -1,8 +1,7 @@
 -- What has no code is what stands for it.
 use Rattle.std.proofs.Common.{Some, None, rules, ◌∙◌}
-use Rattle.h3_incoming.specs.LeftLaws.{nothing_left}
 use Rattle.h3_requests.specs.Stored.{streams_in}
-use Rattle.h3_requests.proofs.Alike.{left_is}
+use Rattle.h3_requests.proofs.Alike.{left_is, nothing_left}
 use Rattle.h3_requests.proofs.streams.RequestStreams.frame_left.Goals as goal
 
 pub returns-in-Some : goal.returns-in-Some
