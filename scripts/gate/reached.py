@@ -5,7 +5,7 @@
     python3 scripts/gate/reached.py --write   takes those out that are not; behind it `scripts/gate/imports.py --write` takes out imports that nothing needs
 
 Reached is what a contract or a hint of src/ names, what an answer to a goal of a function names, each worked row (files `..Rows`), what a page names, and what
-any of these needs. Names are looked up as the files import them. A module with parameters counts as one definition."""
+any of these needs. Names are looked up as the files import them, or as they write them in full. A module with parameters counts as one definition."""
 import os
 import re
 import sys
@@ -18,6 +18,7 @@ NAMED = re.compile(r"^(?:(?:abbrev|unfoldable|pub|record|data|ruleset) )*([^\s:=
 WITHIN = re.compile(r"^[ \t]+(?:(?:abbrev|unfoldable|pub|record|data) )*([^\s:=({\[«]+)(?= :)", re.M)
 DATA = re.compile(r"(?:\w+ )*data ")
 HINT = re.compile(r"(crate|\w+)::(specs|proofs)::([\w:]+)::([\w-]+)")
+FULL = re.compile(r"(Rattle(?:\.[\w\-+']+)+)\.([\w\-']+)")
 WORD = re.compile(r"[^\s(){},;.\[\]λ«»\"]+")
 PIECES = re.compile(r"[\w'₀-₉]+")
 # files that the check itself reads, whoever names them
@@ -127,6 +128,8 @@ class Tree:
                 yield self.find(above, kind)
             for name in re.findall(rf"(?<![\w.]){re.escape(alias)}\.([^\s(){{}},;.\[\]λ]+)", text):
                 yield from filter(None, [self.find(module, name)])
+        for module, name in FULL.findall(text):
+            yield from filter(None, [self.find(module, name)])
         for crate, part, path, name in HINT.findall(text) if file.is_source else []:
             module = ".".join(["Rattle", file.crate if crate == "crate" else crate, part, *path.split("::")])
             yield from filter(None, [self.find(module, name)])
