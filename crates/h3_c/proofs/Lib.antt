@@ -13,6 +13,7 @@ pub mod FrontsShown
 pub mod CarriedOver
 pub mod ProgramCalls
 pub mod ProgramRuns
+pub mod UnheardUpdates
 pub mod Unordered
 pub mod UnorderedReading
 pub mod UnorderedSteps
@@ -22,3 +23,6 @@ pub mod MadeHandles
 pub mod ProgramMoves
 pub mod ProgramReads
 pub mod ProgramHistories
+pub mod GivenBytes
+pub mod OrderedRuns
+pub mod OpenedUpTo

@@ -1,6 +1,6 @@
 -- What each call of a program is to a schedule: the call of an endpoint that its event names, or nothing.
 use Rattle.std.proofs.Common.{◌≡◌, ◌⊎◌, inl, inr, ℕ, Bool, true, false, List, [], ◌∷◌, refl, sym, ap, subst, ◌∙◌, Option, Some, None, Result, Ok, Err}
-use Rattle.std.specs.Prelude.{◌^◌, option_map}
+use Rattle.std.specs.Prelude.{◌<◌, ◌^◌, ◌&&◌, ◌==◌, is_none, option_map}
 use Rattle.h3_field.specs.Field.{Field}
 use Rattle.h3_proto.specs.declared.stream.Side.{Side}
 use Rattle.h3_proto.specs.declared.stream.Side.TheVariants.{Client, Server}
@@ -10,7 +10,7 @@ use Rattle.h3_connection.specs.ByPriority.{Holds, hold, set_priority}
 use Rattle.h3_connection.specs.Endpoint.{EndpointHistory}
 use Rattle.h3_connection.specs.EndsWaiting.{end_taken}
 use Rattle.h3_connection.specs.OwnIds.{other}
-use Rattle.h3_connection.specs.Prioritizing.{set_initial_priority}
+use Rattle.h3_connection.specs.Prioritizing.{UsesUpdates, set_initial_priority, use_updates}
 use Rattle.h3_connection.specs.ReceivingContracts.{PullsNext}
 use Rattle.h3_connection.specs.SendingContracts.{Cancels, DoesOrRefuses, Finishes, GoesAway, Opens, Resets}
 use Rattle.h3_connection.specs.State.{EndpointState, StandsFor}
@@ -26,23 +26,25 @@ use Rattle.h3_world.specs.declared.event.Event.{Event}
 use Rattle.h3_world.specs.declared.event.Event.TheVariants as event
 use Rattle.h3_session.specs.Acting.{Acts, ByOne, PullsList, SendsShared}
 use Rattle.h3_session.specs.Acting.{Tells as TellsCall}
+use Rattle.h3_session.specs.Datagrams.{read_datagram}
 use Rattle.h3_session.specs.Listing.{ListsNext}
 use Rattle.h3_session.specs.Running.{body_answer, done_answer, opened_answer}
 use Rattle.h3_session.specs.SendingLists.{SendsFieldList, SendsTrailerList, order_refusal, place_refusal}
-use Rattle.h3_c.specs.Asked.{Tells, TellsSent, is_left_out, pull_listed}
+use Rattle.h3_c.specs.Asked.{GivesBytes, Tells, TellsSent, is_left_out, pull_listed}
 use Rattle.h3_c.specs.Does.{CallOfC, Does}
 use Rattle.h3_c.specs.Does.{CallOfC as call}
 use Rattle.h3_c.specs.Exported.{Calls, CallsList, CallsOn, LacksList, OnStream, OpensRequest, Pulls, SendsCut}
 use Rattle.h3_c.specs.Given.{fields_given}
 use Rattle.h3_c.specs.Numbers.{TellsList, argument, body_told, call_told}
 use Rattle.h3_c.specs.Ordering.{IfGiven, flag_given, priority_given}
-use Rattle.h3_c.specs.Programs.{Act, Call, Comes, HasNone, Handles, IsEvent, IsRefused, LacksList as NoList, LearnsOf, event_of, handle_at, is_list}
+use Rattle.h3_c.specs.Programs.{Act, Call, Comes, HasNone, Handles, IsEvent, IsRefused, LacksList as NoList, LearnsOf, are_events, event_of, handle_at, is_list}
 use Rattle.h3_c.specs.Seen.{Seen}
 use Rattle.h3_c.specs.declared.items.PulledItem.{PulledItem}
 use Rattle.h3_c.specs.declared.numbers.Told.{Told}
 use Rattle.h3_c.proofs.FrontsShown.{below_or_not}
+use Rattle.h3_c.proofs.GivenBytes.{given_bytes}
 use Rattle.h3_c.proofs.ProgramMoves.{ActsSo, Moves, StaysAt, StaysSo, stays_same}
-use Rattle.h3_c.proofs.QuietCalls.{does_same, end_taken_same, hold_same, set_initial_same, set_priority_same}
+use Rattle.h3_c.proofs.QuietCalls.{datagram_same, does_same, end_taken_same, fault_told, hold_same, is_fault, set_initial_same, set_priority_same, updates_same}
 use Rattle.h3_c.proofs.Unordered.{unordered}
 use Rattle.h3_c.proofs.UnorderedSteps.{IsOfC}
 
@@ -137,48 +139,52 @@ listed_pulls id n v w item k =
 
 -- The calls whose events are told by what the endpoint stands for.
 pub data ByHistory : CallOfC → Type 0 where
+  OpensUpToOf : (id : ℕ) (n : Told) → ByHistory (call.OpenRequestAt id n)
   ClosesBoth : (id stop_before stop reset_before reset : ℕ) (n : Told) → ByHistory (call.CloseStream id stop_before stop reset_before reset n)
   GivesNoticeOf : (n : Told) → ByHistory (call.ShutdownNotice n)
   ShutsDownOf : (n : Told) → ByHistory (call.Shutdown n)
 
 module _ (side : Side) (h g : Handles) (there : handle_at g (other side) ≡ handle_at h (other side)) where
-  quiet : (c : CallOfC) → event_of (Call side c) ≡ None → StaysAt (handle_at h side) (handle_at g side) → Made (Call side c) h g
-  quiet c none stays = made_at (Call side c) side h g stays there (HasNone refl none)
+  abbrev HasNoEvent : CallOfC → Type 0
+  HasNoEvent c = (event_of (Call side c) ≡ None) × (are_events (Call side c) ≡ false)
 
-  looks_at : (c : CallOfC) → event_of (Call side c) ≡ None → handle_at g side ≡ handle_at h side → Made (Call side c) h g
+  quiet : (c : CallOfC) → HasNoEvent c → StaysAt (handle_at h side) (handle_at g side) → Made (Call side c) h g
+  quiet c none stays = made_at (Call side c) side h g stays there (HasNone none.1 none.0)
+
+  looks_at : (c : CallOfC) → HasNoEvent c → handle_at g side ≡ handle_at h side → Made (Call side c) h g
   looks_at c none same = quiet c none (stays_same (handle_at h side) (handle_at g side) same)
 
   -- of what it owns another part alone is another one
-  looks : (c : CallOfC) → event_of (Call side c) ≡ None → (handle_at g side).endpoint ≡ (handle_at h side).endpoint → Made (Call side c) h g
+  looks : (c : CallOfC) → HasNoEvent c → (handle_at g side).endpoint ≡ (handle_at h side).endpoint → Made (Call side c) h g
   looks c none same = quiet c none (λ e stands. record { after = e; stands = subst (λ s. StandsFor s e) (sym same) stands; same = refl })
 
   refused : (c : CallOfC) (e : Event) (n : Told) → event_of (Call side c) ≡ Some (e, n) → (n ≡ argument) × (handle_at g side ≡ handle_at h side) → Made (Call side c) h g
   refused c e n is r = made_at (Call side c) side h g (stays_same (handle_at h side) (handle_at g side) r.1) there (IsRefused is (inl r.0))
 
   -- a call that answers whether it was done
-  calls : (c : CallOfC) (e : Event) (n : Told) (id : ℕ) (does : EndpointState → EndpointState → Result Unit Refusal → Type 0) → event_of (Call side c) ≡ Some (e, n) → IsOfC e
+  calls : (c : CallOfC) (e : Event) (n : Told) (id : ℕ) (does : EndpointState → EndpointState → Result Unit Refusal → Type 0) → event_of (Call side c) ≡ Some (e, n) → (id < 2 ^ 62 → IsOfC e)
       → ((a : Answer) → Tells answer.Done n a → LearnsOf (Call side c) g a)
       → ((a : Answer) → ByOne side (TellsCall done_answer does) h.client.endpoint h.server.endpoint a g.client.endpoint g.server.endpoint → Acts e h.client.endpoint h.server.endpoint a g.client.endpoint g.server.endpoint)
       → CallsOn call_told id n (handle_at h side) (handle_at g side) (λ r. does (handle_at h side).endpoint (handle_at g side).endpoint r) → Made (Call side c) h g
   calls c e n id does is of learns acts on = elim (below_or_not id (2 ^ 62)) [
     | inl below ↦ (let k = on.known below in
         let one = by_side side (TellsCall done_answer does) h g (done_answer k.answer) (record { result = k.answer; given_is = refl; called = k.done }) there in
-        made_event (Call side c) h g e n (done_answer k.answer) is (learns (done_answer k.answer) (call_tells n k.answer k.is)) of (acts (done_answer k.answer) one))
+        made_event (Call side c) h g e n (done_answer k.answer) is (learns (done_answer k.answer) (call_tells n k.answer k.is)) (of below) (acts (done_answer k.answer) one))
     | inr above ↦ refused c e n is (on.unknown above)
   ]
 
   -- a list
   sends : (c : CallOfC) (e : List Field → Event) (n : Told) (id : ℕ) (cut : Option (List Field)) (place : EndpointHistory → Option Refusal) (does : List Field → EndpointState → EndpointState → Result Unit Refusal → Type 0)
-      → event_of (Call side c) ≡ option_map (λ fields. (e fields, n)) cut
-      → ((fields : List Field) → (is_list (e fields) ≡ true) × IsOfC (e fields))
+      → event_of (Call side c) ≡ option_map (λ fields. (e fields, n)) cut → are_events (Call side c) ≡ false
+      → ((fields : List Field) → (is_list (e fields) ≡ true) × (cut ≡ Some fields → IsOfC (e fields)))
       → ((a : Answer) → TellsSent (handle_at g side).endpoint.announced.choices cut n a → LearnsOf (Call side c) g a)
       → ((fields : List Field) (a : Answer) → ByOne side (TellsCall done_answer (does fields)) h.client.endpoint h.server.endpoint a g.client.endpoint g.server.endpoint → Acts (e fields) h.client.endpoint h.server.endpoint a g.client.endpoint g.server.endpoint)
       → OnStream id n (handle_at h side) (handle_at g side) (SendsCut cut place n (handle_at h side) (handle_at g side) (λ fields r. does fields (handle_at h side).endpoint (handle_at g side).endpoint r)) → Made (Call side c) h g
-  sends c e n id None place does is list learns acts on = elim (below_or_not id (2 ^ 62)) [
-    | inl below ↦ looks_at c is (on.known below).1
-    | inr above ↦ looks_at c is (on.unknown above).1
+  sends c e n id None place does is none list learns acts on = elim (below_or_not id (2 ^ 62)) [
+    | inl below ↦ looks_at c (is, none) (on.known below).1
+    | inr above ↦ looks_at c (is, none) (on.unknown above).1
   ]
-  sends c e n id (Some fields) place does is list learns acts on = elim (below_or_not id (2 ^ 62)) [
+  sends c e n id (Some fields) place does is none list learns acts on = elim (below_or_not id (2 ^ 62)) [
     | inl below ↦ by (on.known below)
     | inr above ↦ refused c (e fields) n is (on.unknown above)
   ]
@@ -188,7 +194,7 @@ module _ (side : Side) (h g : Handles) (there : handle_at g (other side) ≡ han
       by (inr k) =
           let one = by_side side (TellsCall done_answer (does fields)) h g (done_answer k.answer) (record { result = k.answer; given_is = refl; called = k.done }) there in
           made_event (Call side c) h g (e fields) n (done_answer k.answer) is
-          (learns (done_answer k.answer) (sent_tells (handle_at g side) (Some fields) fields n _ (handle_at h side) refl k)) (list fields).1 (acts fields (done_answer k.answer) one)
+          (learns (done_answer k.answer) (sent_tells (handle_at g side) (Some fields) fields n _ (handle_at h side) refl k)) ((list fields).1 refl) (acts fields (done_answer k.answer) one)
 
   opens : (before id : ℕ) (n : Told) → Does (call.OpenRequest before id n) (handle_at h side) (handle_at g side) → Made (Call side (call.OpenRequest before id n)) h g
   opens before id n o =
@@ -217,11 +223,11 @@ module _ (side : Side) (h g : Handles) (there : handle_at g (other side) ≡ han
   ]
 
   -- what goes first
-  done_so : (c : CallOfC) (n : Told) (act : EndpointHistory → Option Refusal × EndpointHistory) → event_of (Call side c) ≡ None → ((e : EndpointHistory) → (act e).0 ≡ None → unordered (act e).1 ≡ unordered e)
+  done_so : (c : CallOfC) (n : Told) (act : EndpointHistory → Option Refusal × EndpointHistory) → HasNoEvent c → ((e : EndpointHistory) → (act e).0 ≡ None → unordered (act e).1 ≡ unordered e)
       → Calls call_told n (handle_at h side) (handle_at g side) (λ (r : Result Unit Refusal). DoesOrRefuses act (handle_at h side).endpoint (handle_at g side).endpoint (call_refused r)) → Made (Call side c) h g
   done_so c n act none alike k = quiet c none (does_same act (handle_at h side).endpoint (handle_at g side).endpoint (call_refused k.answer) k.done alike)
 
-  prioritizes : (c : CallOfC) → event_of (Call side c) ≡ None → (id urgency incremental : ℕ) (n : Told) (act : PriorityParameters → EndpointHistory → Option Refusal × EndpointHistory)
+  prioritizes : (c : CallOfC) → HasNoEvent c → (id urgency incremental : ℕ) (n : Told) (act : PriorityParameters → EndpointHistory → Option Refusal × EndpointHistory)
       → ((p : PriorityParameters) (e : EndpointHistory) → (act p e).0 ≡ None → unordered (act p e).1 ≡ unordered e)
       → OnStream id n (handle_at h side) (handle_at g side) (IfGiven (priority_given urgency incremental) n (handle_at h side) (handle_at g side)
       (λ p. Calls call_told n (handle_at h side) (handle_at g side) (λ (r : Result Unit Refusal). DoesOrRefuses (act p) (handle_at h side).endpoint (handle_at g side).endpoint (call_refused r)))) → Made (Call side c) h g
@@ -237,63 +243,79 @@ module _ (side : Side) (h g : Handles) (there : handle_at g (other side) ≡ han
   holds : (id held : ℕ) (n : Told) → Does (call.Hold id held n) (handle_at h side) (handle_at g side) → Made (Call side (call.Hold id held n)) h g
   holds id held n on = elim (below_or_not id (2 ^ 62)) [
     | inl below ↦ by (flag_given held) (on.known below)
-    | inr above ↦ looks_at (call.Hold id held n) refl (on.unknown above).1
+    | inr above ↦ looks_at (call.Hold id held n) (refl, refl) (on.unknown above).1
   ]
     where
       by : (o : Option Bool) → IfGiven o n (handle_at h side) (handle_at g side) (λ is. Calls call_told n (handle_at h side) (handle_at g side) (λ r. Holds (handle_at h side).endpoint (handle_at g side).endpoint id is r)) → Made (Call side (call.Hold id held n)) h g
-      by None given = looks_at (call.Hold id held n) refl given.1
-      by (Some is) k = done_so (call.Hold id held n) n (λ e. hold e id is) refl (hold_same id is) k
+      by None given = looks_at (call.Hold id held n) (refl, refl) given.1
+      by (Some is) k = done_so (call.Hold id held n) n (λ e. hold e id is) (refl, refl) (hold_same id is) k
 
   -- QUIC took a FIN
   ends : (id : ℕ) (n : Told) → Does (call.EndTaken id n) (handle_at h side) (handle_at g side) → Made (Call side (call.EndTaken id n)) h g
   ends id n on = elim (below_or_not id (2 ^ 62)) [
-    | inl below ↦ (let k = on.known below in quiet (call.EndTaken id n) refl (λ e stands. record { after = (end_taken e id).1; stands = (k.taken e stands).1; same = end_taken_same e id }))
-    | inr above ↦ looks_at (call.EndTaken id n) refl (on.unknown above).1
+    | inl below ↦ (let k = on.known below in quiet (call.EndTaken id n) (refl, refl) (λ e stands. record { after = (end_taken e id).1; stands = (k.taken e stands).1; same = end_taken_same e id }))
+    | inr above ↦ looks_at (call.EndTaken id n) (refl, refl) (on.unknown above).1
   ]
+
+  -- which stream sends next, by what the peer's frames said up to then
+  sends_next : (before id : ℕ) (n : Told) → Does (call.NextByPriority before id n) (handle_at h side) (handle_at g side) → Made (Call side (call.NextByPriority before id n)) h g
+  sends_next before id n d =
+      let uses : UsesUpdates (handle_at h side).endpoint (handle_at g side).endpoint = elim (d.1) [ inl x ↦ x.1.uses | inr x ↦ x.1.uses ] in
+      quiet (call.NextByPriority before id n) (refl, refl) (λ e stands. record { after = use_updates e uses.count; stands = uses.stands e stands; same = updates_same e uses.count })
+
+  -- a datagram that came, and closes nothing
+  reads_datagram : (bytes : List ℕ) (id_before id from_before from : ℕ) (n : Told) → is_left_out (call.ReadDatagram bytes id_before id from_before from n) (handle_at h side) ≡ false
+      → Does (call.ReadDatagram bytes id_before id from_before from n) (handle_at h side) (handle_at g side) → Made (Call side (call.ReadDatagram bytes id_before id from_before from n)) h g
+  reads_datagram bytes id_before id from_before from n out d =
+      quiet (call.ReadDatagram bytes id_before id from_before from n) (refl, refl) (λ e stands.
+      let x = d.done e stands in
+      let number = ap (λ (t : Told × ℕ × ℕ). t.0.number == 2) d.is ∙ fault_told d.answer id_before from_before ∙ ap is_fault x.0 in
+      let stays = sym (ap (λ b. is_none e.closed && b) number) ∙ sym (ap (λ c. is_none c && (n.number == 2)) stands.closed) ∙ out in
+      record { after = (read_datagram e bytes).1; stands = x.1; same = ap unordered (datagram_same e bytes stays) })
 
   never : {P : Type 0} → true ≡ false → P
   never h = absurd (cc)
 
-  pub call_made : (c : CallOfC) → is_left_out c ≡ false → Does c (handle_at h side) (handle_at g side) → Made (Call side c) h g ⊎ ByHistory c
-  call_made (call.OpenRequest before id n) out d = inl (opens before id n d)
-  call_made (call.NextRequestId before id n) out d = inl (looks_at _ refl d.0)
-  call_made (call.OpenRequestAt id n) out d = inl (never out)
-  call_made (call.SendHead id sizes flags bytes n) out d = inl (sends (call.SendHead id sizes flags bytes n) (λ fields. event.Fields side id fields) n id (fields_given sizes flags bytes) (λ e. place_refusal e id) (λ fields s t r. SendsFieldList s t id fields r) refl (λ fields. (refl, tt)) (λ a tells. tells) (λ fields a acts. acts) d)
-  call_made (call.SendTrailer id sizes flags bytes n) out d = inl (sends (call.SendTrailer id sizes flags bytes n) (λ fields. event.TrailerFields side id fields) n id (fields_given sizes flags bytes) (λ e. order_refusal e id) (λ fields s t r. SendsTrailerList s t id fields r) refl (λ fields. (refl, tt)) (λ a tells. tells) (λ fields a acts. acts) d)
-  call_made (call.SendBody id bytes n) out d = inl (sends_body id bytes n d)
-  call_made (call.SendBodyOf id len n) out d = inl (never out)
-  call_made (call.Finish id n) out d = inl (calls (call.Finish id n) (event.Finish side id) n id (λ s t r. Finishes s t id r) refl tt (λ a tells. tells) (λ a acts. acts) d)
-  call_made (call.Reset id n) out d = inl (calls (call.Reset id n) (event.Reset side id) n id (λ s t r. Resets s t id r) refl tt (λ a tells. tells) (λ a acts. acts) d)
-  call_made (call.Cancel id n) out d = inl (calls (call.Cancel id n) (event.Cancel side id) n id (λ s t r. Cancels s t id r) refl tt (λ a tells. tells) (λ a acts. acts) d)
-  call_made (call.CloseStream id stop_before stop reset_before reset n) out d = inr (ClosesBoth id stop_before stop reset_before reset n)
-  call_made (call.Goaway id n) out d = inl (calls (call.Goaway id n) (event.Goaway side id) n id (λ s t r. GoesAway s t id r) refl tt (λ a tells. tells) (λ a acts. acts) d)
-  call_made (call.ShutdownNotice n) out d = inr (GivesNoticeOf n)
-  call_made (call.Shutdown n) out d = inr (ShutsDownOf n)
-  call_made (call.FirstUnseen id n) out d = inl (looks_at _ refl d.0)
-  call_made (call.IsDrained drained n) out d = inl (looks_at _ refl d.0)
-  call_made (call.NextToSend from before id n) out d = inl (looks_at _ refl d.0)
-  call_made (call.NextByPriority before id n) out d = inl (never out)
-  call_made (call.SetPriority id urgency incremental n) out d = inl (prioritizes (call.SetPriority id urgency incremental n) refl id urgency incremental n (λ p e. set_priority e id p) (λ p. set_priority_same id p) d)
-  call_made (call.SetInitialPriority id urgency incremental n) out d = inl (prioritizes (call.SetInitialPriority id urgency incremental n) refl id urgency incremental n (λ p e. set_initial_priority e id p) (λ p. set_initial_same id p) d)
-  call_made (call.SendPriority id urgency incremental n) out d = inl (never out)
-  call_made (call.PriorityOf id urgency_before urgency incremental_before incremental n) out d = inl (looks_at _ refl d.0)
-  call_made (call.Hold id held n) out d = inl (holds id held n d)
-  call_made (call.Outgoing id before buffer count_before count past_before past fin_before fin n) out d = inl (looks_at _ refl d.0)
-  call_made (call.Advance id count n) out d = inl (never out)
-  call_made (call.EndTaken id n) out d = inl (ends id n d)
-  call_made (call.Read id bytes fin used before item n) out d = inl (never out)
-  call_made (call.Deliver id bytes n) out d = inl (never out)
-  call_made (call.DeliverEnd id n) out d = inl (never out)
-  call_made (call.DeliverReset id code n) out d = inl (never out)
-  call_made (call.Pull id before item n) out d = inl (pulls id before item n d)
-  call_made (call.NextUnblocked from before id n) out d = inl (looks_at _ refl d.0)
-  call_made (call.ItemFields sizes_before sizes flags_before flags before bytes n) out d = inl (looks_at _ refl d.0)
-  call_made (call.ItemBytes from before buffer count_before count n) out d = inl (looks_at _ refl d.0)
-  call_made (call.DatagramHead id before buffer count_before count n) out d = inl (looks_at _ refl d.0)
-  call_made (call.ReadDatagram bytes id_before id from_before from n) out d = inl (never out)
-  call_made (call.Stream id before state n) out d = inl (looks_at _ refl d.0)
-  call_made (call.FrameLeft id before left n) out d = inl (looks_at _ refl d.0)
-  call_made (call.StreamKind id before kind n) out d = inl (looks_at _ refl d.0)
-  call_made (call.Connection state n) out d = inl (looks_at _ refl d.0)
-  call_made (call.NextEvent kind_before kind number_before number n) out d = inl (looks _ refl (ap (λ (v : Seen). v.endpoint) d.rest))
-  call_made (call.PeerSetting setting before value n) out d = inl (looks_at _ refl d.0)
+  pub call_made : (c : CallOfC) → is_left_out c (handle_at h side) ≡ false → GivesBytes c → Does c (handle_at h side) (handle_at g side) → Made (Call side c) h g ⊎ ByHistory c
+  call_made (call.OpenRequest before id n) out given d = inl (opens before id n d)
+  call_made (call.NextRequestId before id n) out given d = inl (looks_at _ (refl, refl) d.0)
+  call_made (call.OpenRequestAt id n) out given d = inr (OpensUpToOf id n)
+  call_made (call.SendHead id sizes flags bytes n) out given d = inl (sends (call.SendHead id sizes flags bytes n) (λ fields. event.Fields side id fields) n id (fields_given sizes flags bytes) (λ e. place_refusal e id) (λ fields s t r. SendsFieldList s t id fields r) refl refl (λ fields. (refl, λ is. given_bytes sizes flags bytes fields given is)) (λ a tells. tells) (λ fields a acts. acts) d)
+  call_made (call.SendTrailer id sizes flags bytes n) out given d = inl (sends (call.SendTrailer id sizes flags bytes n) (λ fields. event.TrailerFields side id fields) n id (fields_given sizes flags bytes) (λ e. order_refusal e id) (λ fields s t r. SendsTrailerList s t id fields r) refl refl (λ fields. (refl, λ is. given_bytes sizes flags bytes fields given is)) (λ a tells. tells) (λ fields a acts. acts) d)
+  call_made (call.SendBody id bytes n) out given d = inl (sends_body id bytes n d)
+  call_made (call.SendBodyOf id len n) out given d = inl (never out)
+  call_made (call.Finish id n) out given d = inl (calls (call.Finish id n) (event.Finish side id) n id (λ s t r. Finishes s t id r) refl (λ below. tt) (λ a tells. tells) (λ a acts. acts) d)
+  call_made (call.Reset id n) out given d = inl (calls (call.Reset id n) (event.Reset side id) n id (λ s t r. Resets s t id r) refl (λ below. tt) (λ a tells. tells) (λ a acts. acts) d)
+  call_made (call.Cancel id n) out given d = inl (calls (call.Cancel id n) (event.Cancel side id) n id (λ s t r. Cancels s t id r) refl (λ below. tt) (λ a tells. tells) (λ a acts. acts) d)
+  call_made (call.CloseStream id stop_before stop reset_before reset n) out given d = inr (ClosesBoth id stop_before stop reset_before reset n)
+  call_made (call.Goaway id n) out given d = inl (calls (call.Goaway id n) (event.Goaway side id) n id (λ s t r. GoesAway s t id r) refl (λ below. below) (λ a tells. tells) (λ a acts. acts) d)
+  call_made (call.ShutdownNotice n) out given d = inr (GivesNoticeOf n)
+  call_made (call.Shutdown n) out given d = inr (ShutsDownOf n)
+  call_made (call.FirstUnseen id n) out given d = inl (looks_at _ (refl, refl) d.0)
+  call_made (call.IsDrained drained n) out given d = inl (looks_at _ (refl, refl) d.0)
+  call_made (call.NextToSend from before id n) out given d = inl (looks_at _ (refl, refl) d.0)
+  call_made (call.NextByPriority before id n) out given d = inl (sends_next before id n d)
+  call_made (call.SetPriority id urgency incremental n) out given d = inl (prioritizes (call.SetPriority id urgency incremental n) (refl, refl) id urgency incremental n (λ p e. set_priority e id p) (λ p. set_priority_same id p) d)
+  call_made (call.SetInitialPriority id urgency incremental n) out given d = inl (prioritizes (call.SetInitialPriority id urgency incremental n) (refl, refl) id urgency incremental n (λ p e. set_initial_priority e id p) (λ p. set_initial_same id p) d)
+  call_made (call.SendPriority id urgency incremental n) out given d = inl (never out)
+  call_made (call.PriorityOf id urgency_before urgency incremental_before incremental n) out given d = inl (looks_at _ (refl, refl) d.0)
+  call_made (call.Hold id held n) out given d = inl (holds id held n d)
+  call_made (call.Outgoing id before buffer count_before count past_before past fin_before fin n) out given d = inl (looks_at _ (refl, refl) d.0)
+  call_made (call.Advance id count n) out given d = inl (never out)
+  call_made (call.EndTaken id n) out given d = inl (ends id n d)
+  call_made (call.Read id bytes fin used before item n) out given d = inl (never out)
+  call_made (call.Deliver id bytes n) out given d = inl (never out)
+  call_made (call.DeliverEnd id n) out given d = inl (never out)
+  call_made (call.DeliverReset id code n) out given d = inl (never out)
+  call_made (call.Pull id before item n) out given d = inl (pulls id before item n d)
+  call_made (call.NextUnblocked from before id n) out given d = inl (looks_at _ (refl, refl) d.0)
+  call_made (call.ItemFields sizes_before sizes flags_before flags before bytes n) out given d = inl (looks_at _ (refl, refl) d.0)
+  call_made (call.ItemBytes from before buffer count_before count n) out given d = inl (looks_at _ (refl, refl) d.0)
+  call_made (call.DatagramHead id before buffer count_before count n) out given d = inl (looks_at _ (refl, refl) d.0)
+  call_made (call.ReadDatagram bytes id_before id from_before from n) out given d = inl (reads_datagram bytes id_before id from_before from n out d)
+  call_made (call.Stream id before state n) out given d = inl (looks_at _ (refl, refl) d.0)
+  call_made (call.FrameLeft id before left n) out given d = inl (looks_at _ (refl, refl) d.0)
+  call_made (call.StreamKind id before kind n) out given d = inl (looks_at _ (refl, refl) d.0)
+  call_made (call.Connection state n) out given d = inl (looks_at _ (refl, refl) d.0)
+  call_made (call.NextEvent kind_before kind number_before number n) out given d = inl (looks _ (refl, refl) (ap (λ (v : Seen). v.endpoint) d.rest))
+  call_made (call.PeerSetting setting before value n) out given d = inl (looks_at _ (refl, refl) d.0)

@@ -1,6 +1,8 @@
--- The calls whose events are told by what the endpoint stands for: those that shut a connection down, and the one that closes a stream both ways.
-use Rattle.std.proofs.Common.{◌≡◌, ◌⊎◌, inl, inr, ℕ, Bool, true, false, List, [], ◌∷◌, refl, sym, ap, subst, ◌∙◌, Option, Some, None, Result, Ok, Err}
-use Rattle.std.specs.Prelude.{◌≢◌, ◌^◌, nat_lt}
+-- The calls whose events are told by what the endpoint stands for: those that shut a connection down, the one that closes a stream both ways, and
+-- the one that opens requests up to an id.
+use Rattle.std.proofs.Common.{arith, ◌≡◌, ◌≤◌, ◌<◌, ◌⊎◌, inl, inr, ℕ, ◌+◌, Bool, true, false, List, [], ◌∷◌, refl, sym, ap, subst, ◌∙◌, Option, Some, None, Result, Ok, Err}
+use Rattle.std.specs.Prelude.{◌≢◌, ◌*◌, ◌^◌, ◌||◌, ◌==◌, nat_lt}
+use Rattle.std.proofs.lemmas.Grind.{common_steps}
 use Rattle.h3_proto.specs.declared.stream.Side.{Side}
 use Rattle.h3_proto.specs.declared.stream.Side.TheVariants.{Client, Server}
 use Rattle.h3_connection.specs.Answers.{call_refused}
@@ -10,7 +12,7 @@ use Rattle.h3_connection.specs.Lasts.{last_id}
 use Rattle.h3_connection.specs.Outgoing.{is_sent_off}
 use Rattle.h3_connection.specs.OwnIds.{other}
 use Rattle.h3_connection.specs.Refusals.{refusal_to_stop}
-use Rattle.h3_connection.specs.Sending.{cancel, closed_or, does, goaway, is_open, outgoing_at, reset, reset_refusal, unless_closed}
+use Rattle.h3_connection.specs.Sending.{cancel, closed_or, does, goaway, is_open, open_refusal, outgoing_at, reset, reset_refusal, unless_closed}
 use Rattle.h3_connection.specs.SendingContracts.{DoesOrRefuses}
 use Rattle.h3_connection.specs.Shutdown.{goaway_once, is_named, last_taken, notice_id}
 use Rattle.h3_connection.specs.State.{StandsFor}
@@ -22,8 +24,9 @@ use Rattle.h3_world.specs.declared.event.Answer.{Answer}
 use Rattle.h3_world.specs.declared.event.Answer.TheVariants as answer
 use Rattle.h3_world.specs.declared.event.Event.{Event}
 use Rattle.h3_world.specs.declared.event.Event.TheVariants as event
-use Rattle.h3_memory.specs.Refused.{AnswerOf, EndsStep}
+use Rattle.h3_memory.specs.Refused.{AnswerOf, EndsRun, EndsStep}
 use Rattle.h3_session.specs.Closing.{ClosesStream, unless_ended}
+use Rattle.h3_session.specs.OpeningAt.{OpensAt, OpensRequestAt, open_request_at, opened_more, opening_refusal, to_open}
 use Rattle.h3_session.specs.Running.{answer_of}
 use Rattle.h3_session.specs.declared.endpoint.closing.ClosedStream.{ClosedStream}
 use Rattle.h3_c.specs.Bits.{bit}
@@ -31,12 +34,13 @@ use Rattle.h3_c.specs.Closing.{GivesFrames}
 use Rattle.h3_c.specs.Does.{Does}
 use Rattle.h3_c.specs.Does.{CallOfC as call}
 use Rattle.h3_c.specs.Exported.{Calls}
-use Rattle.h3_c.specs.Numbers.{call_told, ok}
-use Rattle.h3_c.specs.Programs.{Act, Call, Closes, Comes, GoesAway, Handles, HasNone, event_of, handle_at}
+use Rattle.h3_c.specs.Numbers.{call_told, ok, refusal_told}
+use Rattle.h3_c.specs.Programs.{Act, Call, Closes, Comes, GoesAway, Handles, HasNone, OpensSoMany, OpensUpTo, are_events, event_of, handle_at, opened_answers, opened_events}
 use Rattle.h3_c.specs.Seen.{Seen}
 use Rattle.h3_c.specs.declared.numbers.Told.{Told}
 use Rattle.h3_c.proofs.FrontsShown.{below_or_not}
-use Rattle.h3_c.proofs.ProgramCalls.{ByHistory, ClosesBoth, GivesNoticeOf, Made, ShutsDownOf}
+use Rattle.h3_c.proofs.OpenedUpTo.{all_known, are_opened, done_is, opening_opens, opens_run}
+use Rattle.h3_c.proofs.ProgramCalls.{ByHistory, ClosesBoth, GivesNoticeOf, Made, OpensUpToOf, ShutsDownOf}
 use Rattle.h3_c.proofs.ProgramMoves.{CallsAreSteps, Left, leaves, run_unordered}
 use Rattle.h3_c.proofs.QuietCalls.{stands_unchanged}
 use Rattle.h3_c.proofs.Unordered.{unordered}
@@ -51,11 +55,6 @@ pub record MadeAt (act : Act) (h g : Handles) (ends : Ends) : Type 0 where
 
 pub at_ends : CallsAreSteps → {act : Act} {h g : Handles} (ends : Ends) → StandsFor h.client.endpoint ends.client → StandsFor h.server.endpoint ends.server → Made act h g → MadeAt act h g ends
 at_ends law ends client server made = record { events = made.events; answers = made.answers; comes = made.comes; left = leaves law ends client server made.moves }
-
--- an end that is done, or refused
-done_is : (ends : Ends) (side : Side) (success : Answer) (x : Option Refusal × EndpointHistory) → done ends side success x ≡ (answer_of success x.0, with_end ends side x.1)
-done_is ends side success (None, e) = refl
-done_is ends side success (Some r, e) = refl
 
 closed_some : (closed : Option ℕ) (r : Refusal) → closed_or closed (Some r) ≡ None → ⊥
 closed_some (Some code) r is = let never : Some (refusal.Closed code) ≡ None = is in absurd (cc)
@@ -80,6 +79,9 @@ reset_answers e id =
 step_of : (ends new : Ends) (e : Event) (a : Answer) → is_out_of_memory a ≡ false → a ≡ (answered ends e).0 → new ≡ (answered ends e).1 → EndsStep ends e a new
 step_of ends new e a memory is next = subst (λ b. AnswerOf b ends e a new) (sym memory) (is, next)
 
+is_known : (id : ℕ) → nat_lt id (2 ^ 62) ≡ true → id < 2 ^ 62
+is_known id h = grind (arith, common_steps, h)
+
 module _ (side : Side) (h g : Handles) (there : handle_at g (other side) ≡ handle_at h (other side)) (ends : Ends) (client : StandsFor h.client.endpoint ends.client) (server : StandsFor h.server.endpoint ends.server) where
   stands : StandsFor (handle_at h side).endpoint (end_at ends side)
   stands = by side client server
@@ -102,15 +104,15 @@ module _ (side : Side) (h g : Handles) (there : handle_at g (other side) ≡ han
   none_left : (after : EndpointHistory) → StandsFor (handle_at g side).endpoint after → unordered after ≡ unordered (end_at ends side) → Left ends g [] []
   none_left after stands is =
       let s = with_stands side there after stands in
-      record { new = with_end ends side after; run = same_end side after is; client_stands = s.0; server_stands = s.1 }
+      record { new = with_end ends side after; of = tt; run = same_end side after is; client_stands = s.0; server_stands = s.1 }
 
   unchanged : (refused : Option Refusal) → (refused ≢ None → IsSame (handle_at h side).endpoint (handle_at g side).endpoint) → (r : Refusal) → refused ≡ Some r → Left ends g [] []
   unchanged refused same r is =
       none_left (end_at ends side) (stands_unchanged (handle_at h side).endpoint (handle_at g side).endpoint (end_at ends side) (same (λ none. let never : Some r ≡ None = sym is ∙ none in absurd (cc))) stands) refl
 
   -- a GOAWAY that is written
-  goes_away : (id : ℕ) → (goaway (end_at ends side) id).0 ≡ None → StandsFor (handle_at g side).endpoint (goaway (end_at ends side) id).1 → Left ends g (event.Goaway side id ∷ []) (answer.Done ∷ [])
-  goes_away id none stands =
+  goes_away : (id : ℕ) → id < 2 ^ 62 → (goaway (end_at ends side) id).0 ≡ None → StandsFor (handle_at g side).endpoint (goaway (end_at ends side) id).1 → Left ends g (event.Goaway side id ∷ []) (answer.Done ∷ [])
+  goes_away id known none stands =
       let after = (goaway (end_at ends side) id).1 in
       let new = with_end ends side after in
       let is = done_is ends side answer.Done (goaway (end_at ends side) id) in
@@ -118,13 +120,14 @@ module _ (side : Side) (h g : Handles) (there : handle_at g (other side) ≡ han
       let step = step_of ends new (event.Goaway side id) answer.Done refl (sym (ap (λ x. x.0) is ∙ ap (λ r. answer_of answer.Done r) none)) (sym (ap (λ x. x.1) is)) in
       record {
         new = new;
-        run = run_unordered (event.Goaway side id ∷ []) (answer.Done ∷ []) ends new (tt, tt) (new, step, refl);
+        of = (known, tt);
+        run = run_unordered (event.Goaway side id ∷ []) (answer.Done ∷ []) ends new (known, tt) (new, step, refl);
         client_stands = s.0;
         server_stands = s.1;
       }
 
   -- what shuts down
-  shuts : (c : call) (n : Told) (id : ℕ) → event_of (Call side c) ≡ None → (c ≡ call.ShutdownNotice n) ⊎ (c ≡ call.Shutdown n) → n ≡ ok
+  shuts : (c : call) (n : Told) (id : ℕ) → (event_of (Call side c) ≡ None) × (are_events (Call side c) ≡ false) → (c ≡ call.ShutdownNotice n) ⊎ (c ≡ call.Shutdown n) → n ≡ ok
       → (goaway_once (end_at ends side) id).0 ≡ None → StandsFor (handle_at g side).endpoint (goaway_once (end_at ends side) id).1 → MadeAt (Call side c) h g ends
   shuts c n id none is done nothing stands = by (is_named (last_id (end_at ends side).own.goaways) id) refl
     where
@@ -142,7 +145,7 @@ module _ (side : Side) (h g : Handles) (there : handle_at g (other side) ≡ han
             events = event.Goaway side id ∷ [];
             answers = answer.Done ∷ [];
             comes = GoesAway id (act_is is) done;
-            left = goes_away id (sym (ap (λ x. x.0) goes) ∙ nothing) (subst (λ x. StandsFor (handle_at g side).endpoint x.1) goes stands);
+            left = goes_away id (is_known id fits) (sym (ap (λ x. x.0) goes) ∙ nothing) (subst (λ x. StandsFor (handle_at g side).endpoint x.1) goes stands);
           }
       below false fits new =
           let goes : goaway_once (end_at ends side) id ≡ (unless_closed (end_at ends side) (Some refusal.IdsUsedUp), end_at ends side) = rw (new, fits) refl in
@@ -151,10 +154,10 @@ module _ (side : Side) (h g : Handles) (there : handle_at g (other side) ≡ han
       by : (b : Bool) → is_named (last_id (end_at ends side).own.goaways) id ≡ b → MadeAt (Call side c) h g ends
       by true named =
           let goes : goaway_once (end_at ends side) id ≡ (unless_closed (end_at ends side) None, end_at ends side) = rw (named) refl in
-          record { events = []; answers = []; comes = HasNone refl none; left = none_left (end_at ends side) (subst (λ x. StandsFor (handle_at g side).endpoint x.1) goes stands) refl }
+          record { events = []; answers = []; comes = HasNone none.1 none.0; left = none_left (end_at ends side) (subst (λ x. StandsFor (handle_at g side).endpoint x.1) goes stands) refl }
       by false new = below (nat_lt id (2 ^ 62)) refl new
 
-  pub shuts_down : (c : call) (n : Told) (id : EndpointHistory → ℕ) → event_of (Call side c) ≡ None → (c ≡ call.ShutdownNotice n) ⊎ (c ≡ call.Shutdown n)
+  pub shuts_down : (c : call) (n : Told) (id : EndpointHistory → ℕ) → (event_of (Call side c) ≡ None) × (are_events (Call side c) ≡ false) → (c ≡ call.ShutdownNotice n) ⊎ (c ≡ call.Shutdown n)
       → Calls call_told n (handle_at h side) (handle_at g side) (λ (r : Result Unit Refusal). DoesOrRefuses (λ e. goaway_once e (id e)) (handle_at h side).endpoint (handle_at g side).endpoint (call_refused r))
       → MadeAt (Call side c) h g ends
   shuts_down c n id none is k = by k.answer k.is k.done
@@ -163,7 +166,7 @@ module _ (side : Side) (h g : Handles) (there : handle_at g (other side) ≡ han
       by (Ok done) told d =
           let x = d.done (end_at ends side) stands (λ memory. let never : None ≡ Some refusal.OutOfMemory = memory in absurd (cc)) in
           shuts c n (id (end_at ends side)) none is told (sym x.0) x.1
-      by (Err r) told d = record { events = []; answers = []; comes = HasNone refl none; left = unchanged (Some r) d.same r refl }
+      by (Err r) told d = record { events = []; answers = []; comes = HasNone none.1 none.0; left = unchanged (Some r) d.same r refl }
 
   -- what closes a stream: canceled, and then reset
   ends_both : (id : ℕ) → (canceled : Option Refusal) → (canceled ≡ None) ⊎ (canceled ≡ Some refusal.Ended) → (cancel (end_at ends side) id).0 ≡ canceled
@@ -180,6 +183,7 @@ module _ (side : Side) (h g : Handles) (there : handle_at g (other side) ≡ han
       let two = step_of mid last (event.Reset side id) (answer_of answer.Done (reset one.1 id).0) (reset_answers one.1 id) (sym (ap (λ x. x.0) (second side one.1))) (sym (ap (λ x. x.1) (second side one.1))) in
       record {
         new = last;
+        of = (tt, (tt, tt));
         run = run_unordered (event.Cancel side id ∷ event.Reset side id ∷ []) (answer_of answer.Done canceled ∷ answer_of answer.Done (reset one.1 id).0 ∷ []) ends last (tt, (tt, tt)) (mid, step, (last, two, refl));
         client_stands = s.0;
         server_stands = s.1;
@@ -216,6 +220,50 @@ ended_or_none (Some refusal.NotRequestId) is = absurd (cc)
 ended_or_none (Some (refusal.Raised id)) is = absurd (cc)
 ended_or_none (Some refusal.OutOfMemory) is = absurd (cc)
 
+-- what refusals tell: H3_MEMORY is one of them
+memory_or_not : (r : Refusal) → (r ≡ refusal.OutOfMemory) ⊎ ((((refusal_told r).number == 0) || ((refusal_told r).number == 18)) ≡ false)
+memory_or_not (refusal.Closed code) = inr refl
+memory_or_not (refusal.Connection code) = inr refl
+memory_or_not refusal.NotReceiving = inr refl
+memory_or_not refusal.AfterEnd = inr refl
+memory_or_not refusal.Kept = inr refl
+memory_or_not refusal.NotClient = inr refl
+memory_or_not (refusal.GoingAway id) = inr refl
+memory_or_not refusal.IdsUsedUp = inr refl
+memory_or_not refusal.NotOpen = inr refl
+memory_or_not refusal.OutOfOrder = inr refl
+memory_or_not refusal.WrongSide = inr refl
+memory_or_not refusal.PseudoInTrailer = inr refl
+memory_or_not (refusal.Malformed why) = inr refl
+memory_or_not (refusal.TooLarge size) = inr refl
+memory_or_not refusal.Critical = inr refl
+memory_or_not refusal.Ended = inr refl
+memory_or_not refusal.NotRequestId = inr refl
+memory_or_not (refusal.Raised id) = inr refl
+memory_or_not refusal.OutOfMemory = inl refl
+
+or_first : (a b : Bool) → (a || b) ≡ false → a ≡ false
+or_first true b h = h
+or_first false b h = refl
+
+not_done : (r : Refusal) → ((refusal_told r).number == 0) ≡ false
+not_done r = elim (memory_or_not r) [
+  | inl is ↦ ap (λ x. (refusal_told x).number == 0) is
+  | inr another ↦ or_first _ _ another
+]
+
+is_other : (r : Refusal) → (((refusal_told r).number == 0) || ((refusal_told r).number == 18)) ≡ false → Some r ≡ Some refusal.OutOfMemory → ⊥
+is_other r another is =
+    let same = same_refusal r refusal.OutOfMemory is in
+    absurd (let never : true ≡ false = sym (ap (λ x. ((refusal_told x).number == 0) || ((refusal_told x).number == 18)) same) ∙ another in cc)
+  where
+    same_refusal : (r s : Refusal) → Some r ≡ Some s → r ≡ s
+    same_refusal r s is = cc
+
+same_ends : (ends : Ends) (side : Side) → with_end ends side (end_at ends side) ≡ ends
+same_ends ends Client = refl
+same_ends ends Server = refl
+
 does_none : (r : Option Refusal) (e new : EndpointHistory) → (does r e new).0 ≡ None → (r ≡ None) × ((does r e new).1 ≡ new)
 does_none None e new is = (refl, refl)
 does_none (Some r) e new is = absurd (let never : Some r ≡ None = is in cc)
@@ -228,7 +276,7 @@ module _ (side : Side) (h g : Handles) (there : handle_at g (other side) ≡ han
     | inr above ↦ record {
       events = [];
       answers = [];
-      comes = HasNone refl refl;
+      comes = HasNone (ap (λ (t : Told). t.number == 0) (d.0.unknown above).0) refl;
       left = none_left side h g there ends client server (end_at ends side) (subst (λ (v : Seen). StandsFor v.endpoint (end_at ends side)) (sym (d.0.unknown above).1) (stands side h g there ends client server)) refl;
     }
   ]
@@ -249,9 +297,76 @@ module _ (side : Side) (h g : Handles) (there : handle_at g (other side) ≡ han
             left = ends_both side h g there ends client server id (cancel e id).0 may refl (subst (λ z. StandsFor (handle_at g side).endpoint z) y.1 x.1);
           }
       by (Err r) told closed given =
-          record { events = []; answers = []; comes = HasNone refl refl; left = unchanged side h g there ends client server (Some r) closed.closes.same r refl }
+          record { events = []; answers = []; comes = HasNone (ap (λ (t : Told). t.number == 0) told ∙ not_done r) refl; left = unchanged side h g there ends client server (Some r) closed.closes.same r refl }
+
+  -- what opens requests, up to an id
+  opened_left : (count : ℕ) → (0 < count → open_refusal (end_at ends side) ≡ None) → (end_at ends side).next_id + 4 * count < 2 ^ 62 + 4
+      → StandsFor (handle_at g side).endpoint (opened_more count (end_at ends side)) → Left ends g (opened_events side count) (opened_answers (end_at ends side).next_id count)
+  opened_left count may few after_stands =
+      let e = end_at ends side in
+      let new = with_end ends side (opened_more count e) in
+      let s = with_stands side h g there ends client server side there (opened_more count e) after_stands in
+      let run = subst (λ x. EndsRun x (opened_events side count) (opened_answers e.next_id count) new) (same_ends ends side) (opens_run side count ends e may few) in
+      record {
+        new = new;
+        of = are_opened side count;
+        run = run_unordered (opened_events side count) (opened_answers e.next_id count) ends new (are_opened side count) run;
+        client_stands = s.0;
+        server_stands = s.1;
+      }
+
+  opens_so : (id : ℕ) (n : Told) (count : ℕ) → id < 2 ^ 62 → (open_request_at (end_at ends side) id).0 ≡ None → count ≤ to_open (end_at ends side).next_id id
+      → OpensSoMany n (to_open (end_at ends side).next_id id) count → StandsFor (handle_at g side).endpoint (opened_more count (end_at ends side)) → MadeAt (Call side (call.OpenRequestAt id n)) h g ends
+  opens_so id n count known none few many after_stands =
+      let e = end_at ends side in
+      let next = (stands side h g there ends client server).next_id in
+      let may = opening_opens e id (does_none (opening_refusal e id) e (opened_more (to_open e.next_id id) e) none).0 in
+      record {
+        events = opened_events side count;
+        answers = opened_answers e.next_id count;
+        comes = subst (λ k. Comes (Call side (call.OpenRequestAt id n)) h g (opened_events side count) (opened_answers k count)) next
+            (OpensUpTo count refl (subst (λ k. OpensSoMany n (to_open k id) count) (sym next) many));
+        left = opened_left count (λ some. may.0) (all_known e.next_id id count may.1 known few) after_stands;
+      }
+
+  pub opens_up_to : (id : ℕ) (n : Told) → Does (call.OpenRequestAt id n) (handle_at h side) (handle_at g side) → MadeAt (Call side (call.OpenRequestAt id n)) h g ends
+  opens_up_to id n d = elim (below_or_not id (2 ^ 62)) [
+    | inl below ↦ (let k = d.known below in by below k.answer k.is k.done)
+    | inr above ↦ record {
+      events = [];
+      answers = [];
+      comes = HasNone (ap (λ (t : Told). (t.number == 0) || (t.number == 18)) (d.unknown above).0) refl;
+      left = none_left side h g there ends client server (end_at ends side) (subst (λ (v : Seen). StandsFor v.endpoint (end_at ends side)) (sym (d.unknown above).1) (stands side h g there ends client server)) refl;
+    }
+  ]
+    where
+      refused : (r : Refusal) → n ≡ refusal_told r → OpensAt (handle_at h side).endpoint (handle_at g side).endpoint id (Some r) → id < 2 ^ 62
+          → (r ≡ refusal.OutOfMemory) ⊎ ((((refusal_told r).number == 0) || ((refusal_told r).number == 18)) ≡ false) → MadeAt (Call side (call.OpenRequestAt id n)) h g ends
+      refused r told o below (inl is) =
+          let e = end_at ends side in
+          let here = stands side h g there ends client server in
+          let memory_is = ap (λ x. Some x) is in
+          let fewer = o.fewer memory_is in
+          let few : fewer.opened < to_open e.next_id id = subst (λ k. fewer.opened < to_open k id) here.next_id fewer.fewer in
+          opens_so id n fewer.opened below (o.memory e here memory_is) (omega (arith, few)) (inr (told ∙ ap refusal_told is, few)) (fewer.stands e here)
+      refused r told o below (inr another) =
+          record {
+            events = [];
+            answers = [];
+            comes = HasNone (ap (λ (t : Told). (t.number == 0) || (t.number == 18)) told ∙ another) refl;
+            left = unchanged side h g there ends client server (Some r) (λ some. o.same some (λ is. is_other r another is)) r refl;
+          }
+
+      by : id < 2 ^ 62 → (r : Result Unit Refusal) → n ≡ call_told r → OpensRequestAt (handle_at h side).endpoint (handle_at g side).endpoint id r → MadeAt (Call side (call.OpenRequestAt id n)) h g ends
+      by below (Ok done) told o =
+          let e = end_at ends side in
+          let x = o.done e (stands side h g there ends client server) (λ memory. let never : None ≡ Some refusal.OutOfMemory = memory in absurd (cc)) in
+          let y = does_none (opening_refusal e id) e (opened_more (to_open e.next_id id) e) (sym x.0) in
+          opens_so id n (to_open e.next_id id) below (sym x.0) (omega arith) (inl (told, refl)) (subst (λ z. StandsFor (handle_at g side).endpoint z) y.1 x.1)
+      by below (Err r) told o = refused r told o below (memory_or_not r)
 
   pub by_history : (c : call) → ByHistory c → Does c (handle_at h side) (handle_at g side) → MadeAt (Call side c) h g ends
+  by_history _ (OpensUpToOf id n) d = opens_up_to id n d
   by_history _ (ClosesBoth id stop_before stop reset_before reset_stream n) d = closes_both id stop_before stop reset_before reset_stream n d
-  by_history _ (GivesNoticeOf n) d = shuts_down side h g there ends client server (call.ShutdownNotice n) n (λ e. notice_id e.side) refl (inl refl) d
-  by_history _ (ShutsDownOf n) d = shuts_down side h g there ends client server (call.Shutdown n) n (λ e. last_taken e.side e) refl (inr refl) d
+  by_history _ (GivesNoticeOf n) d = shuts_down side h g there ends client server (call.ShutdownNotice n) n (λ e. notice_id e.side) (refl, refl) (inl refl) d
+  by_history _ (ShutsDownOf n) d = shuts_down side h g there ends client server (call.Shutdown n) n (λ e. last_taken e.side e) (refl, refl) (inr refl) d

@@ -47,6 +47,10 @@ run_on (e ∷ first) events (a ∷ given) answers old mid new (next, step, rest)
 run_on [] events (a ∷ given) answers old mid new x b = absurd x
 run_on (e ∷ first) events [] answers old mid new x b = absurd x
 
+pub of_both : (first events : List Event) → AreOfC first → AreOfC events → AreOfC (first ++ events)
+of_both [] events one two = two
+of_both (e ∷ first) events one two = (one.0, of_both first events one.1 two)
+
 pub run_unordered : (events : List Event) (answers : List Answer) (ends new : Ends) → AreOfC events → EndsRun ends events answers new → EndsRun (both_unordered ends) events answers (both_unordered new)
 run_unordered [] [] ends new of run = ap both_unordered run
 run_unordered (e ∷ events) (a ∷ answers) ends new of (mid, step, rest) = (both_unordered mid, step_unordered ends mid e a of.0 step, run_unordered events answers mid new of.1 rest)
@@ -61,6 +65,7 @@ CallsAreSteps = (ends : Ends) (events : List Event) (answers : List Answer) (cli
 -- both handles stand for ends then, and by what a schedule speaks of it is a run
 pub record Left (ends : Ends) (g : Handles) (events : List Event) (answers : List Answer) : Type 0 where
   pub new : Ends
+  pub of : AreOfC events
   pub run : EndsRun (both_unordered ends) events answers (both_unordered new)
   pub client_stands : StandsFor g.client.endpoint new.client
   pub server_stands : StandsFor g.server.endpoint new.server
@@ -77,15 +82,16 @@ leaves law ends client server (ActsSo {h = h} {g = g} {e = e} {a = a} of acts) =
       server_stands = server;
       acts = (g.client.endpoint, g.server.endpoint, acts, (refl, refl));
     }) in
-    record { new = on.0; run = run_unordered (e ∷ []) (a ∷ []) ends on.0 (of, tt) on.1; client_stands = on.2; server_stands = on.3 }
+    record { new = on.0; of = (of, tt); run = run_unordered (e ∷ []) (a ∷ []) ends on.0 (of, tt) on.1; client_stands = on.2; server_stands = on.3 }
 leaves law ends {events = events} {answers = answers} client server (RunsSo of runs) =
     let ran = runs ends client server in
-    record { new = ran.new; run = run_unordered events answers ends ran.new of ran.run; client_stands = ran.client_stands; server_stands = ran.server_stands }
+    record { new = ran.new; of = of; run = run_unordered events answers ends ran.new of ran.run; client_stands = ran.client_stands; server_stands = ran.server_stands }
 leaves law ends client server (StaysSo client_stays server_stays) =
     let c = client_stays ends.client client in
     let s = server_stays ends.server server in
     record {
       new = record { client = c.after; server = s.after };
+      of = tt;
       run = ends_are (record { client = unordered c.after; server = unordered s.after }) (both_unordered ends) c.same s.same;
       client_stands = c.stands;
       server_stands = s.stands;
@@ -95,6 +101,7 @@ leaves law ends client server (ThenSo {mid = mid} {first = first} {events = even
     let two = leaves law one.new one.client_stands one.server_stands behind in
     record {
       new = two.new;
+      of = of_both first events one.of two.of;
       run = run_on first events given answers (both_unordered ends) (both_unordered one.new) (both_unordered two.new) one.run two.run;
       client_stands = two.client_stands;
       server_stands = two.server_stands;

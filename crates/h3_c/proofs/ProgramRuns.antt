@@ -29,7 +29,7 @@ use Rattle.h3_c.proofs.CarriedOver.{bytes_carried, delivery_tells, end_carried, 
 use Rattle.h3_c.proofs.FrontsShown.{goes_there, known_id, resets_there, shown_finished, shown_front, shown_none}
 use Rattle.h3_c.proofs.ProgramCalls.{ByHistory, Made, call_made, made_event, made_none}
 use Rattle.h3_c.proofs.ProgramHistories.{MadeAt, at_ends, by_history}
-use Rattle.h3_c.proofs.ProgramMoves.{CallsAreSteps, run_on, stays_same}
+use Rattle.h3_c.proofs.ProgramMoves.{AreOfC, CallsAreSteps, of_both, run_on, stays_same}
 use Rattle.h3_c.proofs.ProgramReads.{read_made}
 use Rattle.h3_c.proofs.UnorderedSteps.{IsOfC, both_unordered}
 
@@ -124,11 +124,11 @@ goes_made act e n goes tells Server h g is of learns acts (inr x) = made_event a
 
 -- **What happens comes to events that both endpoints answer.**
 pub act_made : CallsAreSteps → (act : Act) (h g : Handles) (ends : Ends) → StandsFor h.client.endpoint ends.client → StandsFor h.server.endpoint ends.server → Happens act h g → MadeAt act h g ends
-act_made law (Call side c) h g ends client server happens = by (call_made side h g happens.2 c happens.0 happens.1)
+act_made law (Call side c) h g ends client server happens = by (call_made side h g happens.3 c happens.0 happens.1 happens.2)
   where
     by : Made (Call side c) h g ⊎ ByHistory c → MadeAt (Call side c) h g ends
     by (inl made) = at_ends law ends client server made
-    by (inr history) = by_history side h g happens.2 ends client server c history happens.1
+    by (inr history) = by_history side h g happens.3 ends client server c history happens.2
 act_made law (Bytes Client id bytes n) h g ends client server happens = at_ends law ends client server (
     goes_made (Bytes Client id bytes n) (event.Deliver Client id (length bytes)) n (CarriesBytes id (length bytes)) (λ a. Tells (answer.Delivered (length bytes)) n a) Client h g refl tt (λ a t. t) (λ a x. x)
     (bytes_go id bytes n h.client g.client h.server g.server ends.server server happens))
@@ -159,11 +159,12 @@ pub record RanTo (ends : Ends) (h : Handles) (acts : List Act) (g : Handles) : T
   pub events : List Event
   pub answers : List Answer
   pub stand : StandFor h acts events answers g
+  pub of : AreOfC events
   pub new : Ends
   pub run : EndsRun (both_unordered ends) events answers new
 
 pub acts_run : CallsAreSteps → (acts : List Act) (h g : Handles) (ends : Ends) → StandsFor h.client.endpoint ends.client → StandsFor h.server.endpoint ends.server → Happen h acts g → RanTo ends h acts g
-acts_run law [] h g ends client server happen = subst (λ x. RanTo ends h [] x) (sym happen) (record { events = []; answers = []; stand = Nothing; new = both_unordered ends; run = refl })
+acts_run law [] h g ends client server happen = subst (λ x. RanTo ends h [] x) (sym happen) (record { events = []; answers = []; stand = Nothing; of = tt; new = both_unordered ends; run = refl })
 acts_run law (act ∷ acts) h g ends client server (next, happens, happen) =
     let made = act_made law act h next ends client server happens in
     let on = made.left in
@@ -172,6 +173,7 @@ acts_run law (act ∷ acts) h g ends client server (next, happens, happen) =
       events = made.events ++ rest.events;
       answers = made.answers ++ rest.answers;
       stand = Then happens made.comes rest.stand;
+      of = of_both made.events rest.events on.of rest.of;
       new = rest.new;
       run = run_on made.events rest.events made.answers rest.answers (both_unordered ends) (both_unordered on.new) rest.new on.run rest.run;
     }

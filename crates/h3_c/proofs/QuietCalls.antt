@@ -1,7 +1,9 @@
--- The calls that say what goes first, and that QUIC took a FIN, change nothing of which a schedule speaks.
-use Rattle.std.proofs.Common.{◌≡◌, ℕ, Bool, true, false, if◌then◌else◌, [], ◌∷◌, refl, sym, ap, subst, ◌∙◌, Option, Some, None}
-use Rattle.std.specs.Prelude.{◌==◌, not, is_some, option_map, unwrap_or}
+-- The calls that say what goes first, and that QUIC took a FIN, change nothing of which a schedule speaks. Nor does a datagram that came, if it closes
+-- nothing.
+use Rattle.std.proofs.Common.{◌≡◌, ℕ, Bool, true, false, if◌then◌else◌, List, [], ◌∷◌, take, refl, sym, ap, subst, ◌∙◌, Option, Some, None}
+use Rattle.std.specs.Prelude.{◌==◌, ◌&&◌, not, is_none, is_some, option_map, unwrap_or}
 use Rattle.std.proofs.lemmas.Bool.{eqb-true}
+use Rattle.h3_capsule.specs.Datagram.{datagram_of}
 use Rattle.h3_priority.specs.Priority.{PriorityParameters}
 use Rattle.h3_proto.specs.StreamIds.{is_request_stream}
 use Rattle.h3_connection.specs.ByPriority.{hold, hold_at, hold_refusal, held, priority_refusal, prioritized, set_priority}
@@ -10,7 +12,7 @@ use Rattle.h3_connection.specs.Endpoint.{EndpointHistory}
 use Rattle.h3_connection.specs.EndsWaiting.{end_taken, end_taken_at, end_taken_if}
 use Rattle.h3_connection.specs.Order.{gives_way}
 use Rattle.h3_connection.specs.Outgoing.{Outgoing as Out, is_end_next, nothing_sent}
-use Rattle.h3_connection.specs.Prioritizing.{said, saying, set_initial_priority}
+use Rattle.h3_connection.specs.Prioritizing.{is_sent, said, saying, set_initial_priority, use_updates, used, used_at}
 use Rattle.h3_connection.specs.Refusals.{first_of}
 use Rattle.h3_connection.specs.Sending.{closed_or, does, is_open, outgoing_at, with_outgoing}
 use Rattle.h3_connection.specs.SendingContracts.{DoesOrRefuses}
@@ -18,7 +20,12 @@ use Rattle.h3_connection.specs.State.{EndpointState, RequestState, StandsFor, Sa
 use Rattle.h3_connection.specs.StreamSets.{Streams, set_stream, stream_at}
 use Rattle.h3_connection.specs.declared.event.Refusal.{Refusal}
 use Rattle.h3_connection.specs.declared.event.Refusal.TheVariants as refusal
-use Rattle.h3_connection.specs.declared.order.PrioritySource.TheVariants.{Field}
+use Rattle.h3_connection.specs.declared.order.PrioritySource.{PrioritySource}
+use Rattle.h3_connection.specs.declared.order.PrioritySource.TheVariants.{Field, Update}
+use Rattle.h3_session.specs.Datagrams.{is_off, quarter_read, read_datagram, read_unless, unless_off}
+use Rattle.h3_session.specs.declared.endpoint.datagrams.DatagramRead.{DatagramRead}
+use Rattle.h3_session.specs.declared.endpoint.datagrams.DatagramRead.TheVariants.{For, Early, Late, Off, Fault}
+use Rattle.h3_c.specs.Datagrams.{read_given}
 use Rattle.h3_c.proofs.Unordered.{unordered, unordered_out, unordered_streams}
 
 -- Where nothing has changed, the same histories are stood for.
@@ -133,15 +140,31 @@ pub set_priority_same : (id : ℕ) (p : PriorityParameters) (e : EndpointHistory
 set_priority_same id p e none = priority_same e id (prioritized p) _ (λ o. refl) refl none
 
 -- `h3_set_initial_priority`
-said_same : (p : PriorityParameters) (o : Out) → unordered_out (said Field p o) ≡ unordered_out o
-said_same p o = by (gives_way o.precedence.source Field)
+said_same : (source : PrioritySource) (p : PriorityParameters) (o : Out) → unordered_out (said source p o) ≡ unordered_out o
+said_same source p o = by (gives_way o.precedence.source source)
   where
-    by : (b : Bool) → unordered_out (if b then record o { precedence = record o.precedence { priority = p; source = Field } } else o) ≡ unordered_out o
+    by : (b : Bool) → unordered_out (if b then record o { precedence = record o.precedence { priority = p; source = source } } else o) ≡ unordered_out o
     by true = refl
     by false = refl
 
 pub set_initial_same : (id : ℕ) (p : PriorityParameters) (e : EndpointHistory) → (set_initial_priority e id p).0 ≡ None → unordered (set_initial_priority e id p).1 ≡ unordered e
-set_initial_same id p e none = priority_same e id (said Field p) (saying e id Field p) (said_same p) refl none
+set_initial_same id p e none = priority_same e id (said Field p) (saying e id Field p) (said_same Field p) refl none
+
+-- `h3_next_by_priority`
+used_at_same : (e : EndpointHistory) (id : ℕ) (p : PriorityParameters) (o : Option Out) → stream_at e.outgoing id ≡ o → unordered (used_at e id p o) ≡ unordered e
+used_at_same e id p None at = refl
+used_at_same e id p (Some o) at = by (is_sent o)
+  where
+    by : (b : Bool) → unordered (if b then e else saying e id Update p) ≡ unordered e
+    by true = refl
+    by false = changes_same e id (said Update p) (said_same Update p) (Some o) at refl
+
+used_same : (updates : Streams PriorityParameters) (e : EndpointHistory) → unordered (used e updates) ≡ unordered e
+used_same [] e = refl
+used_same ((id, p) ∷ updates) e = used_same updates (used_at e id p (stream_at e.outgoing id)) ∙ used_at_same e id p (stream_at e.outgoing id) refl
+
+pub updates_same : (e : EndpointHistory) (count : ℕ) → unordered (use_updates e count) ≡ unordered e
+updates_same e count = used_same (take count e.peer.updates.waiting) e
 
 -- `h3_hold`
 hold_at_same : (e : EndpointHistory) (id : ℕ) (is : Bool) (o : Option Out) → stream_at e.outgoing id ≡ o → unordered (hold_at e id is o) ≡ unordered e
@@ -150,3 +173,30 @@ hold_at_same e id is (Some o) at = with_same e id o (held is o) at refl
 
 pub hold_same : (id : ℕ) (is : Bool) (e : EndpointHistory) → (hold e id is).0 ≡ None → unordered (hold e id is).1 ≡ unordered e
 hold_same id is e none = ap unordered (does_none (hold_refusal e id) e (hold_at e id is (stream_at e.outgoing id)) none).1 ∙ hold_at_same e id is (stream_at e.outgoing id) refl
+
+-- `h3_read_datagram`
+abbrev pub is_fault : DatagramRead → Bool
+is_fault (Fault code) = true
+is_fault _ = false
+
+pub fault_told : (a : DatagramRead) (id from : ℕ) → ((read_given a id from).0.number == 2) ≡ is_fault a
+fault_told (For stream place) id from = refl
+fault_told (Early stream) id from = refl
+fault_told Late id from = refl
+fault_told Off id from = refl
+fault_told (Fault code) id from = refl
+
+quarter_same : (e : EndpointHistory) (bytes : List ℕ) (d : Option (ℕ × List ℕ)) → is_fault (quarter_read e bytes d).0 ≡ false → (quarter_read e bytes d).1 ≡ e
+quarter_same e bytes None is = absurd (let never : true ≡ false = is in cc)
+quarter_same e bytes (Some d) is = refl
+
+off_same : (b : Bool) (e : EndpointHistory) (bytes : List ℕ) → is_fault (unless_off b e bytes).0 ≡ false → (unless_off b e bytes).1 ≡ e
+off_same true e bytes is = refl
+off_same false e bytes is = quarter_same e bytes (datagram_of bytes) is
+
+read_same : (closed : Option ℕ) (e : EndpointHistory) (bytes : List ℕ) → (is_none closed && is_fault (read_unless closed e bytes).0) ≡ false → (read_unless closed e bytes).1 ≡ e
+read_same None e bytes is = off_same (is_off e.announced.settings e.peer.settings) e bytes is
+read_same (Some code) e bytes is = refl
+
+pub datagram_same : (e : EndpointHistory) (bytes : List ℕ) → (is_none e.closed && is_fault (read_datagram e bytes).0) ≡ false → (read_datagram e bytes).1 ≡ e
+datagram_same e bytes is = read_same e.closed e bytes is

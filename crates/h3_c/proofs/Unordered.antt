@@ -1,4 +1,5 @@
--- An endpoint of which nothing is known of what sends first, and whose FINs QUIC took: what it answers to all other calls rests on neither.
+-- An endpoint of which nothing is known of what sends first, by its own calls or its peer's PRIORITY_UPDATE frames, and whose FINs QUIC took: what it
+-- answers to all other calls rests on neither.
 use Rattle.std.proofs.Common.{◌≡◌, ℕ, ◌+◌, Bool, true, false, if◌then◌else◌, List, [], ◌∷◌, refl, ap, ◌∙◌, Option, Some, None}
 use Rattle.std.specs.Prelude.{◌==◌, ◌||◌, is_some, option_map, unwrap_or}
 use Rattle.h3_connection.specs.Endpoint.{EndpointHistory, bytes_waiting, own_waiting}
@@ -9,6 +10,7 @@ use Rattle.h3_connection.specs.Shown.{has_outgoing, is_finished, is_reset}
 use Rattle.h3_connection.specs.Refusals.{seen}
 use Rattle.h3_connection.specs.OwnIds.{is_own}
 use Rattle.h3_connection.specs.StreamSets.{Streams, set_stream, stream_at}
+use Rattle.h3_c.proofs.UnheardUpdates.{unheard}
 
 abbrev pub unordered_out : Out → Out
 unordered_out o = record o { end_taken = false; precedence = default_precedence }
@@ -18,7 +20,7 @@ unordered_streams [] = []
 unordered_streams ((q, o) ∷ streams) = (q, unordered_out o) ∷ unordered_streams streams
 
 abbrev pub unordered : EndpointHistory → EndpointHistory
-unordered e = record e { outgoing = unordered_streams e.outgoing; order = no_order }
+unordered e = record e { outgoing = unordered_streams e.outgoing; order = no_order; peer = unheard e.peer }
 
 -- the streams
 some_if : {X Y : Type 0} (f : X → Y) (b : Bool) (x : X) (o : Option X) → (if b then Some (f x) else option_map f o) ≡ option_map f (if b then Some x else o)
@@ -40,7 +42,7 @@ set_unordered ((q, p) ∷ streams) id o =
     ∙ set_if (q == id) ((id, o) ∷ streams) ((q, p) ∷ set_stream streams id o)
 
 pub with_unordered : (e : EndpointHistory) (id : ℕ) (o : Out) → with_outgoing (unordered e) id (unordered_out o) ≡ unordered (with_outgoing e id o)
-with_unordered e id o = ap (λ l. record e { outgoing = l; order = no_order }) (set_unordered e.outgoing id o)
+with_unordered e id o = ap (λ l. record (unordered e) { outgoing = l }) (set_unordered e.outgoing id o)
 
 or_nothing : (o : Option Out) → unwrap_or (option_map unordered_out o) nothing_sent ≡ unordered_out (unwrap_or o nothing_sent)
 or_nothing None = refl
@@ -99,8 +101,8 @@ advance_mapped : (e : EndpointHistory) (id count : ℕ) (o : Option Out) → adv
 advance_mapped e id count None = refl
 advance_mapped e id count (Some o) =
     let taken : Out = record o { taken = o.taken + count } in
-    ap (λ l. record e { outgoing = l; order = order_after (unordered e) id count (Some (unordered_out o)) }) (set_unordered e.outgoing id taken)
-    ∙ ap (λ r. record e { outgoing = unordered_streams (set_stream e.outgoing id taken); order = r }) (same_order (count == 0))
+    ap (λ l. record (unordered e) { outgoing = l; order = order_after (unordered e) id count (Some (unordered_out o)) }) (set_unordered e.outgoing id taken)
+    ∙ ap (λ r. record (unordered e) { outgoing = unordered_streams (set_stream e.outgoing id taken); order = r }) (same_order (count == 0))
 
 pub advance_unordered : (e : EndpointHistory) (id count : ℕ) → advance (unordered e) id count ≡ unordered (advance e id count)
 advance_unordered e id count = ap (λ o. advance_at (unordered e) id count o) (at_unordered e.outgoing id) ∙ advance_mapped e id count (stream_at e.outgoing id)

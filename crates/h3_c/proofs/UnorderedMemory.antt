@@ -66,7 +66,7 @@ cuts_list (Some (refusal.Raised raised)) ends new side id fields c = absurd c
 cuts_list (Some refusal.OutOfMemory) ends new side id fields c = absurd c
 
 -- what is refused is refused alike
-at_end : {X : Type 0} (ends : Ends) (side : Side) (f : EndpointHistory → X) → ((e : EndpointHistory) → f (unordered e) ≡ f e) → f (end_at (both_unordered ends) side) ≡ f (end_at ends side)
+pub at_end : {X : Type 0} (ends : Ends) (side : Side) (f : EndpointHistory → X) → ((e : EndpointHistory) → f (unordered e) ≡ f e) → f (end_at (both_unordered ends) side) ≡ f (end_at ends side)
 at_end ends side f alike = ap f (end_unordered ends side) ∙ alike (end_at ends side)
 
 -- what is taken, and kept
@@ -109,13 +109,13 @@ loses ends new side id l =
           ap both_unordered is ∙ sym (with_end_unordered ends side (end_at new side)) ∙ sym (ap (λ e. with_end (both_unordered ends) side e) (end_unordered new side)),
         )
 
-handed_unordered : (ends : Ends) (writer : Side) (id count : ℕ) → handed_over (both_unordered ends) writer id count ≡ both_unordered (handed_over ends writer id count)
+pub handed_unordered : (ends : Ends) (writer : Side) (id count : ℕ) → handed_over (both_unordered ends) writer id count ≡ both_unordered (handed_over ends writer id count)
 handed_unordered ends writer id count =
     ap (λ e. with_end (both_unordered ends) writer (sender.advance e id count)) (end_unordered ends writer) ∙ ap (λ e. with_end (both_unordered ends) writer e) (advance_unordered (end_at ends writer) id count)
     ∙ with_end_unordered ends writer (sender.advance (end_at ends writer) id count)
 
 -- The answers that tell that memory was refused.
-data Lacking : Answer → Type 0 where
+pub data Lacking : Answer → Type 0 where
   NoRoom : Lacking (answer.Refused refusal.OutOfMemory)
   IsKept : Lacking (answer.Refused refusal.Kept)
   NoPull : (p : _) → Lacking (answer.Pulled p)
@@ -151,7 +151,7 @@ lacking_refusal refusal.NotRequestId h = absurd (cc)
 lacking_refusal (refusal.Raised id) h = absurd (cc)
 lacking_refusal refusal.OutOfMemory h = NoRoom
 
-lacking : (a : Answer) → is_out_of_memory a ≡ true → Lacking a
+pub lacking : (a : Answer) → is_out_of_memory a ≡ true → Lacking a
 lacking (answer.Opened id) h = absurd (cc)
 lacking answer.Done h = absurd (cc)
 lacking (answer.Delivered count) h = absurd (cc)
@@ -162,6 +162,77 @@ lacking (answer.Pulled p) h = NoPull p
 lacking (answer.Listed l) h = lacking_list l h
 lacking (answer.Shown limits sizes count) h = absurd (cc)
 lacking (answer.Refused r) h = lacking_refusal r h
+
+-- The events that want memory, with the answers that tell that it was refused.
+pub data LacksOf : Event → Answer → Type 0 where
+  Opens : {side : Side} → LacksOf (event.OpenRequest side) (answer.Refused refusal.OutOfMemory)
+  SendsFields : {side : Side} {id : ℕ} {fields : List Field} → LacksOf (event.Fields side id fields) (answer.Refused refusal.OutOfMemory)
+  SendsBody : {side : Side} {id : ℕ} {bytes : List ℕ} → LacksOf (event.Body side id bytes) (answer.Refused refusal.OutOfMemory)
+  SendsTrailer : {side : Side} {id : ℕ} {fields : List Field} → LacksOf (event.TrailerFields side id fields) (answer.Refused refusal.OutOfMemory)
+  Cancels : {side : Side} {id : ℕ} → LacksOf (event.Cancel side id) (answer.Refused refusal.OutOfMemory)
+  GoesAway : {side : Side} {id : ℕ} → LacksOf (event.Goaway side id) (answer.Refused refusal.OutOfMemory)
+  TakesNone : {writer : Side} {id : ℕ} {count : ℕ} → LacksOf (event.Deliver writer id count) (answer.Refused refusal.OutOfMemory)
+  TakesNoEnd : {writer : Side} {id : ℕ} → LacksOf (event.DeliverEnd writer id) (answer.Refused refusal.OutOfMemory)
+  TakesNoReset : {writer : Side} {id : ℕ} → LacksOf (event.DeliverReset writer id) (answer.Refused refusal.OutOfMemory)
+  KeepsBytes : {writer : Side} {id : ℕ} {count : ℕ} → LacksOf (event.Deliver writer id count) (answer.Refused refusal.Kept)
+  KeepsEnd : {writer : Side} {id : ℕ} → LacksOf (event.DeliverEnd writer id) (answer.Refused refusal.Kept)
+  KeepsReset : {writer : Side} {id : ℕ} → LacksOf (event.DeliverReset writer id) (answer.Refused refusal.Kept)
+  Pulls : {side : Side} {id : ℕ} → LacksOf (event.PullFields side id) (answer.Listed (list.Fault fault.Memory))
+
+-- Which of them it is.
+pub lacks_of : (ends new : Ends) (e : Event) (a : Answer) → IsOfC e → Lacking a → LacksMemory ends e a new → LacksOf e a
+lacks_of ends new (event.OpenRequest side) _ of NoRoom h = Opens
+lacks_of ends new (event.Fields side id fields) _ of NoRoom h = SendsFields
+lacks_of ends new (event.Body side id bytes) _ of NoRoom h = SendsBody
+lacks_of ends new (event.TrailerFields side id fields) _ of NoRoom h = SendsTrailer
+lacks_of ends new (event.Finish side id) _ of NoRoom h = absurd h
+lacks_of ends new (event.Reset side id) _ of NoRoom h = absurd h
+lacks_of ends new (event.Cancel side id) _ of NoRoom h = Cancels
+lacks_of ends new (event.Goaway side id) _ of NoRoom h = GoesAway
+lacks_of ends new (event.Deliver writer id count) _ of NoRoom h = TakesNone
+lacks_of ends new (event.DeliverEnd writer id) _ of NoRoom h = TakesNoEnd
+lacks_of ends new (event.DeliverReset writer id) _ of NoRoom h = TakesNoReset
+lacks_of ends new (event.PullFields side id) _ of NoRoom h = absurd h
+lacks_of ends new (event.OpenRequest side) _ of IsKept h = absurd h
+lacks_of ends new (event.Fields side id fields) _ of IsKept h = absurd h
+lacks_of ends new (event.Body side id bytes) _ of IsKept h = absurd h
+lacks_of ends new (event.TrailerFields side id fields) _ of IsKept h = absurd h
+lacks_of ends new (event.Finish side id) _ of IsKept h = absurd h
+lacks_of ends new (event.Reset side id) _ of IsKept h = absurd h
+lacks_of ends new (event.Cancel side id) _ of IsKept h = absurd h
+lacks_of ends new (event.Goaway side id) _ of IsKept h = absurd h
+lacks_of ends new (event.Deliver writer id count) _ of IsKept h = KeepsBytes
+lacks_of ends new (event.DeliverEnd writer id) _ of IsKept h = KeepsEnd
+lacks_of ends new (event.DeliverReset writer id) _ of IsKept h = KeepsReset
+lacks_of ends new (event.PullFields side id) _ of IsKept h = absurd h
+lacks_of ends new (event.PullFields side id) _ of NoList h = Pulls
+lacks_of ends new (event.OpenRequest side) _ of NoList h = absurd h
+lacks_of ends new (event.Fields side id fields) _ of NoList h = absurd h
+lacks_of ends new (event.Body side id bytes) _ of NoList h = absurd h
+lacks_of ends new (event.TrailerFields side id fields) _ of NoList h = absurd h
+lacks_of ends new (event.Finish side id) _ of NoList h = absurd h
+lacks_of ends new (event.Reset side id) _ of NoList h = absurd h
+lacks_of ends new (event.Cancel side id) _ of NoList h = absurd h
+lacks_of ends new (event.Goaway side id) _ of NoList h = absurd h
+lacks_of ends new (event.Deliver writer id count) _ of NoList h = absurd h
+lacks_of ends new (event.DeliverEnd writer id) _ of NoList h = absurd h
+lacks_of ends new (event.DeliverReset writer id) _ of NoList h = absurd h
+lacks_of ends new (event.OpenRequest side) _ of (NoPull p) h = absurd h
+lacks_of ends new (event.Fields side id fields) _ of (NoPull p) h = absurd h
+lacks_of ends new (event.Body side id bytes) _ of (NoPull p) h = absurd h
+lacks_of ends new (event.TrailerFields side id fields) _ of (NoPull p) h = absurd h
+lacks_of ends new (event.Finish side id) _ of (NoPull p) h = absurd h
+lacks_of ends new (event.Reset side id) _ of (NoPull p) h = absurd h
+lacks_of ends new (event.Cancel side id) _ of (NoPull p) h = absurd h
+lacks_of ends new (event.Goaway side id) _ of (NoPull p) h = absurd h
+lacks_of ends new (event.Deliver writer id count) _ of (NoPull p) h = absurd h
+lacks_of ends new (event.DeliverEnd writer id) _ of (NoPull p) h = absurd h
+lacks_of ends new (event.DeliverReset writer id) _ of (NoPull p) h = absurd h
+lacks_of ends new (event.PullFields side id) _ of (NoPull p) h = absurd h
+lacks_of ends new (event.Head side id head) _ of l h = absurd of
+lacks_of ends new (event.Trailer side id trailer) _ of l h = absurd of
+lacks_of ends new (event.Pull side id) _ of l h = absurd of
+lacks_of ends new (event.Show side) _ of l h = absurd of
 
 module _ (ends new : Ends) where
   -- nothing was done, which would have been done
@@ -194,59 +265,20 @@ module _ (ends new : Ends) where
             (stores ends (handed_over ends writer id count) new (other writer) (BytesCame id (take count (bytes_waiting (end_at ends writer) id))) kept)),
       )
 
-  lacks_unordered : (e : Event) (a : Answer) → IsOfC e → Lacking a → LacksMemory ends e a new → LacksMemory (both_unordered ends) e a (both_unordered new)
-  lacks_unordered (event.OpenRequest side) _ of NoRoom h = nothing side (λ e. (sender.open_request e).0) (λ e. ap (λ x. x.0) (open_request_unordered e)) h
-  lacks_unordered (event.Fields side id fields) _ of NoRoom h = lists side id fields (λ e. (send_fields e id fields).0) (λ e. ap (λ x. x.0) (fields_sent_unordered e id fields)) h
-  lacks_unordered (event.Body side id bytes) _ of NoRoom h = ap both_unordered h
-  lacks_unordered (event.TrailerFields side id fields) _ of NoRoom h = lists side id fields (λ e. (send_trailer_fields e id fields).0) (λ e. ap (λ x. x.0) (trailer_sent_unordered e id fields)) h
-  lacks_unordered (event.Finish side id) _ of NoRoom h = absurd h
-  lacks_unordered (event.Reset side id) _ of NoRoom h = absurd h
-  lacks_unordered (event.Cancel side id) _ of NoRoom h = nothing side (λ e. (sender.cancel e id).0) (λ e. ap (λ x. x.0) (cancel_unordered e id)) h
-  lacks_unordered (event.Goaway side id) _ of NoRoom h = nothing side (λ e. (sender.goaway e id).0) (λ e. ap (λ x. x.0) (goaway_unordered e id)) h
-  lacks_unordered (event.Deliver writer id count) _ of NoRoom h = ap both_unordered h
-  lacks_unordered (event.DeliverEnd writer id) _ of NoRoom h = (finished writer id h.0, none_waits writer id h.1, takes ends (other writer) id h.2, ap both_unordered h.3)
-  lacks_unordered (event.DeliverReset writer id) _ of NoRoom h = (was_reset writer id h.0, takes ends (other writer) id h.1, ap both_unordered h.2)
-  lacks_unordered (event.PullFields side id) _ of NoRoom h = absurd h
-  lacks_unordered (event.OpenRequest side) _ of IsKept h = absurd h
-  lacks_unordered (event.Fields side id fields) _ of IsKept h = absurd h
-  lacks_unordered (event.Body side id bytes) _ of IsKept h = absurd h
-  lacks_unordered (event.TrailerFields side id fields) _ of IsKept h = absurd h
-  lacks_unordered (event.Finish side id) _ of IsKept h = absurd h
-  lacks_unordered (event.Reset side id) _ of IsKept h = absurd h
-  lacks_unordered (event.Cancel side id) _ of IsKept h = absurd h
-  lacks_unordered (event.Goaway side id) _ of IsKept h = absurd h
-  lacks_unordered (event.Deliver writer id count) _ of IsKept h = bytes_kept writer id count h
-  lacks_unordered (event.DeliverEnd writer id) _ of IsKept h = (finished writer id h.0, none_waits writer id h.1, stores ends ends new (other writer) (EndCame id) h.2)
-  lacks_unordered (event.DeliverReset writer id) _ of IsKept h = (was_reset writer id h.0, stores ends ends new (other writer) (ResetCame id reset_code) h.1)
-  lacks_unordered (event.PullFields side id) _ of IsKept h = absurd h
-  lacks_unordered (event.PullFields side id) _ of NoList h = loses ends new side id h
-  lacks_unordered (event.OpenRequest side) _ of NoList h = absurd h
-  lacks_unordered (event.Fields side id fields) _ of NoList h = absurd h
-  lacks_unordered (event.Body side id bytes) _ of NoList h = absurd h
-  lacks_unordered (event.TrailerFields side id fields) _ of NoList h = absurd h
-  lacks_unordered (event.Finish side id) _ of NoList h = absurd h
-  lacks_unordered (event.Reset side id) _ of NoList h = absurd h
-  lacks_unordered (event.Cancel side id) _ of NoList h = absurd h
-  lacks_unordered (event.Goaway side id) _ of NoList h = absurd h
-  lacks_unordered (event.Deliver writer id count) _ of NoList h = absurd h
-  lacks_unordered (event.DeliverEnd writer id) _ of NoList h = absurd h
-  lacks_unordered (event.DeliverReset writer id) _ of NoList h = absurd h
-  lacks_unordered (event.OpenRequest side) _ of (NoPull p) h = absurd h
-  lacks_unordered (event.Fields side id fields) _ of (NoPull p) h = absurd h
-  lacks_unordered (event.Body side id bytes) _ of (NoPull p) h = absurd h
-  lacks_unordered (event.TrailerFields side id fields) _ of (NoPull p) h = absurd h
-  lacks_unordered (event.Finish side id) _ of (NoPull p) h = absurd h
-  lacks_unordered (event.Reset side id) _ of (NoPull p) h = absurd h
-  lacks_unordered (event.Cancel side id) _ of (NoPull p) h = absurd h
-  lacks_unordered (event.Goaway side id) _ of (NoPull p) h = absurd h
-  lacks_unordered (event.Deliver writer id count) _ of (NoPull p) h = absurd h
-  lacks_unordered (event.DeliverEnd writer id) _ of (NoPull p) h = absurd h
-  lacks_unordered (event.DeliverReset writer id) _ of (NoPull p) h = absurd h
-  lacks_unordered (event.PullFields side id) _ of (NoPull p) h = absurd h
-  lacks_unordered (event.Head side id head) _ of l h = absurd of
-  lacks_unordered (event.Trailer side id trailer) _ of l h = absurd of
-  lacks_unordered (event.Pull side id) _ of l h = absurd of
-  lacks_unordered (event.Show side) _ of l h = absurd of
+  lacks_unordered : (e : Event) (a : Answer) → LacksOf e a → LacksMemory ends e a new → LacksMemory (both_unordered ends) e a (both_unordered new)
+  lacks_unordered _ _ (Opens {side = side}) h = nothing side (λ e. (sender.open_request e).0) (λ e. ap (λ x. x.0) (open_request_unordered e)) h
+  lacks_unordered _ _ (SendsFields {side = side} {id = id} {fields = fields}) h = lists side id fields (λ e. (send_fields e id fields).0) (λ e. ap (λ x. x.0) (fields_sent_unordered e id fields)) h
+  lacks_unordered _ _ (SendsBody {side = side} {id = id} {bytes = bytes}) h = ap both_unordered h
+  lacks_unordered _ _ (SendsTrailer {side = side} {id = id} {fields = fields}) h = lists side id fields (λ e. (send_trailer_fields e id fields).0) (λ e. ap (λ x. x.0) (trailer_sent_unordered e id fields)) h
+  lacks_unordered _ _ (Cancels {side = side} {id = id}) h = nothing side (λ e. (sender.cancel e id).0) (λ e. ap (λ x. x.0) (cancel_unordered e id)) h
+  lacks_unordered _ _ (GoesAway {side = side} {id = id}) h = nothing side (λ e. (sender.goaway e id).0) (λ e. ap (λ x. x.0) (goaway_unordered e id)) h
+  lacks_unordered _ _ (TakesNone {writer = writer} {id = id} {count = count}) h = ap both_unordered h
+  lacks_unordered _ _ (TakesNoEnd {writer = writer} {id = id}) h = (finished writer id h.0, none_waits writer id h.1, takes ends (other writer) id h.2, ap both_unordered h.3)
+  lacks_unordered _ _ (TakesNoReset {writer = writer} {id = id}) h = (was_reset writer id h.0, takes ends (other writer) id h.1, ap both_unordered h.2)
+  lacks_unordered _ _ (KeepsBytes {writer = writer} {id = id} {count = count}) h = bytes_kept writer id count h
+  lacks_unordered _ _ (KeepsEnd {writer = writer} {id = id}) h = (finished writer id h.0, none_waits writer id h.1, stores ends ends new (other writer) (EndCame id) h.2)
+  lacks_unordered _ _ (KeepsReset {writer = writer} {id = id}) h = (was_reset writer id h.0, stores ends ends new (other writer) (ResetCame id reset_code) h.1)
+  lacks_unordered _ _ (Pulls {side = side} {id = id}) h = loses ends new side id h
 
 -- **Each step of two endpoints is one of those of which nothing is known of what sends first.**
 pub step_unordered : (ends new : Ends) (e : Event) (a : Answer) → IsOfC e → EndsStep ends e a new → EndsStep (both_unordered ends) e a (both_unordered new)
@@ -255,7 +287,7 @@ step_unordered ends new e a of step = by (is_out_of_memory a) refl
     by : (b : Bool) → is_out_of_memory a ≡ b → AnswerOf (is_out_of_memory a) (both_unordered ends) e a (both_unordered new)
     by true is =
         let lacks = subst (λ c. AnswerOf c ends e a new) is step in
-        subst (λ c. AnswerOf c (both_unordered ends) e a (both_unordered new)) (sym is) (lacks_unordered ends new e a of (lacking a is) lacks)
+        subst (λ c. AnswerOf c (both_unordered ends) e a (both_unordered new)) (sym is) (lacks_unordered ends new e a (lacks_of ends new e a of (lacking a is) lacks) lacks)
     by false is =
         let answers = subst (λ c. AnswerOf c ends e a new) is step in
         let same = answered_unordered ends e of in

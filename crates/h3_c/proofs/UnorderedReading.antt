@@ -2,6 +2,8 @@
 use Rattle.std.proofs.Common.{◌≡◌, ℕ, Bool, true, false, if◌then◌else◌, List, [], ◌∷◌, ◌++◌, refl, ap, subst, ◌∙◌, Option, Some, None}
 use Rattle.std.specs.Prelude.{fold, is_some, unwrap_or}
 use Rattle.h3_proto.specs.Settings.{value_of}
+use Rattle.h3_proto.specs.declared.stream.Side.{Side}
+use Rattle.h3_wire.specs.declared.frame.kinds.FrameKinds.{FrameKinds}
 use Rattle.h3_connection.specs.Arrivals.{stream_of}
 use Rattle.h3_connection.specs.declared.arrival.Arrival.{Arrival}
 use Rattle.h3_connection.specs.declared.arrival.Arrival.TheVariants.{BytesCame, EndCame, ResetCame}
@@ -14,10 +16,10 @@ use Rattle.h3_connection.specs.ExcessiveInstructions.{listen_up_to}
 use Rattle.h3_connection.specs.Incoming.{Incoming}
 use Rattle.h3_connection.specs.Keeping.{arrival_refusal, arrives, arrives_behind, keeping, opened_as, opened_by, pulled_after, pulls, pulls_behind, read_all, read_arrival, settles, unkept, unless_faulty}
 use Rattle.h3_connection.specs.Outgoing.{nothing_sent}
-use Rattle.h3_connection.specs.PartReading.{ReadsOn, ReadsPart, early, held_as}
+use Rattle.h3_connection.specs.PartReading.{PeerReadsPart, ReadsOn, ReadsPart, early, held_as}
 use Rattle.h3_connection.specs.PartReading.{ReadsWhole, ReadsFront, Holds, ReadsFrames, Hears, Listens}
 use Rattle.h3_connection.specs.PartReading.{Stops, Goes}
-use Rattle.h3_connection.specs.PeerReading.{PeerFound, read_peer}
+use Rattle.h3_connection.specs.PeerReading.{Peer, PeerFound, read_peer, with_unread}
 use Rattle.h3_connection.specs.Sending.{after_answer, after_fault, pull_at, pull_peer, pull_request, pull_unless, pulled_unidirectional}
 use Rattle.h3_connection.specs.StreamSets.{stream_at}
 use Rattle.h3_connection.specs.StrictConnection.{kinds_of, knows_sessions}
@@ -29,6 +31,7 @@ use Rattle.h3_connection.specs.declared.event.Pull.{Pull}
 use Rattle.h3_connection.specs.declared.event.Pull.TheVariants as pull
 use Rattle.h3_connection.specs.declared.event.Refusal.{Refusal}
 use Rattle.h3_connection.specs.declared.event.StreamFault.TheVariants as stream_fault
+use Rattle.h3_c.proofs.UnheardUpdates.{peer_unheard, so_heard, unheard}
 use Rattle.h3_c.proofs.Unordered.{set_unordered, unordered}
 
 -- the same of what is found, answered or pulled
@@ -52,7 +55,7 @@ ends_if false one two = refl
 -- a stream that is opened
 opened_mapped : (e : EndpointHistory) (id : ℕ) (i : Option Incoming) → opened_at (unordered e) id i ≡ unordered (opened_at e id i)
 opened_mapped e id (Some i) = refl
-opened_mapped e id None = ap (λ l. record (opened_at e id None) { outgoing = l; order = (unordered e).order }) (set_unordered e.outgoing id nothing_sent)
+opened_mapped e id None = ap (λ l. record (unordered (opened_at e id None)) { outgoing = l }) (set_unordered e.outgoing id nothing_sent)
 
 pub opened_unordered : (e : EndpointHistory) (id : ℕ) → opened (unordered e) id ≡ unordered (opened e id)
 opened_unordered e id = opened_mapped e id (stream_at e.incoming id)
@@ -64,7 +67,7 @@ learned_unordered e pairs =
     let blocked = unwrap_or (value_of 7 pairs) 0 in
     ends_if (is_table_usable e.encoder.most_capacity capacity blocked) (with_table e capacity blocked) e
 
-if_learned_unordered : (before after : Option (List (ℕ × ℕ))) (e : EndpointHistory) → if_learned before after (unordered e) ≡ unordered (if_learned before after e)
+pub if_learned_unordered : (before after : Option (List (ℕ × ℕ))) (e : EndpointHistory) → if_learned before after (unordered e) ≡ unordered (if_learned before after e)
 if_learned_unordered None (Some pairs) e = learned_unordered e pairs
 if_learned_unordered None None e = refl
 if_learned_unordered (Some known) None e = refl
@@ -80,17 +83,18 @@ then_unordered None None e None = refl
 then_unordered (Some known) None e None = refl
 then_unordered (Some known) (Some pairs) e None = refl
 
-peer_unordered : (e : EndpointHistory) (found : PeerFound) → after_peer (unordered e) found ≡ so_found (after_peer e found)
+peer_unordered : (e : EndpointHistory) (found : PeerFound) → after_peer (unordered e) (so_heard found) ≡ so_found (after_peer e found)
 peer_unordered e (p, fault) =
     let read = record e { peer = p } in
-    let taken : taken_peer (unordered e) (p, fault) ≡ so_found (taken_peer e (p, fault)) =
+    let taken : taken_peer (unordered e) (so_heard (p, fault)) ≡ so_found (taken_peer e (p, fault)) =
     ap (λ x. then_decoder e.peer.settings p.settings x fault) (if_learned_unordered e.peer.settings p.settings read) ∙ then_unordered e.peer.settings p.settings (if_learned e.peer.settings p.settings read) fault in
-    ap (λ x. unless_refused (unordered e) p x) taken ∙ found_if (are_refused e e.peer.settings p.settings) _ (taken_peer e (p, fault))
+    ap (λ x. unless_refused (unordered e) (unheard p) x) taken ∙ found_if (are_refused e e.peer.settings p.settings) _ (taken_peer e (p, fault))
 
 held_unordered : (e : EndpointHistory) → read_held (unordered e) ≡ so_found (read_held e)
 held_unordered e =
     let found = read_peer (kinds_of e.announced) (limit_of e) e.side e.peer in
-    ap (λ x. unless_missing (unordered e) x) (peer_unordered e found) ∙ found_if (lacks_settings e) _ (after_peer e found)
+    ap (λ x. unless_missing (unordered e) (after_peer (unordered e) x)) (peer_unheard (kinds_of e.announced) (limit_of e) e.side e.peer)
+    ∙ ap (λ x. unless_missing (unordered e) x) (peer_unordered e found) ∙ found_if (lacks_settings e) _ (after_peer e found)
 
 second_unordered : (b : Bool) (e : EndpointHistory) (found : Found) → unless_second b (unordered e) (so_found found) ≡ so_found (unless_second b e found)
 second_unordered true e found = refl
@@ -242,10 +246,10 @@ opened_all : (arrivals : List Arrival) (e : EndpointHistory) → fold opened_by 
 opened_all [] e = refl
 opened_all (a ∷ arrivals) e = ap (λ x. fold opened_by x arrivals) (opened_as_unordered (kind_of e.side (stream_of a)) e (stream_of a)) ∙ opened_all arrivals (opened_by e a)
 
-keeping_unordered : (e : EndpointHistory) (arrivals : List Arrival) → keeping (unordered e) arrivals ≡ unordered (keeping e arrivals)
+pub keeping_unordered : (e : EndpointHistory) (arrivals : List Arrival) → keeping (unordered e) arrivals ≡ unordered (keeping e arrivals)
 keeping_unordered e arrivals = ap (λ (x : EndpointHistory). record x { kept = arrivals }) (opened_all arrivals e)
 
-held_as_unordered : (e : EndpointHistory) (id : ℕ) (read : Role × List ℕ) → held_as (unordered e) id read ≡ unordered (held_as e id read)
+pub held_as_unordered : (e : EndpointHistory) (id : ℕ) (read : Role × List ℕ) → held_as (unordered e) id read ≡ unordered (held_as e id read)
 held_as_unordered e id (Untold front, bytes) = refl
 held_as_unordered e id (Control, bytes) = refl
 held_as_unordered e id (Encoder, bytes) = refl
@@ -253,6 +257,17 @@ held_as_unordered e id (Decoder, bytes) = refl
 held_as_unordered e id (Push push, bytes) = refl
 held_as_unordered e id (Session session, bytes) = refl
 held_as_unordered e id (Ignored, bytes) = refl
+
+frames_part : (kinds : FrameKinds) (limit : ℕ) (side : Side) (old new : Peer) → PeerReadsPart kinds limit side old new → PeerReadsPart kinds limit side (unheard old) (unheard new)
+frames_part kinds limit side old new part =
+    record {
+      front = part.front;
+      rest = part.rest;
+      cut = part.cut;
+      read = unheard part.read;
+      reads = peer_unheard kinds limit side (with_unread old part.front) ∙ ap so_heard part.reads;
+      left = ap unheard part.left;
+    }
 
 read_unordered : (e new : EndpointHistory) (a : Arrival) → read_arrival e a ≡ (new, None) → read_arrival (unordered e) a ≡ (unordered new, None)
 read_unordered e new a is = arrival_unordered e a ∙ ap so_found is
@@ -266,7 +281,7 @@ reads_on {e = e} (Holds {id = id} {bytes = bytes} {more = more} kind reader) =
     subst (λ x. ReadsOn (unordered e) (BytesCame id bytes ∷ more) x (BytesCame id [] ∷ more)) (held_as_unordered (with_unidirectional e id (with_bytes o read)) id read) (Holds kind reader)
 reads_on {e = e} (ReadsFrames {id = id} {p = p} {more = more} on may part) =
     subst (λ x. ReadsOn (unordered e) (BytesCame id [] ∷ more) x (BytesCame id [] ∷ early e p ++ more)) (if_learned_unordered e.peer.settings p.settings (record e { peer = p }))
-    (ReadsFrames on (record { first = may.first; taken = may.taken }) part)
+    (ReadsFrames on (record { first = may.first; taken = may.taken }) (frames_part (kinds_of e.announced) (limit_of e) e.side e.peer p part))
 reads_on (Hears on part) = Hears on part
 reads_on (Listens on settings part) = Listens on settings part
 

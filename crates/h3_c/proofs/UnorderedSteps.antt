@@ -1,7 +1,9 @@
 -- Each event is answered alike by two endpoints of which nothing is known of what sends first, also where memory is refused.
 use Rattle.std.proofs.Common.{◌≡◌, ◌+◌, ℕ, Bool, true, false, if◌then◌else◌, List, [], ◌∷◌, ◌++◌, length, take, refl, ap, ◌∙◌, Option, Some, None}
-use Rattle.std.specs.Prelude.{◌==◌, ◌&&◌, not, nat_lt, option_map}
+use Rattle.std.specs.List.{AllByRecursion}
+use Rattle.std.specs.Prelude.{◌==◌, ◌<◌, ◌^◌, ◌&&◌, not, nat_lt, option_map}
 use Rattle.h3_field.specs.Field.{Field}
+use Rattle.h3_field.specs.ReadBack.{IsFieldOfBytes}
 use Rattle.h3_messages.specs.declared.content.Content.{Content}
 use Rattle.h3_proto.specs.declared.stream.Side.{Side}
 use Rattle.h3_proto.specs.declared.stream.Side.TheVariants.{Client, Server}
@@ -9,7 +11,6 @@ use Rattle.h3_connection.specs.declared.arrival.Arrival.{Arrival}
 use Rattle.h3_connection.specs.declared.arrival.Arrival.TheVariants.{BytesCame, EndCame, ResetCame}
 use Rattle.h3_connection.specs.Coming.{fields_behind}
 use Rattle.h3_connection.specs.Delivering.{opened_at}
-use Rattle.h3_connection.specs.Order.{no_order}
 use Rattle.h3_connection.specs.Endpoint.{EndpointHistory, bytes_waiting, is_critical_id}
 use Rattle.h3_connection.specs.Keeping.{arrives, pulls}
 use Rattle.h3_connection.specs.Outgoing.{Outgoing as Out, OwnPart, is_sent_off, with_body, with_finish, with_reset, with_said, nothing_sent}
@@ -52,7 +53,7 @@ pub open_request_unordered : (e : EndpointHistory) → sender.open_request (unor
 open_request_unordered e =
     let new = record (opened_at e e.next_id None) { next_id = e.next_id + 4 } in
     done_so (sender.open_refusal e) (sender.open_refusal e) e (record (opened_at (unordered e) e.next_id None) { next_id = e.next_id + 4 }) new refl
-    (ap (λ l. record new { outgoing = l; order = no_order }) (set_unordered e.outgoing e.next_id nothing_sent))
+    (ap (λ l. record (unordered new) { outgoing = l }) (set_unordered e.outgoing e.next_id nothing_sent))
 
 -- a stream that was written to
 changed : (e x : EndpointHistory) (id : ℕ) (change : Out → Out) → ((o : Out) → change (unordered_out o) ≡ unordered_out (change o))
@@ -85,7 +86,7 @@ asked_unordered e id fields =
     let saying : saying_at (unordered_streams e.outgoing) id said (stream_at (unordered_streams e.outgoing) id) ≡ unordered_streams (saying_at e.outgoing id said (stream_at e.outgoing id)) =
     ap (λ o. saying_at (unordered_streams e.outgoing) id said o) (at_unordered e.outgoing id) ∙ saying_mapped e.outgoing id said (stream_at e.outgoing id) in
     let streams = ap (λ l. if strict then l else unordered_streams e.outgoing) saying ∙ streams_if strict (saying_at e.outgoing id said (stream_at e.outgoing id)) e.outgoing in
-    ap (λ l. record (asked e id fields) { outgoing = l; order = (unordered e).order }) streams
+    ap (λ l. record (unordered (asked e id fields)) { outgoing = l }) streams
 
 pub fields_sent_unordered : (e : EndpointHistory) (id : ℕ) (fields : List Field) → send_fields (unordered e) id fields ≡ so_done (send_fields e id fields)
 fields_sent_unordered e id fields =
@@ -242,10 +243,13 @@ lists_so : (ends : Ends) (side : Side) (id : ℕ) → was_listed (both_unordered
 lists_so ends side id =
     ap (λ e. was_listed (both_unordered ends) side id (pulls e id)) (end_unordered ends side) ∙ ap (λ x. was_listed (both_unordered ends) side id x) (pulls_unordered (end_at ends side) id) ∙ listed_mapped ends side id (pulls (end_at ends side) id)
 
--- The events that calls of h3.h are.
+-- The events that calls of h3.h are: they send lists of bytes, and no id is too large.
 abbrev pub IsOfC : Event → Type 0
 IsOfC (event.Head side id head) = ⊥
+IsOfC (event.Fields side id fields) = AllByRecursion IsFieldOfBytes fields
 IsOfC (event.Trailer side id trailer) = ⊥
+IsOfC (event.TrailerFields side id fields) = AllByRecursion IsFieldOfBytes fields
+IsOfC (event.Goaway side id) = id < 2 ^ 62
 IsOfC (event.Pull side id) = ⊥
 IsOfC (event.Show side) = ⊥
 IsOfC _ = Unit {0}

@@ -1,6 +1,7 @@
 -- Which event of a schedule each call of h3.h is, and which answer C learns of it (`h3_world`, Event and Answer).
-use Rattle.std.specs.Prelude.{◌≡◌, Bool, true, false, List, Option, Some, None, option_map, Err}
+use Rattle.std.specs.Prelude.{◌≡◌, Bool, true, false, ◌&&◌, ◌==◌, List, Option, Some, None, is_none, option_map, Err}
 use Rattle.h3_field.specs.Field.{Field}
+use Rattle.h3_field.specs.ReadBack.{AreBytes}
 use Rattle.h3_proto.specs.declared.config.Choices.{Choices}
 use Rattle.h3_proto.specs.declared.stream.Side.{Side}
 use Rattle.h3_incoming.specs.declared.fields.FieldsItem.{FieldsItem}
@@ -16,7 +17,7 @@ use Rattle.h3_world.specs.declared.lists.ListItem.TheVariants as listed
 use Rattle.h3_world.specs.declared.lists.ListPull.{ListPull}
 use Rattle.h3_world.specs.declared.lists.ListPull.TheVariants as list
 use Rattle.h3_c.specs.Does.{CallOfC}
-use Rattle.h3_c.specs.Does.CallOfC.{OpenRequest, OpenRequestAt, SendHead, SendTrailer, SendBody, SendBodyOf, Finish, Reset, Cancel, Goaway, NextByPriority, SendPriority, Advance, Read, Deliver, DeliverEnd, DeliverReset, Pull, ReadDatagram}
+use Rattle.h3_c.specs.Does.CallOfC.{OpenRequest, SendHead, SendTrailer, SendBody, SendBodyOf, Finish, Reset, Cancel, Goaway, SendPriority, Advance, Read, Deliver, DeliverEnd, DeliverReset, Pull, ReadDatagram}
 use Rattle.h3_c.specs.Given.{fields_given}
 use Rattle.h3_c.specs.Items.{shown}
 use Rattle.h3_c.specs.Numbers.{TellsList, ok, refusal_told}
@@ -37,19 +38,24 @@ asked side (Goaway id n) = Some (event.Goaway side id, n)
 asked side (Pull id before item n) = Some (event.PullFields side id, n)
 asked side _ = None
 
--- The calls that are left out here, since no event says what they do. Those that deliver or take bytes stand in `Programs`.
-abbrev pub is_left_out : CallOfC → Bool
-is_left_out (OpenRequestAt id n) = true
-is_left_out (SendBodyOf id len n) = true
-is_left_out (NextByPriority before id n) = true
-is_left_out (SendPriority id urgency incremental n) = true
-is_left_out (Advance id count n) = true
-is_left_out (Read id bytes fin used before item n) = true
-is_left_out (Deliver id bytes n) = true
-is_left_out (DeliverEnd id n) = true
-is_left_out (DeliverReset id code n) = true
-is_left_out (ReadDatagram bytes id_before id from_before from n) = true
-is_left_out _ = false
+-- The calls that are left out here, since no event says what they do: v is what the handle owned before. A datagram that is read is left out
+-- where it closes the connection. The calls that deliver or take bytes stand in `Programs`.
+abbrev pub is_left_out : CallOfC → Seen → Bool
+is_left_out (SendBodyOf id len n) v = true
+is_left_out (SendPriority id urgency incremental n) v = true
+is_left_out (Advance id count n) v = true
+is_left_out (Read id bytes fin used before item n) v = true
+is_left_out (Deliver id bytes n) v = true
+is_left_out (DeliverEnd id n) v = true
+is_left_out (DeliverReset id code n) v = true
+is_left_out (ReadDatagram bytes id_before id from_before from n) v = is_none v.endpoint.closed && (n.number == 2)
+is_left_out _ v = false
+
+-- What C gives are bytes. It is said of the lists that are sent: of them the laws of two endpoints ask it.
+abbrev pub GivesBytes : CallOfC → Type 0
+GivesBytes (SendHead id sizes flags bytes n) = AreBytes bytes
+GivesBytes (SendTrailer id sizes flags bytes n) = AreBytes bytes
+GivesBytes _ = Unit {0}
 
 -- The number tells this answer: H3_OK that of success, and any other one why the call was refused.
 abbrev pub Tells : Answer → Told → Answer → Type 0

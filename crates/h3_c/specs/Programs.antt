@@ -1,6 +1,6 @@
 -- Two programs in C, a client and a server: their calls in the order of time, and the bytes that go from one to the other. And the schedule
 -- that these stand for, with its answers.
-use Rattle.std.specs.Prelude.{if◌then◌else◌, ◌≡◌, ◌⊎◌, ◌<◌, ◌≤◌, ℕ, Bool, true, false, ◌||◌, ◌==◌, List, [], ◌∷◌, ◌++◌, length, take, Option, Some, None, is_none, Ok}
+use Rattle.std.specs.Prelude.{if◌then◌else◌, ◌≡◌, ◌⊎◌, ◌<◌, ◌≤◌, ℕ, zero, suc, ◌+◌, Bool, true, false, ◌||◌, ◌==◌, List, [], ◌∷◌, ◌++◌, length, take, Option, Some, None, is_none, Ok}
 use Rattle.h3_proto.specs.declared.stream.Side.{Side}
 use Rattle.h3_proto.specs.declared.stream.Side.TheVariants.{Client, Server}
 use Rattle.h3_connection.specs.OwnIds.{other}
@@ -17,12 +17,13 @@ use Rattle.h3_world.specs.declared.event.Event.{Event}
 use Rattle.h3_world.specs.declared.event.Event.TheVariants as event
 use Rattle.h3_world.specs.declared.lists.ListItem.TheVariants as listed
 use Rattle.h3_world.specs.declared.lists.ListPull.TheVariants as list
+use Rattle.h3_session.specs.OpeningAt.{to_open}
 use Rattle.h3_session.specs.Running.{answer_of}
-use Rattle.h3_c.specs.Asked.{Learns, Tells, asked, is_left_out, pull_listed}
+use Rattle.h3_c.specs.Asked.{GivesBytes, Learns, Tells, asked, is_left_out, pull_listed}
 use Rattle.h3_c.specs.Bits.{bit}
 use Rattle.h3_c.specs.Configs.{MakesGiven, announced_of, side_of}
 use Rattle.h3_c.specs.Does.{CallOfC, Does}
-use Rattle.h3_c.specs.Does.CallOfC.{Advance, CloseStream, Deliver, DeliverEnd, DeliverReset, Outgoing, Read as ReadOfC, Shutdown, ShutdownNotice, Stream}
+use Rattle.h3_c.specs.Does.CallOfC.{Advance, CloseStream, Deliver, DeliverEnd, DeliverReset, OpenRequestAt, Outgoing, Read as ReadOfC, Shutdown, ShutdownNotice, Stream}
 use Rattle.h3_c.specs.Numbers.{argument, memory, ok, rejected}
 use Rattle.h3_c.specs.Items.{shown}
 use Rattle.h3_c.specs.Reads.{ends_with, place_shown}
@@ -140,7 +141,7 @@ FromTo Server carries h g = carries h.server g.server h.client g.client
 
 -- One thing happens.
 abbrev pub Happens : Act → Handles → Handles → Type 0
-Happens (Call side call) h g = (is_left_out call ≡ false) × Does call (handle_at h side) (handle_at g side) × (handle_at g (other side) ≡ handle_at h (other side))
+Happens (Call side call) h g = (is_left_out call (handle_at h side) ≡ false) × GivesBytes call × Does call (handle_at h side) (handle_at g side) × (handle_at g (other side) ≡ handle_at h (other side))
 Happens (Bytes from id bytes n) h g = FromTo from (CarriesBytes id bytes n) h g
 Happens (Read from id bytes fin used item n) h g = FromTo from (CarriesRead id bytes fin used item n) h g
 Happens (End from id n) h g = FromTo from (CarriesEnd id n) h g
@@ -153,7 +154,7 @@ Happen h [] g = g ≡ h
 Happen h (act ∷ acts) g = (next : Handles) × Happens act h next × Happen next acts g
 
 -- What it stands for: an event with the answer that C learns. Or no event, since nothing is told of it or nothing was done: the call has none, or it
--- is answered H3_ARGUMENT or H3_REJECTED, or H3_MEMORY where no list was made of what C gave. Three calls are others (`Comes`).
+-- is answered H3_ARGUMENT or H3_REJECTED, or H3_MEMORY where no list was made of what C gave. Four calls are others (`Comes`).
 abbrev pub event_of : Act → Option (Event × Told)
 event_of (Read from id bytes fin used item n) = None
 event_of (Call side call) = asked side call
@@ -175,9 +176,25 @@ is_list (event.Fields side id fields) = true
 is_list (event.TrailerFields side id fields) = true
 is_list _ = false
 
-abbrev pub is_read : Act → Bool
-is_read (Read from id bytes fin used item n) = true
-is_read _ = false
+-- acts that are events, though none that `event_of` tells: a read, and a call that closes a stream or opens requests up to an id, where that did it
+abbrev pub are_events : Act → Bool
+are_events (Read from id bytes fin used item n) = true
+are_events (Call side (CloseStream id stop_before stop reset_before reset n)) = n.number == 0
+are_events (Call side (OpenRequestAt id n)) = (n.number == 0) || (n.number == 18)
+are_events _ = false
+
+-- So many requests are opened, the next ones: an id is 4 above the one before it (RFC 9000, section 2.1).
+abbrev pub opened_events : Side → ℕ → List Event
+opened_events side zero = []
+opened_events side (suc count) = event.OpenRequest side ∷ opened_events side count
+
+abbrev pub opened_answers : ℕ → ℕ → List Answer
+opened_answers next zero = []
+opened_answers next (suc count) = answer.Opened next ∷ opened_answers (next + 4) count
+
+-- how many `h3_open_request_at` opens: all up to its id, or fewer where memory is refused
+abbrev pub OpensSoMany : Told → ℕ → ℕ → Type 0
+OpensSoMany n all count = ((n ≡ ok) × (count ≡ all)) ⊎ ((n ≡ memory) × (count < all))
 
 -- so many bytes are delivered, where there are any
 abbrev pub bytes_events : Side → ℕ → ℕ → List Event
@@ -208,7 +225,7 @@ pub data ComesOfRead (from : Side) (id : ℕ) (bytes : List ℕ) (fin used : ℕ
 
 pub data Comes (act : Act) (h g : Handles) : List Event → List Answer → Type 0 where
   IsEvent : {e : Event} {n : Told} {a : Answer} → event_of act ≡ Some (e, n) → LearnsOf act g a → Comes act h g (e ∷ []) (a ∷ [])
-  HasNone : is_read act ≡ false → event_of act ≡ None → Comes act h g [] []
+  HasNone : are_events act ≡ false → event_of act ≡ None → Comes act h g [] []
   IsRefused : {e : Event} {n : Told} → event_of act ≡ Some (e, n) → (n ≡ argument) ⊎ (n ≡ rejected) → Comes act h g [] []
   LacksList : {e : Event} {n : Told} → event_of act ≡ Some (e, n) → is_list e ≡ true → n ≡ memory → g ≡ h → Comes act h g [] []
   -- a call that shuts a connection down, where it writes a GOAWAY: of an id that C did not give
@@ -217,6 +234,9 @@ pub data Comes (act : Act) (h g : Handles) : List Event → List Answer → Type
   Closes : {side : Side} {id stop_before stop reset_before reset : ℕ} {n : Told} (canceled sent_off : Option Refusal) → act ≡ Call side (CloseStream id stop_before stop reset_before reset n) → n ≡ ok
       → (canceled ≡ None) ⊎ (canceled ≡ Some refusal.Ended) → reset ≡ bit (is_none sent_off)
       → Comes act h g (event.Cancel side id ∷ event.Reset side id ∷ []) (answer_of answer.Done canceled ∷ answer_of answer.Done sent_off ∷ [])
+  -- requests are opened up to an id that C gave
+  OpensUpTo : {side : Side} {id : ℕ} {n : Told} (count : ℕ) → act ≡ Call side (OpenRequestAt id n) → OpensSoMany n (to_open (handle_at h side).endpoint.next_id id) count
+      → Comes act h g (opened_events side count) (opened_answers (handle_at h side).endpoint.next_id count)
   IsRead : {from : Side} {id fin used : ℕ} {bytes : List ℕ} {item : PulledItem} {n : Told} {events : List Event} {answers : List Answer} → act ≡ Read from id bytes fin used item n
       → ComesOfRead from id bytes fin used item n (handle_at g (other from)) events answers → Comes act h g events answers
 

@@ -16,11 +16,12 @@ use Rattle.h3_world.specs.declared.event.Event.TheVariants as event
 use Rattle.h3_headline.specs.Messages.{MessageContent}
 use Rattle.h3_headline.specs.Messages.MessageContent.{Byte, FieldSection}
 use Rattle.h3_headline.specs.Messages.SectionKind.{OfHead}
+use Rattle.h3_session.specs.OpeningAt.{to_open}
 use Rattle.h3_c.specs.Asked.{pull_listed}
 use Rattle.h3_c.specs.Does.CallOfC.{EndTaken, Finish, NextToSend, OpenRequest, Pull, SendBody, SendHead}
 use Rattle.h3_c.specs.Items.{shown}
 use Rattle.h3_c.specs.Numbers.{ok}
-use Rattle.h3_c.specs.Programs.{Act, Bytes, Call, End, event_of}
+use Rattle.h3_c.specs.Programs.{Act, Bytes, Call, End, event_of, opened_events}
 use Rattle.h3_c.specs.Rows.{row_of, sizes_of}
 use Rattle.h3_c.specs.declared.numbers.Told.{Told}
 
@@ -92,6 +93,13 @@ exchange_answers =
     answer.Opened 0 ∷ answer.Done ∷ answer.Done ∷ answer.Delivered 21 ∷ answer.Done ∷
     listed_answer (pulled.Item (came.Head request)) ∷ listed_answer (pulled.Item came.End) ∷ answer.Done ∷ answer.Done ∷ answer.Done ∷
     answer.Delivered 9 ∷ answer.Done ∷ listed_answer (pulled.Item (came.Head response)) ∷ listed_answer (pulled.Item (came.Body (codes "hi"))) ∷ listed_answer (pulled.Item came.End) ∷ []
+
+-- `h3_open_request_at` of 8, where none is open yet: the ids 0, 4 and 8 (RFC 9000, section 2.1)
+abbrev pub opening : List Event
+opening = opened_events Client (to_open 0 8)
+
+abbrev pub opening_answers : List Answer
+opening_answers = answer.Opened 0 ∷ answer.Opened 4 ∷ answer.Opened 8 ∷ []
 
 abbrev pub request_sent : List MessageContent
 request_sent = FieldSection OfHead true request ∷ []

@@ -1,19 +1,17 @@
 //! The law of two programs that call the exports. This function does nothing: its contract is the law.
-ghost use Rattle.std.specs.List.{AllByRecursion};
 ghost use Rattle.std.specs.Prelude.{List};
 ghost use Rattle.h3_world.specs.Small.{AreSmall};
 ghost use Rattle.h3_world.specs.declared.event.Answer.{Answer};
 ghost use Rattle.h3_world.specs.declared.event.Event.{Event};
 ghost use Rattle.h3_world.specs.Setup.{Setup};
 ghost use Rattle.h3_faithful.specs.Faithful.{Faithful};
-ghost use Rattle.h3_session.specs.Typed.{IsTyped};
 ghost use Rattle.h3_c.specs.Programs.{Act, AreMade, Handles, Happen, StandFor};
 
 /// Whatever a client and a server in C call, with the bytes that go between them, it stands for a schedule of events and their answers. Of
 /// these `Faithful` holds: each side is given what the other one sent.
 pub fn each_program_gets_what_the_other_sent()
     ensures { (setup : Setup) (h g : Handles) (acts : List Act) → AreMade setup h → Happen h acts g →
-        (events : List Event) × (answers : List Answer) × StandFor h acts events answers g × (AllByRecursion IsTyped events → AreSmall setup events → Faithful setup events answers) }
+        (events : List Event) × (answers : List Answer) × StandFor h acts events answers g × (AreSmall setup events → Faithful setup events answers) }
 {
     h3_faithful::laws::each_side_gets_what_the_other_sent();
     h3_session::laws::calls_are_steps_of_two_endpoints();

@@ -4,7 +4,9 @@ ghost use Rattle.h3_proto.specs.declared.stream.Side.TheVariants.{Client, Server
 ghost use Rattle.h3_world.specs.Ends.{answers_of_ends, new_ends};
 ghost use Rattle.h3_world.specs.WorkedHeads.{no_tables};
 ghost use Rattle.h3_headline.specs.Messages.{pulled, sent};
-ghost use Rattle.h3_c.specs.WorkedPrograms.{exchange, exchange_answers, exchange_events, request_sent, response_sent, schedule_of};
+ghost use Rattle.h3_session.specs.OpeningAt.{to_open};
+ghost use Rattle.h3_c.specs.Programs.{opened_answers};
+ghost use Rattle.h3_c.specs.WorkedPrograms.{exchange, exchange_answers, exchange_events, opening, opening_answers, request_sent, response_sent, schedule_of};
 
 /// A request and its response by the calls of h3.h: which schedule they are, what two endpoints answer to it, and what each side is given.
 pub fn requests_are_answered()
@@ -14,4 +16,10 @@ pub fn requests_are_answered()
     ensures heard { pulled Server 0 exchange_events exchange_answers ≡ request_sent }
     ensures answered { sent Server 0 exchange_events exchange_answers ≡ response_sent }
     ensures back { pulled Client 0 exchange_events exchange_answers ≡ response_sent }
+{}
+
+/// Requests that are opened up to an id: what C learns of them, and what two endpoints answer.
+pub fn requests_are_opened_up_to_an_id()
+    ensures learned { opened_answers 0 (to_open 0 8) ≡ opening_answers }
+    ensures answers { answers_of_ends (new_ends no_tables) opening ≡ opening_answers }
 {}
