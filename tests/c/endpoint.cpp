@@ -89,6 +89,7 @@ void exchange(std::size_t piece) {
   WANT(client.close_stream(8, frames) && frames.stop_sending && frames.reset_stream);
   WANT(client.close_stream(12, frames).answer == H3_NOT_OPEN && frames.stop_sending);
   WANT(client.stream_kind(3) == std::uint32_t{H3_STREAM_CONTROL} && !client.stream_kind(0));
+  WANT(client.frame_left(3) == 0); /* its SETTINGS frame came whole */
   const std::initializer_list<field> asked = {
       {":method", "POST"}, {":scheme", "https"}, {":authority", "localhost"}, {":path", "/"}, {"x-none", ""}, {"x-key", "a", true}};
   WANT(client.send_head(id, asked));
