@@ -137,8 +137,10 @@ static void carry(side *from, side *to, uint64_t id, const exchange_kind *kind) 
   (kind->in_place ? carry_in_place : carry_copied)(from, to, id, kind->piece);
 }
 
-/* Carries all that waits: the own streams first, since heads may need what stands there. */
+/* Carries all that waits, if anything does: the own streams first, since heads may need what stands there. */
 static void carry_all(side *from, side *to, int is_server, const exchange_kind *kind) {
+  uint64_t first;
+  if (h3_next_to_send(&from->end, 0, &first) != H3_OK) return;
   const uint64_t own[] = {h3_control_id(is_server), h3_encoder_id(is_server), h3_decoder_id(is_server)};
   for (size_t i = 0; i < sizeof own / sizeof *own; i++) carry(from, to, own[i], kind);
   for (uint64_t id = 0; h3_next_to_send(&from->end, id, &id) == H3_OK; id++) carry(from, to, id, kind);
