@@ -7,7 +7,7 @@
 
 /* The least ratios to nghttp3's speed that are wanted. */
 static const double REAL_TARGET = 1.4, IN_PIECES_TARGET = 1.3, SMALL_GET_TARGET = 1.3, SMALL_POST_TARGET = 1.2;
-static const double LARGE_TARGET = 1.0, IN_PLACE_TARGET = 0.9;
+static const double LARGE_TARGET = 1.0, IN_PLACE_TARGET = 0.9, OTHER_TARGET = 1.0;
 
 static void row(const char *name, const char *set, exchange_kind kind, double target) {
   const contender both[CONTENDERS] = {{our_exchanges, &kind}, {peer_exchanges, &kind}, {0}};
@@ -56,6 +56,23 @@ static void memory_rows(exchange_kind kind) {
   figure_row(&idle, held[OURS], held[PEER]);
 }
 
+/* What an end holds at most while so many requests are under way. */
+static void open_row(exchange_kind kind, size_t open, const char *figure, double for_each) {
+  const figure_kind held = {"memory", "small GET", figure, "bytes", 0};
+  if (!is_measured(held.row, held.set)) return;
+  kind.under_way = open;
+  figure_row(&held, held_after(our_exchanges, kind, open) / 2 / for_each, held_after(peer_exchanges, kind, open) / 2 / for_each);
+}
+
+/* Connections of one exchange each, many streams at once, wide sections and single bytes. */
+static void other_rows(const list_sets *sets) {
+  row("a connection each, 0/0", "real GET", short_connection(sets, 0, 0), OTHER_TARGET);
+  row("a connection each, 4096/16", "real GET", short_connection(sets, 4096, 16), OTHER_TARGET);
+  row("100 in turn by 1,200", "small POST", in_turn(small_post(sets)), OTHER_TARGET);
+  rows("500 exchanges, 0/0", "500 exchanges, 4096/100", "GET of 30 fields", wide_get(sets), OTHER_TARGET);
+  row("byte by byte", "small GET", small_pieces(sets, 1), OTHER_TARGET);
+}
+
 static void small_rows(const list_sets *sets) {
   const exchange_kind get = small_get(sets);
   rows("500 exchanges, 0/0", "500 exchanges, 4096/100", "small GET", get, SMALL_GET_TARGET);
@@ -99,7 +116,11 @@ static void all_rows(const list_sets *sets) {
   row("20,000 exchanges, 0/0", "real GET", pages, REAL_TARGET);
   small_rows(sets);
   body_rows(sets);
+  other_rows(sets);
   memory_rows(small_get(sets));
+  open_row(small_get(sets), 1, "an end with 1 request", 1);
+  open_row(small_get(sets), 100, "an end with 100 requests", 1);
+  open_row(small_get(sets), 10000, "each of 10,000 requests", 10000);
   heads_rows(&sets->one_authority, &sets->answers);
 }
 

@@ -15,6 +15,7 @@ typedef struct {
                                          is carried in a block of its own, and what comes out is counted and not copied */
   size_t table, blocked;              /* what both sides announce for QPACK */
   int in_place;                       /* what an end gives is read where it lies, `piece` bytes at once, and what comes out is counted and not copied */
+  int in_turn;                        /* the streams' pieces come in turn: the first of each, then the second of each */
 } exchange_kind;
 
 enum { MOST_CARRIED = 1 << 20, LARGE_BODY = 1 << 16, LONGEST_BODY = 1 << 24 };
@@ -28,6 +29,11 @@ typedef struct {
 extern uint8_t exchange_body[LONGEST_BODY];
 /* Where a piece is carried, and where what comes out is copied. */
 extern uint8_t carried[MOST_CARRIED], copied[MOST_CARRIED];
+
+/* A piece of a stream comes, behind the one before of that stream, once `read_in_turn` is called. Pieces of one stream are kept one after the other. */
+void keep_piece(uint64_t id, const uint8_t *bytes, size_t len, int fin);
+/* Reads all that was kept: the first piece of each stream, then the second of each. */
+void read_in_turn(void (*read)(void *to, uint64_t id, const uint8_t *bytes, size_t len, int fin), void *to);
 
 /* Work for contenders: each round is a connection, from its making to its end. The data are an exchange_kind. Both end the program where something
  * else comes out than was sent. */

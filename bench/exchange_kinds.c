@@ -21,6 +21,7 @@ list_sets load_sets(const char *dir) {
   sets.posts = with_value(&sets.requests, "real POST", ":method", "POST");
   sets.answers = with_value(&sets.responses, "real POST", ":status", "200");
   sets.pages = with_value(&sets.requests, "real GET", ":method", "GET");
+  sets.wide = widened(&sets.pages, "30 fields", 30);
   sets.gets = (field_lists){.name = "small GET", .lists = &small_get, .count = 1};
   sets.oks = (field_lists){.name = "small GET", .lists = &small_ok, .count = 1};
   sets.one_authority = with_value(&sets.pages, "one authority", ":authority", "localhost:7020");
@@ -28,12 +29,12 @@ list_sets load_sets(const char *dir) {
 }
 
 exchange_kind real_post(const list_sets *sets) {
-  return (exchange_kind){&sets->posts, &sets->answers, 7000, 7000, 500, 100, GATHERED, 0, 0, 0};
+  return (exchange_kind){&sets->posts, &sets->answers, 7000, 7000, 500, 100, GATHERED, 0, 0, 0, 0};
 }
 
-exchange_kind real_get(const list_sets *sets) { return (exchange_kind){&sets->pages, &sets->answers, 0, 100, 500, 100, GATHERED, 0, 0, 0}; }
+exchange_kind real_get(const list_sets *sets) { return (exchange_kind){&sets->pages, &sets->answers, 0, 100, 500, 100, GATHERED, 0, 0, 0, 0}; }
 
-exchange_kind small_get(const list_sets *sets) { return (exchange_kind){&sets->gets, &sets->oks, 0, 100, 500, 100, GATHERED, 0, 0, 0}; }
+exchange_kind small_get(const list_sets *sets) { return (exchange_kind){&sets->gets, &sets->oks, 0, 100, 500, 100, GATHERED, 0, 0, 0, 0}; }
 
 exchange_kind small_post(const list_sets *sets) {
   exchange_kind post = small_get(sets);
@@ -49,7 +50,7 @@ exchange_kind large_post(const list_sets *sets) {
 }
 
 exchange_kind long_get(const list_sets *sets, size_t body, size_t piece) {
-  return (exchange_kind){&sets->gets, &sets->oks, 0, body, body < 4 * MIB ? 20 : 4, 1, piece, 0, 0, 0};
+  return (exchange_kind){&sets->gets, &sets->oks, 0, body, body < 4 * MIB ? 20 : 4, 1, piece, 0, 0, 0, 0};
 }
 
 exchange_kind small_pieces(const list_sets *sets, size_t piece) {
@@ -63,6 +64,18 @@ exchange_kind short_connection(const list_sets *sets, size_t table, size_t block
   one.exchanges = 1;
   one.table = table, one.blocked = blocked;
   return one;
+}
+
+exchange_kind wide_get(const list_sets *sets) {
+  exchange_kind wide = real_get(sets);
+  wide.requests = &sets->wide;
+  return wide;
+}
+
+exchange_kind in_turn(exchange_kind kind) {
+  kind.piece = PACKET;
+  kind.in_turn = 1;
+  return kind;
 }
 
 exchange_kind one_by_one(exchange_kind kind) {
@@ -91,6 +104,8 @@ void name_kinds(const list_sets *sets, named_kind named[NAMED_KINDS]) {
       {"1 MiB GET by 1 MiB in place", in_place(long_get(sets, MIB, MIB))},
       {"16 MiB GET by 128 KiB", long_get(sets, 16 * MIB, GATHERED)},
       {"16 MiB GET by 128 KiB in place", in_place(long_get(sets, 16 * MIB, GATHERED))},
+      {"small POST in turn by 1,200", in_turn(small_post(sets))},
+      {"GET of 30 fields", wide_get(sets)},
       {"small GET byte by byte", small_pieces(sets, 1)},
       {"a connection with one real GET", short_connection(sets, 0, 0)},
       {"a connection with one real GET and tables", short_connection(sets, 4096, 16)},

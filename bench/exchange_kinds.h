@@ -5,7 +5,7 @@
 
 /* The lists of all kinds. */
 typedef struct {
-  field_lists requests, responses, posts, answers, pages, gets, oks, one_authority;
+  field_lists requests, responses, posts, answers, pages, wide, gets, oks, one_authority;
 } list_sets;
 
 /* The lists of files in this folder, and small ones; and fills the bodies. */
@@ -16,6 +16,10 @@ exchange_kind small_post(const list_sets *sets);
 exchange_kind real_get(const list_sets *sets);
 exchange_kind real_post(const list_sets *sets);
 exchange_kind large_post(const list_sets *sets);
+/* Real requests with fields of others behind their own, so that each has 30, as through a proxy. */
+exchange_kind wide_get(const list_sets *sets);
+/* The same, whose streams come in turn, in pieces of 1,200 bytes. */
+exchange_kind in_turn(exchange_kind kind);
 /* A small request, and a response with a body of so many bytes; so many at once are carried. */
 exchange_kind long_get(const list_sets *sets, size_t body, size_t piece);
 /* A small request and response; so many bytes at once are carried. */
@@ -27,7 +31,7 @@ exchange_kind one_by_one(exchange_kind kind);
 /* The same, where nobody copies a body. */
 exchange_kind in_place(exchange_kind kind);
 
-enum { NAMED_KINDS = 17 };
+enum { NAMED_KINDS = 19 };
 typedef struct {
   const char *name;
   exchange_kind kind;

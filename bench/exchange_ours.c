@@ -96,7 +96,7 @@ static void take(side *to, uint64_t id, const uint8_t *bytes, size_t len, int fi
 }
 
 /* QUIC copies what the endpoint gives, and the body behind it, into packets. */
-static void carry_copied(side *from, side *to, uint64_t id, size_t piece) {
+static void carry_copied(side *from, side *to, uint64_t id, size_t piece, int in_turn) {
   size_t len, past, body_at = 0;
   uint32_t fin;
   do {
@@ -109,7 +109,7 @@ static void carry_copied(side *from, side *to, uint64_t id, size_t piece) {
     }
     if (len) done("h3_advance", h3_advance(&from->end, id, len));
     if (fin) done("h3_end_taken", h3_end_taken(&from->end, id));
-    if (len || fin) take(to, id, carried, len, (int)fin);
+    if (len || fin) (in_turn ? keep_piece(id, carried, len, (int)fin) : take(to, id, carried, len, (int)fin));
   } while ((len == piece || past) && !fin);
 }
 
@@ -134,14 +134,20 @@ static void carry_in_place(side *from, side *to, uint64_t id, size_t piece) {
 }
 
 static void carry(side *from, side *to, uint64_t id, const exchange_kind *kind) {
-  (kind->in_place ? carry_in_place : carry_copied)(from, to, id, kind->piece);
+  if (kind->in_place) carry_in_place(from, to, id, kind->piece);
+  else carry_copied(from, to, id, kind->piece, kind->in_turn);
 }
 
-/* Carries all that waits: the own streams first, since heads may need what stands there. */
+static void take_piece(void *to, uint64_t id, const uint8_t *bytes, size_t len, int fin) { take(to, id, bytes, len, fin); }
+
+/* Carries all that waits, if anything does: the own streams first, since heads may need what stands there. */
 static void carry_all(side *from, side *to, int is_server, const exchange_kind *kind) {
+  uint64_t first;
+  if (h3_next_to_send(&from->end, 0, &first) != H3_OK) return;
   const uint64_t own[] = {h3_control_id(is_server), h3_encoder_id(is_server), h3_decoder_id(is_server)};
   for (size_t i = 0; i < sizeof own / sizeof *own; i++) carry(from, to, own[i], kind);
   for (uint64_t id = 0; h3_next_to_send(&from->end, id, &id) == H3_OK; id++) carry(from, to, id, kind);
+  read_in_turn(take_piece, to);
 }
 
 static void send(side *from, uint64_t id) {

@@ -69,10 +69,15 @@ static size_t gather(const nghttp3_vec *pieces, size_t count, size_t room, size_
   return len;
 }
 
-/* Copies the pieces as far as they fit, one behind the other, and reads them at once. Answers how many bytes were read. */
-static size_t read_gathered(side *to, int64_t id, const nghttp3_vec *pieces, size_t count, int fin, size_t room) {
-  size_t all, len = gather(pieces, count, room, &all);
-  done("nghttp3_conn_read_stream", nghttp3_conn_read_stream(to->end, id, carried, len, fin && len == all));
+static void read_piece(void *to, uint64_t id, const uint8_t *bytes, size_t len, int fin) {
+  done("nghttp3_conn_read_stream", nghttp3_conn_read_stream(((side *)to)->end, (int64_t)id, bytes, len, fin));
+}
+
+/* Copies the pieces as far as they fit, one behind the other, and reads them at once, or in turn. Answers how many bytes were read. */
+static size_t read_gathered(side *to, int64_t id, const nghttp3_vec *pieces, size_t count, int fin, const exchange_kind *kind) {
+  size_t all, len = gather(pieces, count, kind->piece, &all);
+  if (kind->in_turn) keep_piece((uint64_t)id, carried, len, fin && len == all);
+  else read_piece(to, (uint64_t)id, carried, len, fin && len == all);
   return len;
 }
 
@@ -107,7 +112,7 @@ static size_t read_in_place(side *to, int64_t id, const nghttp3_vec *pieces, siz
 
 static size_t read_all(side *to, int64_t id, const nghttp3_vec *pieces, size_t count, int fin, const exchange_kind *kind) {
   if (kind->in_place) return read_in_place(to, id, pieces, count, fin, kind->piece);
-  return kind->piece ? read_gathered(to, id, pieces, count, fin, kind->piece) : read_blocks(to, id, pieces, count, fin);
+  return kind->piece ? read_gathered(to, id, pieces, count, fin, kind) : read_blocks(to, id, pieces, count, fin);
 }
 
 /* Carries all that waits. */
@@ -119,7 +124,7 @@ static void carry_all(side *from, side *to, const exchange_kind *kind) {
     int fin;
     nghttp3_ssize count = nghttp3_conn_writev_stream(from->end, &id, &fin, pieces, PIECES);
     done("nghttp3_conn_writev_stream", count);
-    if (id == -1) return;
+    if (id == -1) return read_in_turn(read_piece, to);
     size_t len = read_all(to, id, pieces, (size_t)count, fin, kind);
     done("nghttp3_conn_add_write_offset", nghttp3_conn_add_write_offset(from->end, id, len));
     done("nghttp3_conn_add_ack_offset", nghttp3_conn_add_ack_offset(from->end, id, len));

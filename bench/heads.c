@@ -2,6 +2,7 @@
 #include "heads.h"
 #include "h3.h"
 #include "peer_session.h"
+#include "plain.h"
 #include <stdio.h>
 #include <stdlib.h>
 #include <string.h>
@@ -21,7 +22,7 @@ static void done(const char *what, uint32_t answer) {
 
 static void put_varint(pack *to, uint64_t number) {
   uint8_t bytes[8];
-  put_bytes(to, bytes, (size_t)(nghttp3_put_varint(bytes, (int64_t)number) - bytes));
+  put_bytes(to, bytes, (size_t)(plain_varint_encode(bytes, number) - bytes));
 }
 
 /* all that waits on a stream */
@@ -98,10 +99,11 @@ static void our_write(void *end, size_t number, const field_list *list, pack *in
   else done("h3_open_request", h3_open_request(&from->end, &id, NULL));
   send_list(from, id, list);
   pack beside = taken(from, h3_encoder_id(from->server)), frame = taken(from, id);
-  size_t len, type = number == 0 && beside.len > 0;
-  int64_t payload = nghttp3_get_varint(&len, frame.bytes + 1);
+  size_t type = number == 0 && beside.len > 0;
+  uint64_t payload;
+  const uint8_t *from_there = plain_varint_decode(frame.bytes + 1, &payload);
   put_bytes(instructions, beside.bytes + type, beside.len - type);
-  put_bytes(section, frame.bytes + 1 + len, (size_t)payload);
+  put_bytes(section, from_there, payload);
   free_pack(&beside);
   free_pack(&frame);
 }

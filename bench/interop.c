@@ -1,6 +1,7 @@
 /* nghttp3 reads what we write, and we read what it writes: one line a check, and a sum. */
 #include "interop.h"
 #include "h3_bench.h"
+#include "peer.h"
 #include "peer_session.h"
 #include "plain.h"
 #include <stdio.h>

@@ -1,5 +1,6 @@
 /* The Huffman code of all names and values, each a string of its own. */
 #include "measure.h"
+#include "peer.h"
 #include "plain.h"
 #include "rows.h"
 #include <stdlib.h>

@@ -1,5 +1,6 @@
 /* Varints of 65,536 numbers: ours with every bound tested, nghttp3's and plain C with none. */
 #include "measure.h"
+#include "peer.h"
 #include "plain.h"
 #include "rows.h"
 #include <stdlib.h>

@@ -621,8 +621,9 @@ http3_request *http3_open(http3 *h, bool *going_away) {
 
 void http3_prefer(http3_request *request, const http3_list *list) {
   uint32_t urgency, incremental;
-  if (list && http3_priority(list, &urgency, &incremental)) prefer(h3_set_initial_priority, request, urgency, incremental);
-  else prefer(h3_set_priority, request, USUAL, 1);
+  if (!list || !http3_priority(list, &urgency, &incremental)) return prefer(h3_set_priority, request, USUAL, 1);
+  /* what is usual need not be said: while nobody said anything, no turn is counted */
+  if (urgency != USUAL || incremental) prefer(h3_set_initial_priority, request, urgency, incremental);
 }
 
 bool http3_update(http3_request *request, uint32_t urgency, uint32_t incremental) {

@@ -3,7 +3,7 @@
 # through the header, each allocation refused in turn, large input with none refused, two endpoints under random schedules, what is held of
 # a stream and of small pieces, what is to come of a frame, unknown frames, long instructions, wrong arguments, buffers that no call uses later, bytes that are read where they lie, bodies that the caller holds, pulled
 # lists, datagrams and capsules, the frames of WebSockets, and the program of docs/GUIDE.md. Once as they are, and once with the sanitizers of addresses, leaks and undefined behaviour where the compiler has them
-# (large input, memory: once). Then h3.hpp, by C++17 and C++20; the binary interface (scripts/c/abi.py); how programs find the library
+# (large input, memory: once). There, and by valgrind, each buffer that a call is given is overwritten and freed as soon as it returned. Then h3.hpp, by C++17 and C++20; the binary interface (scripts/c/abi.py); how programs find the library
 # (scripts/c/test-install.sh); the packages for Go, Rust and Python (scripts/c/test-bindings.sh), and what `make dist` packs
 # (scripts/dist/test-packed.sh). One line 'ok NAME' or 'failed NAME'
 # for each; the last is the sum. With LIB=FOLDER the library in that folder is taken, as that of `make lib-unproved`, and none is built.
@@ -30,6 +30,10 @@ mark=""
 [ ! -e "$lib/UNPROVED" ] || mark=unproved # what h3_version is to say
 libs=("-I$lib/beanwhile" "-L$lib" -lbeanwhile_h3 -lbeanwhile_h3_shim)
 
+# by valgrind: with few seeds where a program has any
+watched=(limits priority details shutdown arguments strict_connection in_memory datagrams unread instructions lists never_indexed read past schedules)
+declare -A few=([read]="0 100" [past]="1 100" [schedules]="0 20" [arguments]="$mark")
+
 wrapped=(-Wl,--wrap=malloc,--wrap=realloc,--wrap=free)
 refusing=(-Wl,--wrap=malloc,--wrap=realloc)
 
@@ -40,6 +44,33 @@ compile() { # NAME OUT FLAGS..
     echo "failed $to: it was not compiled"
     bad=1
   fi
+}
+
+# what stands between the programs that are compiled next and the library: each call is given buffers that are overwritten and freed
+# as soon as it returned (scripts/c/poisoned.py)
+lend() { # FLAGS..
+  lent=("$out/poisoned.o" "@$out/poisoned.link")
+  if ! { python3 scripts/c/poisoned.py "$out" &&
+    "$cc" -std=c11 -O1 -g -Wall -Wextra -Werror "$@" "-I$lib/beanwhile" -c -o "$out/poisoned.o" "$out/poisoned.c"; }; then
+    echo "failed poisoned.c: it was not compiled"
+    bad=1
+  fi
+}
+
+# programs over such buffers, by valgrind where it is there
+by_valgrind() {
+  if ! command -v valgrind > /dev/null; then
+    echo "left out: programs by valgrind (Debian: apt-get install valgrind)" >&2
+    return
+  fi
+  local program
+  lend
+  for program in "${watched[@]}"; do compile "$program" "${program}_lent" "${lent[@]}"; done
+  if [ "$bad" -ne 0 ]; then return; fi
+  for program in "${watched[@]}"; do
+    # shellcheck disable=SC2086
+    run "$program by valgrind" valgrind -q --error-exitcode=9 --leak-check=full "$out/${program}_lent" ${few[$program]:-}
+  done
 }
 
 # random programs of two endpoints, in C++; COUNT=60000 of them
@@ -185,7 +216,9 @@ checks() {
     printed "$out/quickstart" examples/quickstart.stdout "quickstart: the lines of docs/QUICKSTART.md"
   fi
   if [ "$bad" -eq 0 ] && echo 'int main(void){return 0;}' | "$cc" -x c -fsanitize=address,undefined -o "$out/probe" - 2> "$out/probe.log"; then
-    flags=(-fsanitize=address,undefined -fno-sanitize-recover=all)
+    sanitizers=(-fsanitize=address,undefined -fno-sanitize-recover=all)
+    lend "${sanitizers[@]}"
+    flags=("${sanitizers[@]}" "${lent[@]}")
     compile calls calls_checked "${flags[@]}"
     compile schedules schedules_checked "${flags[@]}"
     compile instructions instructions_checked "${flags[@]}"
@@ -223,6 +256,7 @@ checks() {
     printed "$out/quickstart_checked" examples/quickstart.stdout "quickstart with sanitizers"
     fi
   fi
+  [ "$bad" -ne 0 ] || by_valgrind
   SEED=1 bash scripts/c/fuzz.sh 20 "$lib" || bad=1
   if command -v "$cxx" > /dev/null; then
     for version in 17 20; do cplusplus "$version"; done

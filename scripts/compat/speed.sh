@@ -18,7 +18,7 @@ trap 'rm -rf "$room"' EXIT
 
 build_program() {
   "${CC:-cc}" -O2 -std=c11 -I"$header" -Wl,--wrap=malloc,--wrap=calloc,--wrap=realloc,--wrap=free -o "$program" \
-    bench/exchange_speed.c bench/exchange_kinds.c bench/exchange_peer.c bench/exchange_wanted.c bench/measure.c bench/lists.c "$native"
+    bench/exchange_speed.c bench/exchange_kinds.c bench/exchange_peer.c bench/exchange_turns.c bench/exchange_wanted.c bench/measure.c bench/lists.c "$native"
 }
 
 # over FOLDER COMMAND..: with the library of that folder

@@ -120,7 +120,7 @@ static int take(int side, const h3_item *item, const uint8_t *bytes) {
     return 1;
   }
   if (item->kind == H3_BODY) {
-    if (h3_item_bytes(&ends[side], 0, copied, sizeof copied, &n) || n != item->len) fail("item_bytes", 0);
+    if (h3_item_bytes(&ends[side], 0, copied, item->len, &n) || n != item->len) fail("item_bytes", 0);
     gather(copied, n);
     return 1;
   }

@@ -12,7 +12,7 @@ static inline uint32_t field_at(h3_endpoint *end, const h3_item *item, size_t in
   static uint8_t bytes[1 << 20];
   const uint8_t *at = bytes;
   if (index >= item->fields) return H3_NONE;
-  uint32_t answer = h3_item_fields(end, sizes, NULL, sizeof sizes / sizeof *sizes, bytes, sizeof bytes);
+  uint32_t answer = h3_item_fields(end, sizes, NULL, item->fields, bytes, item->len);
   if (answer) return answer;
   for (size_t i = 0; i < index; i++) at += sizes[i].name + sizes[i].value;
   *name = at;

@@ -16,7 +16,7 @@ static inline void drop(void) {
 
 /* what waits on a stream goes over, and its end */
 static inline void carry(int from, uint64_t id) {
-  static uint8_t bytes[1 << 20];
+  static uint8_t bytes[1 << 16];
   size_t n = 0;
   uint32_t fin = 0;
   do {

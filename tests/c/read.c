@@ -62,7 +62,7 @@ static int take(side *s, const h3_item *item) {
   static uint8_t bytes[MOST_BYTES];
   size_t n = 0;
   if (item->kind == H3_BODY) {
-    if (item->len) IS(h3_item_bytes(&s->end, 0, bytes, sizeof bytes, &n), H3_OK);
+    if (item->len) IS(h3_item_bytes(&s->end, 0, bytes, item->len, &n), H3_OK);
     HOLDS(n == item->len);
     put_body(s, bytes, n);
     return 1;
@@ -73,12 +73,12 @@ static int take(side *s, const h3_item *item) {
   s->in_body = 0;
   put_item(s, item);
   if (item->fields) {
-    IS(h3_item_fields(&s->end, sizes, NULL, MOST_FIELDS, bytes, sizeof bytes), H3_OK);
+    IS(h3_item_fields(&s->end, sizes, NULL, item->fields, bytes, item->len), H3_OK);
     put(s, sizes, item->fields * sizeof *sizes);
     put(s, bytes, item->len);
   }
   if (item->kind == H3_RAW) {
-    IS(h3_item_bytes(&s->end, 0, bytes, sizeof bytes, &n), H3_OK);
+    IS(h3_item_bytes(&s->end, 0, bytes, item->len, &n), H3_OK);
     put(s, bytes, n);
   }
   return item->kind < H3_END;

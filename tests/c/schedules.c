@@ -199,7 +199,7 @@ static int take(int side, int i, const h3_item *item, const uint8_t *bytes) {
     f->head_out = 1;
     return 1;
   case H3_BODY:
-    WANT(h3_item_bytes(&ends[side], 0, copied, sizeof copied, &n) == H3_OK && n == item->len, "a body's bytes", id, n);
+    WANT(h3_item_bytes(&ends[side], 0, copied, item->len, &n) == H3_OK && n == item->len, "a body's bytes", id, n);
     same_body(f, id, copied, n);
     return 1;
   case H3_BODY_GIVEN:
