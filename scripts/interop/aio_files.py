@@ -2,7 +2,7 @@
 gtlsserver of ngtcp2 is. FOLDER is what it serves.
 
 A connection for each case: a line 'ok CASE' or 'failed CASE: WHAT'. CASES names which: files, ordering (RFC 9218), broken (rules that the client breaks,
-with the code that the RFCs ask for), or trailers (for a server that sends one behind each file)."""
+with the code that the RFCs ask for), or options (for a server that sends a trailer behind each file, and answers before a request ends)."""
 import asyncio
 import os
 import sys
@@ -16,6 +16,7 @@ DATA, HEADERS, SETTINGS = 0, 1, 4  # RFC 9114, section 7.2
 PRIORITY_UPDATE = 0xF0700  # RFC 9218, section 7.2
 UNKNOWN = 0x21  # of the types that are reserved to be ignored (RFC 9114, sections 6.2.3 and 7.2.8)
 SLOW = "/letters.txt"  # 1,000,000 bytes, fewer than the credit of a stream; four of them are fewer than that of the connection
+OTHER = "/600000"  # gtlsserver makes as many bytes as a path says
 
 
 async def alive(client, words):
@@ -62,7 +63,6 @@ async def case_folder(client, words):
 
 
 async def case_lengths(client, words):
-    """gtlsserver makes as many bytes as a path says"""
     for count in (0, 1, 63, 64, 16_383, 16_384, 1_000_000, 10_000_000):
         stream = await client.whole(client.ask("GET", f"/{count}"))
         want(len(stream["body"]) == count and stream["heads"][0][b"content-length"] == str(count).encode(), f"{len(stream['body'])} for {count}")
@@ -137,8 +137,8 @@ async def case_fields_come(client, words):
 # ---- the order of responses ----
 
 
-def ask_all(client, count, *fields):
-    return [client.ask("GET", SLOW, *fields) for _ in range(count)]
+def ask_all(client, path, *fields):
+    return [client.ask("GET", path, *fields) for _ in range(4)]
 
 
 def update_priority(client, stream_id, value):
@@ -148,31 +148,32 @@ def update_priority(client, stream_id, value):
 
 
 async def first_is(client, urgent):
+    """no other response is whole before it, of which each is shorter: a server that serves all in turn, or as they come, ends it last"""
     await client.whole(urgent)
     want(client.ends == [urgent], f"whole before it: {client.ends[:-1]}")
 
 
 async def case_field(client, words):
-    ask_all(client, 4)
+    ask_all(client, OTHER)
     await first_is(client, client.ask("GET", SLOW, (b"priority", b"u=1")))
 
 
 async def case_update(client, words):
-    *_, last = ask_all(client, 5)
+    ask_all(client, OTHER)
+    last = client.ask("GET", SLOW)
     update_priority(client, last, b"u=1")
     await first_is(client, last)
 
 
 async def case_update_before(client, words):
-    last = 4 * 4
-    update_priority(client, last, b"u=1")
-    ask_all(client, 5)
-    await first_is(client, last)
+    update_priority(client, 4 * 4, b"u=1")
+    ask_all(client, OTHER)
+    await first_is(client, client.ask("GET", SLOW))
 
 
 async def case_field_and_update(client, words):
     """the update counts, and not the field (RFC 9218, section 8)"""
-    asked = ask_all(client, 4, (b"priority", b"u=6"))
+    asked = ask_all(client, SLOW, (b"priority", b"u=6"))
     last = client.ask("GET", SLOW, (b"priority", b"u=1"))
     update_priority(client, last, b"u=7")
     update_priority(client, asked[2], b"u=0")
@@ -183,7 +184,7 @@ async def case_field_and_update(client, words):
 
 async def case_server(client, words):
     """gtlsserver takes a priority from the query, and says so in its response"""
-    ask_all(client, 4)
+    ask_all(client, OTHER)
     urgent = client.ask("GET", SLOW + "?u=1")
     await first_is(client, urgent)
     said = client.stream(urgent)["heads"][0].get(b"priority")
@@ -192,7 +193,7 @@ async def case_server(client, words):
 
 async def shares(client, *fields):
     """how much has come of four responses when the first of them is whole"""
-    asked = ask_all(client, 4, *fields)
+    asked = ask_all(client, SLOW, *fields)
     await client.until(asked[0], lambda it: client.ends)
     return [len(client.stream(it)["body"]) for it in asked]
 
@@ -271,7 +272,7 @@ async def case_malformed(client, words):
     await alive(client, words)
 
 
-# ---- trailers ----
+# ---- what options ask for ----
 
 
 async def case_trailers(client, words):
@@ -279,6 +280,16 @@ async def case_trailers(client, words):
         stream_id = client.ask("GET", path)
         stream = await client.whole(stream_id)
         want(len(stream["body"]) == count and stream["heads"][1:] == [{b"x-ngtcp2-stream-id": str(stream_id).encode()}], f"{path}: {stream['heads']}")
+
+
+async def case_early(client, words):
+    """the answer comes before the end of the request, whose rest is not wanted (RFC 9114, section 4.1)"""
+    stream_id = client.ask("POST", "/hello.txt", end=False)
+    client.send(stream_id, bytes(3_000_000), False)
+    want((await client.whole(stream_id))["body"] == b"hello\n", "another body")
+    await client.until(stream_id, lambda it: it["stopped"] is not None)
+    want(client.stream(stream_id)["stopped"] == 0x100, "another code than H3_NO_ERROR")
+    await alive(client, words)
 
 
 FILES = {
@@ -305,7 +316,7 @@ ORDERING = {
     "other responses one by one": case_one_by_one,
 }
 ALL_BROKEN = {**{name: breaks(*what) for name, what in BROKEN.items()}, "six malformed requests": case_malformed}
-CASES = {"files": FILES, "ordering": ORDERING, "broken": ALL_BROKEN, "trailers": {"trailers": case_trailers}}
+CASES = {"files": FILES, "ordering": ORDERING, "broken": ALL_BROKEN, "options": {"trailers": case_trailers, "an answer that stops a POST": case_early}}
 
 
 def main():

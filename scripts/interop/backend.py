@@ -77,6 +77,7 @@ class Handler(http.server.BaseHTTPRequestHandler):
 def main():
     Handler.folder = sys.argv[2]
     http.server.ThreadingHTTPServer.daemon_threads = True
+    http.server.ThreadingHTTPServer.request_queue_size = 128  # connections that come at once: above 5, by default, some are reset
     http.server.ThreadingHTTPServer(("127.0.0.1", int(sys.argv[1])), Handler).serve_forever()
 
 
