@@ -70,13 +70,13 @@ class Connection(H3Connection):
 
 
 class Protocol(QuicConnectionProtocol):
-    """one connection: what came on each stream"""
+    """one connection: what came on each stream, and which ended, in order"""
 
     has_sessions = False
 
     def __init__(self, *arguments, **words):
         super().__init__(*arguments, **words)
-        self.http, self.streams, self.over = None, {}, None
+        self.http, self.streams, self.over, self.ends = None, {}, None, []
 
     def connection_made(self, transport):
         """room for the packets that come while Python is slow"""
@@ -106,7 +106,9 @@ class Protocol(QuicConnectionProtocol):
             stream["heads"].append(dict(it.headers))
         elif isinstance(it, (DataReceived, WebTransportStreamDataReceived)):
             stream["body"] += it.data
-        stream["ended"] |= getattr(it, "stream_ended", False)
+        if getattr(it, "stream_ended", False) and not stream["ended"]:
+            stream["ended"] = True
+            self.ends.append(it.stream_id)
 
     async def until(self, stream_id, what):
         """waits until `what` holds of a stream; an error where the connection is over before"""
@@ -224,8 +226,9 @@ class Client(Protocol):
         stream = await self.until(stream_id, lambda it: it["ended"] or it["reset"] is not None)
         if stream["reset"] is not None:
             raise RuntimeError(f"reset with {stream['reset']:#x}")
-        if stream["heads"][-1][b":status"] != str(status).encode():
-            raise RuntimeError(f"status {stream['heads'][-1]}")
+        *_, head = (it for it in stream["heads"] if b":status" in it)  # behind interim ones, and before a trailer
+        if head[b":status"] != str(status).encode():
+            raise RuntimeError(f"status {head}")
         return stream
 
     async def text(self, path):
@@ -663,4 +666,5 @@ def main():
         sys.exit(0 if asyncio.run(try_all(cases, words[1], words[2], {"big": words[3], "posted": words[4]})) else 1)
 
 
-main()
+if __name__ == "__main__":
+    main()

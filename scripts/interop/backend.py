@@ -1,4 +1,4 @@
-"""backend.py PORT FOLDER: an HTTP/1.1 server behind the proxies of `make interop` (nginx, haproxy), of 127.0.0.1.
+"""backend.py PORT FOLDER: an HTTP/1.1 server behind the proxies of `make interop` (nginx, haproxy, Caddy), of 127.0.0.1.
 
 Files below a folder; POST is answered with the count and SHA-256 of its body; /204, /304; /103 with an interim answer in front; /trailers with a trailer;
 /cut, whose body ends before its length; /early, which answers a POST whose body it does not read."""
@@ -77,6 +77,7 @@ class Handler(http.server.BaseHTTPRequestHandler):
 def main():
     Handler.folder = sys.argv[2]
     http.server.ThreadingHTTPServer.daemon_threads = True
+    http.server.ThreadingHTTPServer.request_queue_size = 128  # connections that come at once: above 5, by default, some are reset
     http.server.ThreadingHTTPServer(("127.0.0.1", int(sys.argv[1])), Handler).serve_forever()
 
 

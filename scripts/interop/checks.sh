@@ -4,8 +4,13 @@ work=$(mktemp -d)
 failed=0
 pids=()
 
+end_servers() {
+  local pid
+  for pid in "${pids[@]}"; do kill "$pid" 2> /dev/null && wait "$pid" 2> /dev/null; done
+  pids=()
+}
 leave() {
-  for pid in "${pids[@]}"; do kill "$pid" 2>/dev/null && wait "$pid" 2>/dev/null; done
+  end_servers
   rm -rf "$work"
 }
 trap leave EXIT
@@ -108,4 +113,31 @@ chromium_sees() { # PORT, PATH of a page, and perhaps a PORT of WebSockets: what
     --disable-gpu --virtual-time-budget=20000 --dump-dom "$(url "$1" "$2")" > "$work/page" || return 1
   sed -n '/id="seen"/,/<\/pre>/p' "$work/page" > "$work/seen"
   cat "$work/seen" > "$work/log"
+}
+# make_authority: a certificate `leaf.pem` that an authority vouches for, since Firefox takes none that vouches for itself
+make_authority() {
+  local request=(openssl req -newkey ec -pkeyopt ec_paramgen_curve:P-256 -nodes)
+  build "${request[@]}" -x509 -keyout "$work/authority_key.pem" -out "$work/authority.pem" -days 13 -subj /CN=interop
+  build "${request[@]}" -keyout "$work/leaf_key.pem" -out "$work/leaf.csr" -subj /CN=localhost
+  printf 'subjectAltName=DNS:localhost,IP:127.0.0.1\nbasicConstraints=CA:FALSE\n' > "$work/leaf.ext"
+  build openssl x509 -req -in "$work/leaf.csr" -CA "$work/authority.pem" -CAkey "$work/authority_key.pem" -CAcreateserial -days 13 \
+    -extfile "$work/leaf.ext" -out "$work/leaf.pem"
+}
+firefox_sees() { # PORT of a server with that certificate, PATH of a page..: the same by Firefox
+  local status
+  rm -rf "$work/firefox"
+  within 300 python3 scripts/interop/firefox.py "$1" "$work/authority.pem" "$work/firefox" "${@:2}" > "$work/seen"
+  status=$?
+  cat "$work/seen" >> "$work/log"
+  return "$status"
+}
+# saw LINE..: each (a pattern) is one of those that a browser saw last
+saw() {
+  local line
+  for line; do
+    if ! sed 's/<[^>]*>//g' "$work/seen" | grep -qxE -- "$line"; then
+      cp "$work/seen" "$work/log"
+      return 1
+    fi
+  done
 }

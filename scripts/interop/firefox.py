@@ -1,8 +1,7 @@
-"""firefox.py PORT AUTHORITY PROFILE HASH: a page of a server, in Firefox without a window (Debian's firefox-esr), over HTTP/3 alone.
+"""firefox.py PORT AUTHORITY PROFILE PATH..: pages of a server, in Firefox without a window (Debian's firefox-esr), over HTTP/3 alone.
 
 PORT is the server's, whose certificate the AUTHORITY (PEM) vouches for; PROFILE is a folder that is made (certutil of libnss3-tools puts the authority
-into it); HASH is the SHA-256 of a million letters `a`, which the page posts. Firefox is driven by Marionette: messages of JSON over TCP. Prints what the
-page saw, and ends with 0 where all of it is as expected."""
+into it). Firefox is driven by Marionette: messages of JSON over TCP. Prints what the pages say in the element `seen`, which is "nothing yet" at first."""
 import json
 import os
 import socket
@@ -11,25 +10,6 @@ import sys
 import time
 
 PATIENCE = 200  # seconds, of which Firefox may take many to start on a busy machine
-MORE = """
-const done = arguments[arguments.length - 1];
-(async () => {
-  const giveUp = new AbortController();
-  const upload = fetch("/answer", {method: "POST", body: new Uint8Array(20000000), signal: giveUp.signal});
-  setTimeout(() => giveUp.abort(), 100);
-  let lines = [await upload.then(() => "upload whole", () => "upload aborted")];
-  const big = new Uint8Array(await (await fetch("/big.bin")).arrayBuffer());
-  lines.push("big " + big.length);
-  const posted = await (await fetch("/answer", {method: "POST", body: big})).text();
-  lines.push("posted " + posted.split(" ")[0]);
-  let good = 0;
-  for (let i = 0; i < 500; i++) good += (await (await fetch("/small/" + i % 100 + ".txt", {cache: "no-store"})).text()) === "small " + i % 100 + "\\n";
-  lines.push("serial " + good);
-  const entries = performance.getEntriesByType("resource");
-  lines.push("then " + [...new Set(entries.filter((it) => it.responseStatus).map((it) => it.nextHopProtocol))].join(" "));
-  return lines.join("\\n");
-})().then(done, (error) => done("error " + error));
-"""
 
 
 def free_port():
@@ -100,40 +80,38 @@ def make_profile(profile, port, marionette, authority):
     subprocess.run(["certutil", "-A", "-d", f"sql:{profile}", "-n", "interop", "-t", "CT,,", "-i", authority], check=True)
 
 
-def browse(port, marionette):
+def browse(port, marionette, paths):
+    """what the pages say, one behind the other"""
     until = time.monotonic() + PATIENCE
     firefox = Marionette(marionette, until)
     firefox.call("WebDriver:NewSession", capabilities={"alwaysMatch": {}})
-    firefox.call("WebDriver:SetTimeouts", script=1000 * PATIENCE)
-    firefox.call("WebDriver:Navigate", url=f"https://localhost:{port}/")
-    seen = "nothing yet"
-    while seen == "nothing yet" and time.monotonic() < until:
-        seen = firefox.call("WebDriver:ExecuteScript", script="return document.getElementById('seen').textContent", args=[])["value"]
-        time.sleep(0.2)
-    more = firefox.call("WebDriver:ExecuteAsyncScript", script=MORE, args=[])["value"]
+    said = []
+    for path in paths:
+        firefox.call("WebDriver:Navigate", url=f"https://localhost:{port}{path}")
+        seen = "nothing yet"
+        while seen == "nothing yet" and time.monotonic() < until:
+            seen = firefox.call("WebDriver:ExecuteScript", script="return document.getElementById('seen').textContent", args=[])["value"]
+            time.sleep(0.2)
+        said.append(seen)
     try:
         firefox.call("Marionette:Quit", flags=["eForceQuit"])
     except (RuntimeError, OSError):
         pass
-    return f"{seen}\n{more}"
+    return "\n".join(said)
 
 
 def main():
-    port, authority, profile, wanted = sys.argv[1:]
+    port, authority, profile, *paths = sys.argv[1:]
     marionette = free_port()
     make_profile(profile, port, marionette, authority)
     environment = dict(os.environ, HOME=profile, MOZ_HEADLESS="1", MOZ_CRASHREPORTER_DISABLE="1")
     command = ["firefox-esr", "--headless", "--marionette", "--no-remote", "--profile", profile]
     firefox = subprocess.Popen(command, env=environment, stdout=subprocess.DEVNULL, stderr=subprocess.DEVNULL)
     try:
-        seen = browse(port, marionette)
+        print(browse(port, marionette, paths))
     finally:
         firefox.kill()
         firefox.wait()
-    print(seen)
-    lines = seen.split("\n")
-    expected = ["image 64 x 48", f"post 1000000 {wanted}", "small 100", "upload aborted", "big 10000000", "posted 10000000", "serial 500", "then h3"]
-    sys.exit(0 if all(it in lines for it in expected) and any(it.startswith("protocols h3 of") for it in lines) else 1)
 
 
 main()

@@ -19,7 +19,7 @@ def png(width, height):
 def main():
     folder = pathlib.Path(sys.argv[1])
     (folder / "small").mkdir(parents=True)
-    for name in ("page.html", "session.html", "sections.html", "websocket.html"):
+    for name in ("page.html", "session.html", "sections.html", "transfers.html", "websocket.html"):
         shutil.copy(pathlib.Path(__file__).parent / name, folder / {"page.html": "index.html"}.get(name, name))
     (folder / "image.png").write_bytes(png(64, 48))
     (folder / "hello.txt").write_text("hello\n")

@@ -306,28 +306,18 @@ if [ "$has_root" = yes ]; then debian13; else echo "skipped curl, aioquic, nginx
 
 # ---- Firefox ----
 
-# a certificate that an authority vouches for: Firefox takes none that vouches for itself
-make_authority() {
-  local request=(openssl req -newkey ec -pkeyopt ec_paramgen_curve:P-256 -nodes)
-  build "${request[@]}" -x509 -keyout "$work/authority_key.pem" -out "$work/authority.pem" -days 13 -subj /CN=interop
-  build "${request[@]}" -keyout "$work/leaf_key.pem" -out "$work/leaf.csr" -subj /CN=localhost
-  printf 'subjectAltName=DNS:localhost,IP:127.0.0.1\nbasicConstraints=CA:FALSE\n' > "$work/leaf.ext"
-  build openssl x509 -req -in "$work/leaf.csr" -CA "$work/authority.pem" -CAkey "$work/authority_key.pem" -CAcreateserial -days 13 \
-    -extfile "$work/leaf.ext" -out "$work/leaf.pem"
-}
 browse() { # PORT
-  rm -rf "$work/profile"
-  within 300 python3 scripts/interop/firefox.py "$1" "$work/authority.pem" "$work/profile" "$(hash_of "$folder/letters.txt")" > "$work/got"
-  local status=$?
-  cat "$work/got" >> "$work/log"
-  return "$status"
+  firefox_sees "$1" / /transfers.html &&
+    saw "image 64 x 48" "post $letters" "small 100" "protocols h3 of .*" "upload aborted" "download aborted" "big $(cat "$work/posted")" \
+      "posted $(cat "$work/posted")" "posts 20, $letters" "none 404" "head 200 10000000" "serial 500" "then h3"
 }
+letters="1000000 $(hash_of "$folder/letters.txt")"
 if bash scripts/dev/packages.sh firefox 2> /dev/null; then
   make_authority
   start "${ports[16]}" serve_firefox.log "$work/checked/serve" 127.0.0.1 "${ports[16]}" "$work/leaf.pem" "$work/leaf_key.pem" "$folder"
   start "${ports[17]}" h3go_firefox.log "$work/h3go" serve "127.0.0.1:${ports[17]}" "$work/leaf.pem" "$work/leaf_key.pem" "$folder"
   relay "${ports[18]}" "${ports[16]}"
-  page="a page with an image, an upload that is aborted, 10 MB both ways, 100 requests at once and 500 in turn"
+  page="a page with an image, transfers that are aborted, 10 MB both ways, 20 POSTs at once, HEAD, 404, 100 requests at once and 500 in turn"
   check "serve, Firefox: $page" browse "${ports[16]}"
   check "Go server, Firefox: $page" browse "${ports[17]}"
   check "serve, Firefox, packets lost: $page" browse "${ports[18]}"
@@ -336,9 +326,9 @@ else
   echo "skipped Firefox: $(bash scripts/dev/packages.sh firefox 2>&1)"
 fi
 # the servers end, and LeakSanitizer looks
-end_servers() {
-  for pid in "${pids[@]}"; do kill "$pid" 2> /dev/null && wait "$pid" 2> /dev/null; done
+ends_silently() {
+  end_servers
   for log in "${logs[@]}"; do is_silent "$log" || return 1; done
 }
-check "our servers: no leak, no panic and no error of memory" end_servers
+check "our servers: no leak, no panic and no error of memory" ends_silently
 [ "$failed" -eq 0 ]

@@ -143,9 +143,9 @@ if has_curl; then tables "${ports[@]:2}"; fi
 if has_curl; then rm -rf "${root:?}$there"; fi
 
 # the servers end, and LeakSanitizer looks
-end_servers() {
-  for pid in "${pids[@]}"; do kill "$pid" 2> /dev/null && wait "$pid" 2> /dev/null; done
+ends_silently() {
+  end_servers
   ! grep -qE "Sanitizer|runtime error|panic|DATA RACE" "$work/serve.log" "$work/h3go.log"
 }
-check "our servers: no leak, no panic and no error of memory" end_servers
+check "our servers: no leak, no panic and no error of memory" ends_silently
 [ "$failed" -eq 0 ]
