@@ -182,18 +182,18 @@ SMALL = {
 
 GET = ":method=GET :scheme=https :authority=www.example.com"
 POST = f":method=POST{GET[len(':method=GET'):]} :path=/"
-TABLES = "max_field_section_size=1000 table=220 blocked=1"
+WITH_TABLE = "max_field_section_size=1000 table=220 blocked=1"
 JUDGED = {
     # Of a list that breaks a rule nothing is inserted. Content is as long as was said, and the message goes on behind each refusal.
-    "a strict client, which sends nothing that is malformed": judged(f"{TABLES} strict / {TABLES}", [
+    "a strict client, which sends nothing that is malformed": judged(f"{WITH_TABLE} strict / {WITH_TABLE}", [
         "s 3", f"fields c 4 {GET} :path=/a connection=close", f"fields c 4 {POST} content-length=5", "body c 4 hello!", "finish c 4", "body c 4 hello",
         "trailers c 4 x-a=1 upgrade=a", "trailers c 4 x-a=1", "finish c 4", "head c 8 GET https://a.b/ keep-alive=a", "head c 8 GET https://a.b/ x-a=1", "finish c 8",
         "c 6", "c 4", "pulls s 4", "pull s 4"]),
     # The section that is malformed is decoded, and so is acknowledged before its stream is given up. Another stream refers to what it inserted.
-    "a strict server, which finds a request malformed behind what it keeps": judged(f"{TABLES} / {TABLES} strict", [
+    "a strict server, which finds a request malformed behind what it keeps": judged(f"{WITH_TABLE} / {WITH_TABLE} strict", [
         "s 3", f"fields c 4 {GET} :path=/sample/path upgrade=a", f"fields c 8 {GET} :path=/sample/path", "c 4", "pulls s 4", "c 6", "c 8", "pulls s 4", "pulls s 4",
         "pulls s 8", "s 11"]),
-    "a strict server, which finds content too long, and then too short": judged(f"{TABLES} / {TABLES} strict", [
+    "a strict server, which finds content too long, and then too short": judged(f"{WITH_TABLE} / {WITH_TABLE} strict", [
         "s 3", f"fields c 4 {POST} content-length=3", "body c 4 text", "finish c 4", f"fields c 8 {POST} content-length=9", "body c 8 text", "finish c 8", "c 2", "c 6",
         "c 4", "pulls s 4", "pulls s 4", "c 8", "pulls s 8", "pulls s 8", "end c 8", "pulls s 8", "s 11"]),
     # A request that was sent before the settings came may be above the limit. The frame is not read.

@@ -244,13 +244,14 @@ def asked(end, kind, id, piece=None):
     return end.pull(id, piece) if kind == "pull" else end.pull_fields(id, piece)
 
 
-def part_out(stream, answer):
-    """the part of a message that a pull answers"""
+def part_out(stream, answer, payload):
+    """The part of a message that a pull read, where so much of a payload was under way before. A payload is one part, told by the length of its frame."""
     if answer[0] in ("Head", "Interim", "Trailer"):
         return "trailer" if answer[0] == "Trailer" else "head", stream.listed
-    if answer[0] == "Body":
-        return "content", len(answer[1])
-    return ("end", 0) if answer[0] == "End" else None
+    if answer[0] == "End":
+        return "end", 0
+    size = 0 if stream is None or payload else stream.payload + (len(answer[1]) if answer[0] == "Body" else 0)
+    return ("content", size) if size else None
 
 
 def gives_up(end, id, why):
@@ -265,8 +266,9 @@ def judged(after, side, kind, id, piece):
     limit = after.judges.limit(side)
     if limit is not None and end.hands_out(id) and is_too_long(end.incoming.get(id), limit):
         return gives_up(end, id, "TooLong")
+    payload = end.incoming[id].payload if id in end.incoming else 0
     answer = asked(end, kind, id, piece)
-    part = part_out(end.incoming.get(id), answer)
+    part = part_out(end.incoming.get(id), answer, payload)
     why = after.broken(READS, side, id, part)
     if why:
         return gives_up(end, id, why)

@@ -1,7 +1,7 @@
 """Of the rules of messages those that scripts of scripts/gate/memory_schedules.py break, by the standards, each with the name that the program has for it.
 
 `broken` says which rule the next part of a message breaks, where a side asks for strict messages; `counted` is what such a side then has left of the
-content that the header section announced. A part is a list of fields (`head`, `trailer`), so many bytes of `content`, or the `end`. The model of an endpoint
+content that the header section announced. A part is a list of fields (`head`, `trailer`), the `content` of one DATA frame by its length, or the `end`. The model of an endpoint
 (scripts/gate/independent_model.py) has no rules of messages, and all of them are asked by scripts/gate/strict_messages.py.
 """
 from independent_model import HEADERS
