@@ -21,9 +21,11 @@ TOP = os.path.dirname(os.path.dirname(os.path.dirname(os.path.abspath(__file__))
 CRATES = f"{TOP}/crates"
 CONTRACT = f"{CRATES}/h3_session/src/run.rt"
 # The parts: their headings, and from which names each part goes on, a name with dots by its module. The last one takes what is left.
+OF_LISTS = "h3_world.specs.Lists"
 PARTS = (
-    ("## How a list of fields is read", tuple(f"h3_world.specs.Lists.{name}" for name in ("unreadable", "as_flagged", "pull_of", "list_of"))),
+    ("## How a list of fields is read", (f"{OF_LISTS}.as_flagged", f"{OF_LISTS}.pull_of")),
     ("## All that it rests on", ("Faithful", "AreSmall")),
+    ("## Which lists are malformed", (f"{OF_LISTS}.unreadable", f"{OF_LISTS}.list_of")),
     ("## What is answered", ("Run", "Happens", "empty_world", "JudgesPlainly")),
     ("## The endpoints that are returned", ("RunsInWorld",)),
     ("## What each call leaves", ("RunsByCalls", "new_ends")),
@@ -31,22 +33,21 @@ PARTS = (
 )
 # Behind these the values of the code: a heading, and from which types of the signature its rows come, and from those that which parts list.
 VALUES = (
-    ("## The values in the answers", ("Setup", "Event", "Answer"), PARTS[:3]),
-    ("## The values that are returned", ("Outcome",), PARTS[3:]),
+    ("## The values in the answers", ("Setup", "Event", "Answer"), PARTS[:4]),
+    ("## The values that are returned", ("Outcome",), PARTS[4:]),
 )
 # The pages, each with its parts in their order there.
 PAGES = {
     "docs/MESSAGES.md": (PARTS[1][0],),
-    "docs/headline/lists.md": (PARTS[0][0],),
-    "docs/HEADLINE.md": (PARTS[2][0], VALUES[0][0]),
-    "docs/headline/endpoints.md": (PARTS[3][0], VALUES[1][0]),
-    "docs/headline/calls.md": (PARTS[4][0],),
-    "docs/headline/world.md": (PARTS[5][0],),
+    "docs/headline/lists.md": (PARTS[0][0], PARTS[2][0]),
+    "docs/HEADLINE.md": (PARTS[3][0], PARTS[6][0]),
+    "docs/headline/endpoints.md": (VALUES[0][0], PARTS[4][0], VALUES[1][0]),
+    "docs/headline/calls.md": (PARTS[5][0],),
 }
 # how many lines the first parts may have: a sitting each
-MOST = {PARTS[0][0]: 330, PARTS[1][0]: 490, PARTS[2][0]: 1500}
-# the pages on which no name stands for two definitions
-SITTINGS = ("docs/MESSAGES.md", "docs/headline/lists.md", "docs/HEADLINE.md")
+MOST = {PARTS[0][0]: 160, PARTS[1][0]: 490, PARTS[3][0]: 1500}
+# the parts in which no name stands for two definitions: what each side gets, and the plain world
+SITTINGS = (*(heading for heading, _ in PARTS[:4]), VALUES[0][0])
 # but for these: the Rust crate h3 has a type of that name in two modules, and so have the ports of them; and a contract sees a `Setup` of the
 # code as that of the definitions
 OF_TWO_MODULES = ("Settings", "Setup")
@@ -307,14 +308,14 @@ def compare(found, page, heading, section):
 
 
 def has_one_meaning_each(found):
-    """whether no name on the two sittings stands for two definitions"""
+    """whether no name of the first sittings stands for two definitions"""
     places = {}
-    for heading in (it for page in SITTINGS for it in PAGES[page]):
+    for heading in SITTINGS:
         for row, (_, names) in found[heading].items():
             for name in names:
                 places.setdefault(name, []).append(row)
     twice = [f"{name} ({' and '.join(rows)})" for name, rows in sorted(places.items()) if len(rows) > 1 and name not in OF_TWO_MODULES]
-    print(f"{'failed' if twice else 'ok'} {len(places)} names on {' and '.join(SITTINGS)} stand for one definition each{': ' if twice else ''}{', '.join(twice)}")
+    print(f"{'failed' if twice else 'ok'} {len(places)} names of the first {len(SITTINGS)} parts stand for one definition each{': ' if twice else ''}{', '.join(twice)}")
     return not twice
 
 

@@ -20,6 +20,8 @@ from independent_model import CLIENT, GREATEST, SERVER, Endpoint, Malformed, has
 
 SIDES = {"c": CLIENT, "s": SERVER}
 PULLS = ("pull", "pulls")  # with headers, and with lists of fields
+CALLS = {"open": "open_request", "head": "send_head", "fields": "send_fields", "body": "send_body", "trailer": "send_trailer", "trailers": "send_trailer_fields",
+         "pulls": "pull_fields"}
 CANCELLED = 0x10C
 
 
@@ -181,7 +183,7 @@ def answered(ends, kind, side, arguments):
     end = ends[side]
     if kind in ("deliver", "end", "gone"):
         return handed(ends, kind, side, *arguments)
-    call = {"open": "open_request", "head": "send_head", "body": "send_body", "trailer": "send_trailer", "pulls": "pull_fields"}.get(kind, kind)
+    call = CALLS.get(kind, kind)
     answer = getattr(end, call)(*arguments)
     return printed(answer) if kind in PULLS else of_call(answer)
 
@@ -241,6 +243,18 @@ def wide_value(value):
     return f"{escaped(value[:1])}*{len(value)}" if len(value) > 100 and len(set(value)) == 1 else escaped(value)
 
 
+def wide_setup(line):
+    """the endpoints of a line `config CHOICES / CHOICES`"""
+    client, server = (chosen(part.split()) for part in line[len("config "):].split("/"))
+    return {CLIENT: Endpoint(CLIENT, *client), SERVER: Endpoint(SERVER, *server)}
+
+
+def wide_event(line):
+    """the event of a line that sends a list of fields, or of one of the narrow language"""
+    kind, side, *rest = line.split(" ")
+    return (kind, SIDES[side], [int(rest[0]), wide_list(rest[1:])]) if kind in ("fields", "trailers") else event_of(line)
+
+
 def wide_item(answer):
     kind = answer[0]
     if answer[:2] == ("Fault", "Connection"):
@@ -282,15 +296,12 @@ def wide_answer(ends, line):
     side = SIDES[side]
     if command == "carry":
         return " ".join(carried(ends, side, id) for id in ([int(rest[0])] if rest else ends[side].ids))
-    if command in ("fields", "trailers"):
-        send = ends[side].send_fields if command == "fields" else ends[side].send_trailer_fields
-        return of_call(send(int(rest[0]), wide_list(rest[1:])))
     if command == "call":
         return wide_call(ends[side], *rest)
     if command in PULLS:
         ask = ends[side].pull if command == "pull" else ends[side].pull_fields
         return wide_item(named(ask(int(rest[0]))))
-    return answered(ends, *event_of(line))
+    return answered(ends, *wide_event(line))
 
 
 def wide(script):
@@ -300,8 +311,7 @@ def wide(script):
         if line == "" or line[:1] == "#":
             out.append(line)
         elif line.startswith("config "):
-            client, server = (chosen(part.split()) for part in line[7:].split("/"))
-            ends = {CLIENT: Endpoint(CLIENT, *client), SERVER: Endpoint(SERVER, *server)}
+            ends = wide_setup(line)
             out.append("ok ok")
         else:
             out.append(wide_answer(ends, line))

@@ -14,6 +14,7 @@ import sys
 sys.path.insert(0, os.path.dirname(os.path.abspath(__file__)))
 from independent_model import GREATEST  # noqa: E402
 from independent_talk import SIDES, answered, event_of, next_line, sent_lines, setup  # noqa: E402
+from memory_world import begin, right_line  # noqa: E402
 
 BEGINS, ENDS = 509, 521
 OWN = {"c": (2, 6, 10), "s": (3, 7, 11)}
@@ -40,6 +41,23 @@ class Schedule:
 
     def waits(self, side, id):
         return len(self.ends[SIDES[side]].outgoing(id)[1])
+
+
+class Judged(Schedule):
+    """The same of sides that judge messages, or limit them. None lacks memory."""
+
+    def __init__(self, choices):
+        self.lines = [f"config {choices}"]
+        self.state, self.behind, self.read = begin(self.lines[0])
+
+    @property
+    def ends(self):
+        return self.state.ends
+
+    def add(self, line):
+        self.lines.append(line)
+        event = self.read(line)
+        self.state = self.behind(self.state, event, right_line(self.state, event))[0]
 
 
 def fields(rng):
@@ -131,10 +149,25 @@ def small(lines):
     open_requests(made, [4], [4])
     made.add(f"deliver c 0 {BEGINS}")
     for line in lines:
-        side, _, id = line.partition(" ")
-        made.add(f"deliver {line} {made.waits(side, int(id))}" if side in OWN else line)
+        made.add(event(made, line))
         made.lines += PROBES
     return ended(made, [4])
+
+
+def event(made, line):
+    side, _, id = line.partition(" ")
+    return f"deliver {line} {made.waits(side, int(id))}" if side in OWN else line
+
+
+def judged(choices, lines):
+    """the same of two sides that are made by choices, on streams 4 and 8, for crates/h3_cases"""
+    made = Judged(choices)
+    open_requests(made, [4], [4, 8])
+    made.add(f"deliver c 0 {BEGINS}")
+    for line in lines:
+        made.add(event(made, line))
+    made.lines += PROBES
+    return ended(made, [4, 8])
 
 
 SIMPLE = "head c 4 GET https://www.example.com/sample/path"
@@ -145,4 +178,25 @@ SMALL = {
     "a head with two insertions, sent twice": small(["cancel s 0", "s 3", SIMPLE, SIMPLE, "c 6", "pull s 0", "c 6", "c 4", "pull s 4", "pull s 4"]),
     # A list is pulled once its insertions were read, again where memory was refused for that or for the list, and then a header is not there.
     "a head and a trailer, pulled as lists": small(["s 3", SIMPLE, "trailer c 4 x-a=1", "c 4", "pulls s 4", "c 6", "pulls s 4", "pulls s 4", "pulls s 4", "pull s 4"]),
+}
+
+GET = ":method=GET :scheme=https :authority=www.example.com"
+POST = f":method=POST{GET[len(':method=GET'):]} :path=/"
+WITH_TABLE = "max_field_section_size=1000 table=220 blocked=1"
+JUDGED = {
+    # Of a list that breaks a rule nothing is inserted. Content is as long as was said, and the message goes on behind each refusal.
+    "a strict client, which sends nothing that is malformed": judged(f"{WITH_TABLE} strict / {WITH_TABLE}", [
+        "s 3", f"fields c 4 {GET} :path=/a connection=close", f"fields c 4 {POST} content-length=5", "body c 4 hello!", "finish c 4", "body c 4 hello",
+        "trailers c 4 x-a=1 upgrade=a", "trailers c 4 x-a=1", "finish c 4", "head c 8 GET https://a.b/ keep-alive=a", "head c 8 GET https://a.b/ x-a=1", "finish c 8",
+        "c 6", "c 4", "pulls s 4", "pull s 4"]),
+    # The section that is malformed is decoded, and so is acknowledged before its stream is given up. Another stream refers to what it inserted.
+    "a strict server, which finds a request malformed behind what it keeps": judged(f"{WITH_TABLE} / {WITH_TABLE} strict", [
+        "s 3", f"fields c 4 {GET} :path=/sample/path upgrade=a", f"fields c 8 {GET} :path=/sample/path", "c 4", "pulls s 4", "c 6", "c 8", "pulls s 4", "pulls s 4",
+        "pulls s 8", "s 11"]),
+    "a strict server, which finds content too long, and then too short": judged(f"{WITH_TABLE} / {WITH_TABLE} strict", [
+        "s 3", f"fields c 4 {POST} content-length=3", "body c 4 text", "finish c 4", f"fields c 8 {POST} content-length=9", "body c 8 text", "finish c 8", "c 2", "c 6",
+        "c 4", "pulls s 4", "pulls s 4", "c 8", "pulls s 8", "pulls s 8", "end c 8", "pulls s 8", "s 11"]),
+    # A request that was sent before the settings came may be above the limit. The frame is not read.
+    "a server with a limit, which finds a frame too long": judged("/ max_field_section_size=170 table=64 unfinished_limit=680", [
+        f"fields c 4 {GET} :path=/ x-a=~*600", "head c 8 GET https://a.b/", "c 4", "c 2", "pulls s 4", "c 8", "pulls s 8", "s 3", "s 11"]),
 }

@@ -10,19 +10,28 @@ gives what may stand behind an event that was answered by a line of the program,
 - `refused Kept`: the delivery left its writer and is kept behind the rest, of which a part may be read. Something is left.
 - `fault out of memory`, of a pull: nothing is handed out, and a part of what is kept may be read. A stream that was given up, reset or handed
   out to its end has its answer without memory (RFC 9114, 4.1.1), and its pulls read nothing.
+- `refused Malformed WHY`: the side asks for strict messages, the send breaks that rule (scripts/gate/message_rules.py), and nothing has changed.
+- `fault malformed WHY`, at a side that asks for strict messages or limits what is unfinished: it has read all that it keeps, and gives the message
+  up. The part that breaks the rule it takes, and hands it to nobody. A HEADERS frame above its limit it does not take.
+
+A script of the wider language (crates/h3_cases/README.md) says of each side what it judges. Its program makes some calls twice (`of_cases`).
 """
 import os
 import sys
-from dataclasses import dataclass
+from dataclasses import dataclass, field
 
 sys.path.insert(0, os.path.dirname(os.path.abspath(__file__)))
 from independent_model import CLIENT, DECODER, SERVER, Endpoint  # noqa: E402
-from independent_talk import CANCELLED, PULLS, answered, event_of, printed, setup  # noqa: E402
+from independent_talk import CANCELLED, PULLS, answered, event_of, printed, setup, wide_event, wide_setup  # noqa: E402
+from message_rules import broken, counted, is_too_long  # noqa: E402
 
 OUT_OF_MEMORY, KEPT, NOT_PULLED = MEMORY = ("refused OutOfMemory", "refused Kept", "fault out of memory")
 OTHER = {CLIENT: SERVER, SERVER: CLIENT}
 MOST_STATES = 2000
 PLAIN = {int, bytes, str, bool, tuple, type(None)}
+SENDS, READS = "sends", "reads"
+LISTS = {"head": "head", "fields": "head", "trailer": "trailer", "trailers": "trailer"}
+UNTOLD = "refused"  # a line that h3_cases could not read or write
 
 
 def copied(it):
@@ -68,17 +77,40 @@ class Delivery:
             raise Unread(f"{self} is read as {answer}")
 
 
+@dataclass(frozen=True)
+class Judges:
+    """the sides that ask for strict messages, and those that limit what is unfinished, with their limits"""
+
+    strict: frozenset = frozenset()
+    limits: tuple = ()
+
+    def limit(self, side):
+        return dict(self.limits).get(side)
+
+
 @dataclass
 class State:
     ends: dict[str, Endpoint]
     kept: dict[str, tuple[Delivery, ...]]
+    judges: Judges = Judges()
+    # of a strict side, of what it sends and of what it was handed on each stream: how much of the announced content is left
+    left: dict = field(default_factory=dict)
 
     def copy(self):
-        return State(copied(self.ends), dict(self.kept))
+        return State(copied(self.ends), dict(self.kept), self.judges, self.left)
 
     def with_side(self, side, end, left):
         """this side stands so now, and keeps what is left"""
-        return State({**self.ends, side: end}, {**self.kept, side: left})
+        return State({**self.ends, side: end}, {**self.kept, side: left}, self.judges, self.left)
+
+    def broken(self, way, side, id, part):
+        """the rule that a part of a message breaks, if the side judges it"""
+        return broken(self.left.get((way, side, id)), *part) if part and side in self.judges.strict else None
+
+    def count(self, way, side, id, part):
+        """the part has passed"""
+        if part and side in self.judges.strict:
+            self.left = {**self.left, (way, side, id): counted(self.left.get((way, side, id)), *part)}
 
 
 def caught_up(state, side):
@@ -212,6 +244,38 @@ def asked(end, kind, id, piece=None):
     return end.pull(id, piece) if kind == "pull" else end.pull_fields(id, piece)
 
 
+def part_out(stream, answer, payload):
+    """The part of a message that a pull read, where so much of a payload was under way before. A payload is one part, told by the length of its frame."""
+    if answer[0] in ("Head", "Interim", "Trailer"):
+        return "trailer" if answer[0] == "Trailer" else "head", stream.listed
+    if answer[0] == "End":
+        return "end", 0
+    size = 0 if stream is None or payload else stream.payload + (len(answer[1]) if answer[0] == "Body" else 0)
+    return ("content", size) if size else None
+
+
+def gives_up(end, id, why):
+    """the side gives the message up as malformed"""
+    end.give_up(id, end.incoming[id], ("Fault", "Stream", "Malformed", why))
+    return end.incoming[id].fault
+
+
+def judged(after, side, kind, id, piece):
+    """the answer of a pull of a side that has read all that it keeps"""
+    end = after.ends[side]
+    limit = after.judges.limit(side)
+    if limit is not None and end.hands_out(id) and is_too_long(end.incoming.get(id), limit):
+        return gives_up(end, id, "TooLong")
+    payload = end.incoming[id].payload if id in end.incoming else 0
+    answer = asked(end, kind, id, piece)
+    part = part_out(end.incoming.get(id), answer, payload)
+    why = after.broken(READS, side, id, part)
+    if why:
+        return gives_up(end, id, why)
+    after.count(READS, side, id, part)
+    return answer
+
+
 def pulled(state, event, line):
     kind, side, (id,) = event
     end = state.ends[side]
@@ -222,7 +286,7 @@ def pulled(state, event, line):
     after = caught_up(state, side)
     # where a body is cut is promised to nobody: any front of what came is right
     piece = ("Body", line[len("body "):].encode()) if line.startswith("body ") else None
-    return [after] if line == printed(asked(after.ends[side], kind, id, piece)) else []
+    return [after] if line == printed(judged(after, side, kind, id, piece)) else []
 
 
 def with_insertions(end, id, fields):
@@ -241,13 +305,35 @@ def fronts_inserted(state, side, id, fields):
     return [state.with_side(side, end, state.kept[side]) for end in ends]
 
 
+def part_in(kind, arguments):
+    """the part of a message that a call sends"""
+    if kind in LISTS:
+        return LISTS[kind], arguments[1]
+    if kind == "body":
+        return "content", len(arguments[1])
+    return ("end", 0) if kind == "finish" else None
+
+
+def sent(state, event):
+    """the answer of a call that lacks no memory, and the state behind it"""
+    kind, side, arguments = event
+    after, part = state.copy(), part_in(kind, arguments)
+    right = answered(after.ends, *event)
+    if part and right.startswith(("ok", "refused TooLarge")):
+        why = state.broken(SENDS, side, arguments[0], part)
+        if why:
+            return f"refused Malformed {why}", state
+    if right == "ok" and part:
+        after.count(SENDS, side, arguments[0], part)
+    return right, after
+
+
 def called(state, event, line):
     """sends, cancellations and what a side shows"""
     kind, side, arguments = event
     if kind == "show":
         return [state] if line == answered(state.ends, *event) else []
-    after = state.copy()
-    right = answered(after.ends, *event)
+    right, after = sent(state, event)
     if line != OUT_OF_MEMORY:
         return [after] if line == right else []
     if kind in ("finish", "reset"):
@@ -255,10 +341,11 @@ def called(state, event, line):
     if kind == "body":
         # its bytes are shared before the call is judged
         return [state]
-    if kind in ("head", "trailer") and right == "ok":
+    if kind in LISTS and right == "ok":
         return fronts_inserted(state, side, *arguments)
-    # the list of the fields is made before it is judged too large
-    return [state] if not right.startswith("refused") or right.startswith("refused TooLarge") else []
+    # The fields of a header are listed before they are judged, and a list that is given is judged as it stands. Its size is judged last.
+    is_listed = kind in ("head", "trailer") and right.startswith("refused Malformed")
+    return [state] if is_listed or not right.startswith("refused") or right.startswith("refused TooLarge") else []
 
 
 def states_behind(state, event, line):
@@ -268,8 +355,76 @@ def states_behind(state, event, line):
     return pulled(state, event, line) if event[0] in PULLS else called(state, event, line)
 
 
+# ---- scripts of the wider language
+
+
+def again(state, event, first):
+    """the states behind a first try that lacked memory, each with the second one, or None where none is made"""
+    kind, side, arguments = event
+    if first == KEPT:
+        return [(it, (kind, side, [arguments[0], 0]) if kind == "deliver" else None) for it in states_behind(state, event, KEPT)]
+    # a copy of the bytes that could not be made is not made again
+    second = [(it, event) for it in states_behind(state, event, first)]
+    return second + ([(state, None)] if kind == "deliver" else [])
+
+
+def tried(state, event, first, line):
+    """the states behind a line, where the first try lacked memory"""
+    kind, side, arguments = event
+    for after, second in again(state, event, first):
+        if second is None:
+            yield from [after] if line == first else []
+        elif first != KEPT:
+            yield from states_behind(after, second, line)
+        elif line == OUT_OF_MEMORY:
+            # the program then takes the bytes for ones that did not go over
+            yield from [after.with_side(side, state.ends[side], after.kept[side])]
+        else:
+            yield from states_behind(after, second, "delivered 0" if line == f"delivered {arguments[1]}" else line)
+
+
+def of_cases(state, event, line):
+    """A line of h3_cases: a delivery, a pull and a cancellation that lack memory are made once more, and behind bytes that are kept come none. A line that was not read
+    or not written tells nothing of its event."""
+    if line == UNTOLD:
+        return [state] + [it for told in (*MEMORY, right_line(state, event)) for it in of_cases(state, event, told)]
+    kind = event[0]
+    firsts = [NOT_PULLED] if kind in PULLS else [OUT_OF_MEMORY] if kind == "cancel" else [OUT_OF_MEMORY, KEPT] if kind in ("deliver", "end", "gone") else []
+    found = [] if line in firsts else states_behind(state, event, line)
+    return found + [it for first in firsts for it in tried(state, event, first, line)]
+
+
+def right_line(state, event):
+    """what an event is answered where no memory is refused"""
+    kind, side, arguments = event
+    if kind in ("deliver", "end", "gone"):
+        after = caught_up(state, OTHER[side]) if is_there(state.ends[side], kind, *arguments) else state.copy()
+        return answered(after.ends, *event)
+    if kind not in PULLS:
+        return sent(state, event)[0]
+    after = state.copy() if is_settled(state.ends[side], arguments[0]) else caught_up(state, side)
+    return printed(judged(after, side, kind, arguments[0], None))
+
+
+def judges_of(line):
+    """what each side of a script of the wider language judges"""
+    words = {side: part.split() for side, part in zip((CLIENT, SERVER), line[len("config "):].split("/"))}
+    limits = [(side, int(word.partition("=")[2])) for side in words for word in words[side] if word.startswith("unfinished_limit=")]
+    return Judges(frozenset(side for side in words if "strict" in words[side]), tuple(limits))
+
+
+def begin(line):
+    """the first state of a script, what may stand behind a line of its program, and how its lines are read"""
+    if "/" in line:
+        return State(wide_setup(line), {CLIENT: (), SERVER: ()}, judges_of(line)), of_cases, wide_event
+    return State(setup(line), {CLIENT: (), SERVER: ()}), states_behind, event_of
+
+
+# ---- whole scripts
+
+
 def distinct(states):
-    return states if len(states) < 2 else list({(key(it.ends), it.kept[CLIENT], it.kept[SERVER]): it for it in states}.values())
+    return states if len(states) < 2 else list({(key(it.ends), it.kept[CLIENT], it.kept[SERVER], key(it.left)): it for it in states}.values())
 
 
 class TooMany(Exception):
@@ -278,10 +433,11 @@ class TooMany(Exception):
 
 def follow(script, answers):
     """the number of the first event of a script, from 1, that is not answered as is allowed, or None"""
-    states = [State(setup(script[0]), {CLIENT: (), SERVER: ()})]
+    first, behind, read = begin(script[0])
+    states = [first]
     for number, (line, answer) in enumerate(zip(script[1:], answers), 1):
-        event = event_of(line)
-        states = distinct([it for state in states for it in states_behind(state, event, answer)])
+        event = read(line)
+        states = distinct([it for state in states for it in behind(state, event, answer)])
         if not states:
             return number
         if len(states) > MOST_STATES:

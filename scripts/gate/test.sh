@@ -102,7 +102,7 @@ if [ "$failed" -eq 0 ]; then
   count python3 scripts/gate/exchange.py crates/h3_talk/out/h3_talk
   count python3 scripts/gate/sizes.py crates/h3_talk/out/h3_talk crates/h3_cases/out/h3_cases
   count python3 scripts/gate/refused_memory.py crates/h3_talk/out/h3_talk crates/h3_cases/out/h3_cases
-  count python3 scripts/gate/memory_runs.py crates/h3_talk/out/h3_talk
+  count python3 scripts/gate/memory_runs.py crates/h3_talk/out/h3_talk crates/h3_cases/out/h3_cases
   count python3 scripts/gate/failing_streams.py crates/h3_talk/out/h3_talk
   count python3 scripts/gate/hostile_calls.py crates/h3_cases/out/h3_cases
   count python3 scripts/gate/strict_messages.py crates/h3_cases/out/h3_cases

@@ -28,7 +28,7 @@ LONGEST_SENTENCE = 30
 FENCE = re.compile(r"^( *)```\w*\n.*?^\1```$", re.M | re.S)
 LEFT_OUT = [FENCE, re.compile(r"<!--.*?-->", re.S), re.compile(r"``[^`]+``|`[^`]*`"), re.compile(r"\]\([^()\s]+\)")]
 # the pages of docs for provers, and folders of such pages
-PROVERS = ["ARCHITECTURE.md", "DECISIONS.md", "GATE.md", "HEADLINE.md", "MESSAGES.md", "MODEL.md", "PROOFS.md", "PROVED.md", "STATES.md"]
+PROVERS = ["ARCHITECTURE.md", "DECISIONS.md", "GATE.md", "HEADLINE.md", "MESSAGES.md", "MODEL.md", "NOT_PROVED.md", "PROOFS.md", "PROVED.md", "STATES.md"]
 PROVER_FOLDERS = ["decisions", "headline", "model", "proofs"]
 COVERED += [f"docs/{page}" for page in PROVERS]
 COVERED += [f"docs/{it}/{page}" for it in PROVER_FOLDERS for page in sorted(os.listdir(f"{ROOT}/docs/{it}")) if page.endswith(".md")]

@@ -3,7 +3,7 @@
 // are repeated in any order, some are malformed, and some fields are never indexed. Bodies are copied or stay with the caller, and what
 // came is delivered and pulled, or read where it lies. Beside these stand the calls of program_beside.h: priorities, GOAWAY, datagrams,
 // streams of sessions, and streams that are given up both ways. Which calls are made is chosen by `below`. At each call the clauses of
-// what the library promises of a whole connection are checked (docs/headline/faithful.md, of the events that send and pull lists):
+// what the library promises of a whole connection are checked (docs/MESSAGES.md, of the events that send and pull lists):
 //
 // - begins: what a side receives of a stream is the beginning of what the other side sent on it, field by field in the order of its lists,
 //   with the flags that the sender gave or its choice adds, and byte by byte;
