@@ -69,3 +69,4 @@ pub mod OpeningAt
 pub mod PeerKinds
 pub mod Unblocked
 pub mod Events
+mod BeginningWith

@@ -25,6 +25,7 @@ mod copying;
 mod datagrams;
 mod ending;
 mod events;
+mod further;
 mod heads;
 mod kinds;
 mod lacking;

@@ -38,4 +38,6 @@ pub mod Starting
 pub mod Codes
 pub mod ExcessiveFrames
 pub mod FirstFrames
+pub mod OtherSettings
+pub mod OtherSettingsLaws
 pub mod ExcessiveLaws

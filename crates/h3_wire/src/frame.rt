@@ -28,6 +28,7 @@ mod excess;
 mod first;
 mod kinds;
 mod let_go;
+mod other_settings;
 mod payload_left;
 mod sparing;
 
