@@ -7,7 +7,7 @@ use Rattle.h3_proto.specs.declared.stream.Side.TheVariants.{Client, Server}
 use Rattle.h3_world.specs.Streams.{is_open, exchange, flow}
 use Rattle.h3_world.specs.World.{empty_world, no_exchange}
 use Rattle.h3_proto.specs.declared.stream.Side.{Side}
-use Rattle.h3_world.specs.Setup.{JudgesPlainly, Setup, TakesAnyLength, announced_at}
+use Rattle.h3_world.specs.Setup.{IsMadeSetup, JudgesPlainly, Setup, TakesAnyLength, announced_at}
 use Rattle.h3_connection.specs.OwnIds.{other}
 use Rattle.h3_connection.specs.PeerReading.{none_read}
 use Rattle.h3_connection.specs.OtherSettings.{most_others}
