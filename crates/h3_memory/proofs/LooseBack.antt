@@ -97,6 +97,11 @@ writes_back setup w side mine count ds ew g h t =
       distinct = t.distinct;
     }
 
+-- what came of the control stream stays
+pub control_back : (w : World) (writer : Side) → came_of (held_back w writer) writer (control_id writer) ≡ came_of w writer (control_id writer)
+control_back w Client = refl
+control_back w Server = refl
+
 -- Before the settings nothing is held of the decoder stream behind the control stream.
 pub none_of_decoder : (setup : Setup) (w : World) (side : Side) (mine : List Delivery) (count : ℕ) (ds : List Delivery) (f g : EndpointHistory) (id : ℕ) (more : List Arrival)
     → (r : Reading setup w side mine (Bytes (control_id (other side)) count ∷ ds) f g (BytesCame id [] ∷ more)) → r.er.peer.settings ≡ None → r.here.held.decoder ≡ []
