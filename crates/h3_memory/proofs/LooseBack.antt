@@ -97,7 +97,6 @@ writes_back setup w side mine count ds ew g h t =
       distinct = t.distinct;
     }
 
--- what came of the control stream stays
 pub control_back : (w : World) (writer : Side) → came_of (held_back w writer) writer (control_id writer) ≡ came_of w writer (control_id writer)
 control_back w Client = refl
 control_back w Server = refl
