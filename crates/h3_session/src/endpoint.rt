@@ -26,6 +26,7 @@ mod datagrams;
 mod ending;
 mod events;
 mod frame_left;
+mod further;
 mod heads;
 mod kinds;
 mod lacking;

@@ -10,6 +10,7 @@ ghost use Rattle.h3_wire.specs.FirstFrames.{begins_other};
 ghost use Rattle.h3_wire.specs.FrameLeft.{left_of_frame};
 ghost use Rattle.h3_wire.specs.Known.{Gives, known_by};
 ghost use Rattle.h3_wire.specs.MessageFrames.{any_frame};
+ghost use Rattle.h3_wire.specs.OtherSettings.{others_at};
 ghost use Rattle.h3_wire.specs.Pieces.{IsRest, chunk_of, ending, first_of, with_piece};
 ghost use Rattle.h3_wire.specs.Tries.{Counts, Expects};
 ghost use Rattle.h3_wire.specs.UnknownSize.{AreLetGo, IsPassing, IsSpared, choices_for, is_known_type, is_longer, is_under_way, let_go_by, no_kinds, suits, unknown_size};
@@ -18,7 +19,7 @@ use super::decoder::{FrameDecoder, MessageFrame};
 use super::errors::FrameStreamError;
 use super::kinds::FrameKinds;
 use super::let_go::LetGo;
-use super::{excess, first, frame_left};
+use super::{excess, first, frame_left, other_settings};
 use crate::buf::BufList;
 use crate::proto::frame::{Frame, FrameHead, PayloadLen, is_update_type};
 use bytes::{Buf, Bytes};
@@ -252,6 +253,25 @@ impl FrameBytes {
             return false;
         }
         excess::is_excessive_behind(&self.kept, self.passing - self.gone, most, kinds)
+    }
+
+    /// Of the settings that come first those that have no meaning, `most` at most: none if another frame comes first, or not all of them came.
+    /// Nothing is taken.
+    pub(super) fn other_settings(
+        &self,
+        alloc: Global,
+        kinds: FrameKinds,
+        most: usize,
+    ) -> Result<Vec<(u64, u64)>, AllocError>
+        ensures { IfOk result (λ kept. kept.items ≡ others_at most (known_by kinds (concat self.now.pieces))) }
+    {
+        if self.len() < self.passing {
+            return Ok(Vec::new(alloc));
+        }
+        if !self.suits(kinds) {
+            return Ok(Vec::new(alloc));
+        }
+        other_settings::other_settings(alloc, &self.kept, self.passing - self.gone, kinds, most)
     }
 
     /// The same, if the type and length in the first piece tell it, whichever kinds are known.
