@@ -1,5 +1,5 @@
 -- Numbers are paired one pair after the other.
-use Rattle.std.proofs.Common.{◌≡◌, ◌<◌, ◌≤◌, ℕ, suc, ◌+◌, ◌*◌, ◌%◌, ◌/◌, Bool, true, false, List, [], ◌∷◌, ◌++◌, length, take, drop, append-nil, append_assoc, Option, Some, None, refl, sym, ap, ◌∙◌, subst, arith}
+use Rattle.std.proofs.Common.{◌≡◌, ◌<◌, ◌≤◌, ℕ, zero, suc, ◌+◌, ◌*◌, ◌%◌, ◌/◌, Bool, true, false, List, [], ◌∷◌, ◌++◌, length, take, drop, append-nil, append_assoc, Option, Some, None, refl, sym, ap, ◌∙◌, subst, arith}
 use Rattle.std.specs.Prelude.{◌≢◌, nat_lt, slice_index_or, option_map, if◌then◌else◌}
 use Rattle.std.proofs.Math.ListN.{set}
 use Rattle.std.proofs.lemmas.Bool.{lt-ltb, le-ltb}
@@ -62,7 +62,7 @@ whole numbers len at pairs even half few done within before =
 odd_is : (numbers : List ℕ) (half : ℕ) → length numbers ≡ 2 * half + 1 → paired numbers ≡ None
 odd_is [] half odd = absurd (omega (arith, odd))
 odd_is (id ∷ []) half odd = refl
-odd_is (id ∷ (value ∷ numbers)) 0 odd = absurd (omega (arith, odd))
+odd_is (id ∷ (value ∷ numbers)) zero odd = absurd (omega (arith, odd))
 odd_is (id ∷ (value ∷ numbers)) (suc half) odd = ap (option_map (λ pairs. (id, value) ∷ pairs)) (odd_is numbers half (omega (arith, odd)))
 
 if_none : (b : Bool) (o : Option (List (ℕ × ℕ))) → o ≡ None → (if b then None else o) ≡ None
