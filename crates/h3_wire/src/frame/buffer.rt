@@ -175,8 +175,7 @@ impl FrameBuffer {
         self.unread.suits(kinds)
     }
 
-    /// Whether the first piece begins with the type and length of a frame whose type has a meaning, whichever kinds are known. Then `spare`
-    /// frees nothing.
+    /// Whether the first byte is the type of a frame that has a meaning, whichever kinds are known. Then `spare` frees nothing.
     pub fn begins_known(&self) -> bool {
         self.unread.begins_known()
     }

@@ -21,7 +21,7 @@ use super::kinds::FrameKinds;
 use super::let_go::LetGo;
 use super::{excess, first, frame_left, other_settings};
 use crate::buf::BufList;
-use crate::proto::frame::{Frame, FrameHead, PayloadLen, is_update_type};
+use crate::proto::frame::{Frame, PayloadLen, is_update_type};
 use bytes::{Buf, Bytes};
 use h3_coding::coding::BufExt;
 use std::alloc::{AllocError, Global};
@@ -126,10 +126,10 @@ impl FrameBytes {
         !(self.known_to.sessions && kinds.sessions) && !(self.known_to.updates && kinds.updates)
     }
 
-    /// Whether the first piece begins with the type and length of a frame whose type has a meaning, whichever kinds are known.
+    /// Whether the first byte is the type of a frame that has a meaning, whichever kinds are known.
     pub(super) fn begins_known(&self) -> bool {
-        match FrameHead::at_front(self.kept.first_bytes()) {
-            Some(head) => is_known_type(head.kind, FrameKinds::NONE),
+        match self.kept.first_bytes().first() {
+            Some(kind) => *kind < 64 && is_known_type(*kind as u64, FrameKinds::NONE),
             None => false,
         }
     }
@@ -378,8 +378,9 @@ fn is_longer(len: usize, size: Option<usize>) -> bool
 pub(super) fn unknown_size(pieces: &BufList<Bytes>, kinds: FrameKinds) -> Option<usize>
     ensures { result ≡ unknown_size kinds (concat pieces.now.pieces) }
 {
-    if let Some(head) = FrameHead::at_front(pieces.first_bytes()) {
-        if is_known_type(head.kind, kinds) {
+    // (a type of one byte, which all known ones but those of PRIORITY_UPDATE are written as)
+    if let Some(kind) = pieces.first_bytes().first() {
+        if *kind < 64 && is_known_type(*kind as u64, kinds) {
             return None;
         }
     }
