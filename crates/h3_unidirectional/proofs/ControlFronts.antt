@@ -158,7 +158,7 @@ pub one_fault : (kinds : FrameKinds) (limit : ℕ) (side : Side) (p new : Peer) 
     → read_frame side (record p { unread = rest; goaways = goaways; updates = updates }) p.settings f ≡ (new, Some code) → read_peer kinds limit side p ≡ (new, Some code)
 one_fault kinds limit side p new goaways rest updates f code small same kept gives does =
     peer_fault kinds limit side p new f rest code small gives
-    (having_as side p f (known_by kinds p.unread) rest (new, Some code) (same_kept side p goaways rest updates f (new, Some code) same kept does) (λ none. let wrong : Some code ≡ None = none in absurd (cc)))
+    (having_as side p f (known_by kinds p.unread) rest (new, Some code) (same_kept side p goaways rest updates f (new, Some code) same kept does) (λ none. absurd (cc)))
 
 -- a GOAWAY frame is read
 pub goaway_read : (kinds : FrameKinds) (limit : ℕ) (side : Side) (p : Peer) (goaways after rest : List ℕ) (updates : Updates) (id : ℕ) (f : Frame PayloadLen) → is_excessive_by kinds limit (known_by kinds p.unread) ≡ false
