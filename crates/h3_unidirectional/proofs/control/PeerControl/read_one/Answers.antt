@@ -36,11 +36,24 @@ returns-in-Update-clause-ok c =
     rw (sym c.self.view_is)
     (update_read _ _ _ _ _ _ _ _ _ _ _ (sym c.is_excessive.ensures ∙ c.if-is_excessive.false) c.reserve.ensures.items c.reserve-2.ensures.same c.put.ensures gives c.in-Update.ensures)
 
+pub returns-in-Fault-clause-ok : goal.returns-in-Fault-clause-ok
+returns-in-Fault-clause-ok c =
+    let gives = rw c.in-Ok-Some.field-0-is at c.in-Ok-Some.ensures.gives in
+    rw (sym c.self.view_is) (one_fault _ _ _ _ _ _ _ _ _ _ (sym c.is_excessive.ensures ∙ c.if-is_excessive.false) c.reserve.ensures.items c.reserve-2.ensures.same gives c.in-Fault.ensures)
+
 pub returns-in-Err-Proto-clause-ok : goal.returns-in-Err-Proto-clause-ok
 returns-in-Err-Proto-clause-ok c =
     let gives = rw c.in-Err-Proto.field-0-is at c.in-Err-Proto.ensures.gives in
     rw (sym c.self.view_is, c.reserve.ensures.items, c.reserve-2.ensures.same, c.refused.ensures, c.in-Err-Proto.e-is)
     (peer_refused _ _ _ _ _ _ (sym c.is_excessive.ensures ∙ c.if-is_excessive.false) gives.0 gives.1)
+
+pub returns-in-Err : goal.returns-in-Err
+returns-in-Err c = record {
+  ok = tt;
+  refused = rw (sym c.self.view_is) (refused_front _ _ _ _ _ _ _ _ c.reserve.ensures.items c.reserve-2.ensures.same c.in-Err.ensures.gives);
+  first = λ none. tt;
+  unknown = rw (sym c.self.view_is) refl;
+}
 
 pub returns-in-Settings-clause-first : goal.returns-in-Settings-clause-first
 returns-in-Settings-clause-first c = rw (sym c.self.view_is) (λ none. settings_first (the_view c.self.inside) _ _ _ _ _ _ c.reserve.ensures.items c.reserve-2.ensures.same c.take_settings.ensures)
