@@ -80,7 +80,7 @@ having_settings kinds side p f rest pairs told tells = by_settings p.settings re
 
     by_settings : (settings : Option (List (ℕ × ℕ))) → p.settings ≡ settings → Reads settings
     by_settings (Some came) is e = e ∙ ap (with_both q pairs) (sym (none_looked kinds p told came is tells))
-    by_settings None is = by_frame f
+    by_settings None is e = by_frame f e
       where
         found : (g : Frame PayloadLen) → (missing : read_frame side q None g ≡ (q, Some missing_settings)) → read_frame side q None g ≡ with_both q pairs p.others → ⊥
         found g missing e = let wrong : Some missing_settings ≡ None = ap (λ (x : PeerFound). x.1) (sym missing ∙ e) in absurd (cc)

@@ -14,7 +14,7 @@ returns-then-are_refused-clause-ok c =
     let first = rw c.in-Ok-GoesOn.field-0-is at kept in
     refused_first c.args.kinds c.args.side c.args.own.now c.args.self.now _ _ _ one.0 first.0 first.1 (c.keep_goaways.ensures ∙ ap (λ last. kept_peer last c.read_one-progress.new.self) c.keeps_last.ensures)
     (sym c.are_refused.ensures ∙ c.if-are_refused.true)
-    (c.let_go.ensures ∙ ap (λ o. record c.keep_goaways.new.self { unread = []; others = o }) (sym (c.most_others.ensures c.requires)))
+    (c.let_go.ensures ∙ ap (λ o. record c.keep_goaways.new.self { unread = []; others = o }) (sym (c.most_others-most_others.ensures c.requires)))
 
 pub returns-clause-ok : goal.returns-clause-ok
 returns-clause-ok c =

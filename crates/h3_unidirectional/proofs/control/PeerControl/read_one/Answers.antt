@@ -2,6 +2,7 @@ use Rattle.std.proofs.Common.{refl, ap, sym, ◌∙◌}
 use Rattle.std.specs.List.{concat}
 use Rattle.h3_wire.specs.UnreadFrames.{UnreadFrames}
 use Rattle.h3_unidirectional.proofs.PeerLaws.{peer_refused}
+use Rattle.h3_unidirectional.specs.contracts.control.PeerControl.{the_view}
 use Rattle.h3_unidirectional.proofs.FirstReads.{no_goaway_first, no_push_first, no_update_first}
 use Rattle.h3_unidirectional.proofs.ControlFronts.{one_excessive, one_read, one_fault, goaway_read, update_read, settings_read, refused_front}
 use Rattle.h3_unidirectional.proofs.OthersTold.{settings_first}
@@ -55,7 +56,7 @@ returns-in-Err c = record {
 }
 
 pub returns-in-Settings-clause-first : goal.returns-in-Settings-clause-first
-returns-in-Settings-clause-first c = rw (sym c.self.view_is) (λ none. settings_first _ _ _ _ _ _ _ c.reserve.ensures.items c.reserve-2.ensures.same c.take_settings.ensures)
+returns-in-Settings-clause-first c = rw (sym c.self.view_is) (λ none. settings_first (the_view c.self.inside) _ _ _ _ _ _ c.reserve.ensures.items c.reserve-2.ensures.same c.take_settings.ensures)
 
 pub returns-in-Goaway-clause-first : goal.returns-in-Goaway-clause-first
 returns-in-Goaway-clause-first c = rw (sym c.self.view_is) (λ none. absurd (no_goaway_first _ _ _ _ _ none c.in-Goaway.ensures))
