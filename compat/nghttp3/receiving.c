@@ -477,11 +477,10 @@ static APART nghttp3_ssize read_other(nghttp3_conn *connection, int64_t id, cons
   return read_there(connection, s, bytes, length, fin);
 }
 
-/* The endpoint gets the type and length of a DATA frame that were kept, without a byte of its payload: it has nothing to tell then. */
+/* The endpoint gets the type and length of a DATA frame that were kept. It reads them with what comes next: so what it has to say of them
+ * is told then. */
 static void give_head(nghttp3_conn *connection, stream *s) {
-  reading now;
-  read_on(connection, s, (input){s->head, s->head_length, false}, false, &now);
-  if (now.answer == H3_OK || now.answer == H3_KEPT) s->head_length = 0, s->may_be_held = true;
+  if (endpoint_deliver(connection, s->id, s->head, s->head_length, false) == 0) s->head_length = 0, s->may_be_held = true;
 }
 
 /* How many bytes of its payload are to come of the frame that is under way on a request stream, or on the peer's control stream. */

@@ -31,8 +31,8 @@ mark=""
 libs=("-I$lib/beanwhile" "-L$lib" -lbeanwhile_h3 -lbeanwhile_h3_shim)
 
 # by valgrind: with few seeds where a program has any
-watched=(limits priority details shutdown arguments strict_connection in_memory datagrams unread instructions lists never_indexed read past schedules)
-declare -A few=([read]="0 100" [past]="1 100" [schedules]="0 20" [arguments]="$mark")
+watched=(limits priority details arguments strict_connection in_memory datagrams unread lists never_indexed past)
+declare -A few=([past]="1 100" [arguments]="$mark")
 
 wrapped=(-Wl,--wrap=malloc,--wrap=realloc,--wrap=free)
 refusing=(-Wl,--wrap=malloc,--wrap=realloc)

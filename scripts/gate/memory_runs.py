@@ -5,7 +5,7 @@
 
 runs crates/h3_talk on the scripts of scripts/gate/memory_schedules.py, three small ones and N by chance, with some of its calls for memory refused: one
 alone, one and those behind it for a while, one and all up to where memory is back, and some by chance; of the small ones each call in turn. And it
-runs crates/h3_cases so on small ones of sides that ask for strict messages or limit what is unfinished. Each
+runs crates/h3_cases on small ones of sides that ask for strict messages or limit what is unfinished, where each third call is the first refused. Each
 line has to be one that scripts/gate/memory_world.py allows behind the lines before it, also behind the first that tells of refused memory. By the lines
 alone, what comes out of a stream has to be a front of what was sent, and all of it in the end where the stream was neither reset nor given up. It
 prints a line 'ok ..' or 'failed ..' for each of the two. With --self-check it holds the same runs against wrong models, from each of which some
@@ -30,7 +30,7 @@ from memory_world import LISTS, MEMORY, OTHER, UNTOLD, Delivery, TooMany, follow
 from refusing import FOR_GOOD, Refused, Refusing, can_refuse  # noqa: E402
 
 SCHEDULES, SHOWN = 20, 5
-NO_MEMORY = 2  # the status of a program that could not write a line
+NO_MEMORY = 1  # the status of h3_cases where it could not write a line
 TELLING = (*MEMORY, "refused Malformed", "fault malformed")  # the answers of refused memory, and of sides that judge more
 
 
@@ -42,8 +42,8 @@ def each_in_turn(calls):
 
 
 def few_in_turn(calls):
-    """Of a program that reads and writes each line as it comes, and tries again: a line takes some calls."""
-    return [Refused(first, first + more) for first in range(1, calls + 1) for more in (0, 2, 6)]
+    """Of h3_cases, which reads and writes each line as it comes, and tries some calls again: a line takes several calls for memory. Each third one begins."""
+    return [Refused(first, first + (0, 6, 20)[first % 9 // 3]) for first in range(1, calls + 1, 3)]
 
 
 def by_chance(rng, calls):
@@ -136,6 +136,7 @@ class Run:
     status: int
     answers: list[str]
     is_cases: bool = False
+    is_refused: bool = True
 
     def wrong_line(self):
         """the first line that the model does not allow, or None"""
@@ -143,7 +144,7 @@ class Run:
         if self.status != (0 if is_whole else NO_MEMORY) or not (is_whole or self.is_cases):
             return f"{self.name}: status {self.status}, {len(self.answers)} lines"
         try:
-            place = follow(self.script, self.answers)
+            place = follow(self.script, self.answers, self.is_cases and self.is_refused)
         except (TooMany, memory_world.Unread) as why:
             return f"{self.name}: {why}"
         return place and f"{self.name}: event {place}, {self.script[place]!r}, is answered {self.answers[place - 1]!r}"
@@ -157,7 +158,7 @@ def runs_of(refusing, program, name, script, plans, is_cases=False):
     for plan in [Refused(), *chosen]:
         ran = refusing.run(program, given, plan, (BEGINS, ENDS))
         wrote = ran.wrote.decode(errors="replace").split("\n")[:-1]
-        yield Run(f"{name}, {plan}", script, ran.status, wrote[1:] if is_cases else wrote, is_cases)
+        yield Run(f"{name}, {plan}", script, ran.status, wrote[1:] if is_cases else wrote, is_cases, plan != Refused())
 
 
 def all_runs(refusing, program, cases, seeds):

@@ -14,7 +14,7 @@ import sys
 sys.path.insert(0, os.path.dirname(os.path.abspath(__file__)))
 from independent_model import GREATEST  # noqa: E402
 from independent_talk import SIDES, answered, event_of, next_line, sent_lines, setup  # noqa: E402
-from memory_world import begin, right_line  # noqa: E402
+from memory_world import begin, right_line, states_behind  # noqa: E402
 
 BEGINS, ENDS = 509, 521
 OWN = {"c": (2, 6, 10), "s": (3, 7, 11)}
@@ -48,7 +48,7 @@ class Judged(Schedule):
 
     def __init__(self, choices):
         self.lines = [f"config {choices}"]
-        self.state, self.behind, self.read = begin(self.lines[0])
+        self.state, self.read = begin(self.lines[0])
 
     @property
     def ends(self):
@@ -57,7 +57,7 @@ class Judged(Schedule):
     def add(self, line):
         self.lines.append(line)
         event = self.read(line)
-        self.state = self.behind(self.state, event, right_line(self.state, event))[0]
+        self.state = states_behind(self.state, event, right_line(self.state, event))[0]
 
 
 def fields(rng):
@@ -109,10 +109,10 @@ def one_event(made, rng, ids, queues):
     return choice < 0.6 and own_moved(made, rng) or next_line(rng, made.ends, ids, queues)
 
 
-def handed_out(ids):
+def handed_out(ids, rounds):
     """lines that deliver and pull everything"""
     lines = []
-    for _ in range(ROUNDS):
+    for _ in range(rounds):
         for side, own in OWN.items():
             lines += [f"deliver {side} {id} {count}" for id in (*own, *ids) for count in HALVES]
             lines += [f"{kind} {side} {id}" for id in ids for kind in ("end", "gone")]
@@ -120,10 +120,10 @@ def handed_out(ids):
     return lines
 
 
-def ended(made, ids):
+def ended(made, ids, rounds=ROUNDS):
     """the lines, once memory is back too"""
     made.add(f"deliver c 0 {ENDS}")
-    return made.lines + handed_out([0, *ids])
+    return made.lines + handed_out([0, *ids], rounds)
 
 
 def schedule(seed):
@@ -167,7 +167,7 @@ def judged(choices, lines):
     for line in lines:
         made.add(event(made, line))
     made.lines += PROBES
-    return ended(made, [4, 8])
+    return ended(made, [4, 8], 2)
 
 
 SIMPLE = "head c 4 GET https://www.example.com/sample/path"

@@ -414,10 +414,10 @@ def judges_of(line):
 
 
 def begin(line):
-    """the first state of a script, what may stand behind a line of its program, and how its lines are read"""
+    """the first state of a script, and how its lines are read"""
     if "/" in line:
-        return State(wide_setup(line), {CLIENT: (), SERVER: ()}, judges_of(line)), of_cases, wide_event
-    return State(setup(line), {CLIENT: (), SERVER: ()}), states_behind, event_of
+        return State(wide_setup(line), {CLIENT: (), SERVER: ()}, judges_of(line)), wide_event
+    return State(setup(line), {CLIENT: (), SERVER: ()}), event_of
 
 
 # ---- whole scripts
@@ -431,9 +431,10 @@ class TooMany(Exception):
     """more states than are followed"""
 
 
-def follow(script, answers):
-    """the number of the first event of a script, from 1, that is not answered as is allowed, or None"""
-    first, behind, read = begin(script[0])
+def follow(script, answers, by_cases=False):
+    """The number of the first event of a script, from 1, that is not answered as is allowed, or None. `by_cases`: h3_cases ran it, and memory was refused."""
+    first, read = begin(script[0])
+    behind = of_cases if by_cases else states_behind
     states = [first]
     for number, (line, answer) in enumerate(zip(script[1:], answers), 1):
         event = read(line)

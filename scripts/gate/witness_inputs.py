@@ -25,6 +25,7 @@ IN_C = {
     "tests/c/cancellations.c": (FREES, []), "tests/c/shutdown.c": ([], []), "tests/c/datagrams.c": ([], []),
     "tests/c/lists.c": ([], []), "tests/c/never_indexed.c": ([], []), "tests/c/streams.c": (REFUSES, []),
     "tests/c/strict_connection.c": ([], []), "tests/c/priority_updates.c": (REFUSES, []), "tests/c/over_streams.c": (FREES, []),
+    "tests/c/frame_left.c": ([], []),
     "tests/witness/far.c": ([], []), "tests/witness/over.c": ([], []), "tests/witness/lacking.c": (REFUSES, []),
 }
 CALLS, PRINTED, REFUSED, LAYERS = "tests/c/calls.c", "tests/c/in_memory.c", "tests/witness/refused.c", "tests/witness/layers.rattle"
