@@ -11,6 +11,9 @@ use std::collections::VecDeque;
 /// How many slots there are.
 const SLOTS: usize = 256;
 
+/// For so many entries memory is taken at once.
+pub(crate) const AHEAD: usize = 16;
+
 /// The slot of a name: of its length and two of its bytes, so that a long name costs no more.
 pub fn slot_of_name(name: &[u8]) -> usize
     ensures value { result ≡ name_slot name.now }
@@ -80,7 +83,7 @@ impl Index {
         ensures ok { OnOk result (HasRoom self.new) }
     {
         fill(&mut self.heads)?;
-        self.links.reserve(1)
+        self.links.reserve(AHEAD)
     }
 
     /// Adds an entry, for which there is memory.
