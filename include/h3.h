@@ -38,8 +38,8 @@
  * OWNERSHIP
  *
  * h3_endpoint is one pointer, owned by the caller. H3_NONE_YET (all bytes zero) holds no endpoint.
- * h3_new makes an endpoint, and h3_free frees it: each h3_new needs one h3_free. A copy of the
- * struct is the same endpoint: keep one, and move it as you like.
+ * h3_new, h3_new_with and h3_new_resumed make an endpoint, and h3_free frees it: each that was made
+ * needs one h3_free. A copy of the struct is the same endpoint: keep one, and move it as you like.
  * No call keeps a pointer of yours: you may free or change what you pass in as soon as it returns.
  * The library never returns pointers to its memory: bytes that you get are copied into your buffer,
  * but for a body in bytes that you gave to h3_read, which says where it lies. What does not fit
@@ -51,8 +51,8 @@
  *
  * NULL may stand for `detail`, for `fin`, for a buffer that is to be filled (it has no room then),
  * and for bytes and sizes whose length or count is 0. NULL for an endpoint is the same as one that
- * holds none. Every other NULL is H3_ARGUMENT, and nothing is done (but *endpoint of h3_new holds
- * none): bytes or sizes whose length or count is not 0, a configuration, any other result.
+ * holds none. Every other NULL is H3_ARGUMENT, and nothing is done: bytes, sizes or settings whose
+ * length or count is not 0, a configuration, any other result.
  *
  * THREADS
  *
@@ -87,11 +87,12 @@
  *
  * WHAT TO CALL FROM QUIC'S CALLBACKS
  *
- *   the handshake is done    h3_new; open three unidirectional streams before any other, so that
- *                            QUIC gives them the ids of the control, encoder and decoder stream: 2,
- *                            6, 10 of a client, 3, 7, 11 of a server (h3_control_id and so on). Let
- *                            the peer open at least three unidirectional streams (RFC 9114, section
- *                            6.2), and request streams as others close.
+ *   the handshake is done    h3_new (h3_new_resumed before it, if 0-RTT data is sent); open three
+ *                            unidirectional streams before any other, so that QUIC gives them the
+ *                            ids of the control, encoder and decoder stream: 2, 6, 10 of a client,
+ *                            3, 7, 11 of a server (h3_control_id and so on). Let the peer open at
+ *                            least three unidirectional streams (RFC 9114, section 6.2), and
+ *                            request streams as others close.
  *   a request is to be sent  h3_open_request, and then a bidirectional stream of QUIC: both give 0,
  *                            4, 8, .. in turn (A REQUEST'S STREAM)
  *   stream data came, or     h3_read(id, bytes, len, fin), in order of the stream's bytes, and
@@ -147,7 +148,7 @@
  *
  * WHICH CALL CAN FILL WHICH STREAM (so that you know which to look at; h3_next_to_send finds all)
  *
- *   h3_new                                  the local control, encoder and decoder stream
+ *   h3_new, h3_new_with, h3_new_resumed     the local control, encoder and decoder stream
  *   h3_send_head, h3_send_trailer           that stream, and the local encoder stream
  *   h3_send_body, h3_send_body_of           that stream
  *   h3_finish                               no bytes; the end of that stream (h3_outgoing then says
@@ -511,6 +512,19 @@ typedef struct {
                                        * request stream or at a client, 0x106 without an id, 0x108
                                        * for a push or for an id of no request stream, 0x101 with a
                                        * value that h3_priority_read refuses */
+  uint64_t other_settings;            /* how many of the peer's settings are kept whose ids are not
+                                       * known here, for h3_peer_setting: the first ones of its
+                                       * SETTINGS frame, at most 64, and a greater number is the
+                                       * same. A reserved id (RFC 9114, section 7.2.4.1) is never
+                                       * kept. With 0 all of them are ignored (section 7.2.4) */
+  uint64_t other_streams;             /* whether unidirectional streams of the peer are delivered
+                                       * whose types are not known here (1): h3_stream_kind returns
+                                       * H3_STREAM_OTHER for such a stream, h3_other_type its type,
+                                       * and h3_read and h3_pull H3_RAW, H3_END and H3_FAULT_RESET.
+                                       * Grant credit for them by `unread` as for all streams. One
+                                       * of a reserved type (RFC 9114, section 6.2.3) is never
+                                       * delivered, nor one of WebTransport without
+                                       * `webtransport`. With 0 what comes on them is dropped */
 } h3_config;
 
 /* A client with limits for an untrusted peer: it takes field sections of at most 65,536 bytes, and
@@ -530,6 +544,32 @@ static inline void h3_config_default(h3_config *config);
  * H3_BLOCKED_LIMIT, H3_SETTING, H3_UNFINISHED_LIMIT, H3_MEMORY. H3_ARGUMENT does nothing: *endpoint
  * is as it was. After any other refusal *endpoint holds none. */
 static inline uint32_t h3_new(h3_endpoint *endpoint, const h3_config *config, uint64_t *detail);
+
+/* A setting: its id, and its value. */
+typedef struct {
+  uint64_t id, value;
+} h3_setting;
+
+/* The same of an endpoint that announces further settings (RFC 9114, section 7.2.4), for an
+ * extension that you speak: `count` of them, at most 8. They stand after the others, in the same
+ * SETTINGS frame. Refused, in this order: H3_ARGUMENT (also more than 8), H3_TABLE_LIMIT,
+ * H3_BLOCKED_LIMIT, H3_SETTING, H3_UNFINISHED_LIMIT, H3_SETTING of a further one (detail: the first
+ * id that is 0, 2, 3, 4, 5 or 2^62 and more, that h3_config announces, that came before, or whose
+ * value is 2^62 and more), H3_MEMORY. *endpoint is written as by h3_new. */
+static inline uint32_t h3_new_with(h3_endpoint *endpoint, const h3_config *config,
+                                   const h3_setting *further, size_t count, uint64_t *detail);
+
+/* A client for a connection that sends 0-RTT data: it remembers settings of its server, which
+ * h3_remember_settings of an earlier connection copied (RFC 9114, section 7.2.4.2). Until the
+ * server's settings come it keeps to their limit of field sections (H3_TOO_LARGE) and, with
+ * `strict`, sends :protocol if they allow it; datagrams go by them too. It uses no dynamic table
+ * until then. Once they came ask h3_settings_kept. If the server rejected the 0-RTT data, free the
+ * endpoint and make one by h3_new. Refused, in this order: H3_ARGUMENT (also if `server` is set, or
+ * the bytes are no such settings), H3_TABLE_LIMIT, H3_BLOCKED_LIMIT, H3_SETTING,
+ * H3_UNFINISHED_LIMIT, H3_SETTING as of h3_new_with, H3_MEMORY. */
+static inline uint32_t h3_new_resumed(h3_endpoint *endpoint, const h3_config *config,
+                                      const h3_setting *further, size_t count,
+                                      const void *remembered, size_t len, uint64_t *detail);
 
 /* Frees an endpoint and all that it keeps; *endpoint then holds none. If it held none, nothing is
  * done. */
@@ -751,7 +791,7 @@ enum h3_kind {
   H3_TOO_LARGE_HEAD = 5,    /* in place of a header or trailer section above the local limit;
                                number: its size */
   H3_SESSION = 6,           /* a WebTransport session begins; number: its id */
-  H3_RAW = 7,               /* `len` bytes of a session */
+  H3_RAW = 7,               /* `len` bytes of a session, or of an H3_STREAM_OTHER */
   H3_END = 8,               /* the stream has ended, and all of it was delivered */
   H3_PENDING = 9,           /* the next item has not come yet */
   H3_WAITING = 10,          /* the next header or trailer section needs insertions from the peer's
@@ -1037,14 +1077,20 @@ enum h3_stream_type {
   H3_STREAM_DECODER = 3,
   H3_STREAM_PUSH = 4,    /* the connection has a fault by it: no push was allowed */
   H3_STREAM_SESSION = 5, /* of a WebTransport session */
-  H3_STREAM_UNKNOWN = 6  /* what comes on it is dropped. QUIC may send STOP_SENDING, with
+  H3_STREAM_UNKNOWN = 6, /* what comes on it is dropped. QUIC may send STOP_SENDING, with
                             H3_CODE_STREAM_CREATION_ERROR */
+  H3_STREAM_OTHER = 7    /* of another type, and delivered: with `other_streams` of h3_config */
 };
 
 /* The h3_stream_type of a unidirectional stream of the peer, by what came on it. Ask after data on
  * such a stream. H3_NONE for any other stream (*type is not written then).
  * Refused: H3_ARGUMENT (id not below 2^62). */
 static inline uint32_t h3_stream_kind(h3_endpoint *endpoint, uint64_t id, uint32_t *type);
+
+/* The type of an H3_STREAM_OTHER, by the number that its stream begins with (RFC 9114, section
+ * 6.2). H3_NONE for any other stream (*type is not written then).
+ * Refused: H3_ARGUMENT (id not below 2^62). */
+static inline uint32_t h3_other_type(h3_endpoint *endpoint, uint64_t id, uint64_t *type);
 
 typedef struct {
   uint64_t sending_table;    /* size of the dynamic table that this side writes, in bytes (RFC 9204,
@@ -1082,8 +1128,23 @@ enum h3_event {
 static inline uint32_t h3_next_event(h3_endpoint *endpoint, uint32_t *kind, uint64_t *number);
 
 /* The value of a setting that the peer announced (RFC 9114, section 7.2.4). H3_NONE before its
- * settings came, or if it is not among them. */
+ * settings came, or if it is not among them. One whose id is not known here is returned if
+ * `other_settings` of h3_config had it kept; if its id came twice, this is the first value. */
 static inline uint32_t h3_peer_setting(h3_endpoint *endpoint, uint64_t setting, uint64_t *value);
+
+/* Copies the settings of the server, to be kept with its session ticket for h3_new_resumed: those
+ * with a known id, as the payload of a SETTINGS frame, of 128 bytes at most. H3_NONE before they
+ * came. Refused: H3_ROOM (they do not fit), H3_MEMORY. *n is written on H3_OK alone. */
+static inline uint32_t h3_remember_settings(h3_endpoint *endpoint, void *buffer, size_t room,
+                                            size_t *n);
+
+/* Whether the settings that came keep to those that were remembered (1), after H3_EVENT_SETTINGS:
+ * no known one is gone that was not its default, and none allows less; the capacity of the table is
+ * the same, unless it was 0 (RFC 9204, section 3.2.3). If not, and the server accepted the 0-RTT
+ * data, close the connection with H3_CODE_SETTINGS_ERROR (RFC 9114, section 7.2.4.2). H3_NONE
+ * before they came (*kept is not written then). Refused: H3_ARGUMENT: the bytes are no settings. */
+static inline uint32_t h3_settings_kept(h3_endpoint *endpoint, const void *remembered, size_t len,
+                                        uint32_t *kept);
 
 /* The ids of the local unidirectional streams. */
 static inline uint64_t h3_control_id(int server) { return server ? 3 : 2; }
@@ -1095,7 +1156,8 @@ static inline uint64_t h3_decoder_id(int server) { return server ? 11 : 10; }
  * takes the handle by value and writes the handle for the next call through its last argument,
  * whatever it returns. The handle must hold an endpoint. No pointer may be NULL, even with a length
  * of 0: these do not test for it. A configuration is its numbers and how many they are; the first
- * is their size in bytes. h3_raw_new writes *out on H3_OK only. */
+ * is their size in bytes. Further settings are an id and a value in turn. h3_raw_new,
+ * h3_raw_new_with and h3_raw_new_resumed write *out on H3_OK only. */
 uint32_t h3_raw_version(void);
 uint32_t h3_raw_priority_read(const uint8_t *value, size_t len, uint32_t *urgency,
                               uint32_t *incremental);
@@ -1106,6 +1168,11 @@ uint32_t h3_raw_capsule_head(uint64_t capsule_type, uint64_t length, uint8_t *bu
                              size_t *n);
 void h3_raw_config_default(uint64_t *numbers, size_t count);
 uint32_t h3_raw_new(const uint64_t *numbers, size_t count, uint64_t *detail, h3_endpoint *out);
+uint32_t h3_raw_new_with(const uint64_t *numbers, size_t count, const uint64_t *further,
+                         size_t further_count, uint64_t *detail, h3_endpoint *out);
+uint32_t h3_raw_new_resumed(const uint64_t *numbers, size_t count, const uint64_t *further,
+                            size_t further_count, const uint8_t *remembered, size_t len,
+                            uint64_t *detail, h3_endpoint *out);
 void h3_raw_free(h3_endpoint endpoint);
 uint32_t h3_raw_open_request(h3_endpoint endpoint, uint64_t *id, uint64_t *detail,
                              h3_endpoint *out);
@@ -1169,10 +1236,15 @@ uint32_t h3_raw_read_datagram(h3_endpoint endpoint, const uint8_t *bytes, size_t
 uint32_t h3_raw_stream(h3_endpoint endpoint, uint64_t id, h3_stream_state *state, h3_endpoint *out);
 uint32_t h3_raw_frame_left(h3_endpoint endpoint, uint64_t id, uint64_t *left, h3_endpoint *out);
 uint32_t h3_raw_stream_kind(h3_endpoint endpoint, uint64_t id, uint32_t *type, h3_endpoint *out);
+uint32_t h3_raw_other_type(h3_endpoint endpoint, uint64_t id, uint64_t *type, h3_endpoint *out);
 uint32_t h3_raw_connection(h3_endpoint endpoint, h3_state *state, h3_endpoint *out);
 uint32_t h3_raw_next_event(h3_endpoint endpoint, uint32_t *kind, uint64_t *number, h3_endpoint *out);
 uint32_t h3_raw_peer_setting(h3_endpoint endpoint, uint64_t setting, uint64_t *value,
                              h3_endpoint *out);
+uint32_t h3_raw_remember_settings(h3_endpoint endpoint, uint8_t *buffer, size_t room, size_t *n,
+                                  h3_endpoint *out);
+uint32_t h3_raw_settings_kept(h3_endpoint endpoint, const uint8_t *remembered, size_t len,
+                              uint32_t *kept, h3_endpoint *out);
 
 /* ---- the functions above, over the exports ---- */
 
@@ -1214,6 +1286,36 @@ static inline uint32_t h3_new(h3_endpoint *endpoint, const h3_config *config, ui
                      ? 0
                      : (size_t)config->size / sizeof(uint64_t);
   uint32_t answer = h3_raw_new((const uint64_t *)config, count, detail ? detail : &none, endpoint);
+  if (answer && answer != H3_ARGUMENT) endpoint->at = NULL;
+  return answer;
+}
+static inline uint32_t h3_new_with(h3_endpoint *endpoint, const h3_config *config,
+                                   const h3_setting *further, size_t count, uint64_t *detail) {
+  uint64_t none = 0;
+  if (!endpoint || !config || (!further && count) || count > 8) return H3_ARGUMENT;
+  size_t numbers = config->size > sizeof *config || config->size % sizeof(uint64_t)
+                       ? 0
+                       : (size_t)config->size / sizeof(uint64_t);
+  uint32_t answer = h3_raw_new_with((const uint64_t *)config, numbers,
+                                    count ? (const uint64_t *)further : &none, 2 * count,
+                                    detail ? detail : &none, endpoint);
+  if (answer && answer != H3_ARGUMENT) endpoint->at = NULL;
+  return answer;
+}
+static inline uint32_t h3_new_resumed(h3_endpoint *endpoint, const h3_config *config,
+                                      const h3_setting *further, size_t count,
+                                      const void *remembered, size_t len, uint64_t *detail) {
+  uint64_t none = 0;
+  uint8_t nothing = 0;
+  if (!endpoint || !config || (!further && count) || count > 8 || (!remembered && len))
+    return H3_ARGUMENT;
+  size_t numbers = config->size > sizeof *config || config->size % sizeof(uint64_t)
+                       ? 0
+                       : (size_t)config->size / sizeof(uint64_t);
+  uint32_t answer = h3_raw_new_resumed((const uint64_t *)config, numbers,
+                                       count ? (const uint64_t *)further : &none, 2 * count,
+                                       len ? (const uint8_t *)remembered : &nothing, len,
+                                       detail ? detail : &none, endpoint);
   if (answer && answer != H3_ARGUMENT) endpoint->at = NULL;
   return answer;
 }
@@ -1473,6 +1575,11 @@ static inline uint32_t h3_stream_kind(h3_endpoint *endpoint, uint64_t id, uint32
   if (!type) return H3_ARGUMENT;
   return h3_raw_stream_kind(*endpoint, id, type, endpoint);
 }
+static inline uint32_t h3_other_type(h3_endpoint *endpoint, uint64_t id, uint64_t *type) {
+  if (!endpoint || !endpoint->at) return H3_NO_ENDPOINT;
+  if (!type) return H3_ARGUMENT;
+  return h3_raw_other_type(*endpoint, id, type, endpoint);
+}
 static inline uint32_t h3_connection(h3_endpoint *endpoint, h3_state *state) {
   if (!endpoint || !endpoint->at) return H3_NO_ENDPOINT;
   if (!state) return H3_ARGUMENT;
@@ -1487,6 +1594,22 @@ static inline uint32_t h3_peer_setting(h3_endpoint *endpoint, uint64_t setting, 
   if (!endpoint || !endpoint->at) return H3_NO_ENDPOINT;
   if (!value) return H3_ARGUMENT;
   return h3_raw_peer_setting(*endpoint, setting, value, endpoint);
+}
+static inline uint32_t h3_remember_settings(h3_endpoint *endpoint, void *buffer, size_t room,
+                                            size_t *n) {
+  uint8_t nothing;
+  if (!endpoint || !endpoint->at) return H3_NO_ENDPOINT;
+  if (!n) return H3_ARGUMENT;
+  return h3_raw_remember_settings(*endpoint, buffer ? (uint8_t *)buffer : &nothing,
+                                  buffer ? room : 0, n, endpoint);
+}
+static inline uint32_t h3_settings_kept(h3_endpoint *endpoint, const void *remembered, size_t len,
+                                        uint32_t *kept) {
+  uint8_t nothing = 0;
+  if (!endpoint || !endpoint->at) return H3_NO_ENDPOINT;
+  if (!kept || (!remembered && len)) return H3_ARGUMENT;
+  return h3_raw_settings_kept(*endpoint, len ? (const uint8_t *)remembered : &nothing, len, kept,
+                              endpoint);
 }
 #ifdef __cplusplus
 }

@@ -273,6 +273,19 @@ class endpoint {
     return call(h3_new, &config);
   }
 
+  /* The same, with further settings after those of h3_config, at most 8. */
+  result open(const h3_config &config, const h3_setting *further, std::size_t count) noexcept {
+    h3_free(&raw_);
+    return call(h3_new_with, &config, further, count);
+  }
+
+  /* A client that remembers settings of its server, as remember_settings copied them. */
+  result open_resumed(const h3_config &config, const void *remembered, std::size_t len, const h3_setting *further = nullptr,
+                      std::size_t count = 0) noexcept {
+    h3_free(&raw_);
+    return call(h3_new_resumed, &config, further, count, remembered, len);
+  }
+
   /* ---- sending ---- */
 
   result open_request(std::uint64_t &id) noexcept { return call(h3_open_request, &id); }
@@ -442,6 +455,12 @@ class endpoint {
     if (h3_stream_kind(&raw_, id, &type) != H3_OK) return std::nullopt;
     return type;
   }
+  /* The type of an H3_STREAM_OTHER. */
+  std::optional<std::uint64_t> other_type(std::uint64_t id) noexcept {
+    std::uint64_t type;
+    if (h3_other_type(&raw_, id, &type) != H3_OK) return std::nullopt;
+    return type;
+  }
   h3_state connection() noexcept {
     h3_state state{};
     h3_connection(&raw_, &state);
@@ -461,6 +480,16 @@ class endpoint {
     std::uint64_t value;
     if (h3_peer_setting(&raw_, setting, &value) != H3_OK) return std::nullopt;
     return value;
+  }
+  /* Copies the server's settings, 128 bytes at most, for open_resumed of a later connection, and says how many bytes there are. */
+  std::uint32_t remember_settings(void *buffer, std::size_t room, std::size_t &n) noexcept {
+    return h3_remember_settings(&raw_, buffer, room, &n);
+  }
+  /* Whether the settings that came keep to those. */
+  std::optional<bool> settings_kept(const void *remembered, std::size_t len) noexcept {
+    std::uint32_t kept;
+    if (h3_settings_kept(&raw_, remembered, len, &kept) != H3_OK) return std::nullopt;
+    return kept == 1;
   }
 
  private:

@@ -43,6 +43,12 @@ type Config struct {
 	// PriorityUpdates is for how many streams a server stores PRIORITY_UPDATE frames that did not take effect yet (RFC 9218, section 7.2):
 	// at most 128. With 0 it ignores these frames.
 	PriorityUpdates uint64
+	// OtherSettings: how many of the peer's settings are kept whose ids are not known here, for PeerSetting: the first ones, at most 64. With 0
+	// all of them are ignored (RFC 9114, section 7.2.4).
+	OtherSettings uint64
+	// OtherStreams: unidirectional streams of the peer whose types are not known here are delivered, as StreamOther. Without it what comes on
+	// them is dropped.
+	OtherStreams bool
 }
 
 // DefaultConfig has the limits of h3_config_default, which are fit for a peer that is not trusted. Header and trailer sections may have at
@@ -74,6 +80,8 @@ func DefaultConfig(server bool) Config {
 		ShortestStrings:         raw.shortest_strings != 0,
 		StrictConnection:        raw.strict_connection != 0,
 		PriorityUpdates:         uint64(raw.priority_updates),
+		OtherSettings:           uint64(raw.other_settings),
+		OtherStreams:            raw.other_streams != 0,
 	}
 }
 
@@ -110,5 +118,7 @@ func (c Config) raw() C.h3_config {
 	raw.shortest_strings = number(c.ShortestStrings)
 	raw.strict_connection = number(c.StrictConnection)
 	raw.priority_updates = C.uint64_t(c.PriorityUpdates)
+	raw.other_settings = C.uint64_t(c.OtherSettings)
+	raw.other_streams = number(c.OtherStreams)
 	return raw
 }

@@ -212,9 +212,50 @@ func TestStreams(t *testing.T) {
 	}
 	_, ok := server.StreamKind(0)
 	is(t, ok, false)
-	// a GOAWAY of four bytes, of which one came (RFC 9114, section 7.2.6)
+	// one byte of four of a GOAWAY frame's payload arrives (RFC 9114, section 7.2.6)
 	is(t, server.Deliver(2, []byte{7, 4, 0x80}), nil)
 	is(t, []any{server.FrameLeft(2), server.FrameLeft(14)}, []any{uint64(3), uint64(0)})
+}
+
+func TestExtensions(t *testing.T) {
+	// further settings, and streams of other types (RFC 9114, sections 7.2.4 and 6.2)
+	config := DefaultConfig(true)
+	config.OtherSettings, config.OtherStreams = 1, true
+	server := made(t, config)
+	client, err := NewWith(DefaultConfig(false), FurtherSetting{0x99, 7}, FurtherSetting{0x9a, 8})
+	is(t, err, nil)
+	defer client.Close()
+	_, ok := client.RememberSettings()
+	is(t, ok, false)
+	carry(t, client, server, 1000)
+	carry(t, server, client, 1000)
+	value, ok := server.PeerSetting(0x99)
+	is(t, []any{value, ok}, []any{uint64(7), true})
+	_, ok = server.PeerSetting(0x9a)
+	is(t, ok, false)
+	is(t, server.Deliver(14, []byte{0x40, 0x99, 'a'}), nil)
+	kind, _ := server.StreamKind(14)
+	number, ok := server.OtherType(14)
+	is(t, []any{kind, number, ok}, []any{StreamOther, uint64(0x99), true})
+	is(t, pull(t, server, 14, Raw).Bytes, []byte("a"))
+	_, ok = server.OtherType(2)
+	is(t, ok, false)
+	_, err = NewWith(DefaultConfig(false), FurtherSetting{6, 7})
+	is(t, err != nil, true)
+	// settings that are remembered (section 7.2.4.2)
+	remembered, ok := client.RememberSettings()
+	is(t, []any{len(remembered), ok}, []any{24, true})
+	kept, known := client.SettingsKept(remembered)
+	is(t, []bool{kept, known}, []bool{true, true})
+	kept, known = client.SettingsKept([]byte{6, 0x80, 1, 0, 1})
+	is(t, []bool{kept, known}, []bool{false, true})
+	resumed, err := NewResumed(DefaultConfig(false), []byte{6, 0x40, 0x64}, FurtherSetting{0x99, 7})
+	is(t, err, nil)
+	defer resumed.Close()
+	id, _ := resumed.OpenRequest()
+	is(t, resumed.SendHead(id, get) != nil, true) // above 100 bytes
+	_, err = NewResumed(DefaultConfig(true), remembered)
+	is(t, err != nil, true)
 }
 
 func TestPauses(t *testing.T) {

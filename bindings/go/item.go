@@ -14,7 +14,7 @@ const (
 	Trailer         Kind = C.H3_TRAILER        // the trailer
 	TooLargeHead    Kind = C.H3_TOO_LARGE_HEAD // in the place of a header or trailer section above the local limit; Number: its size
 	Session         Kind = C.H3_SESSION        // a WebTransport session begins; Number: its id
-	Raw             Kind = C.H3_RAW            // bytes of a session
+	Raw             Kind = C.H3_RAW            // bytes of a session, or of a StreamOther
 	End             Kind = C.H3_END            // the stream has ended, and all of it was delivered
 	Pending         Kind = C.H3_PENDING        // the next item is not there yet
 	Waiting         Kind = C.H3_WAITING        // the next field section needs insertions of the peer's encoder; Number: how many in all

@@ -40,6 +40,7 @@ const (
 	StreamPush    StreamType = C.H3_STREAM_PUSH
 	StreamSession StreamType = C.H3_STREAM_SESSION // of a WebTransport session
 	StreamUnknown StreamType = C.H3_STREAM_UNKNOWN // what comes on it is dropped: QUIC may send STOP_SENDING
+	StreamOther   StreamType = C.H3_STREAM_OTHER   // of another type, and delivered: with Config.OtherStreams
 )
 
 // StreamKind is the type of a unidirectional stream of the peer, by what came on it; false: it is another stream.
@@ -47,6 +48,13 @@ func (e *Endpoint) StreamKind(id uint64) (StreamType, bool) {
 	var kind C.uint32_t
 	answer := C.h3_stream_kind(&e.raw, C.uint64_t(id), &kind)
 	return StreamType(kind), answer == C.H3_OK
+}
+
+// OtherType is the type of a StreamOther, by the number that it begins with; false: it is another stream.
+func (e *Endpoint) OtherType(id uint64) (uint64, bool) {
+	var number C.uint64_t
+	answer := C.h3_other_type(&e.raw, C.uint64_t(id), &number)
+	return uint64(number), answer == C.H3_OK
 }
 
 // PeerLimits is what the peer's settings allow.
@@ -113,6 +121,23 @@ func (e *Endpoint) PeerSetting(setting uint64) (uint64, bool) {
 	var value C.uint64_t
 	answer := C.h3_peer_setting(&e.raw, C.uint64_t(setting), &value)
 	return uint64(value), answer == C.H3_OK
+}
+
+// RememberSettings copies the settings of the server, at most 128 bytes, to be kept with its session ticket for NewResumed; false: they have not
+// come, or there is no memory.
+func (e *Endpoint) RememberSettings() ([]byte, bool) {
+	var buffer [128]byte
+	var n C.size_t
+	answer := C.h3_remember_settings(&e.raw, start(buffer[:]), C.size_t(len(buffer)), &n)
+	return buffer[:n], answer == C.H3_OK
+}
+
+// SettingsKept says whether the settings that came keep to those that were remembered; the second result is false before they came, or if the bytes
+// are no settings. If they do not, and the server accepted the 0-RTT data, close the connection with CodeSettingsError (RFC 9114, section 7.2.4.2).
+func (e *Endpoint) SettingsKept(remembered []byte) (kept, known bool) {
+	var is C.uint32_t
+	answer := C.h3_settings_kept(&e.raw, start(remembered), C.size_t(len(remembered)), &is)
+	return is == 1, answer == C.H3_OK
 }
 
 func side(server bool) C.int {

@@ -212,7 +212,7 @@ def talk(script):
 
 # of h3_config_default, what a peer of the model can see
 WIDE_DEFAULT = {"max_field_section_size": 65536, "table": 4096, "blocked": 16, "guard_secrets": 1, "strict_connection": 1}
-HIDDEN = {"strict", "count_acknowledgments", "encoder_table", "economical_table", "unfinished_limit", "kept_ids", "reject_requests", "any_protocol", "shortest_strings", "priority_updates"}
+HIDDEN = {"strict", "count_acknowledgments", "encoder_table", "economical_table", "unfinished_limit", "kept_ids", "reject_requests", "any_protocol", "shortest_strings", "priority_updates", "other_settings", "other_streams"}
 
 
 def chosen(words):

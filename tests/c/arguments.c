@@ -43,6 +43,7 @@ static void of_none(h3_endpoint *e) {
   IS(h3_close_stream(e, 0, &fin, &fin, &detail), H3_NO_ENDPOINT);
   IS(h3_stream_kind(e, 2, &fin), H3_NO_ENDPOINT);
   IS(h3_frame_left(e, 2, &id), H3_NO_ENDPOINT);
+  IS(h3_other_type(e, 2, &id), H3_NO_ENDPOINT);
   IS(h3_goaway(e, 0, &detail), H3_NO_ENDPOINT);
   IS(h3_shutdown_notice(e, &detail), H3_NO_ENDPOINT);
   IS(h3_shutdown(e, &detail), H3_NO_ENDPOINT);
@@ -114,6 +115,7 @@ static void of_pointers(h3_endpoint *e, uint64_t id) {
   IS(h3_stream(e, id, NULL), H3_ARGUMENT);
   IS(h3_stream_kind(e, 3, NULL), H3_ARGUMENT);
   IS(h3_frame_left(e, 3, NULL), H3_ARGUMENT);
+  IS(h3_other_type(e, 3, NULL), H3_ARGUMENT);
   IS(h3_close_stream(e, id, NULL, &fin, NULL), H3_ARGUMENT);
   IS(h3_close_stream(e, id, &fin, NULL, NULL), H3_ARGUMENT);
   IS(h3_connection(e, NULL), H3_ARGUMENT);
@@ -548,6 +550,23 @@ static void of_rows_before_updates(void) {
   h3_free(&e);
 }
 
+/* and of one whose header knew no other_settings: none are kept, and no streams of unknown types are handed out */
+static void of_rows_before_others(void) {
+  enum { FEW = offsetof(h3_config, other_settings) / sizeof(uint64_t) };
+  h3_endpoint e = H3_NONE_YET;
+  uint64_t few[FEW], detail, value;
+  uint32_t type = 0;
+  h3_raw_config_default(few, FEW);
+  few[offsetof(h3_config, server) / sizeof *few] = 1;
+  IS(h3_raw_new(few, FEW, &detail, &e), H3_OK);
+  IS(h3_deliver(&e, 2, "\0\4\3\x40\x99\7", 6, &detail), H3_OK);
+  IS(h3_peer_setting(&e, 0x99, &value), H3_NONE);
+  IS(h3_deliver(&e, 6, "\x40\x99\7", 3, &detail), H3_OK);
+  IS(h3_stream_kind(&e, 6, &type), H3_OK);
+  HOLDS(type == H3_STREAM_UNKNOWN);
+  h3_free(&e);
+}
+
 /* the limits of a default endpoint, and what it announces: a control stream with one SETTINGS frame (RFC 9114, sections 6.2.1 and 7.2.4) */
 static void of_default(void) {
   static const uint8_t announced[] = {0, 4, 24, 6, 0x80, 1, 0, 0, 8, 0, 0xab, 0x60, 0x37, 0x42, 0, 0x33, 0, 0xab, 0x60, 0x37, 0x43, 0, 1, 0x50, 0, 7, 16};
@@ -560,7 +579,7 @@ static void of_default(void) {
   HOLDS(c.max_field_section_size == 65536 && c.table == 4096 && c.blocked == 16);
   HOLDS(c.max_webtransport_sessions == 0 && c.grease == 0 && c.server == 0 && c.send_grease == 0 && c.webtransport == 0);
   HOLDS(c.extended_connect == 0 && c.datagram == 0 && c.reject_requests == 1 && c.any_protocol == 1);
-  HOLDS(c.guard_secrets == 1 && c.shortest_strings == 1 && c.strict_connection == 1 && c.priority_updates == 100);
+  HOLDS(c.guard_secrets == 1 && c.shortest_strings == 1 && c.strict_connection == 1 && c.priority_updates == 100 && c.other_settings == 0 && c.other_streams == 0);
   IS(h3_new(&e, &c, NULL), H3_OK);
   IS(h3_outgoing(&e, h3_control_id(0), b, sizeof b, &n, NULL, NULL), H3_OK);
   HOLDS(n == sizeof announced && !memcmp(b, announced, n));
@@ -818,6 +837,7 @@ int main(int argc, char **argv) {
   of_rows_before_guards();
   of_rows_before_strict_connections();
   of_rows_before_updates();
+  of_rows_before_others();
   of_shorter_tables();
   of_next_ids();
   plain_config(&c);

@@ -236,6 +236,8 @@ static void choose(h3_config *config, const char *word) {
       {"shortest_strings", offsetof(h3_config, shortest_strings)},
       {"strict_connection", offsetof(h3_config, strict_connection)},
       {"priority_updates", offsetof(h3_config, priority_updates)},
+      {"other_settings", offsetof(h3_config, other_settings)},
+      {"other_streams", offsetof(h3_config, other_streams)},
   };
   size_t len = strcspn(word, "=");
   uint64_t value = word[len] ? strtoull(word + len + 1, NULL, 10) : 1;

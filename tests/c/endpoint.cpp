@@ -114,6 +114,14 @@ void exchange(std::size_t piece) {
   WANT(response.head.status == 200 && response.body.empty() && response.trailer.empty());
   WANT(client.stream(id).is_finished == 1 && client.connection().has_settings == 1);
   WANT(client.peer_setting(6) == client_config().max_field_section_size && !client.peer_setting(0x21));
+  std::uint8_t settings[128];
+  std::size_t len = 0;
+  WANT(client.remember_settings(settings, sizeof settings, len) == H3_OK && len == 24);
+  WANT(client.settings_kept(settings, len) == true && client.settings_kept("\6\x80\1\0\1", 5) == false && !client.settings_kept("\6", 1));
+  endpoint resumed;
+  WANT(resumed.open_resumed(client_config(), settings, len));
+  const h3_setting further[] = {{0x99, 7}};
+  WANT(resumed.open(client_config(), further, 1) && !client.other_type(3));
   std::optional<endpoint::event> event = client.next_event();
   WANT(event && event->kind == H3_EVENT_SETTINGS && event->number == 0 && !client.next_event());
 }

@@ -212,6 +212,8 @@ Program::Program(uint64_t seed)
     config.kept_ids = one_in(3) ? UINT64_MAX : below(4);
     config.any_protocol = below(2);
     config.datagram = below(2);
+    config.other_settings = below(3);
+    config.other_streams = below(2);
     uint64_t least = std::max<uint64_t>(256, 4 * std::max(config.max_field_section_size, config.table));
     config.unfinished_limit = one_in(4) ? UINT64_MAX : one_in(2) ? 0 : least; // the least that is taken
   }

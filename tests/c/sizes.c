@@ -299,6 +299,19 @@ static void deliveries(void) {
   DONE(h3_deliver(&ends[0], 3, "\0\4\3\6\101\0", 6, NULL), "h3_deliver", 3); /* SETTINGS that take sections of 256 bytes */
   DONE(h3_peer_setting(&ends[0], 6, &value), "h3_peer_setting", 0);
   WANT(value == 256, "another setting", 0, value);
+  h3_config config;
+  h3_endpoint with = H3_NONE_YET;
+  const h3_setting further[] = {{0x99, 7}};
+  uint8_t settings[128];
+  uint32_t settings_kept = 0;
+  h3_config_default(&config);
+  DONE(h3_remember_settings(&ends[0], settings, sizeof settings, &n), "h3_remember_settings", 0);
+  DONE(h3_settings_kept(&ends[0], settings, n, &settings_kept), "h3_settings_kept", 0);
+  WANT(n == 3 && settings_kept == 1, "other settings are remembered", 0, n);
+  DONE(h3_new_with(&with, &config, further, 1, NULL), "h3_new_with", 0);
+  h3_free(&with);
+  DONE(h3_new_resumed(&with, &config, further, 1, settings, n, NULL), "h3_new_resumed", 0);
+  h3_free(&with);
   memcpy(piece, "\41\200\20\0\0", 5); /* an unknown frame of 1 MiB */
   memset(piece + 5, 0, MIB);
   DONE(h3_deliver(&ends[0], 3, piece, MIB + 5, NULL), "h3_deliver", 3);
@@ -344,6 +357,7 @@ static void deliveries(void) {
   WANT(h3_send_priority(&ends[1], 0, 1, 0, NULL) == H3_NOT_CLIENT, "h3_send_priority", 0, 0);
   WANT(h3_priority(&ends[1], 0, &urgency, &incremental) == H3_NOT_OPEN, "h3_priority", 0, 0);
   DONE(h3_stream_kind(&ends[0], 3, &type), "h3_stream_kind", 3);
+  WANT(h3_other_type(&ends[0], 3, &value) == H3_NONE, "h3_other_type", 0, 0);
   WANT(type == H3_STREAM_CONTROL, "another type of stream", 3, type);
   DONE(h3_frame_left(&ends[0], 3, &value), "h3_frame_left", 3);
   WANT(value == 0, "a frame is under way", 3, value);

@@ -81,14 +81,25 @@ class Endpoint:
     lock: threads may share it. `close` frees it, and so do `with` and the garbage collector; every call after that raises
     `Answer.NO_ENDPOINT`."""
 
-    def __init__(self, config: Config) -> None:
-        """Raises `Answer.ARGUMENT` (the value of `grease`), `TABLE_LIMIT`, `BLOCKED_LIMIT`, `SETTING`, `UNFINISHED_LIMIT`, `MEMORY`."""
+    def __init__(self, config: Config, further: Iterable[tuple[int, int]] = (), remembered: Bytes | None = None) -> None:
+        """`further` has ids and values of settings that are announced after those of the configuration, at most 8, for an extension that the
+        caller speaks. `remembered`, of a client that sends 0-RTT data, are its server's settings, as `remember_settings` returned them in an earlier
+        connection (RFC 9114, section 7.2.4.2).
+
+        Raises `Answer.ARGUMENT` (the value of `grease`; more than 8 settings), `TABLE_LIMIT`, `BLOCKED_LIMIT`, `UNFINISHED_LIMIT`, `SETTING`,
+        `MEMORY`."""
         self._handle = raw.Handle()
         self._lock = threading.RLock()
         self._library = raw.library()
         self.is_server = bool(config.is_server)
         numbers, detail = (c_uint64 * NUMBERS)(*map(_number, config.numbers())), c_uint64()
-        answer = self._library.h3_raw_new(numbers, NUMBERS, byref(detail), byref(self._handle))
+        pairs = [_number(number) for pair in further for number in pair]
+        settings = (c_uint64 * max(len(pairs), 1))(*pairs)
+        if remembered is None:
+            answer = self._library.h3_raw_new_with(numbers, NUMBERS, settings, len(pairs), byref(detail), byref(self._handle))
+        else:
+            data = _as_bytes(remembered)
+            answer = self._library.h3_raw_new_resumed(numbers, NUMBERS, settings, len(pairs), data, len(data), byref(detail), byref(self._handle))
         if answer:
             raise refused(answer, detail.value)
 
@@ -494,6 +505,10 @@ class Endpoint:
             raise refused(answer)
         return None if answer else StreamType(kind.value)
 
+    def other_type(self, id: int) -> int | None:
+        """The type of a `StreamType.OTHER`, by the number that it begins with. None: it is another stream."""
+        return self._found("h3_raw_other_type", id)
+
     def connection(self) -> ConnectionState:
         """The state of the connection."""
         state = raw.RawConnection()
@@ -516,6 +531,27 @@ class Endpoint:
     def peer_setting(self, setting: int) -> int | None:
         """The value of a setting that the peer announced (RFC 9114, section 7.2.4)."""
         return self._found("h3_raw_peer_setting", setting)
+
+    def remember_settings(self) -> bytes | None:
+        """The settings of the server, to be kept with its session ticket for `remembered` of a later connection. None: they have not come.
+
+        Raises `Answer.MEMORY`."""
+        buffer, count = ctypes.create_string_buffer(128), c_size_t()
+        answer = self._answer("h3_raw_remember_settings", buffer, len(buffer), byref(count))
+        if answer not in (Answer.OK, Answer.NONE):
+            raise refused(answer)
+        return None if answer else buffer.raw[: count.value]
+
+    def settings_kept(self, remembered: Bytes) -> bool | None:
+        """Whether the settings that came keep to those that were remembered. None: they have not come. If not, and the server accepted the 0-RTT data,
+        close the connection with `Code.SETTINGS_ERROR` (RFC 9114, section 7.2.4.2).
+
+        Raises `Answer.ARGUMENT`: these are no settings."""
+        data, kept = _as_bytes(remembered), c_uint32()
+        answer = self._answer("h3_raw_settings_kept", data, len(data), byref(kept))
+        if answer not in (Answer.OK, Answer.NONE):
+            raise refused(answer)
+        return None if answer else kept.value == 1
 
 
 # how an item of each kind is read, but of the two faults that are raised

@@ -110,7 +110,7 @@ class Session(Item):
 
 @dataclass(frozen=True, slots=True)
 class Raw(Item):
-    """Bytes of a session."""
+    """Bytes of a session, or of a `StreamType.OTHER`."""
 
     data: bytes
 

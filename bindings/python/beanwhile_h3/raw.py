@@ -132,6 +132,8 @@ DECLARATIONS: dict[str, tuple[Any, list[Any]]] = {
     "h3_raw_capsule_head": (c_uint32, [c_uint64, c_uint64, BUFFER, c_size_t, SIZE_OUT]),
     "h3_raw_config_default": (None, [U64_OUT, c_size_t]),
     "h3_raw_new": (c_uint32, [U64_OUT, c_size_t, U64_OUT, OUT]),
+    "h3_raw_new_with": (c_uint32, [U64_OUT, c_size_t, U64_OUT, c_size_t, U64_OUT, OUT]),
+    "h3_raw_new_resumed": (c_uint32, [U64_OUT, c_size_t, U64_OUT, c_size_t, BYTES, c_size_t, U64_OUT, OUT]),
     "h3_raw_free": (None, [Handle]),
     "h3_raw_open_request": GIVES_ID,
     "h3_raw_next_request_id": GIVES_ID,
@@ -172,9 +174,12 @@ DECLARATIONS: dict[str, tuple[Any, list[Any]]] = {
     "h3_raw_stream": (c_uint32, [Handle, c_uint64, POINTER(RawStream), OUT]),
     "h3_raw_frame_left": FINDS_NUMBER,
     "h3_raw_stream_kind": (c_uint32, [Handle, c_uint64, U32_OUT, OUT]),
+    "h3_raw_other_type": FINDS_NUMBER,
     "h3_raw_connection": (c_uint32, [Handle, POINTER(RawConnection), OUT]),
     "h3_raw_next_event": (c_uint32, [Handle, U32_OUT, U64_OUT, OUT]),
     "h3_raw_peer_setting": FINDS_NUMBER,
+    "h3_raw_remember_settings": (c_uint32, [Handle, BUFFER, c_size_t, SIZE_OUT, OUT]),
+    "h3_raw_settings_kept": (c_uint32, [Handle, BYTES, c_size_t, U32_OUT, OUT]),
 }
 
 

@@ -47,6 +47,8 @@ class StreamType(enum.IntEnum):
     """Of a WebTransport session."""
     UNKNOWN = 6
     """What comes on it is dropped: QUIC may send STOP_SENDING with `Code.STREAM_CREATION_ERROR`."""
+    OTHER = 7
+    """Of another type, and delivered: with `other_streams` of the configuration. `other_type` returns its type."""
 
 
 @dataclass(frozen=True, slots=True)

@@ -24,6 +24,7 @@ from beanwhile_h3 import (
     PeerLimits,
     Pending,
     Priority,
+    Raw,
     Refused,
     SettingsCame,
     StreamType,
@@ -133,11 +134,36 @@ class Exchange(unittest.TestCase):
         # the types 0, 0x21 (RFC 9114, sections 6.2.1 and 6.2.3), and half a type
         for id, data in (2, b"\x00"), (14, b"\x21"), (18, b"\x40"):
             server.deliver(id, data)
-        # a SETTINGS frame of six bytes, of which one came (RFC 9114, section 7.2.4)
+        # one byte of six of a SETTINGS frame's payload arrives (RFC 9114, section 7.2.4)
         server.deliver(2, b"\x04\x06\x08")
         self.assertEqual((server.frame_left(2), server.frame_left(14)), (5, 0))
         types = [server.stream_kind(id) for id in (2, 14, 18, 22, 0, 3)]
         self.assertEqual(types, [StreamType.CONTROL, StreamType.UNKNOWN, StreamType.UNTOLD, StreamType.UNTOLD, None, None])
+
+    def test_settings_and_streams_of_extensions(self) -> None:
+        config = Config.server()
+        config.other_settings, config.other_streams = 1, True
+        client, server = Endpoint(Config.client(), [(0x99, 7), (0x9A, 8)]), Endpoint(config)
+        self.assertIsNone(client.remember_settings())
+        server.deliver(2, client.outgoing(2)[0])
+        client.deliver(3, server.outgoing(3)[0])
+        self.assertEqual([server.peer_setting(id) for id in (0x99, 0x9A, 6)], [7, None, 65536])
+        server.deliver(14, b"\x40\x99abc")
+        self.assertEqual((server.stream_kind(14), server.other_type(14), server.other_type(2)), (StreamType.OTHER, 0x99, None))
+        self.assertEqual(server.next_item(14), Raw(b"abc"))
+        with self.assertRaises(Refused) as known:
+            Endpoint(Config.client(), [(6, 7)])
+        self.assertEqual((known.exception.answer, known.exception.detail), (Answer.SETTING, 6))
+        # what a client remembers of its server (RFC 9114, section 7.2.4.2)
+        remembered = client.remember_settings()
+        assert remembered is not None
+        self.assertEqual((client.settings_kept(remembered), client.settings_kept(b"\x06\x80\x01\x00\x01")), (True, False))
+        resumed = Endpoint(Config.client(), remembered=b"\x06\x40\x64")
+        with self.assertRaises(Refused) as large:
+            resumed.send_head(resumed.open_request(), GET)
+        self.assertEqual(large.exception.answer, Answer.TOO_LARGE)
+        with self.assertRaises(Refused):
+            Endpoint(Config.server(), remembered=remembered)
 
     def test_a_server_shuts_down_in_two_steps(self) -> None:
         server = Endpoint(Config.server())

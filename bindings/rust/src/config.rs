@@ -1,7 +1,7 @@
 use crate::raw;
 
 /// How many numbers `h3_config` has: its size, and those of [`Config`].
-pub(crate) const NUMBERS: usize = 23;
+pub(crate) const NUMBERS: usize = 25;
 
 /// What an endpoint is and announces, as `h3_config`.
 ///
@@ -67,6 +67,12 @@ pub struct Config {
     /// For how many streams a server stores PRIORITY_UPDATE frames that did not take effect yet (RFC 9218, section 7.2): at most 128.
     /// With 0 it ignores these frames.
     pub priority_updates: u64,
+    /// How many of the peer's settings are kept whose ids are not known here, for `peer_setting`: the first ones, at most 64. With 0 all of
+    /// them are ignored (RFC 9114, section 7.2.4).
+    pub other_settings: u64,
+    /// Unidirectional streams of the peer whose types are not known here are delivered, as `StreamType::Other`. Without it what comes on them
+    /// is dropped.
+    pub other_streams: bool,
 }
 
 impl Config {
@@ -106,6 +112,8 @@ impl Config {
             shortest_strings: numbers[20] != 0,
             strict_connection: numbers[21] != 0,
             priority_updates: numbers[22],
+            other_settings: numbers[23],
+            other_streams: numbers[24] != 0,
         }
     }
 
@@ -135,6 +143,8 @@ impl Config {
             self.shortest_strings.into(),
             self.strict_connection.into(),
             self.priority_updates,
+            self.other_settings,
+            self.other_streams.into(),
         ]
     }
 }

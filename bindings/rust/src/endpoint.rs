@@ -64,6 +64,40 @@ impl Endpoint {
         Ok(Endpoint { handle })
     }
 
+    /// Makes an endpoint that announces further settings (an id and a value each) after those of the configuration, at most 8, for an
+    /// extension that the caller speaks.
+    ///
+    /// # Errors
+    ///
+    /// [`Error::Argument`] (the value of `grease`; more than 8 settings), [`Error::TableLimit`], [`Error::BlockedLimit`],
+    /// [`Error::UnfinishedLimit`], [`Error::Setting`], [`Error::Memory`].
+    pub fn new_with(config: &Config, further: &[(u64, u64)]) -> Result<Endpoint, Error> {
+        let (numbers, mut handle, mut detail) = (config.numbers(), Handle { at: ptr::null_mut() }, 0);
+        let pairs: Vec<u64> = further.iter().flat_map(|&(id, value)| [id, value]).collect();
+        let answer = unsafe {
+            raw::h3_raw_new_with(numbers.as_ptr(), numbers.len(), pairs.as_ptr(), pairs.len(), &mut detail, &mut handle)
+        };
+        answered(answer, detail)?;
+        Ok(Endpoint { handle })
+    }
+
+    /// Makes a client for a connection that sends 0-RTT data. It remembers settings of its server, as `remember_settings` returned them in an
+    /// earlier connection (RFC 9114, section 7.2.4.2), and announces further settings as `new_with` does.
+    ///
+    /// # Errors
+    ///
+    /// Those of `new_with`; [`Error::Argument`] also of a server, or of bytes that are no settings.
+    pub fn new_resumed(config: &Config, remembered: &[u8], further: &[(u64, u64)]) -> Result<Endpoint, Error> {
+        let (numbers, mut handle, mut detail) = (config.numbers(), Handle { at: ptr::null_mut() }, 0);
+        let pairs: Vec<u64> = further.iter().flat_map(|&(id, value)| [id, value]).collect();
+        let (start, len) = (remembered.as_ptr(), remembered.len());
+        let answer = unsafe {
+            raw::h3_raw_new_resumed(numbers.as_ptr(), numbers.len(), pairs.as_ptr(), pairs.len(), start, len, &mut detail, &mut handle)
+        };
+        answered(answer, detail)?;
+        Ok(Endpoint { handle })
+    }
+
     /// A call that answers a number, and may name another.
     fn call(&mut self, call: impl FnOnce(Handle, *mut u64, *mut Handle) -> u32) -> Result<(), Error> {
         let mut detail = 0;
@@ -628,8 +662,16 @@ impl Endpoint {
             3 => Some(StreamType::Decoder),
             4 => Some(StreamType::Push),
             5 => Some(StreamType::Session),
+            7 => Some(StreamType::Other),
             _ => Some(StreamType::Unknown),
         }
+    }
+
+    /// The type of a `StreamType::Other`, by the number that it begins with. `None`: it is another stream.
+    pub fn other_type(&mut self, id: u64) -> Option<u64> {
+        let mut found = 0;
+        self.call(|handle, _, out| unsafe { raw::h3_raw_other_type(handle, id, &mut found, out) }).ok()?;
+        Some(found)
     }
 
     /// What is to be seen of the connection.
@@ -667,5 +709,23 @@ impl Endpoint {
         let mut value = 0;
         self.call(|handle, _, out| unsafe { raw::h3_raw_peer_setting(handle, setting, &mut value, out) }).ok()?;
         Some(value)
+    }
+
+    /// The settings of the server, to be kept with its session ticket for `new_resumed`. `None`: they have not come, or there is no memory.
+    pub fn remember_settings(&mut self) -> Option<Vec<u8>> {
+        let (mut buffer, mut n) = (vec![0; 128], 0);
+        let (start, room) = (buffer.as_mut_ptr(), buffer.len());
+        self.call(|handle, _, out| unsafe { raw::h3_raw_remember_settings(handle, start, room, &mut n, out) }).ok()?;
+        buffer.truncate(n);
+        Some(buffer)
+    }
+
+    /// Whether the settings that came keep to those that were remembered. `None`: they have not come, or the bytes are no settings. If they do
+    /// not, and the server accepted the 0-RTT data, close the connection with H3_SETTINGS_ERROR (RFC 9114, section 7.2.4.2).
+    pub fn settings_kept(&mut self, remembered: &[u8]) -> Option<bool> {
+        let mut kept = 0;
+        let (start, len) = (remembered.as_ptr(), remembered.len());
+        self.call(|handle, _, out| unsafe { raw::h3_raw_settings_kept(handle, start, len, &mut kept, out) }).ok()?;
+        Some(kept == 1)
     }
 }

@@ -27,7 +27,7 @@ pub enum Item {
     TooLargeHead(u64),
     /// A WebTransport session begins, by its id.
     Session(u64),
-    /// Bytes of a session.
+    /// Bytes of a session, or of a [`StreamType::Other`](crate::StreamType::Other).
     Raw(Vec<u8>),
     /// The stream has ended, and all of it was returned.
     End,

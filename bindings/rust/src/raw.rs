@@ -77,6 +77,10 @@ extern "C" {
     pub(crate) fn h3_raw_capsule_head(capsule_type: u64, length: u64, buffer: *mut u8, room: usize, n: *mut usize) -> u32;
     pub(crate) fn h3_raw_config_default(numbers: *mut u64, count: usize);
     pub(crate) fn h3_raw_new(numbers: *const u64, count: usize, detail: *mut u64, out: *mut Handle) -> u32;
+    pub(crate) fn h3_raw_new_resumed(numbers: *const u64, count: usize, further: *const u64, further_count: usize, remembered: *const u8, len: usize, detail: *mut u64, out: *mut Handle) -> u32;
+    pub(crate) fn h3_raw_remember_settings(endpoint: Handle, buffer: *mut u8, room: usize, n: *mut usize, out: *mut Handle) -> u32;
+    pub(crate) fn h3_raw_settings_kept(endpoint: Handle, remembered: *const u8, len: usize, kept: *mut u32, out: *mut Handle) -> u32;
+    pub(crate) fn h3_raw_new_with(numbers: *const u64, count: usize, further: *const u64, further_count: usize, detail: *mut u64, out: *mut Handle) -> u32;
     pub(crate) fn h3_raw_free(endpoint: Handle);
     pub(crate) fn h3_raw_open_request(endpoint: Handle, id: *mut u64, detail: *mut u64, out: *mut Handle) -> u32;
     pub(crate) fn h3_raw_next_request_id(endpoint: Handle, id: *mut u64, detail: *mut u64, out: *mut Handle) -> u32;
@@ -117,6 +121,7 @@ extern "C" {
     pub(crate) fn h3_raw_stream(endpoint: Handle, id: u64, state: *mut RawStream, out: *mut Handle) -> u32;
     pub(crate) fn h3_raw_frame_left(endpoint: Handle, id: u64, left: *mut u64, out: *mut Handle) -> u32;
     pub(crate) fn h3_raw_stream_kind(endpoint: Handle, id: u64, kind: *mut u32, out: *mut Handle) -> u32;
+    pub(crate) fn h3_raw_other_type(endpoint: Handle, id: u64, number: *mut u64, out: *mut Handle) -> u32;
     pub(crate) fn h3_raw_connection(endpoint: Handle, state: *mut RawConnection, out: *mut Handle) -> u32;
     pub(crate) fn h3_raw_next_event(endpoint: Handle, kind: *mut u32, number: *mut u64, out: *mut Handle) -> u32;
     pub(crate) fn h3_raw_peer_setting(endpoint: Handle, setting: u64, value: *mut u64, out: *mut Handle) -> u32;

@@ -45,6 +45,8 @@ pub enum StreamType {
     Session,
     /// What comes on it is dropped: QUIC may send STOP_SENDING with H3_STREAM_CREATION_ERROR.
     Unknown,
+    /// Of another type, and delivered: with `Config::other_streams`.
+    Other,
 }
 
 /// What the peer's settings allow.

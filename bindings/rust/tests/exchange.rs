@@ -207,12 +207,36 @@ fn requests_are_opened_by_their_ids_and_closed() {
     // 0x21 is reserved (RFC 9114, section 6.2.3), and 0x40 is the first byte of a type of two
     server.deliver(14, b"\x21").unwrap();
     server.deliver(18, b"\x40").unwrap();
-    // a GOAWAY of four bytes, of which one came (RFC 9114, section 7.2.6)
+    // one byte of four of a GOAWAY frame's payload arrives (RFC 9114, section 7.2.6)
     server.deliver(2, b"\x07\x04\x80").unwrap();
     assert_eq!((server.frame_left(2), server.frame_left(14), server.frame_left(1 << 62)), (Ok(3), Ok(0), Err(Error::Argument)));
     let types: Vec<Option<StreamType>> = [2, 6, 14, 18, 0, 3].into_iter().map(|id| server.stream_kind(id)).collect();
     let (control, encoder) = (Some(StreamType::Control), Some(StreamType::Encoder));
     assert_eq!(types, [control, encoder, Some(StreamType::Unknown), Some(StreamType::Untold), None, None]);
+}
+
+/// Further settings, and streams of other types (RFC 9114, sections 7.2.4 and 6.2); settings that are remembered (section 7.2.4.2).
+#[test]
+fn settings_and_streams_of_extensions() {
+    let mut config = Config::server();
+    (config.other_settings, config.other_streams) = (1, true);
+    let mut client = Endpoint::new_with(&Config::client(), &[(0x99, 7), (0x9a, 8)]).unwrap();
+    let mut server = Endpoint::new(&config).unwrap();
+    assert_eq!(client.remember_settings(), None);
+    carry(&mut client, &mut server, 1000);
+    carry(&mut server, &mut client, 1000);
+    assert_eq!((server.peer_setting(0x99), server.peer_setting(0x9a)), (Some(7), None));
+    server.deliver(14, b"\x40\x99abc").unwrap();
+    assert_eq!((server.stream_kind(14), server.other_type(14), server.other_type(2)), (Some(StreamType::Other), Some(0x99), None));
+    assert!(matches!(server.next_item(14), Ok(Next::Item(Item::Raw(bytes))) if bytes == b"abc"));
+    assert_eq!(Endpoint::new_with(&Config::client(), &[(6, 7)]).err(), Some(Error::Setting(6)));
+    let remembered = client.remember_settings().unwrap();
+    assert_eq!((client.settings_kept(&remembered), client.settings_kept(b"\x06\x80\x01\x00\x01")), (Some(true), Some(false)));
+    let mut resumed = Endpoint::new_resumed(&Config::client(), b"\x06\x40\x64", &[]).unwrap();
+    let id = resumed.open_request().unwrap();
+    let get = [(":method", "GET"), (":scheme", "https"), (":authority", "localhost"), (":path", "/")];
+    assert!(matches!(resumed.send_head(id, &get), Err(Error::TooLarge(_))));
+    assert_eq!(Endpoint::new_resumed(&Config::server(), &remembered, &[]).err(), Some(Error::Argument));
 }
 
 /// The crate and the library that it is linked with are of one version, which is what the crate says of its proofs too.

@@ -2,10 +2,13 @@ pub mod Cuts
 pub mod HandleValues
 pub mod Uncut
 pub mod Making
+pub mod MakingWith
+pub mod Pairing
 pub mod NextIds
 pub mod Values
 pub mod RowLaws
 pub mod Reading
+pub mod Remembering
 pub mod Shown
 pub mod Datagrams
 pub mod NamedFields

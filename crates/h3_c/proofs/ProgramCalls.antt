@@ -37,7 +37,7 @@ use Rattle.h3_c.specs.Exported.{Calls, CallsList, CallsOn, LacksList, OnStream, 
 use Rattle.h3_c.specs.Given.{fields_given}
 use Rattle.h3_c.specs.Numbers.{TellsList, argument, body_told, call_told}
 use Rattle.h3_c.specs.Ordering.{IfGiven, flag_given, priority_given}
-use Rattle.h3_c.specs.Programs.{Act, Call, Comes, HasNone, Handles, IsEvent, IsRefused, LacksList as NoList, LearnsOf, are_events, event_of, handle_at, is_list}
+use Rattle.h3_c.specs.Programs.{Act, Call, Comes, HasNone, Handles, IsEvent, IsRefused, LacksList as NoList, LearnsOf, WritesNone, are_events, event_of, handle_at, is_list}
 use Rattle.h3_c.specs.Seen.{Seen}
 use Rattle.h3_c.specs.declared.items.PulledItem.{PulledItem}
 use Rattle.h3_c.specs.declared.numbers.Told.{Told}
@@ -146,10 +146,10 @@ pub data ByHistory : CallOfC → Type 0 where
 
 module _ (side : Side) (h g : Handles) (there : handle_at g (other side) ≡ handle_at h (other side)) where
   abbrev HasNoEvent : CallOfC → Type 0
-  HasNoEvent c = (event_of (Call side c) ≡ None) × (are_events (Call side c) ≡ false)
+  HasNoEvent c = (event_of (Call side c) ≡ None) × (are_events (Call side c) ≡ false) × WritesNone (Call side c) h g
 
   quiet : (c : CallOfC) → HasNoEvent c → StaysAt (handle_at h side) (handle_at g side) → Made (Call side c) h g
-  quiet c none stays = made_at (Call side c) side h g stays there (HasNone none.1 none.0)
+  quiet c none stays = made_at (Call side c) side h g stays there (HasNone none.1 none.0 none.2)
 
   looks_at : (c : CallOfC) → HasNoEvent c → handle_at g side ≡ handle_at h side → Made (Call side c) h g
   looks_at c none same = quiet c none (stays_same (handle_at h side) (handle_at g side) same)
@@ -175,14 +175,14 @@ module _ (side : Side) (h g : Handles) (there : handle_at g (other side) ≡ han
 
   -- a list
   sends : (c : CallOfC) (e : List Field → Event) (n : Told) (id : ℕ) (cut : Option (List Field)) (place : EndpointHistory → Option Refusal) (does : List Field → EndpointState → EndpointState → Result Unit Refusal → Type 0)
-      → event_of (Call side c) ≡ option_map (λ fields. (e fields, n)) cut → are_events (Call side c) ≡ false
+      → event_of (Call side c) ≡ option_map (λ fields. (e fields, n)) cut → (are_events (Call side c) ≡ false) × WritesNone (Call side c) h g
       → ((fields : List Field) → (is_list (e fields) ≡ true) × (cut ≡ Some fields → IsOfC (e fields)))
       → ((a : Answer) → TellsSent (handle_at g side).endpoint.announced.choices cut n a → LearnsOf (Call side c) g a)
       → ((fields : List Field) (a : Answer) → ByOne side (TellsCall done_answer (does fields)) h.client.endpoint h.server.endpoint a g.client.endpoint g.server.endpoint → Acts (e fields) h.client.endpoint h.server.endpoint a g.client.endpoint g.server.endpoint)
       → OnStream id n (handle_at h side) (handle_at g side) (SendsCut cut place n (handle_at h side) (handle_at g side) (λ fields r. does fields (handle_at h side).endpoint (handle_at g side).endpoint r)) → Made (Call side c) h g
   sends c e n id None place does is none list learns acts on = elim (below_or_not id (2 ^ 62)) [
-    | inl below ↦ looks_at c (is, none) (on.known below).1
-    | inr above ↦ looks_at c (is, none) (on.unknown above).1
+    | inl below ↦ looks_at c (is, none.0, none.1) (on.known below).1
+    | inr above ↦ looks_at c (is, none.0, none.1) (on.unknown above).1
   ]
   sends c e n id (Some fields) place does is none list learns acts on = elim (below_or_not id (2 ^ 62)) [
     | inl below ↦ by (on.known below)
@@ -243,31 +243,31 @@ module _ (side : Side) (h g : Handles) (there : handle_at g (other side) ≡ han
   holds : (id held : ℕ) (n : Told) → Does (call.Hold id held n) (handle_at h side) (handle_at g side) → Made (Call side (call.Hold id held n)) h g
   holds id held n on = elim (below_or_not id (2 ^ 62)) [
     | inl below ↦ by (flag_given held) (on.known below)
-    | inr above ↦ looks_at (call.Hold id held n) (refl, refl) (on.unknown above).1
+    | inr above ↦ looks_at (call.Hold id held n) (refl, refl, tt) (on.unknown above).1
   ]
     where
       by : (o : Option Bool) → IfGiven o n (handle_at h side) (handle_at g side) (λ is. Calls call_told n (handle_at h side) (handle_at g side) (λ r. Holds (handle_at h side).endpoint (handle_at g side).endpoint id is r)) → Made (Call side (call.Hold id held n)) h g
-      by None given = looks_at (call.Hold id held n) (refl, refl) given.1
-      by (Some is) k = done_so (call.Hold id held n) n (λ e. hold e id is) (refl, refl) (hold_same id is) k
+      by None given = looks_at (call.Hold id held n) (refl, refl, tt) given.1
+      by (Some is) k = done_so (call.Hold id held n) n (λ e. hold e id is) (refl, refl, tt) (hold_same id is) k
 
   -- QUIC took a FIN
   ends : (id : ℕ) (n : Told) → Does (call.EndTaken id n) (handle_at h side) (handle_at g side) → Made (Call side (call.EndTaken id n)) h g
   ends id n on = elim (below_or_not id (2 ^ 62)) [
-    | inl below ↦ (let k = on.known below in quiet (call.EndTaken id n) (refl, refl) (λ e stands. record { after = (end_taken e id).1; stands = (k.taken e stands).1; same = end_taken_same e id }))
-    | inr above ↦ looks_at (call.EndTaken id n) (refl, refl) (on.unknown above).1
+    | inl below ↦ (let k = on.known below in quiet (call.EndTaken id n) (refl, refl, tt) (λ e stands. record { after = (end_taken e id).1; stands = (k.taken e stands).1; same = end_taken_same e id }))
+    | inr above ↦ looks_at (call.EndTaken id n) (refl, refl, tt) (on.unknown above).1
   ]
 
   -- which stream sends next, by what the peer's frames said up to then
   sends_next : (before id : ℕ) (n : Told) → Does (call.NextByPriority before id n) (handle_at h side) (handle_at g side) → Made (Call side (call.NextByPriority before id n)) h g
   sends_next before id n d =
       let uses : UsesUpdates (handle_at h side).endpoint (handle_at g side).endpoint = elim (d.1) [ inl x ↦ x.1.uses | inr x ↦ x.1.uses ] in
-      quiet (call.NextByPriority before id n) (refl, refl) (λ e stands. record { after = use_updates e uses.count; stands = uses.stands e stands; same = updates_same e uses.count })
+      quiet (call.NextByPriority before id n) (refl, refl, tt) (λ e stands. record { after = use_updates e uses.count; stands = uses.stands e stands; same = updates_same e uses.count })
 
   -- a datagram that came, and closes nothing
   reads_datagram : (bytes : List ℕ) (id_before id from_before from : ℕ) (n : Told) → is_left_out (call.ReadDatagram bytes id_before id from_before from n) (handle_at h side) ≡ false
       → Does (call.ReadDatagram bytes id_before id from_before from n) (handle_at h side) (handle_at g side) → Made (Call side (call.ReadDatagram bytes id_before id from_before from n)) h g
   reads_datagram bytes id_before id from_before from n out d =
-      quiet (call.ReadDatagram bytes id_before id from_before from n) (refl, refl) (λ e stands.
+      quiet (call.ReadDatagram bytes id_before id from_before from n) (refl, refl, tt) (λ e stands.
       let x = d.done e stands in
       let number = ap (λ (t : Told × ℕ × ℕ). t.0.number == 2) d.is ∙ fault_told d.answer id_before from_before ∙ ap is_fault x.0 in
       let stays = sym (ap (λ b. is_none e.closed && b) number) ∙ sym (ap (λ c. is_none c && (n.number == 2)) stands.closed) ∙ out in
@@ -278,10 +278,10 @@ module _ (side : Side) (h g : Handles) (there : handle_at g (other side) ≡ han
 
   pub call_made : (c : CallOfC) → is_left_out c (handle_at h side) ≡ false → GivesBytes c → Does c (handle_at h side) (handle_at g side) → Made (Call side c) h g ⊎ ByHistory c
   call_made (call.OpenRequest before id n) out given d = inl (opens before id n d)
-  call_made (call.NextRequestId before id n) out given d = inl (looks_at _ (refl, refl) d.0)
+  call_made (call.NextRequestId before id n) out given d = inl (looks_at _ (refl, refl, tt) d.0)
   call_made (call.OpenRequestAt id n) out given d = inr (OpensUpToOf id n)
-  call_made (call.SendHead id sizes flags bytes n) out given d = inl (sends (call.SendHead id sizes flags bytes n) (λ fields. event.Fields side id fields) n id (fields_given sizes flags bytes) (λ e. place_refusal e id) (λ fields s t r. SendsFieldList s t id fields r) refl refl (λ fields. (refl, λ is. given_bytes sizes flags bytes fields given is)) (λ a tells. tells) (λ fields a acts. acts) d)
-  call_made (call.SendTrailer id sizes flags bytes n) out given d = inl (sends (call.SendTrailer id sizes flags bytes n) (λ fields. event.TrailerFields side id fields) n id (fields_given sizes flags bytes) (λ e. order_refusal e id) (λ fields s t r. SendsTrailerList s t id fields r) refl refl (λ fields. (refl, λ is. given_bytes sizes flags bytes fields given is)) (λ a tells. tells) (λ fields a acts. acts) d)
+  call_made (call.SendHead id sizes flags bytes n) out given d = inl (sends (call.SendHead id sizes flags bytes n) (λ fields. event.Fields side id fields) n id (fields_given sizes flags bytes) (λ e. place_refusal e id) (λ fields s t r. SendsFieldList s t id fields r) refl (refl, tt) (λ fields. (refl, λ is. given_bytes sizes flags bytes fields given is)) (λ a tells. tells) (λ fields a acts. acts) d)
+  call_made (call.SendTrailer id sizes flags bytes n) out given d = inl (sends (call.SendTrailer id sizes flags bytes n) (λ fields. event.TrailerFields side id fields) n id (fields_given sizes flags bytes) (λ e. order_refusal e id) (λ fields s t r. SendsTrailerList s t id fields r) refl (refl, tt) (λ fields. (refl, λ is. given_bytes sizes flags bytes fields given is)) (λ a tells. tells) (λ fields a acts. acts) d)
   call_made (call.SendBody id bytes n) out given d = inl (sends_body id bytes n d)
   call_made (call.SendBodyOf id len n) out given d = inl (never out)
   call_made (call.Finish id n) out given d = inl (calls (call.Finish id n) (event.Finish side id) n id (λ s t r. Finishes s t id r) refl (λ below. tt) (λ a tells. tells) (λ a acts. acts) d)
@@ -291,16 +291,16 @@ module _ (side : Side) (h g : Handles) (there : handle_at g (other side) ≡ han
   call_made (call.Goaway id n) out given d = inl (calls (call.Goaway id n) (event.Goaway side id) n id (λ s t r. GoesAway s t id r) refl (λ below. below) (λ a tells. tells) (λ a acts. acts) d)
   call_made (call.ShutdownNotice n) out given d = inr (GivesNoticeOf n)
   call_made (call.Shutdown n) out given d = inr (ShutsDownOf n)
-  call_made (call.FirstUnseen id n) out given d = inl (looks_at _ (refl, refl) d.0)
-  call_made (call.IsDrained drained n) out given d = inl (looks_at _ (refl, refl) d.0)
-  call_made (call.NextToSend from before id n) out given d = inl (looks_at _ (refl, refl) d.0)
+  call_made (call.FirstUnseen id n) out given d = inl (looks_at _ (refl, refl, tt) d.0)
+  call_made (call.IsDrained drained n) out given d = inl (looks_at _ (refl, refl, tt) d.0)
+  call_made (call.NextToSend from before id n) out given d = inl (looks_at _ (refl, refl, tt) d.0)
   call_made (call.NextByPriority before id n) out given d = inl (sends_next before id n d)
-  call_made (call.SetPriority id urgency incremental n) out given d = inl (prioritizes (call.SetPriority id urgency incremental n) (refl, refl) id urgency incremental n (λ p e. set_priority e id p) (λ p. set_priority_same id p) d)
-  call_made (call.SetInitialPriority id urgency incremental n) out given d = inl (prioritizes (call.SetInitialPriority id urgency incremental n) (refl, refl) id urgency incremental n (λ p e. set_initial_priority e id p) (λ p. set_initial_same id p) d)
+  call_made (call.SetPriority id urgency incremental n) out given d = inl (prioritizes (call.SetPriority id urgency incremental n) (refl, refl, tt) id urgency incremental n (λ p e. set_priority e id p) (λ p. set_priority_same id p) d)
+  call_made (call.SetInitialPriority id urgency incremental n) out given d = inl (prioritizes (call.SetInitialPriority id urgency incremental n) (refl, refl, tt) id urgency incremental n (λ p e. set_initial_priority e id p) (λ p. set_initial_same id p) d)
   call_made (call.SendPriority id urgency incremental n) out given d = inl (never out)
-  call_made (call.PriorityOf id urgency_before urgency incremental_before incremental n) out given d = inl (looks_at _ (refl, refl) d.0)
+  call_made (call.PriorityOf id urgency_before urgency incremental_before incremental n) out given d = inl (looks_at _ (refl, refl, tt) d.0)
   call_made (call.Hold id held n) out given d = inl (holds id held n d)
-  call_made (call.Outgoing id before buffer count_before count past_before past fin_before fin n) out given d = inl (looks_at _ (refl, refl) d.0)
+  call_made (call.Outgoing id before buffer count_before count past_before past fin_before fin n) out given d = inl (looks_at _ (refl, refl, tt) d.0)
   call_made (call.Advance id count n) out given d = inl (never out)
   call_made (call.EndTaken id n) out given d = inl (ends id n d)
   call_made (call.Read id bytes fin used before item n) out given d = inl (never out)
@@ -308,14 +308,17 @@ module _ (side : Side) (h g : Handles) (there : handle_at g (other side) ≡ han
   call_made (call.DeliverEnd id n) out given d = inl (never out)
   call_made (call.DeliverReset id code n) out given d = inl (never out)
   call_made (call.Pull id before item n) out given d = inl (pulls id before item n d)
-  call_made (call.NextUnblocked from before id n) out given d = inl (looks_at _ (refl, refl) d.0)
-  call_made (call.ItemFields sizes_before sizes flags_before flags before bytes n) out given d = inl (looks_at _ (refl, refl) d.0)
-  call_made (call.ItemBytes from before buffer count_before count n) out given d = inl (looks_at _ (refl, refl) d.0)
-  call_made (call.DatagramHead id before buffer count_before count n) out given d = inl (looks_at _ (refl, refl) d.0)
+  call_made (call.NextUnblocked from before id n) out given d = inl (looks_at _ (refl, refl, tt) d.0)
+  call_made (call.ItemFields sizes_before sizes flags_before flags before bytes n) out given d = inl (looks_at _ (refl, refl, tt) d.0)
+  call_made (call.ItemBytes from before buffer count_before count n) out given d = inl (looks_at _ (refl, refl, tt) d.0)
+  call_made (call.DatagramHead id before buffer count_before count n) out given d = inl (looks_at _ (refl, refl, tt) d.0)
   call_made (call.ReadDatagram bytes id_before id from_before from n) out given d = inl (reads_datagram bytes id_before id from_before from n out d)
-  call_made (call.Stream id before state n) out given d = inl (looks_at _ (refl, refl) d.0)
-  call_made (call.FrameLeft id before left n) out given d = inl (looks_at _ (refl, refl) d.0)
-  call_made (call.StreamKind id before kind n) out given d = inl (looks_at _ (refl, refl) d.0)
-  call_made (call.Connection state n) out given d = inl (looks_at _ (refl, refl) d.0)
-  call_made (call.NextEvent kind_before kind number_before number n) out given d = inl (looks _ (refl, refl) (ap (λ (v : Seen). v.endpoint) d.rest))
-  call_made (call.PeerSetting setting before value n) out given d = inl (looks_at _ (refl, refl) d.0)
+  call_made (call.Stream id before state n) out given d = inl (looks_at _ (refl, refl, tt) d.0)
+  call_made (call.FrameLeft id before left n) out given d = inl (looks_at _ (refl, refl, tt) d.0)
+  call_made (call.StreamKind id before kind n) out given d = inl (looks_at _ (refl, refl, tt) d.0)
+  call_made (call.OtherType id before number n) out given d = inl (looks_at _ (refl, refl, tt) d.0)
+  call_made (call.Connection state n) out given d = inl (looks_at _ (refl, refl, tt) d.0)
+  call_made (call.NextEvent kind_before kind number_before number n) out given d = inl (looks _ (refl, refl, tt) (ap (λ (v : Seen). v.endpoint) d.rest))
+  call_made (call.PeerSetting setting before value n) out given d = inl (looks_at _ (refl, refl, tt) d.0)
+  call_made (call.RememberSettings before buffer count_before count n) out given d = inl (looks_at _ (refl, refl, tt) d.0)
+  call_made (call.SettingsKept bytes before kept n) out given d = inl (looks_at _ (refl, refl, tt) d.0)

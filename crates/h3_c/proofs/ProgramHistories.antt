@@ -1,6 +1,6 @@
 -- The calls whose events are told by what the endpoint stands for: those that shut a connection down, the one that closes a stream both ways, and
 -- the one that opens requests up to an id.
-use Rattle.std.proofs.Common.{arith, ◌≡◌, ◌≤◌, ◌<◌, ◌⊎◌, inl, inr, ℕ, ◌+◌, Bool, true, false, List, [], ◌∷◌, refl, sym, ap, subst, ◌∙◌, Option, Some, None, Result, Ok, Err}
+use Rattle.std.proofs.Common.{arith, ◌≡◌, ◌≤◌, ◌<◌, ◌⊎◌, inl, inr, ℕ, ◌+◌, Bool, true, false, List, [], ◌∷◌, ◌++◌, refl, sym, ap, subst, ◌∙◌, Option, Some, None, Result, Ok, Err}
 use Rattle.std.specs.Prelude.{◌≢◌, ◌*◌, ◌^◌, ◌||◌, ◌==◌, nat_lt}
 use Rattle.std.proofs.lemmas.Grind.{common_steps}
 use Rattle.h3_proto.specs.declared.stream.Side.{Side}
@@ -8,11 +8,12 @@ use Rattle.h3_proto.specs.declared.stream.Side.TheVariants.{Client, Server}
 use Rattle.h3_connection.specs.Answers.{call_refused}
 use Rattle.h3_connection.specs.Calls.{IsSame}
 use Rattle.h3_connection.specs.Endpoint.{EndpointHistory, is_critical_id}
+use Rattle.h3_connection.specs.LastLaws.{last_appended}
 use Rattle.h3_connection.specs.Lasts.{last_id}
 use Rattle.h3_connection.specs.Outgoing.{is_sent_off}
 use Rattle.h3_connection.specs.OwnIds.{other}
 use Rattle.h3_connection.specs.Refusals.{refusal_to_stop}
-use Rattle.h3_connection.specs.Sending.{cancel, closed_or, does, goaway, is_open, open_refusal, outgoing_at, reset, reset_refusal, unless_closed}
+use Rattle.h3_connection.specs.Sending.{cancel, closed_or, does, goaway, goaway_refusal, is_open, open_refusal, outgoing_at, reset, reset_refusal, unless_closed}
 use Rattle.h3_connection.specs.SendingContracts.{DoesOrRefuses}
 use Rattle.h3_connection.specs.Shutdown.{goaway_once, is_named, last_taken, notice_id}
 use Rattle.h3_connection.specs.State.{StandsFor}
@@ -35,7 +36,7 @@ use Rattle.h3_c.specs.Does.{Does}
 use Rattle.h3_c.specs.Does.{CallOfC as call}
 use Rattle.h3_c.specs.Exported.{Calls}
 use Rattle.h3_c.specs.Numbers.{call_told, ok, refusal_told}
-use Rattle.h3_c.specs.Programs.{Act, Call, Closes, Comes, GoesAway, Handles, HasNone, OpensSoMany, OpensUpTo, are_events, event_of, handle_at, opened_answers, opened_events}
+use Rattle.h3_c.specs.Programs.{Act, Call, Closes, Comes, GoesAway, Handles, HasNone, OpensSoMany, OpensUpTo, WritesNone, are_events, event_of, goaway_at, handle_at, opened_answers, opened_events}
 use Rattle.h3_c.specs.Seen.{Seen}
 use Rattle.h3_c.specs.declared.numbers.Told.{Told}
 use Rattle.h3_c.proofs.FrontsShown.{below_or_not}
@@ -75,6 +76,10 @@ does_refusal (Some r) e new = refl
 reset_answers : (e : EndpointHistory) (id : ℕ) → is_out_of_memory (answer_of answer.Done (reset e id).0) ≡ false
 reset_answers e id =
     ap (λ r. is_out_of_memory (answer_of answer.Done r)) (does_refusal (reset_refusal e id) e _) ∙ not_memory e.closed (is_critical_id e id) (is_open e id) (is_sent_off (outgoing_at e id))
+
+does_none : (r : Option Refusal) (e new : EndpointHistory) → (does r e new).0 ≡ None → (r ≡ None) × ((does r e new).1 ≡ new)
+does_none None e new is = (refl, refl)
+does_none (Some r) e new is = absurd (let never : Some r ≡ None = is in cc)
 
 step_of : (ends new : Ends) (e : Event) (a : Answer) → is_out_of_memory a ≡ false → a ≡ (answered ends e).0 → new ≡ (answered ends e).1 → EndsStep ends e a new
 step_of ends new e a memory is next = subst (λ b. AnswerOf b ends e a new) (sym memory) (is, next)
@@ -126,6 +131,20 @@ module _ (side : Side) (h g : Handles) (there : handle_at g (other side) ≡ han
         server_stands = s.1;
       }
 
+  -- which GOAWAY is the last one then
+  writes_none : (c : call) (n : Told) → (c ≡ call.ShutdownNotice n) ⊎ (c ≡ call.Shutdown n) → goaway_at g side ≡ goaway_at h side → WritesNone (Call side c) h g
+  writes_none c n (inl is) same = subst (λ x. WritesNone (Call side x) h g) (sym is) same
+  writes_none c n (inr is) same = subst (λ x. WritesNone (Call side x) h g) (sym is) same
+
+  still_last : StandsFor (handle_at g side).endpoint (end_at ends side) → goaway_at g side ≡ goaway_at h side
+  still_last after = after.last_goaway ∙ sym stands.last_goaway
+
+  wrote : (id : ℕ) → (goaway (end_at ends side) id).0 ≡ None → StandsFor (handle_at g side).endpoint (goaway (end_at ends side) id).1 → goaway_at g side ≡ Some id
+  wrote id none after =
+      let e = end_at ends side in
+      let new : EndpointHistory = record e { own = record e.own { goaways = e.own.goaways ++ id ∷ [] } } in
+      after.last_goaway ∙ ap (λ (x : EndpointHistory). last_id x.own.goaways) (does_none (goaway_refusal e id) e new none).1 ∙ last_appended e.own.goaways id
+
   -- what shuts down
   shuts : (c : call) (n : Told) (id : ℕ) → (event_of (Call side c) ≡ None) × (are_events (Call side c) ≡ false) → (c ≡ call.ShutdownNotice n) ⊎ (c ≡ call.Shutdown n) → n ≡ ok
       → (goaway_once (end_at ends side) id).0 ≡ None → StandsFor (handle_at g side).endpoint (goaway_once (end_at ends side) id).1 → MadeAt (Call side c) h g ends
@@ -144,7 +163,7 @@ module _ (side : Side) (h g : Handles) (there : handle_at g (other side) ≡ han
           record {
             events = event.Goaway side id ∷ [];
             answers = answer.Done ∷ [];
-            comes = GoesAway id (act_is is) done;
+            comes = GoesAway id (act_is is) done (wrote id (sym (ap (λ x. x.0) goes) ∙ nothing) (subst (λ x. StandsFor (handle_at g side).endpoint x.1) goes stands));
             left = goes_away id (is_known id fits) (sym (ap (λ x. x.0) goes) ∙ nothing) (subst (λ x. StandsFor (handle_at g side).endpoint x.1) goes stands);
           }
       below false fits new =
@@ -154,7 +173,7 @@ module _ (side : Side) (h g : Handles) (there : handle_at g (other side) ≡ han
       by : (b : Bool) → is_named (last_id (end_at ends side).own.goaways) id ≡ b → MadeAt (Call side c) h g ends
       by true named =
           let goes : goaway_once (end_at ends side) id ≡ (unless_closed (end_at ends side) None, end_at ends side) = rw (named) refl in
-          record { events = []; answers = []; comes = HasNone none.1 none.0; left = none_left (end_at ends side) (subst (λ x. StandsFor (handle_at g side).endpoint x.1) goes stands) refl }
+          record { events = []; answers = []; comes = HasNone none.1 none.0 (writes_none c n is (still_last (subst (λ x. StandsFor (handle_at g side).endpoint x.1) goes stands))); left = none_left (end_at ends side) (subst (λ x. StandsFor (handle_at g side).endpoint x.1) goes stands) refl }
       by false new = below (nat_lt id (2 ^ 62)) refl new
 
   pub shuts_down : (c : call) (n : Told) (id : EndpointHistory → ℕ) → (event_of (Call side c) ≡ None) × (are_events (Call side c) ≡ false) → (c ≡ call.ShutdownNotice n) ⊎ (c ≡ call.Shutdown n)
@@ -166,7 +185,9 @@ module _ (side : Side) (h g : Handles) (there : handle_at g (other side) ≡ han
       by (Ok done) told d =
           let x = d.done (end_at ends side) stands (λ memory. let never : None ≡ Some refusal.OutOfMemory = memory in absurd (cc)) in
           shuts c n (id (end_at ends side)) none is told (sym x.0) x.1
-      by (Err r) told d = record { events = []; answers = []; comes = HasNone none.1 none.0; left = unchanged (Some r) d.same r refl }
+      by (Err r) told d =
+          let same = d.same (λ is. let never : Some r ≡ None = is in absurd (cc)) in
+          record { events = []; answers = []; comes = HasNone none.1 none.0 (writes_none c n is same.rest.last_goaway); left = unchanged (Some r) d.same r refl }
 
   -- what closes a stream: canceled, and then reset
   ends_both : (id : ℕ) → (canceled : Option Refusal) → (canceled ≡ None) ⊎ (canceled ≡ Some refusal.Ended) → (cancel (end_at ends side) id).0 ≡ canceled
@@ -264,10 +285,6 @@ same_ends : (ends : Ends) (side : Side) → with_end ends side (end_at ends side
 same_ends ends Client = refl
 same_ends ends Server = refl
 
-does_none : (r : Option Refusal) (e new : EndpointHistory) → (does r e new).0 ≡ None → (r ≡ None) × ((does r e new).1 ≡ new)
-does_none None e new is = (refl, refl)
-does_none (Some r) e new is = absurd (let never : Some r ≡ None = is in cc)
-
 module _ (side : Side) (h g : Handles) (there : handle_at g (other side) ≡ handle_at h (other side)) (ends : Ends) (client : StandsFor h.client.endpoint ends.client) (server : StandsFor h.server.endpoint ends.server) where
   pub closes_both : (id stop_before stop reset_before reset_stream : ℕ) (n : Told) → Does (call.CloseStream id stop_before stop reset_before reset_stream n) (handle_at h side) (handle_at g side)
       → MadeAt (Call side (call.CloseStream id stop_before stop reset_before reset_stream n)) h g ends
@@ -276,7 +293,7 @@ module _ (side : Side) (h g : Handles) (there : handle_at g (other side) ≡ han
     | inr above ↦ record {
       events = [];
       answers = [];
-      comes = HasNone (ap (λ (t : Told). t.number == 0) (d.0.unknown above).0) refl;
+      comes = HasNone (ap (λ (t : Told). t.number == 0) (d.0.unknown above).0) refl tt;
       left = none_left side h g there ends client server (end_at ends side) (subst (λ (v : Seen). StandsFor v.endpoint (end_at ends side)) (sym (d.0.unknown above).1) (stands side h g there ends client server)) refl;
     }
   ]
@@ -297,7 +314,7 @@ module _ (side : Side) (h g : Handles) (there : handle_at g (other side) ≡ han
             left = ends_both side h g there ends client server id (cancel e id).0 may refl (subst (λ z. StandsFor (handle_at g side).endpoint z) y.1 x.1);
           }
       by (Err r) told closed given =
-          record { events = []; answers = []; comes = HasNone (ap (λ (t : Told). t.number == 0) told ∙ not_done r) refl; left = unchanged side h g there ends client server (Some r) closed.closes.same r refl }
+          record { events = []; answers = []; comes = HasNone (ap (λ (t : Told). t.number == 0) told ∙ not_done r) refl tt; left = unchanged side h g there ends client server (Some r) closed.closes.same r refl }
 
   -- what opens requests, up to an id
   opened_left : (count : ℕ) → (0 < count → open_refusal (end_at ends side) ≡ None) → (end_at ends side).next_id + 4 * count < 2 ^ 62 + 4
@@ -335,7 +352,7 @@ module _ (side : Side) (h g : Handles) (there : handle_at g (other side) ≡ han
     | inr above ↦ record {
       events = [];
       answers = [];
-      comes = HasNone (ap (λ (t : Told). (t.number == 0) || (t.number == 18)) (d.unknown above).0) refl;
+      comes = HasNone (ap (λ (t : Told). (t.number == 0) || (t.number == 18)) (d.unknown above).0) refl tt;
       left = none_left side h g there ends client server (end_at ends side) (subst (λ (v : Seen). StandsFor v.endpoint (end_at ends side)) (sym (d.unknown above).1) (stands side h g there ends client server)) refl;
     }
   ]
@@ -353,7 +370,7 @@ module _ (side : Side) (h g : Handles) (there : handle_at g (other side) ≡ han
           record {
             events = [];
             answers = [];
-            comes = HasNone (ap (λ (t : Told). (t.number == 0) || (t.number == 18)) told ∙ another) refl;
+            comes = HasNone (ap (λ (t : Told). (t.number == 0) || (t.number == 18)) told ∙ another) refl tt;
             left = unchanged side h g there ends client server (Some r) (λ some. o.same some (λ is. is_other r another is)) r refl;
           }
 

@@ -22,9 +22,9 @@ use Rattle.h3_connection.specs.PartReading.{Stops, Goes}
 use Rattle.h3_connection.specs.PeerReading.{Peer, PeerFound, read_peer, with_unread}
 use Rattle.h3_connection.specs.Sending.{after_answer, after_fault, pull_at, pull_peer, pull_request, pull_unless, pulled_unidirectional}
 use Rattle.h3_connection.specs.StreamSets.{stream_at}
-use Rattle.h3_connection.specs.StrictConnection.{kinds_of, knows_sessions}
+use Rattle.h3_connection.specs.StrictConnection.{kinds_of, known_streams}
 use Rattle.h3_connection.specs.Unidirectional.{Role, Unidirectional, pull_unidirectional, role_after, with_bytes}
-use Rattle.h3_connection.specs.Unidirectional.Role.{Untold, Control, Encoder, Decoder, Push, Session, Ignored}
+use Rattle.h3_connection.specs.Unidirectional.Role.{Untold, Control, Encoder, Decoder, Push, Session, Ignored, Other}
 use Rattle.h3_connection.specs.declared.event.Fault.{Fault}
 use Rattle.h3_connection.specs.declared.event.Fault.TheVariants as fault
 use Rattle.h3_connection.specs.declared.event.Pull.{Pull}
@@ -112,6 +112,7 @@ heard_unordered e id Decoder bytes =
 heard_unordered e id (Push push) bytes = refl
 heard_unordered e id (Session session) bytes = refl
 heard_unordered e id Ignored bytes = refl
+heard_unordered e id (Other kind) bytes = refl
 
 unidirectional_unordered : (e : EndpointHistory) (id : ℕ) (o : Unidirectional) (read : Role × List ℕ) → read_unidirectional (unordered e) id o read ≡ so_found (read_unidirectional e id o read)
 unidirectional_unordered e id o (role, bytes) = heard_unordered (with_unidirectional e id (with_bytes o (role, bytes))) id role bytes
@@ -122,7 +123,7 @@ bytes_at_unordered e id bytes Request = ap (λ x. (with_incoming x id (kept (inc
 bytes_at_unordered e id bytes ServerOpened = refl
 bytes_at_unordered e id bytes OwnUnidirectional = refl
 bytes_at_unordered e id bytes PeerUnidirectional =
-    unidirectional_unordered e id (unidirectional_at e id) (role_after (knows_sessions e.announced) (unidirectional_at e id).role bytes)
+    unidirectional_unordered e id (unidirectional_at e id) (role_after (known_streams e.announced) (unidirectional_at e id).role bytes)
 
 end_at_unordered : (e : EndpointHistory) (id : ℕ) (k : Kind) → end_at (unordered e) id k ≡ so_found (end_at e id k)
 end_at_unordered e id Request = ap (λ x. (with_incoming x id (with_end (incoming_at e id)), None)) (opened_unordered e id)
@@ -257,6 +258,7 @@ held_as_unordered e id (Decoder, bytes) = refl
 held_as_unordered e id (Push push, bytes) = refl
 held_as_unordered e id (Session session, bytes) = refl
 held_as_unordered e id (Ignored, bytes) = refl
+held_as_unordered e id (Other kind, bytes) = refl
 
 frames_part : (kinds : FrameKinds) (limit : ℕ) (side : Side) (old new : Peer) → PeerReadsPart kinds limit side old new → PeerReadsPart kinds limit side (unheard old) (unheard new)
 frames_part kinds limit side old new part =
@@ -277,7 +279,7 @@ reads_on {e = e} {new = new} (ReadsWhole {a = a} is) = ReadsWhole (read_unordere
 reads_on {e = e} {new = new} (ReadsFront front rest {id = id} is) = ReadsFront front rest (read_unordered e new (BytesCame id front) is)
 reads_on {e = e} (Holds {id = id} {bytes = bytes} {more = more} kind reader) =
     let o = unidirectional_at e id in
-    let read = role_after (knows_sessions e.announced) o.role bytes in
+    let read = role_after (known_streams e.announced) o.role bytes in
     subst (λ x. ReadsOn (unordered e) (BytesCame id bytes ∷ more) x (BytesCame id [] ∷ more)) (held_as_unordered (with_unidirectional e id (with_bytes o read)) id read) (Holds kind reader)
 reads_on {e = e} (ReadsFrames {id = id} {p = p} {more = more} on may part) =
     subst (λ x. ReadsOn (unordered e) (BytesCame id [] ∷ more) x (BytesCame id [] ∷ early e p ++ more)) (if_learned_unordered e.peer.settings p.settings (record e { peer = p }))

@@ -16,6 +16,7 @@ use Rattle.h3_connection.specs.Keeping.{arrives, pulls}
 use Rattle.h3_connection.specs.Outgoing.{Outgoing as Out, OwnPart, is_sent_off, with_body, with_finish, with_reset, with_said, nothing_sent}
 use Rattle.h3_connection.specs.Outgoing.OwnPart.{OwnTrailer}
 use Rattle.h3_connection.specs.OwnIds.{other}
+use Rattle.h3_connection.specs.Remembering.{settings_known}
 use Rattle.h3_connection.specs.Refusals.{Sender, SenderStream, refusal_of_body, refusal_of_end, refusal_of_head, refusal_of_trailer, refusal_to_stop}
 use Rattle.h3_connection.specs.Sections.{written_section}
 use Rattle.h3_connection.specs.Sending as sender
@@ -65,7 +66,7 @@ part_unordered e id part = changed e e id (λ (o : Out). record o { parts = o.pa
 
 sender_unordered : (e : EndpointHistory) (id : ℕ) → sender_at (unordered e) id ≡ sender_at e id
 sender_unordered e id =
-    ap (λ (s : SenderStream). let at : Sender = record { side = e.side; stream = s; settings = e.peer.settings; going = begins_none_after e.announced e.side (last_id e.peer.goaways) } in at) (seen_unordered e id)
+    ap (λ (s : SenderStream). let at : Sender = record { side = e.side; stream = s; settings = settings_known e.announced e.peer.settings; going = begins_none_after e.announced e.side (last_id e.peer.goaways) } in at) (seen_unordered e id)
 
 content_unordered : (e : EndpointHistory) (id : ℕ) → (outgoing_at (unordered e) id).content ≡ (outgoing_at e id).content
 content_unordered e id = ap (λ (o : Out). o.content) (outgoing_unordered e id)

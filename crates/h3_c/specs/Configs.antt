@@ -44,12 +44,14 @@ default_config =
       shortest_strings = 1;
       strict_connection = 1;
       priority_updates = 100;
+      other_settings = 0;
+      other_streams = 0;
     }
 
 -- the numbers of `h3_config`: its size, and the others in its order
 abbrev pub numbers_of : ℕ → GivenConfig → List ℕ
 numbers_of size c =
-    size ∷ c.max_field_section_size ∷ c.max_webtransport_sessions ∷ c.table ∷ c.blocked ∷ c.grease ∷ c.server ∷ c.send_grease ∷ c.webtransport ∷ c.extended_connect ∷ c.datagram ∷ c.strict ∷ c.count_acknowledgments ∷ c.encoder_table ∷ c.economical_table ∷ c.unfinished_limit ∷ c.kept_ids ∷ c.reject_requests ∷ c.any_protocol ∷ c.guard_secrets ∷ c.shortest_strings ∷ c.strict_connection ∷ c.priority_updates ∷ []
+    size ∷ c.max_field_section_size ∷ c.max_webtransport_sessions ∷ c.table ∷ c.blocked ∷ c.grease ∷ c.server ∷ c.send_grease ∷ c.webtransport ∷ c.extended_connect ∷ c.datagram ∷ c.strict ∷ c.count_acknowledgments ∷ c.encoder_table ∷ c.economical_table ∷ c.unfinished_limit ∷ c.kept_ids ∷ c.reject_requests ∷ c.any_protocol ∷ c.guard_secrets ∷ c.shortest_strings ∷ c.strict_connection ∷ c.priority_updates ∷ c.other_settings ∷ c.other_streams ∷ []
 
 -- one of the numbers that a caller gave, or what it is where the caller has fewer
 abbrev pub number_at : List ℕ → ℕ → ℕ → ℕ
@@ -81,13 +83,15 @@ config_in numbers =
       shortest_strings = number_at numbers 20 default_config.shortest_strings;
       strict_connection = number_at numbers 21 default_config.strict_connection;
       priority_updates = number_at numbers 22 default_config.priority_updates;
+      other_settings = number_at numbers 23 default_config.other_settings;
+      other_streams = number_at numbers 24 default_config.other_streams;
     }
 
 -- what a caller asks for, whose first number is the size of all in bytes: of none but as many as are known here
 abbrev pub config_given : List ℕ → Option GivenConfig
 config_given [] = None
 config_given (size ∷ others) =
-    if (size == 8 * length (size ∷ others)) && nat_le (length (size ∷ others)) 23 then Some (config_in (size ∷ others)) else None
+    if (size == 8 * length (size ∷ others)) && nat_le (length (size ∷ others)) 25 then Some (config_in (size ∷ others)) else None
 
 -- a number other than 0 means yes
 abbrev pub is_on : ℕ → Bool
@@ -128,6 +132,8 @@ config_of given =
           shortest_strings = is_on given.shortest_strings;
           strict_connection = is_on given.strict_connection;
           priority_updates = given.priority_updates;
+          other_settings = given.other_settings;
+          other_streams = is_on given.other_streams;
         };
       };
     }

@@ -1,9 +1,9 @@
 -- What each call of h3.h on an endpoint does: one row for each, in the order of the header. v is what the handle owned before the call, w
 -- what the next handle owns. A call is written with its arguments, for each result what stood there before the call and what stands there
 -- after it, and last the number that it returns, with its detail. Of a result that is written in any case, only what stands there after the
--- call is named. h3_new and h3_free have no endpoint on both sides, and h3_version, h3_config_default and the calls for capsules and
+-- call is named. h3_new, h3_new_with, h3_new_resumed and h3_free have no endpoint on both sides, and h3_version, h3_config_default and the calls for capsules and
 -- priorities have none: see their exports.
-use Rattle.std.specs.Prelude.{◌≡◌, ℕ, List}
+use Rattle.std.specs.Prelude.{◌≡◌, ◌⊎◌, ℕ, List}
 use Rattle.h3_connection.specs.FrameLeft.{ShowsFrameLeft}
 use Rattle.h3_connection.specs.ReceivingContracts.{Delivers, DeliversEnd, DeliversReset}
 use Rattle.h3_connection.specs.SendingContracts.{SendsBody, Finishes, Resets, Cancels, GoesAway}
@@ -17,10 +17,11 @@ use Rattle.h3_c.specs.Ending.{SendsNext, TakesEndOf}
 use Rattle.h3_c.specs.Events.{ReportsEvent}
 use Rattle.h3_c.specs.Exported.{Calls, CallsOn, CopiesOut, DeliversOn, OnStream, OpensRequest, Pulls, ReadsBytes, ReadsFields, SendsCut, ShowsNextId, Takes, Unwritten}
 use Rattle.h3_c.specs.Given.{fields_given}
-use Rattle.h3_c.specs.Kinds.{ShowsKind}
+use Rattle.h3_c.specs.Kinds.{ShowsKind, ShowsType}
 use Rattle.h3_c.specs.Numbers.{body_told, call_told, delivery_told, ok}
 use Rattle.h3_c.specs.Ordering.{HoldsOn, SendsByPriority, SendsPriorityOn, SetsInitialPriorityOn, SetsPriorityOn, ShowsPriorityOf}
 use Rattle.h3_c.specs.Reads.{ReadsOn}
+use Rattle.h3_c.specs.Remembered.{GivesSettings, LacksMemory, ShowsKept}
 use Rattle.h3_c.specs.Seen.{Seen}
 use Rattle.h3_c.specs.Showing.{ShowsConnection, ShowsSetting, ShowsStream}
 use Rattle.h3_c.specs.Shutdown.{ShowsIsDrained, ShowsUnseen}
@@ -77,9 +78,12 @@ pub data CallOfC : Type 0 where
   Stream : (id : ℕ) (before state : StreamState) (n : Told) → CallOfC
   FrameLeft : (id before left : ℕ) (n : Told) → CallOfC
   StreamKind : (id before kind : ℕ) (n : Told) → CallOfC
+  OtherType : (id before number : ℕ) (n : Told) → CallOfC
   Connection : (state : ConnectionState) (n : Told) → CallOfC
   NextEvent : (kind_before kind number_before number : ℕ) (n : Told) → CallOfC
   PeerSetting : (setting before value : ℕ) (n : Told) → CallOfC
+  RememberSettings : (before buffer : List ℕ) (count_before count : ℕ) (n : Told) → CallOfC
+  SettingsKept : (bytes : List ℕ) (before kept : ℕ) (n : Told) → CallOfC
 
 abbrev pub Does : CallOfC → Seen → Seen → Type 0
 Does (OpenRequest before id n) v w = OpensRequest n v w before id
@@ -133,6 +137,10 @@ Does (ReadDatagram bytes id_before id from_before from n) v w = ReadsOne v w byt
 Does (Stream id before state n) v w = (w ≡ v) × OnStream id n v w ((n ≡ ok) × ShowsStream v id state) × Unwritten id (state ≡ before)
 Does (FrameLeft id before left n) v w = (w ≡ v) × OnStream id n v w ((n ≡ ok) × ShowsFrameLeft v.endpoint id left) × Unwritten id (left ≡ before)
 Does (StreamKind id before kind n) v w = (w ≡ v) × OnStream id n v w (ShowsKind v id n before kind) × Unwritten id (kind ≡ before)
+Does (OtherType id before number n) v w = (w ≡ v) × OnStream id n v w (ShowsType v id n before number) × Unwritten id (number ≡ before)
 Does (Connection state n) v w = (w ≡ v) × (n ≡ ok) × ShowsConnection v state
 Does (NextEvent kind_before kind number_before number n) v w = ReportsEvent v w n kind_before kind number_before number
 Does (PeerSetting setting before value n) v w = (w ≡ v) × ShowsSetting v setting n before value
+Does (RememberSettings before buffer count_before count n) v w =
+    (w ≡ v) × (LacksMemory n before buffer count_before count ⊎ GivesSettings v n before buffer count_before count)
+Does (SettingsKept bytes before kept n) v w = (w ≡ v) × ShowsKept v bytes n before kept

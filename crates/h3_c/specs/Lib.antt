@@ -2,6 +2,8 @@ pub mod Asked
 pub mod Bits
 pub mod Closing
 pub mod Configs
+pub mod Further
+pub mod Remembered
 pub mod Datagrams
 pub mod Does
 pub mod Ending

@@ -183,6 +183,16 @@ are_events (Call side (CloseStream id stop_before stop reset_before reset n)) = 
 are_events (Call side (OpenRequestAt id n)) = (n.number == 0) || (n.number == 18)
 are_events _ = false
 
+-- the last GOAWAY of a side
+abbrev pub goaway_at : Handles → Side → Option ℕ
+goaway_at h side = (handle_at h side).endpoint.last_goaway
+
+-- a call that shuts a connection down is no event where it writes no GOAWAY: the last one stays
+abbrev pub WritesNone : Act → Handles → Handles → Type 0
+WritesNone (Call side (ShutdownNotice n)) h g = goaway_at g side ≡ goaway_at h side
+WritesNone (Call side (Shutdown n)) h g = goaway_at g side ≡ goaway_at h side
+WritesNone _ h g = Unit {0}
+
 -- So many requests are opened, the next ones: an id is 4 above the one before it (RFC 9000, section 2.1).
 abbrev pub opened_events : Side → ℕ → List Event
 opened_events side zero = []
@@ -225,11 +235,11 @@ pub data ComesOfRead (from : Side) (id : ℕ) (bytes : List ℕ) (fin used : ℕ
 
 pub data Comes (act : Act) (h g : Handles) : List Event → List Answer → Type 0 where
   IsEvent : {e : Event} {n : Told} {a : Answer} → event_of act ≡ Some (e, n) → LearnsOf act g a → Comes act h g (e ∷ []) (a ∷ [])
-  HasNone : are_events act ≡ false → event_of act ≡ None → Comes act h g [] []
+  HasNone : are_events act ≡ false → event_of act ≡ None → WritesNone act h g → Comes act h g [] []
   IsRefused : {e : Event} {n : Told} → event_of act ≡ Some (e, n) → (n ≡ argument) ⊎ (n ≡ rejected) → Comes act h g [] []
   LacksList : {e : Event} {n : Told} → event_of act ≡ Some (e, n) → is_list e ≡ true → n ≡ memory → g ≡ h → Comes act h g [] []
   -- a call that shuts a connection down, where it writes a GOAWAY: of an id that C did not give
-  GoesAway : {side : Side} {n : Told} (id : ℕ) → (act ≡ Call side (ShutdownNotice n)) ⊎ (act ≡ Call side (Shutdown n)) → n ≡ ok → Comes act h g (event.Goaway side id ∷ []) (answer.Done ∷ [])
+  GoesAway : {side : Side} {n : Told} (id : ℕ) → (act ≡ Call side (ShutdownNotice n)) ⊎ (act ≡ Call side (Shutdown n)) → n ≡ ok → goaway_at g side ≡ Some id → Comes act h g (event.Goaway side id ∷ []) (answer.Done ∷ [])
   -- a stream that is closed both ways is canceled and reset, each unless that is over
   Closes : {side : Side} {id stop_before stop reset_before reset : ℕ} {n : Told} (canceled sent_off : Option Refusal) → act ≡ Call side (CloseStream id stop_before stop reset_before reset n) → n ≡ ok
       → (canceled ≡ None) ⊎ (canceled ≡ Some refusal.Ended) → reset ≡ bit (is_none sent_off)

@@ -1,9 +1,8 @@
 -- What C reads of an endpoint.
-use Rattle.std.specs.Prelude.{◌≡◌, ℕ, List, length, Option, Some, None}
-use Rattle.h3_proto.specs.Settings.{value_of}
+use Rattle.std.specs.Prelude.{◌≡◌, ℕ, length, Option, Some, None}
 use Rattle.h3_connection.specs.Endpoint.{EndpointHistory, bytes_waiting}
 use Rattle.h3_connection.specs.Lasts.{last_id}
-use Rattle.h3_connection.specs.Shown.{has_outgoing, is_finished, is_reset, peer_limits, table_sizes, waiting_heads, block_tries}
+use Rattle.h3_connection.specs.Shown.{has_outgoing, is_finished, is_reset, peer_limits, table_sizes, waiting_heads, block_tries, peer_setting}
 use Rattle.h3_connection.specs.State.{StandsFor}
 use Rattle.h3_connection.specs.Unread.{unread, counted}
 use Rattle.h3_connection.specs.declared.event.PeerLimits.{PeerLimits}
@@ -51,9 +50,5 @@ abbrev pub IsValue : Option ℕ → Told → ℕ → ℕ → Type 0
 IsValue None n before after = (n ≡ none) × (after ≡ before)
 IsValue (Some announced) n before after = (n ≡ ok) × (after ≡ announced)
 
-abbrev pub setting_in : Option (List (ℕ × ℕ)) → ℕ → Option ℕ
-setting_in None id = None
-setting_in (Some pairs) id = value_of id pairs
-
 abbrev pub ShowsSetting : Seen → ℕ → Told → ℕ → ℕ → Type 0
-ShowsSetting v id n before after = (e : EndpointHistory) → StandsFor v.endpoint e → IsValue (setting_in e.peer.settings id) n before after
+ShowsSetting v id n before after = (e : EndpointHistory) → StandsFor v.endpoint e → IsValue (peer_setting e id) n before after

@@ -1,17 +1,20 @@
 //! What an endpoint is made of: `h3_config` of the header.
 ghost use Rattle.std.specs.Prelude.{◌≡◌, ◌<◌, slice_get, unwrap_or};
-ghost use Rattle.h3_connection.specs.SendingContracts.{Creates};
+ghost use Rattle.h3_connection.specs.Remembering.{remembering};
+ghost use Rattle.h3_connection.specs.SendingContracts.{Creates, CreatesWith};
+ghost use Rattle.h3_proto.specs.declared.stream.Side.TheVariants.{Client};
 ghost use Rattle.h3_c.specs.Configs.{default_config, side_of, config_of, config_given, least_for, limit_of_given, announced_of, numbers_of};
 
 use h3_coding::varint::VarInt;
 use h3_connection::setup::{Limits, NewError};
 use h3_proto::config::Config;
+use h3_proto::frame::Settings;
 use h3_proto::stream::Side;
 use h3_session::endpoint::Endpoint;
 use std::alloc::Global;
 
 /// How many numbers `h3_config` has: its size in bytes, and those of `GivenConfig`.
-const NUMBERS: usize = 23;
+const NUMBERS: usize = 25;
 
 /// The numbers of `h3_config` after its size, in its order. One other than 0 means yes.
 #[derive(Copy, Clone)]
@@ -38,6 +41,8 @@ pub struct GivenConfig {
     pub shortest_strings: u64,
     pub strict_connection: u64,
     pub priority_updates: u64,
+    pub other_settings: u64,
+    pub other_streams: u64,
 }
 
 impl Default for GivenConfig {
@@ -67,6 +72,8 @@ impl Default for GivenConfig {
             shortest_strings: 1,
             strict_connection: 1,
             priority_updates: 100,
+            other_settings: 0,
+            other_streams: 0,
         }
     }
 }
@@ -105,6 +112,8 @@ impl GivenConfig {
             shortest_strings: number_or(numbers, 20, default.shortest_strings),
             strict_connection: number_or(numbers, 21, default.strict_connection),
             priority_updates: number_or(numbers, 22, default.priority_updates),
+            other_settings: number_or(numbers, 23, default.other_settings),
+            other_streams: number_or(numbers, 24, default.other_streams),
         })
     }
 
@@ -136,6 +145,8 @@ impl GivenConfig {
             self.shortest_strings,
             self.strict_connection,
             self.priority_updates,
+            self.other_settings,
+            self.other_streams,
         ]
     }
 
@@ -171,7 +182,7 @@ fn number_or(numbers: &[u64], at: usize, default: u64) -> u64
     }
 }
 
-fn side_of(given: &GivenConfig) -> Side
+pub(crate) fn side_of(given: &GivenConfig) -> Side
     ensures { result ≡ side_of given.now }
 {
     if given.server != 0 {
@@ -203,6 +214,55 @@ fn config_of(given: &GivenConfig) -> Config
         .with_shortest_strings(given.shortest_strings != 0)
         .with_strict_connection(given.strict_connection != 0)
         .with_priority_updates(given.priority_updates)
+        .with_other_settings(given.other_settings)
+        .with_other_streams(given.other_streams != 0)
+}
+
+/// The endpoint that is asked for, with these further settings.
+pub(crate) fn endpoint_with(
+    alloc: Global,
+    given: &GivenConfig,
+    further: &[(u64, u64)],
+) -> Result<Endpoint, NewError>
+    requires { given.now.grease < 0x210842108421083 }
+    ensures { CreatesWith (side_of given.now) (announced_of given.now) further.now result }
+{
+    let limits = Limits {
+        table: given.table,
+        blocked: given.blocked,
+    };
+    Endpoint::new_with(
+        alloc,
+        side_of(given),
+        config_of(given),
+        limits,
+        given.grease,
+        further,
+    )
+}
+
+/// The client that is asked for, with these further settings, that remembers those.
+pub(crate) fn endpoint_resumed(
+    alloc: Global,
+    given: &GivenConfig,
+    further: &[(u64, u64)],
+    remembered: Settings,
+) -> Result<Endpoint, NewError>
+    requires { given.now.grease < 0x210842108421083 }
+    ensures { CreatesWith Client (remembering (announced_of given.now) remembered) further.now result }
+{
+    let limits = Limits {
+        table: given.table,
+        blocked: given.blocked,
+    };
+    Endpoint::new_resumed(
+        alloc,
+        config_of(given),
+        limits,
+        given.grease,
+        further,
+        remembered,
+    )
 }
 
 /// The endpoint that is asked for.

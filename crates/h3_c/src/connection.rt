@@ -21,6 +21,7 @@ mod closing;
 mod datagrams;
 mod ending;
 mod events;
+mod further;
 mod heads;
 mod items;
 mod kinds;
@@ -28,10 +29,14 @@ mod ordering;
 mod outgoing;
 mod reading;
 mod receiving;
+mod remembered;
 mod sending;
 mod showing;
 mod shutdown;
 mod unblocked;
+
+pub(crate) use further::{GivenPairs, made_with};
+pub(crate) use remembered::made_resumed;
 
 /// An endpoint, what the last pull answered, and what was reported of the connection. A contract sees each as it is.
 #[derive(Drop)]

@@ -5,7 +5,7 @@ use h3_proto::config::Config;
 
 /// What `h3_config_default` has. `scripts/gate/wide_scripts.py` compares it with `h3_c`.
 const DEFAULT: &str =
-    "max_field_section_size=65536 table=4096 blocked=16 strict count_acknowledgments encoder_table=4096 economical_table unfinished_limit=0 kept_ids=1000 reject_requests any_protocol guard_secrets shortest_strings strict_connection priority_updates=100";
+    "max_field_section_size=65536 table=4096 blocked=16 strict count_acknowledgments encoder_table=4096 economical_table unfinished_limit=0 kept_ids=1000 reject_requests any_protocol guard_secrets shortest_strings strict_connection priority_updates=100 other_settings=0 other_streams=0";
 
 /// No limit on what is unfinished.
 const NONE: u64 = (1 << 62) - 1;
@@ -87,6 +87,7 @@ fn configured(told: &mut Told, config: Config, name: &str, number: u64) -> Confi
         "encoder_table" => config.with_encoder_table(number),
         "kept_ids" => config.with_kept_ids(number),
         "priority_updates" => config.with_priority_updates(number),
+        "other_settings" => config.with_other_settings(number),
         _ => allowed(told, config, name, number != 0),
     }
 }
@@ -105,6 +106,7 @@ fn allowed(told: &mut Told, config: Config, name: &str, yes: bool) -> Config {
         "guard_secrets" => config.with_secrets_guarded(yes),
         "shortest_strings" => config.with_shortest_strings(yes),
         "strict_connection" => config.with_strict_connection(yes),
+        "other_streams" => config.with_other_streams(yes),
         _ => {
             told.unreadable();
             config

@@ -5,6 +5,7 @@ use Rattle.h3_header.specs.Head.{Head, head_fields}
 use Rattle.h3_messages.specs.declared.content.Content.{Content}
 use Rattle.h3_field.specs.Instruction.{DecoderInstruction}
 use Rattle.h3_connection.specs.declared.event.Refusal.{Refusal}
+use Rattle.h3_connection.specs.Remembering.{settings_known}
 use Rattle.h3_connection.specs.declared.event.Refusal.TheVariants as refusal
 use Rattle.h3_connection.specs.declared.event.StreamFault.TheVariants as stream_fault
 use Rattle.h3_connection.specs.CallCuts.{joined_increments, SessionsDifferInCuts, EachStream, with_streams, DifferInCutsAlone, SameAnswer, piece_of}
@@ -147,7 +148,7 @@ module _ (e : EndpointHistory) (s : Streams Incoming) (t : Streams Unidirectiona
       let other : Option Content → EndpointHistory = λ known.
       with_streams (record new { outgoing = if e.announced.choices.strict_messages then saying_at plain.outgoing id (content_of_own e.side known (head_fields head)) (stream_at plain.outgoing id) else plain.outgoing }) others t r in
       let refused : Option Content → Option Refusal = λ known.
-      unless_closed e (refusal_of_head (sender_at e id) (broken_protocol e.announced head) (broken_head e.side e.announced e.peer.settings known (head_fields head)) head (head_fields head)) in
+      unless_closed e (refusal_of_head (sender_at e id) (broken_protocol e.announced head) (broken_head e.side e.announced (settings_known e.announced e.peer.settings) known (head_fields head)) head (head_fields head)) in
       subst (λ known. AlikeCalled (λ one two. one ≡ two) (called e (SendHead id head)) (done Done (does (refused known) two (other known)))) (knows_alike (stream_at e.incoming id) (stream_at s id) (requests_here e s t r id b))
       (of_done Done _ _ (does_alike (head_refusal e id head) e two new (other (known_of (stream_at e.incoming id))) here
       (beside_alike new others t r (record { incoming = asks_alike id (head_fields head) e.announced.choices.strict_messages; unidirectional = b.unidirectional; replies = b.replies }))))

@@ -6,16 +6,16 @@ use Rattle.h3_field.specs.Instruction.{DecoderInstruction}
 use Rattle.h3_connection.specs.declared.event.Refusal.{Refusal}
 use Rattle.h3_connection.specs.CallCuts.{joined_increments, SessionsDifferInCuts, EachStream, with_streams, DifferInCutsAlone}
 use Rattle.h3_connection.specs.Control.{Found}
-use Rattle.h3_connection.specs.Delivering.{delivery_refusal, refusal_at, unidirectional_at, taken, closed_by, read_unidirectional, bytes_at, deliver}
+use Rattle.h3_connection.specs.Delivering.{delivery_refusal, refusal_at, unidirectional_at, with_unidirectional, taken, closed_by, read_unidirectional, bytes_at, deliver}
 use Rattle.h3_connection.specs.DeliveryCuts.{LeftAs, IsNoSession, role_with, deliver_cut}
 use Rattle.h3_connection.specs.Endpoint.{EndpointHistory, Kind, kind_of}
 use Rattle.h3_connection.specs.Endpoint.Kind.{Request, ServerOpened, OwnUnidirectional, PeerUnidirectional}
 use Rattle.h3_connection.specs.PullCuts.{HaveBytes, DifferInCuts, DifferInOneStream}
 use Rattle.h3_connection.specs.StreamSets.{stream_at, set_stream}
 use Rattle.h3_connection.specs.StreamSetLaws.{set-set, set-same}
-use Rattle.h3_connection.specs.StrictConnection.{knows_sessions}
+use Rattle.h3_connection.specs.StrictConnection.{known_streams}
 use Rattle.h3_connection.specs.Unidirectional.{Unidirectional, Role, role_after, with_bytes}
-use Rattle.h3_connection.specs.Unidirectional.Role.{Untold, Control, Encoder, Decoder, Session, Push, Ignored}
+use Rattle.h3_connection.specs.Unidirectional.Role.{Untold, Control, Encoder, Decoder, Session, Push, Ignored, Other}
 use Rattle.h3_connection.proofs.AlikeCalls.{AlikeAfter, closed_alike, delivers_alike}
 use Rattle.h3_connection.proofs.AlikeEnds.{at_both, set_both, cuts_sym, or_nothing, or_untold, increments_alike, ends_sym}
 use Rattle.h3_connection.proofs.AlikeReading.{Beside}
@@ -41,6 +41,7 @@ left_alike Decoder before one two d h = subst (DifferInCutsAlone one) h d
 left_alike (Session id) before one two d h = subst (DifferInCutsAlone one) h d
 left_alike (Push id) before one two d h = subst (DifferInCutsAlone one) h d
 left_alike Ignored before one two d h = subst (DifferInCutsAlone one) h d
+left_alike (Other kind) before one two d h = subst (DifferInCutsAlone one) h d
 left_alike Encoder before one two d h = record {
   incoming = subst (λ l. EachStream DifferInCuts one.incoming l) (ap (λ x. x.incoming) h.same) d.incoming;
   unidirectional = subst (λ l. EachStream SessionsDifferInCuts one.unidirectional l) (ap (λ x. x.unidirectional) h.same) d.unidirectional;
@@ -58,44 +59,59 @@ one_alike id one two d h =
       same = refl;
     }))
 
--- bytes of a session
-session_cut : (sessions : Bool) (e : EndpointHistory) (id : ℕ) (o : Unidirectional) (n : ℕ) (rest b : List ℕ) → DifferInCutsAlone e e → HaveBytes o.unread
-    → Alike DifferInCutsAlone (read_unidirectional e id o (then_role sessions b (Session n, rest))) (read_unidirectional (read_unidirectional e id o (Session n, rest)).0 id (with_bytes o (Session n, rest)) (role_after sessions (Session n) b))
-session_cut sessions e id o n rest b d have =
-    let u : Unidirectional = record o { role = Session n; unread = with_piece o.unread rest } in
-    let at_once : Unidirectional = record o { role = Session n; unread = with_piece o.unread (rest ++ b) } in
+-- bytes that wait to be pulled, in one piece or in two
+pieces_cut : (e : EndpointHistory) (id : ℕ) (o : Unidirectional) (role : Role) (rest b : List ℕ) → DifferInCutsAlone e e → HaveBytes o.unread
+    → DifferInCutsAlone (with_unidirectional e id (record o { role = role; unread = with_piece o.unread (rest ++ b) }))
+    (with_unidirectional (with_unidirectional e id (record o { role = role; unread = with_piece o.unread rest })) id (record o { role = role; unread = with_piece (with_piece o.unread rest) b }))
+pieces_cut e id o role rest b d have =
+    let u : Unidirectional = record o { role = role; unread = with_piece o.unread rest } in
+    let at_once : Unidirectional = record o { role = role; unread = with_piece o.unread (rest ++ b) } in
     let apart : Unidirectional = record u { unread = with_piece u.unread b } in
     record {
-      answer = refl;
-      left = λ none. record {
-        incoming = d.incoming;
-        unidirectional =
-            subst (λ l. EachStream SessionsDifferInCuts (set_stream e.unidirectional id at_once) l) (sym (set-set e.unidirectional id u apart))
-            (set_both SessionsDifferInCuts e.unidirectional e.unidirectional id at_once apart d.unidirectional (record {
-              bytes =
-                  piece_bytes u.unread b ∙ ap (λ l. l ++ b) (piece_bytes o.unread rest) ∙ append_assoc (concat o.unread) rest b ∙ sym (piece_bytes o.unread (rest ++ b));
-              same = refl;
-              first = have_piece o.unread (rest ++ b) have;
-              second = have_piece u.unread b (have_piece o.unread rest have);
-            }));
-        replies = refl;
-        same = refl;
-      };
+      incoming = d.incoming;
+      unidirectional =
+          subst (λ l. EachStream SessionsDifferInCuts (set_stream e.unidirectional id at_once) l) (sym (set-set e.unidirectional id u apart))
+          (set_both SessionsDifferInCuts e.unidirectional e.unidirectional id at_once apart d.unidirectional (record {
+            bytes =
+                piece_bytes u.unread b ∙ ap (λ l. l ++ b) (piece_bytes o.unread rest) ∙ append_assoc (concat o.unread) rest b ∙ sym (piece_bytes o.unread (rest ++ b));
+            same = refl;
+            first = have_piece o.unread (rest ++ b) have;
+            second = have_piece u.unread b (have_piece o.unread rest have);
+          }));
+      replies = refl;
+      same = refl;
     }
 
--- whether a role is a session's
+-- whether the bytes of a role wait so: those of a session do, and those of a stream of another type
+abbrev IsHanded : Role → Type 0
+IsHanded (Session n) = Unit {0}
+IsHanded (Other kind) = Unit {0}
+IsHanded _ = ⊥
+
 data IsRole (role : Role) : Type 0 where
-  OfSession : (n : ℕ) → role ≡ Session n → IsRole role
+  OfHanded : IsHanded role → IsRole role
   OfOther : IsNoSession role → IsRole role
 
+-- nothing differs on such a stream but the cuts
+all_same : (role : Role) (before : List DecoderInstruction) (one two : Found) → IsHanded role → Alike (LeftAs role before) one two → Alike (λ x y. x ≡ y) one two
+all_same (Session n) before one two h is = is
+all_same (Other kind) before one two h is = is
+all_same (Untold front) before one two h is = absurd h
+all_same Control before one two h is = absurd h
+all_same Encoder before one two h is = absurd h
+all_same Decoder before one two h is = absurd h
+all_same (Push n) before one two h is = absurd h
+all_same Ignored before one two h is = absurd h
+
 which_role : (role : Role) → IsRole role
-which_role (Session n) = OfSession n refl
+which_role (Session n) = OfHanded tt
 which_role (Untold front) = OfOther tt
 which_role Control = OfOther tt
 which_role Encoder = OfOther tt
 which_role Decoder = OfOther tt
 which_role (Push id) = OfOther tt
 which_role Ignored = OfOther tt
+which_role (Other kind) = OfHanded tt
 
 from_alike : (Left : EndpointHistory → EndpointHistory → Type 0) (one two : Option Refusal × EndpointHistory) → ((x y : EndpointHistory) → one ≡ (None, x) → Left x y → DifferInCutsAlone x y) → CutAs Left one two → AlikeAfter one two
 from_alike Left one two to c =
@@ -130,32 +146,35 @@ peer_cut e id a b d kind none = by_which (which_role (role_with e id (a ++ b)))
     c = role_cut_of e id a b kind none
 
     AtOnce : Role × List ℕ → Found
-    AtOnce x = read_unidirectional e id o (then_role (knows_sessions e.announced) b x)
+    AtOnce x = read_unidirectional e id o (then_role (known_streams e.announced) b x)
 
     Apart : Role × List ℕ → Found
-    Apart x = read_unidirectional (read_unidirectional e id o x).0 id (with_bytes o x) (role_after (knows_sessions e.announced) x.0 b)
+    Apart x = read_unidirectional (read_unidirectional e id o x).0 id (with_bytes o x) (role_after (known_streams e.announced) x.0 b)
 
     cut_by : (Left : EndpointHistory → EndpointHistory → Type 0) → Alike Left (AtOnce c.heard) (Apart c.heard) → CutAs Left (deliver e id (a ++ b)) (deliver_cut e id a b)
     cut_by Left h = record { first = AtOnce c.heard; second = Apart c.heard; first_is = c.at_once; second_is = c.apart; alike = h }
 
-    -- the session was told in the first bytes, or in the second
-    by_heard : (n : ℕ) (role : Role) (rest : List ℕ) → c.heard ≡ (role, rest) → (role_after (knows_sessions e.announced) role b).0 ≡ Session n → AlikeAfter (deliver e id (a ++ b)) (deliver_cut e id a b)
-    by_heard n (Session m) rest at is =
-        from_alike DifferInCutsAlone _ _ (λ x y same h. h) (cut_by DifferInCutsAlone (subst (λ x. Alike DifferInCutsAlone (AtOnce x) (Apart x)) (sym at) (session_cut (knows_sessions e.announced) e id o m rest b d have)))
-    by_heard n (Untold front) rest at is =
+    -- the role was told in the first bytes, or in the second
+    handed : (role : Role) (rest : List ℕ) → c.heard ≡ (role, rest) → Alike DifferInCutsAlone (AtOnce (role, rest)) (Apart (role, rest)) → AlikeAfter (deliver e id (a ++ b)) (deliver_cut e id a b)
+    handed role rest at cut = from_alike DifferInCutsAlone _ _ (λ x y same h. h) (cut_by DifferInCutsAlone (subst (λ x. Alike DifferInCutsAlone (AtOnce x) (Apart x)) (sym at) cut))
+
+    by_heard : (role : Role) (rest : List ℕ) → c.heard ≡ (role, rest) → IsHanded (role_after (known_streams e.announced) role b).0 → AlikeAfter (deliver e id (a ++ b)) (deliver_cut e id a b)
+    by_heard (Session n) rest at is = handed (Session n) rest at (record { answer = refl; left = λ none. pieces_cut e id o (Session n) rest b d have })
+    by_heard (Other kind) rest at is = handed (Other kind) rest at (record { answer = refl; left = λ none. pieces_cut e id o (Other kind) rest b d have })
+    by_heard (Untold front) rest at is =
         let none_left : rest ≡ [] = sym (ap (λ x. x.1) at) ∙ c.untold front (ap (λ x. x.0) at) in
         let same : Alike (λ x y. x ≡ y) (AtOnce (Untold front, rest)) (Apart (Untold front, rest)) =
-        subst (λ role. Alike (LeftAs role e.own.replies) (AtOnce (Untold front, rest)) (Apart (Untold front, rest))) is (untold_cut (knows_sessions e.announced) e id o front rest b none_left) in
+        all_same (role_after (known_streams e.announced) (Untold front) b).0 e.own.replies _ _ is (untold_cut (known_streams e.announced) e id o front rest b none_left) in
         from_alike (λ x y. x ≡ y) _ _ (λ x y at_once h. subst (DifferInCutsAlone x) h (itself x at_once)) (cut_by (λ x y. x ≡ y) (subst (λ z. Alike (λ x y. x ≡ y) (AtOnce z) (Apart z)) (sym at) same))
-    by_heard n Control rest at is = absurd (cc)
-    by_heard n Encoder rest at is = absurd (cc)
-    by_heard n Decoder rest at is = absurd (cc)
-    by_heard n (Push m) rest at is = absurd (cc)
-    by_heard n Ignored rest at is = absurd (cc)
+    by_heard Control rest at is = absurd is
+    by_heard Encoder rest at is = absurd is
+    by_heard Decoder rest at is = absurd is
+    by_heard (Push n) rest at is = absurd is
+    by_heard Ignored rest at is = absurd is
 
     by_which : IsRole (role_with e id (a ++ b)) → AlikeAfter (deliver e id (a ++ b)) (deliver_cut e id a b)
     by_which (OfOther plain) = from_alike (LeftAs (role_with e id (a ++ b)) e.own.replies) _ _ (λ x y is h. left_alike (role_with e id (a ++ b)) e.own.replies x y (itself x is) h) (found_cut e id a b kind none plain)
-    by_which (OfSession n is) = by_heard n c.heard.0 c.heard.1 refl (sym c.same_role ∙ is)
+    by_which (OfHanded is) = by_heard c.heard.0 c.heard.1 refl (subst IsHanded c.same_role is)
 
 pub cut_any : (e : EndpointHistory) (id : ℕ) (a b : List ℕ) → DifferInCutsAlone e e → (deliver e id a).0 ≡ None → AlikeAfter (deliver e id (a ++ b)) (deliver_cut e id a b)
 cut_any e id a b d none = by_kind (kind_of e.side id) refl

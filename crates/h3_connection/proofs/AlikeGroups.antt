@@ -17,7 +17,7 @@ use Rattle.h3_connection.specs.Endpoint.Kind.{Request, ServerOpened, OwnUnidirec
 use Rattle.h3_connection.specs.Incoming.{Incoming}
 use Rattle.h3_connection.specs.StreamSets.{Streams}
 use Rattle.h3_connection.specs.Unidirectional.{Unidirectional, Role, role_after}
-use Rattle.h3_connection.specs.Unidirectional.Role.{Untold, Control, Encoder, Decoder, Session, Push, Ignored}
+use Rattle.h3_connection.specs.Unidirectional.Role.{Untold, Control, Encoder, Decoder, Session, Push, Ignored, Other}
 use Rattle.h3_connection.proofs.AlikeCalls.{AlikeAfter, delivers_alike}
 use Rattle.h3_connection.proofs.AlikeDeliveries.{delivered_itself, goes_open, cut_any}
 use Rattle.h3_connection.proofs.AlikeEnds.{ends_sym, ends_trans, ends_first}
@@ -28,7 +28,7 @@ use Rattle.h3_connection.proofs.ControlCuts.{control_faults, quiet_until}
 use Rattle.h3_connection.proofs.RoleCuts.{then_role, role_cut}
 use Rattle.h3_connection.proofs.SameSetups.{same_setup}
 use Rattle.h3_connection.specs.declared.setup.Announced.{Announced}
-use Rattle.h3_connection.specs.StrictConnection.{knows_sessions}
+use Rattle.h3_connection.specs.StrictConnection.{known_streams}
 
 -- both endpoints are open and differ in cuts alone, or both are closed
 pub data SameEnd (one two : EndpointHistory) : Type 0 where
@@ -86,8 +86,8 @@ control_too e id rest b code = by_second (is_second e.control_on id)
     by_second false is = control_faults g rest b code is
 
 peer_fails : (e : EndpointHistory) (id : ℕ) (a b : List ℕ) (code : ℕ) → kind_of e.side id ≡ PeerUnidirectional
-    → (read_unidirectional e id (unidirectional_at e id) (role_after (knows_sessions e.announced) (unidirectional_at e id).role a)).1 ≡ Some code
-    → FailsToo e id (a ++ b) code (read_unidirectional e id (unidirectional_at e id) (role_after (knows_sessions e.announced) (unidirectional_at e id).role (a ++ b))).1
+    → (read_unidirectional e id (unidirectional_at e id) (role_after (known_streams e.announced) (unidirectional_at e id).role a)).1 ≡ Some code
+    → FailsToo e id (a ++ b) code (read_unidirectional e id (unidirectional_at e id) (role_after (known_streams e.announced) (unidirectional_at e id).role (a ++ b))).1
 peer_fails e id a b code kind is =
     subst (λ y. FailsToo e id (a ++ b) code (read_unidirectional e id o y).1) (sym cut) (by_settings e.peer.settings e.decoder_unread refl refl)
   where
@@ -95,29 +95,30 @@ peer_fails e id a b code kind is =
     o = unidirectional_at e id
 
     x : Role × List ℕ
-    x = role_after (knows_sessions e.announced) o.role a
+    x = role_after (known_streams e.announced) o.role a
 
-    cut : role_after (knows_sessions e.announced) o.role (a ++ b) ≡ then_role (knows_sessions e.announced) b x
-    cut = role_cut (knows_sessions e.announced) o.role a b
+    cut : role_after (known_streams e.announced) o.role (a ++ b) ≡ then_role (known_streams e.announced) b x
+    cut = role_cut (known_streams e.announced) o.role a b
 
     Too : Role × List ℕ → Type 0
-    Too y = FailsToo e id (a ++ b) code (read_unidirectional e id o (then_role (knows_sessions e.announced) b y)).1
+    Too y = FailsToo e id (a ++ b) code (read_unidirectional e id o (then_role (known_streams e.announced) b y)).1
 
-    early : (x.0 ≡ Control → e.peer.settings ≡ None → e.decoder_unread ≡ []) → FailsToo e id (a ++ b) code (read_unidirectional e id o (then_role (knows_sessions e.announced) b x)).1
+    early : (x.0 ≡ Control → e.peer.settings ≡ None → e.decoder_unread ≡ []) → FailsToo e id (a ++ b) code (read_unidirectional e id o (then_role (known_streams e.announced) b x)).1
     early h = SameFault (role_fault e id o x.0 x.1 b code h is)
 
-    by_role : (role : Role) (rest : List ℕ) → x ≡ (role, rest) → e.peer.settings ≡ None → e.decoder_unread ≢ [] → FailsToo e id (a ++ b) code (read_unidirectional e id o (then_role (knows_sessions e.announced) b x)).1
+    by_role : (role : Role) (rest : List ℕ) → x ≡ (role, rest) → e.peer.settings ≡ None → e.decoder_unread ≢ [] → FailsToo e id (a ++ b) code (read_unidirectional e id o (then_role (known_streams e.announced) b x)).1
     by_role Control rest at none some =
         let found = control_too (with_unidirectional e id (record o { role = Control })) id rest b code (ap (λ y. (read_unidirectional e id o y).1) (sym at) ∙ is) in
-        OtherFault found.0 kind (ap (λ y. y.0) (cut ∙ ap (then_role (knows_sessions e.announced) b) at)) none some (ap (λ y. (read_unidirectional e id o (then_role (knows_sessions e.announced) b y)).1) at ∙ found.1)
+        OtherFault found.0 kind (ap (λ y. y.0) (cut ∙ ap (then_role (known_streams e.announced) b) at)) none some (ap (λ y. (read_unidirectional e id o (then_role (known_streams e.announced) b y)).1) at ∙ found.1)
     by_role (Untold front) rest at none some = early (λ control. let wrong : Untold front ≡ Control = sym (ap (λ y. y.0) at) ∙ control in absurd (cc))
     by_role Encoder rest at none some = early (λ control. let wrong : Encoder ≡ Control = sym (ap (λ y. y.0) at) ∙ control in absurd (cc))
     by_role Decoder rest at none some = early (λ control. let wrong : Decoder ≡ Control = sym (ap (λ y. y.0) at) ∙ control in absurd (cc))
     by_role (Session n) rest at none some = early (λ control. let wrong : Session n ≡ Control = sym (ap (λ y. y.0) at) ∙ control in absurd (cc))
     by_role (Push n) rest at none some = early (λ control. let wrong : Push n ≡ Control = sym (ap (λ y. y.0) at) ∙ control in absurd (cc))
     by_role Ignored rest at none some = early (λ control. let wrong : Ignored ≡ Control = sym (ap (λ y. y.0) at) ∙ control in absurd (cc))
+    by_role (Other kind) rest at none some = early (λ control. let wrong : Other kind ≡ Control = sym (ap (λ y. y.0) at) ∙ control in absurd (cc))
 
-    by_settings : (settings : Option (List (ℕ × ℕ))) (unread : List ℕ) → e.peer.settings ≡ settings → e.decoder_unread ≡ unread → FailsToo e id (a ++ b) code (read_unidirectional e id o (then_role (knows_sessions e.announced) b x)).1
+    by_settings : (settings : Option (List (ℕ × ℕ))) (unread : List ℕ) → e.peer.settings ≡ settings → e.decoder_unread ≡ unread → FailsToo e id (a ++ b) code (read_unidirectional e id o (then_role (known_streams e.announced) b x)).1
     by_settings (Some pairs) unread came waits = early (λ control none. let wrong : Some pairs ≡ None = sym came ∙ none in absurd (cc))
     by_settings None [] came waits = early (λ control none. waits)
     by_settings None (byte ∷ unread) came waits = by_role x.0 x.1 refl came (λ empty. let wrong : (byte ∷ unread) ≡ [] = sym waits ∙ empty in cc)
@@ -210,10 +211,10 @@ still_waits e id first rest kind none = record {
     f : EndpointHistory
     f = (deliver e id first).1
 
-    there : role_with (deliver e id first).1 id rest ≡ (role_after (knows_sessions e.announced) c.heard.0 rest).0
+    there : role_with (deliver e id first).1 id rest ≡ (role_after (known_streams e.announced) c.heard.0 rest).0
     there =
-        ap (λ (own : Announced). (role_after (knows_sessions own) (unidirectional_at f id).role rest).0) c.announced
-        ∙ ap (λ role. (role_after (knows_sessions e.announced) role rest).0) c.role_left
+        ap (λ (own : Announced). (role_after (known_streams own) (unidirectional_at f id).role rest).0) c.announced
+        ∙ ap (λ role. (role_after (known_streams e.announced) role rest).0) c.role_left
 
     Waits : EndpointHistory → Type 0
     Waits g = (e.peer.settings ≡ None) × (g.decoder_unread ≡ e.decoder_unread)
@@ -227,7 +228,7 @@ still_waits e id first rest kind none = record {
         let quiet = quiet_until g heard (ap (λ x. x.0.peer.settings) (sym is) ∙ waits) in
         (quiet.0, ap (λ x. x.0.decoder_unread) is ∙ quiet.1)
 
-    by_heard : (role : Role) (heard : List ℕ) → c.heard ≡ (role, heard) → (role_after (knows_sessions e.announced) role rest).0 ≡ Control → (read_unidirectional e id o c.heard).0.peer.settings ≡ None
+    by_heard : (role : Role) (heard : List ℕ) → c.heard ≡ (role, heard) → (role_after (known_streams e.announced) role rest).0 ≡ Control → (read_unidirectional e id o c.heard).0.peer.settings ≡ None
         → (e.peer.settings ≡ None) × ((read_unidirectional e id o c.heard).0.decoder_unread ≡ e.decoder_unread)
     by_heard (Untold front) heard at control waits =
         let same : (read_unidirectional e id o c.heard).0 ≡ with_unidirectional e id (record o { role = Untold front }) = ap (λ x. (read_unidirectional e id o x).0) at in
@@ -238,6 +239,7 @@ still_waits e id first rest kind none = record {
     by_heard (Session n) heard at control waits = absurd (cc)
     by_heard (Push n) heard at control waits = absurd (cc)
     by_heard Ignored heard at control waits = absurd (cc)
+    by_heard (Other kind) heard at control waits = absurd (cc)
 
 -- the answers to several deliveries, and then those of a middle endpoint to all but the first
 refused_through : (e : EndpointHistory) (id : ℕ) (first rest : List ℕ) (one middle last : Option Refusal) → (deliver e id first).0 ≡ None → kind_of e.side id ≡ kind_of (deliver e id first).1.side id → one ≡ middle
@@ -341,7 +343,7 @@ cut_part e s t r b open_still id (p ∷ one) (q ∷ two) some others same =
     let second : GroupAlike f id all (deliver f id all) (all_delivered f id (q ∷ two)) =
     subst (λ l. GroupAlike f id l (deliver f id l) (all_delivered f id (q ∷ two))) (sym same) (group two q f id (ends_first f e (ends_sym e f d)) open_still) in
     let both = delivers_alike e s t r b id all in
-    let role : role_with f id all ≡ role_with e id all = ap (λ (o : Unidirectional). (role_after (knows_sessions e.announced) o.role all).0) (sessions_here e s t r id b).same in
+    let role : role_with f id all ≡ role_with e id all = ap (λ (o : Unidirectional). (role_after (known_streams e.announced) o.role all).0) (sessions_here e s t r id b).same in
     record {
       refused = between e id all (deliver e id all).0 (all_delivered e id (p ∷ one)).0 (deliver f id all).0 (all_delivered f id (q ∷ two)).0 both.answer first.refused (moved e f id all _ _ refl role refl refl second.refused);
       ends = join_ends (all_delivered e id (p ∷ one)).1 (deliver e id all).1 (all_delivered f id (q ∷ two)).1 (turn_end _ _ first.ends)

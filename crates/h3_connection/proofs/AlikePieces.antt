@@ -23,8 +23,8 @@ use Rattle.h3_wire.specs.Pieces.{chunk_of, first_of}
 use Rattle.h3_connection.specs.Sending.{after_answer, if_too_many, within_limit, pulled, pull_request, pulled_unidirectional, pull_peer, pull_at, pull_unless, pull}
 use Rattle.h3_connection.specs.StreamSets.{Streams, stream_at, set_stream}
 use Rattle.h3_connection.specs.StreamSetLaws.{set-here, set-set, set-same}
-use Rattle.h3_connection.specs.Unidirectional.{Unidirectional, Role, raw, pull_session, if_over, pull_unidirectional}
-use Rattle.h3_connection.specs.Unidirectional.Role.{Untold, Control, Encoder, Decoder, Session, Push, Ignored}
+use Rattle.h3_connection.specs.Unidirectional.{Unidirectional, Role, raw, raw_or_reset, pull_other, pull_session, if_over, pull_unidirectional}
+use Rattle.h3_connection.specs.Unidirectional.Role.{Untold, Control, Encoder, Decoder, Session, Push, Ignored, Other}
 use Rattle.h3_connection.proofs.AlikeEnds.{OfBoth, at_both, set_both}
 use Rattle.h3_connection.proofs.AlikePulls.{was_piece, not_none}
 use Rattle.h3_connection.proofs.AlikeReading.{Beside, beside_alike}
@@ -176,6 +176,14 @@ session_piece o bytes = by_role o.role
     by_over id true h = absurd (cc)
     by_over id false h = by_reset id o.reset_code h
 
+    by_code : (code : Option ℕ) → piece_in (raw_or_reset o code).0 ≡ Some bytes → PieceOfSession o (raw_or_reset o code) bytes
+    by_code (Some code) h = absurd (cc)
+    by_code None h = by_raw o.unread refl h
+
+    by_left : (over : Bool) → piece_in (pull_other over o).0 ≡ Some bytes → PieceOfSession o (pull_other over o) bytes
+    by_left true h = absurd (cc)
+    by_left false h = by_code o.reset_code h
+
     untold_gives : (b c : Bool) → piece_in (if b then answer.NoMessages else (if c then answer.Pending else answer.NoMessages)) ≡ Some bytes → ⊥
     untold_gives true c h = cc
     untold_gives false true h = cc
@@ -189,6 +197,7 @@ session_piece o bytes = by_role o.role
     by_role (Session id) h = by_over id o.is_over h
     by_role (Push id) h = absurd (cc)
     by_role Ignored h = absurd (cc)
+    by_role (Other kind) h = by_left o.is_over h
 
 pub told_is : (e : EndpointHistory) (id : ℕ) (x : Pull × Unidirectional) → pulled_unidirectional e id x ≡ (x.0, with_unidirectional e id x.1)
 told_is e id (a, o) = refl

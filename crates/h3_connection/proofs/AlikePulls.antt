@@ -18,8 +18,8 @@ use Rattle.h3_connection.specs.PullCuts.{piece_in, DifferInCuts, PullsAlike, Sam
 use Rattle.h3_connection.specs.Pulling.{Pulled, pull_stream}
 use Rattle.h3_connection.specs.Sending.{after_answer, if_too_many, within_limit, pulled, pull_request, pulled_unidirectional, pull_peer, pull_at, pull_unless, pull}
 use Rattle.h3_connection.specs.StreamSets.{Streams, stream_at, set_stream}
-use Rattle.h3_connection.specs.Unidirectional.{Unidirectional, Role, raw, pull_session, if_over, pull_unidirectional}
-use Rattle.h3_connection.specs.Unidirectional.Role.{Untold, Control, Encoder, Decoder, Session, Push, Ignored}
+use Rattle.h3_connection.specs.Unidirectional.{Unidirectional, Role, raw, raw_or_reset, pull_other, pull_session, if_over, pull_unidirectional}
+use Rattle.h3_connection.specs.Unidirectional.Role.{Untold, Control, Encoder, Decoder, Session, Push, Ignored, Other}
 use Rattle.h3_connection.proofs.AlikeCalls.{AlikeCalled, still_closed}
 use Rattle.h3_connection.proofs.AlikeEnds.{OfBoth, at_both, set_both, SameWaits, same_waits, counts_alike, replied_alike}
 use Rattle.h3_connection.proofs.AlikeReading.{Beside, beside_alike}
@@ -90,6 +90,14 @@ sessions_alike o p d none = subst (λ (q : Unidirectional). AlikeSession (pull_u
     by_over id true h = unchanged _
     by_over id false h = by_reset id o.reset_code h
 
+    by_raw : (code : Option ℕ) → piece_in (raw_or_reset o code).0 ≡ None → AlikeSession (raw_or_reset o code) (raw_or_reset q code)
+    by_raw (Some code) h = unchanged _
+    by_raw None h = raws_alike o o.unread p.unread (record { bytes = d.bytes; same = refl; first = d.first; second = d.second }) h
+
+    by_end : (over : Bool) → piece_in (pull_other over o).0 ≡ None → AlikeSession (pull_other over o) (pull_other over q)
+    by_end true h = unchanged _
+    by_end false h = by_raw o.reset_code h
+
     by_role : (role : Role) → piece_in (pull_unidirectional o role).0 ≡ None → AlikeSession (pull_unidirectional o role) (pull_unidirectional q role)
     by_role (Untold front) h = unchanged _
     by_role Control h = unchanged _
@@ -98,6 +106,7 @@ sessions_alike o p d none = subst (λ (q : Unidirectional). AlikeSession (pull_u
     by_role (Session id) h = by_over id o.is_over h
     by_role (Push id) h = unchanged _
     by_role Ignored h = unchanged _
+    by_role (Other kind) h = by_end o.is_over h
 
 -- as much is waited for, whatever two pulls handed out
 waits_after : (p q : Pulled) → PullsAlike p q → SameWaits p.incoming q.incoming

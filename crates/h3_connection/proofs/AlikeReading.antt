@@ -18,12 +18,12 @@ use Rattle.h3_connection.specs.PeerReading.{PeerFound, read_peer}
 use Rattle.h3_connection.specs.PullCuts.{HaveBytes, DifferInCuts}
 use Rattle.h3_connection.specs.StreamSets.{Streams, stream_at, set_stream}
 use Rattle.h3_connection.specs.Unidirectional.{Unidirectional, Role, is_closed, is_critical, role_after, with_bytes}
-use Rattle.h3_connection.specs.Unidirectional.Role.{Untold, Control, Encoder, Decoder, Session, Push, Ignored}
+use Rattle.h3_connection.specs.Unidirectional.Role.{Untold, Control, Encoder, Decoder, Session, Push, Ignored, Other}
 use Rattle.h3_connection.proofs.AlikeEnds.{OfBoth, at_both, set_both, or_nothing, or_untold, joined_more, replied_alike}
 use Rattle.h3_connection.proofs.PullCuts.{piece_bytes, have_piece}
 use Rattle.h3_connection.proofs.ReadingCuts.{Alike, read_if}
 use Rattle.h3_connection.proofs.RequestCuts.{some_refusal}
-use Rattle.h3_connection.specs.StrictConnection.{knows_sessions, kinds_of, session_fault}
+use Rattle.h3_connection.specs.StrictConnection.{known_streams, kinds_of, session_fault}
 
 -- What an endpoint has beside another that differs from it in cuts alone.
 pub record Beside (e : EndpointHistory) (s : Streams Incoming) (t : Streams Unidirectional) (r : List DecoderInstruction) : Type 0 where
@@ -123,6 +123,7 @@ heard_alike e s t r id Decoder bytes b =
 heard_alike e s t r id (Session n) bytes b = code_found e s t r (session_fault e.announced n) b
 heard_alike e s t r id (Push n) bytes b = fault_found e (with_streams e s t r) _
 heard_alike e s t r id Ignored bytes b = nothing_found e s t r b
+heard_alike e s t r id (Other kind) bytes b = nothing_found e s t r b
 
 -- more bytes in one piece
 have_if : (b : Bool) (one two : List (List ℕ)) → HaveBytes one → HaveBytes two → HaveBytes (if b then one else two)
@@ -165,6 +166,7 @@ bytes_alike o p x d = subst (λ (q : Unidirectional). SessionsDifferInCuts (with
     by_role (Session id, rest) = record { bytes = one_piece o.unread u rest d.bytes; same = refl; first = have_piece o.unread rest d.first; second = have_piece u rest d.second }
     by_role (Push id, rest) = as_is (Push id)
     by_role (Ignored, rest) = as_is Ignored
+    by_role (Other kind, rest) = record { bytes = one_piece o.unread u rest d.bytes; same = refl; first = have_piece o.unread rest d.first; second = have_piece u rest d.second }
 
 -- what is given up
 pub given_up_alike : (i j : Incoming) (fault : StreamFault) → DifferInCuts i j → DifferInCuts (given_up_once i fault) (given_up_once j fault)
@@ -244,8 +246,8 @@ module _ (e : EndpointHistory) (s : Streams Incoming) (t : Streams Unidirectiona
   bytes_at_alike bytes PeerUnidirectional =
       let d = sessions_here in
       let role : (unidirectional_at two id).role ≡ (unidirectional_at e id).role = ap (λ (o : Unidirectional). o.role) d.same in
-      subst (λ x. Alike DifferInCutsAlone (bytes_at e id bytes PeerUnidirectional) (read_unidirectional two id (unidirectional_at two id) (role_after (knows_sessions e.announced) x bytes))) (sym role)
-      (unidirectional_alike (unidirectional_at e id) (unidirectional_at two id) (role_after (knows_sessions e.announced) (unidirectional_at e id).role bytes) d)
+      subst (λ x. Alike DifferInCutsAlone (bytes_at e id bytes PeerUnidirectional) (read_unidirectional two id (unidirectional_at two id) (role_after (known_streams e.announced) x bytes))) (sym role)
+      (unidirectional_alike (unidirectional_at e id) (unidirectional_at two id) (role_after (known_streams e.announced) (unidirectional_at e id).role bytes) d)
 
   pub end_at_alike : (k : Kind) → Alike DifferInCutsAlone (end_at e id k) (end_at two id k)
   end_at_alike Request =

@@ -22,7 +22,7 @@ use Rattle.h3_connection.specs.Endpoint.{EndpointHistory, limit_of, Kind, kind_o
 use Rattle.h3_connection.specs.Endpoint.Kind.{Request, ServerOpened, OwnUnidirectional, PeerUnidirectional}
 use Rattle.h3_connection.specs.Control.{Found, read_control, read_encoder, read_decoder}
 use Rattle.h3_connection.specs.Unidirectional.{Unidirectional, Role, with_bytes, role_after}
-use Rattle.h3_connection.specs.Unidirectional.Role.{Untold, Control, Encoder, Decoder, Session, Push, Ignored}
+use Rattle.h3_connection.specs.Unidirectional.Role.{Untold, Control, Encoder, Decoder, Session, Push, Ignored, Other}
 use Rattle.h3_connection.specs.Outgoing.{Outgoing as Out, is_end_next, with_finish, with_reset}
 use Rattle.h3_connection.specs.Delivering.{deliver, deliver_end, deliver_reset, delivery_refusal, opened_at, opened, incoming_at, with_incoming, taken, closed_by, heard_as, unless_second, read_unidirectional, unidirectional_at, with_unidirectional, bytes_at, end_at, reset_at, kept, with_end, give_up, given_up_once, given_up_by}
 use Rattle.h3_connection.specs.Sending.{open_request, open_refusal, send_head, head_refusal, encoded, appended, head_part, fields_cost, body_refusal, send_trailer, trailer_refusal, finish, finish_refusal, reset, reset_refusal, with_outgoing, outgoing_at, goaway, goaway_refusal, cancel, cancel_refusal, pull, does, pull_at, pull_unless, pull_request, pull_peer, pulled, if_too_many, after_answer, advance_at, sent_bytes, counted, asked, telling_at}
@@ -49,7 +49,7 @@ use Rattle.h3_connection.proofs.Quiet.{Quiet, quiet_control, quiet_decoder}
 use Rattle.h3_connection.proofs.ReadingStays.{all_stays}
 use Rattle.h3_connection.proofs.Seen.{opened_here}
 use Rattle.h3_connection.proofs.WaitingCounts.{waits_at, count_set, count_inserted}
-use Rattle.h3_connection.specs.StrictConnection.{knows_sessions}
+use Rattle.h3_connection.specs.StrictConnection.{known_streams}
 
 -- the bounds rest on these alone, and nothing is open that was closed
 pub record Rests (e f : EndpointHistory) : Type 0 where
@@ -205,6 +205,7 @@ hearing e id Decoder bytes h =
 hearing e id (Session n) bytes h = h
 hearing e id (Push n) bytes h = h
 hearing e id Ignored bytes h = h
+hearing e id (Other kind) bytes h = h
 
 pub sets_peer : (e : EndpointHistory) (id : ℕ) (o : Unidirectional) → IsBounded e → IsBounded (with_unidirectional e id o)
 sets_peer e id o h = as_before e _ (record { incoming = refl; decoder = refl; announced = refl; closed = λ x. x }) h
@@ -216,7 +217,7 @@ bytes_on : (e : EndpointHistory) (id : ℕ) (bytes : List ℕ) (k : Kind) → Is
 bytes_on e id bytes Request h = changes e id (kept (incoming_at e id) bytes) h (record { tries = refl; waits = omega arith })
 bytes_on e id bytes ServerOpened h = h
 bytes_on e id bytes OwnUnidirectional h = h
-bytes_on e id bytes PeerUnidirectional h = unidirectional e id (unidirectional_at e id) (role_after (knows_sessions e.announced) (unidirectional_at e id).role bytes) h
+bytes_on e id bytes PeerUnidirectional h = unidirectional e id (unidirectional_at e id) (role_after (known_streams e.announced) (unidirectional_at e id).role bytes) h
 
 end_on : (e : EndpointHistory) (id : ℕ) (k : Kind) → IsBounded e → IsBounded (end_at e id k).0
 end_on e id Request h = changes e id (with_end (incoming_at e id)) h (record { tries = refl; waits = omega arith })

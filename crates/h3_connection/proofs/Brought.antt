@@ -1,13 +1,14 @@
 -- By the bytes that a list of calls brings on each stream it is told which streams may become the peer's encoder stream.
 use Rattle.std.proofs.Common.{◌≡◌, ℕ, Bool, true, false, List, [], ◌∷◌, ◌++◌, refl, sym, ◌∙◌, ap, subst, append_assoc}
-use Rattle.std.specs.Prelude.{Option, Some, None, if◌then◌else◌, ◌==◌, ◌&&◌}
+use Rattle.std.specs.Prelude.{Option, Some, None, if◌then◌else◌, ◌==◌, ◌&&◌, not}
 use Rattle.h3_coding.specs.Varint.{varint_at}
 use Rattle.h3_coding.specs.VarintLaws.{reads_more}
 use Rattle.h3_proto.specs.declared.stream.Side.{Side}
 use Rattle.h3_connection.specs.declared.setup.Announced.{Announced}
 use Rattle.h3_connection.specs.declared.event.Refusal.{Refusal}
-use Rattle.h3_connection.specs.Unidirectional.{Role, role_after, of_kind, session_role, with_id}
-use Rattle.h3_connection.specs.Unidirectional.Role.{Untold, Control, Encoder, Decoder, Session, Push, Ignored}
+use Rattle.h3_proto.specs.OtherSettings.{is_reserved}
+use Rattle.h3_connection.specs.Unidirectional.{StreamKinds, Role, role_after, of_kind, session_role, with_id}
+use Rattle.h3_connection.specs.Unidirectional.Role.{Untold, Control, Encoder, Decoder, Session, Push, Ignored, Other}
 use Rattle.h3_connection.specs.Incoming.{Incoming}
 use Rattle.h3_connection.specs.Endpoint.{EndpointHistory, limit_of, Kind, kind_of, new_endpoint}
 use Rattle.h3_connection.specs.Endpoint.Kind.{Request, ServerOpened, OwnUnidirectional, PeerUnidirectional}
@@ -79,7 +80,12 @@ good_session sessions t all coming None h = good_untold t all coming h
 good_session true t all coming (Some (id, rest)) h = good_other t (Session id) coming refl refl
 good_session false t all coming (Some (id, rest)) h = good_other t Ignored coming refl refl
 
-good_kind : (sessions : Bool) (t : Bool) (all coming : List ℕ) (at : Option (ℕ × List ℕ)) → varint_at all ≡ at → t ≡ is_encoder_type (varint_at (all ++ coming)) → GoodRole t (of_kind sessions all at).0 coming
+good_left : (t b : Bool) (kind : ℕ) (coming : List ℕ) → GoodRole t (if b then Other kind else Ignored) coming
+unfolding is_untold is_role_encoder
+good_left t true kind coming = good_other t (Other kind) coming refl refl
+good_left t false kind coming = good_other t Ignored coming refl refl
+
+good_kind : (sessions : StreamKinds) (t : Bool) (all coming : List ℕ) (at : Option (ℕ × List ℕ)) → varint_at all ≡ at → t ≡ is_encoder_type (varint_at (all ++ coming)) → GoodRole t (of_kind sessions all at).0 coming
 unfolding is_untold is_role_encoder
 good_kind sessions t all coming None is h = good_untold t all coming h
 good_kind sessions t all coming (Some (kind, rest)) is h =
@@ -87,11 +93,11 @@ good_kind sessions t all coming (Some (kind, rest)) is h =
     (λ _. good_if t (kind == 1) _ _ coming (λ _. good_push t all coming (varint_at rest) h)
     (λ _. good_if t (kind == 2) _ _ coming (λ two. good_encoder t coming (h ∙ ap is_encoder_type (reads_more kind all rest coming is) ∙ two))
     (λ _. good_if t (kind == 3) _ _ coming (λ _. good_other t Decoder coming refl refl)
-    (λ _. good_if t (kind == 0x54) _ _ coming (λ _. good_session sessions t all coming (varint_at rest) h)
-    (λ _. good_other t Ignored coming refl refl)))))
+    (λ _. good_if t (kind == 0x54) _ _ coming (λ _. good_session sessions.sessions t all coming (varint_at rest) h)
+    (λ _. good_left t (sessions.others && not (is_reserved kind)) kind coming)))))
 
 -- after further bytes
-good_bytes : (sessions : Bool) (t : Bool) (role : Role) (bytes coming : List ℕ) → GoodRole t role (bytes ++ coming) → GoodRole t (role_after sessions role bytes).0 coming
+good_bytes : (sessions : StreamKinds) (t : Bool) (role : Role) (bytes coming : List ℕ) → GoodRole t role (bytes ++ coming) → GoodRole t (role_after sessions role bytes).0 coming
 unfolding is_untold is_role_encoder
 good_bytes sessions t (Untold front) bytes coming h =
     good_kind sessions t (front ++ bytes) coming (varint_at (front ++ bytes)) refl
@@ -102,8 +108,9 @@ good_bytes sessions t Decoder bytes coming h = good_other t Decoder coming refl 
 good_bytes sessions t (Session id) bytes coming h = good_other t (Session id) coming refl refl
 good_bytes sessions t (Push id) bytes coming h = good_other t (Push id) coming refl refl
 good_bytes sessions t Ignored bytes coming h = good_other t Ignored coming refl refl
+good_bytes sessions t (Other kind) bytes coming h = good_other t (Other kind) coming refl refl
 
-more_good : (sessions : Bool) (t : Bool) (f : Front) (bytes coming : List ℕ) → f.closed ≡ false → Good t f (bytes ++ coming) → Good t (record f { role = (role_after sessions f.role bytes).0 }) coming
+more_good : (sessions : StreamKinds) (t : Bool) (f : Front) (bytes coming : List ℕ) → f.closed ≡ false → Good t f (bytes ++ coming) → Good t (record f { role = (role_after sessions f.role bytes).0 }) coming
 more_good sessions t f bytes coming fresh h =
     let g = good_bytes sessions t f.role bytes coming (record { encoder = h.encoder; untold = h.untold fresh }) in
     record { encoder = g.encoder; untold = λ _. g.untold }
@@ -132,7 +139,7 @@ not_peer T side fronts p bytes cs blind h q peer =
     by_eq q p (λ b. Good (T q) (fronts q) ((if b then bytes else []) ++ brought_on q cs) → Good (T q) (fronts q) (brought_on q cs))
     (λ same _. absurd (true_not_false (sym peer ∙ ap (any_peer side) same ∙ blind))) (λ differs g. g) (h q peer)
 
-bytes_agree : (sessions : Bool) (T : ℕ → Bool) (side : Side) (most : ℕ) (s : Sight) (p : ℕ) (bytes : List ℕ) (cs : List Call) (closed : Bool) → (s.fronts p).closed ≡ closed → Agrees T side s.fronts (Deliver p bytes ∷ cs)
+bytes_agree : (sessions : StreamKinds) (T : ℕ → Bool) (side : Side) (most : ℕ) (s : Sight) (p : ℕ) (bytes : List ℕ) (cs : List Call) (closed : Bool) → (s.fronts p).closed ≡ closed → Agrees T side s.fronts (Deliver p bytes ∷ cs)
     → Agrees T side (unless_refused (closed_refusal closed) s (with_front (record s { decoding = hears most s.decoding (role_after sessions (s.fronts p).role bytes) }) p (record (s.fronts p) { role = (role_after sessions (s.fronts p).role bytes).0 }))).1.fronts cs
 bytes_agree sessions T side most s p bytes cs true is h q peer =
     by_eq q p (λ b. Good (T q) (s.fronts q) ((if b then bytes else []) ++ brought_on q cs) → Good (T q) (s.fronts q) (brought_on q cs))

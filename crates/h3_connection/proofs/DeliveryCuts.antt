@@ -10,9 +10,9 @@ use Rattle.h3_connection.specs.Endpoint.Kind.{Request, ServerOpened, OwnUnidirec
 use Rattle.h3_connection.specs.Listeners.{heard_more, insertions_heard}
 use Rattle.h3_connection.specs.Control.{Found, increment, read_encoder, read_decoder, read_control}
 use Rattle.h3_connection.specs.declared.setup.Announced.{Announced}
-use Rattle.h3_connection.specs.StrictConnection.{knows_sessions}
-use Rattle.h3_connection.specs.Unidirectional.{Unidirectional, Role, untold, is_closed, role_after, with_bytes}
-use Rattle.h3_connection.specs.Unidirectional.Role.{Untold, Control, Encoder, Decoder, Session, Push, Ignored}
+use Rattle.h3_connection.specs.StrictConnection.{known_streams}
+use Rattle.h3_connection.specs.Unidirectional.{StreamKinds, Unidirectional, Role, untold, is_closed, role_after, with_bytes}
+use Rattle.h3_connection.specs.Unidirectional.Role.{Untold, Control, Encoder, Decoder, Session, Push, Ignored, Other}
 use Rattle.h3_connection.specs.Delivering.{closed_refusal, refusal_at, delivery_refusal, unidirectional_at, with_unidirectional, taken, closed_by, only_one, unless_second, heard_as, read_unidirectional, bytes_at, deliver}
 use Rattle.h3_connection.specs.DeliveryCuts.{SameAnswers, IsSame, DiffersInIncrements, LeftAs, role_with, IsNoSession, deliver_cut}
 use Rattle.h3_connection.proofs.Quiet.{quiet_control, quiet_decoder}
@@ -91,6 +91,7 @@ told_now w id Decoder bytes = alike_same _ _ refl
 told_now w id (Session n) bytes = alike_same _ _ refl
 told_now w id (Push n) bytes = alike_same _ _ refl
 told_now w id Ignored bytes = alike_same _ _ refl
+told_now w id (Other kind) bytes = alike_same _ _ refl
 told_now w id Encoder bytes = record {
   answer = refl;
   left = λ none.
@@ -115,11 +116,12 @@ with_bytes_on o role (Decoder, bytes) = refl
 with_bytes_on o role (Session id, bytes) = refl
 with_bytes_on o role (Push id, bytes) = refl
 with_bytes_on o role (Ignored, bytes) = refl
+with_bytes_on o role (Other kind, bytes) = refl
 
 set_again : (e : EndpointHistory) (id : ℕ) (u v : Unidirectional) → with_unidirectional (with_unidirectional e id u) id v ≡ with_unidirectional e id v
 set_again e id u v = ap (λ s. record e { unidirectional = s }) (set-set e.unidirectional id u v)
 
-pub untold_cut : (sessions : Bool) (e : EndpointHistory) (id : ℕ) (o : Unidirectional) (front rest b : List ℕ) → rest ≡ []
+pub untold_cut : (sessions : StreamKinds) (e : EndpointHistory) (id : ℕ) (o : Unidirectional) (front rest b : List ℕ) → rest ≡ []
     → Alike (LeftAs (role_after sessions (Untold front) b).0 e.own.replies) (read_unidirectional e id o (then_role sessions b (Untold front, rest)))
     (read_unidirectional (with_unidirectional e id (record o { role = Untold front })) id (record o { role = Untold front }) (role_after sessions (Untold front) b))
 untold_cut sessions e id o front rest b none =
@@ -130,7 +132,7 @@ untold_cut sessions e id o front rest b none =
     ap (λ w. heard_as w id y.0 y.1) (set_again e id u (with_bytes u y) ∙ ap (with_unidirectional e id) (with_bytes_on o (Untold front) y)) in
     alike_as (LeftAs y.0 e.own.replies) _ _ _ _ one two (told_now (with_unidirectional e id (with_bytes o y)) id y.0 y.1)
 
-by_role : (sessions : Bool) (e : EndpointHistory) (id : ℕ) (o : Unidirectional) (role : Role) (rest b : List ℕ) → (read_unidirectional e id o (role, rest)).1 ≡ None
+by_role : (sessions : StreamKinds) (e : EndpointHistory) (id : ℕ) (o : Unidirectional) (role : Role) (rest b : List ℕ) → (read_unidirectional e id o (role, rest)).1 ≡ None
     → ((front : List ℕ) → role ≡ Untold front → rest ≡ []) → IsNoSession (role_after sessions role b).0
     → Alike (LeftAs (role_after sessions role b).0 e.own.replies) (read_unidirectional e id o (then_role sessions b (role, rest)))
     (read_unidirectional (read_unidirectional e id o (role, rest)).0 id (with_bytes o (role, rest)) (role_after sessions role b))
@@ -143,6 +145,7 @@ by_role sessions e id o Decoder rest b good none plain =
     let u : Unidirectional = record o { role = Decoder } in decoder_heard (with_unidirectional e id u) id u rest b (at_same e.unidirectional id u) good
 by_role sessions e id o (Session n) rest b good none plain = absurd plain
 by_role sessions e id o (Push n) rest b good none plain = absurd (cc)
+by_role sessions e id o (Other kind) rest b good none plain = absurd plain
 by_role sessions e id o Ignored rest b good none plain =
     let u : Unidirectional = record o { role = Ignored } in alike_same _ _ (ap (λ w. (w, None)) (sym (set_again e id u u)))
 
@@ -154,12 +157,12 @@ taken_good None None e (f, Some code) none = absurd (cc)
 taken_good None None e (f, None) none = (refl, refl, refl, refl)
 
 delivered_as : (e : EndpointHistory) (id : ℕ) (o : Unidirectional) (bytes : List ℕ) → e.closed ≡ None → kind_of e.side id ≡ PeerUnidirectional → delivery_refusal e id ≡ None → unidirectional_at e id ≡ o
-    → deliver e id bytes ≡ closed_by (read_unidirectional e id o (role_after (knows_sessions e.announced) o.role bytes))
+    → deliver e id bytes ≡ closed_by (read_unidirectional e id o (role_after (known_streams e.announced) o.role bytes))
 delivered_as e id o bytes open_still kind accepted is =
     ap (λ closed. taken closed (delivery_refusal e id) e (bytes_at e id bytes (kind_of e.side id))) open_still
     ∙ ap (λ refused. taken None refused e (bytes_at e id bytes (kind_of e.side id))) accepted
     ∙ ap (λ k. closed_by (bytes_at e id bytes k)) kind
-    ∙ ap (λ (x : Unidirectional). closed_by (read_unidirectional e id x (role_after (knows_sessions e.announced) x.role bytes))) is
+    ∙ ap (λ (x : Unidirectional). closed_by (read_unidirectional e id x (role_after (known_streams e.announced) x.role bytes))) is
 
 abbrev pub closed_answer : Option ℕ → Option Refusal
 closed_answer None = None
@@ -185,14 +188,14 @@ pub record CutAs (Left : EndpointHistory → EndpointHistory → Type 0) (one tw
 -- the role that all bytes give, and what is read of them at once and in two
 pub record RoleCut (e : EndpointHistory) (id : ℕ) (a b : List ℕ) : Type 0 where
   pub heard : Role × List ℕ
-  pub same_role : role_with e id (a ++ b) ≡ (role_after (knows_sessions e.announced) heard.0 b).0
+  pub same_role : role_with e id (a ++ b) ≡ (role_after (known_streams e.announced) heard.0 b).0
   pub good : (read_unidirectional e id (unidirectional_at e id) heard).1 ≡ None
   pub untold : (front : List ℕ) → heard.0 ≡ Untold front → heard.1 ≡ []
   pub left : (deliver e id a).1 ≡ (read_unidirectional e id (unidirectional_at e id) heard).0
   pub announced : (deliver e id a).1.announced ≡ e.announced
   pub role_left : (unidirectional_at (deliver e id a).1 id).role ≡ heard.0
-  pub at_once : deliver e id (a ++ b) ≡ closed_by (read_unidirectional e id (unidirectional_at e id) (then_role (knows_sessions e.announced) b heard))
-  pub apart : deliver_cut e id a b ≡ closed_by (read_unidirectional (read_unidirectional e id (unidirectional_at e id) heard).0 id (with_bytes (unidirectional_at e id) heard) (role_after (knows_sessions e.announced) heard.0 b))
+  pub at_once : deliver e id (a ++ b) ≡ closed_by (read_unidirectional e id (unidirectional_at e id) (then_role (known_streams e.announced) b heard))
+  pub apart : deliver_cut e id a b ≡ closed_by (read_unidirectional (read_unidirectional e id (unidirectional_at e id) heard).0 id (with_bytes (unidirectional_at e id) heard) (role_after (known_streams e.announced) heard.0 b))
 
 pub role_cut_of : (e : EndpointHistory) (id : ℕ) (a b : List ℕ) → kind_of e.side id ≡ PeerUnidirectional → (deliver e id a).0 ≡ None → RoleCut e id a b
 role_cut_of e id a b kind none = record {
@@ -211,7 +214,7 @@ role_cut_of e id a b kind none = record {
     o = unidirectional_at e id
 
     x : Role × List ℕ
-    x = role_after (knows_sessions e.announced) o.role a
+    x = role_after (known_streams e.announced) o.role a
 
     f : EndpointHistory
     f = (read_unidirectional e id o x).0
@@ -228,11 +231,11 @@ role_cut_of e id a b kind none = record {
     left : (deliver e id a).1 ≡ f
     left = taken_all.3 ∙ ap (λ k. (bytes_at e id a k).0) kind
 
-    role : role_with e id (a ++ b) ≡ (role_after (knows_sessions e.announced) x.0 b).0
-    role = ap (λ y. y.0) (role_cut (knows_sessions e.announced) o.role a b)
+    role : role_with e id (a ++ b) ≡ (role_after (known_streams e.announced) x.0 b).0
+    role = ap (λ y. y.0) (role_cut (known_streams e.announced) o.role a b)
 
-    one : deliver e id (a ++ b) ≡ closed_by (read_unidirectional e id o (then_role (knows_sessions e.announced) b x))
-    one = delivered_as e id o (a ++ b) taken_all.0 kind taken_all.1 refl ∙ ap (λ y. closed_by (read_unidirectional e id o y)) (role_cut (knows_sessions e.announced) o.role a b)
+    one : deliver e id (a ++ b) ≡ closed_by (read_unidirectional e id o (then_role (known_streams e.announced) b x))
+    one = delivered_as e id o (a ++ b) taken_all.0 kind taken_all.1 refl ∙ ap (λ y. closed_by (read_unidirectional e id o y)) (role_cut (known_streams e.announced) o.role a b)
 
     h : HeardAs (with_unidirectional e id u) f id x
     h = heard_as_role (with_unidirectional e id u) id x.0 x.1 good
@@ -248,11 +251,11 @@ role_cut_of e id a b kind none = record {
         ap (refusal_at f id) still ∙ ap (λ y. closed_refusal (is_closed y)) there ∙ ap (λ y. closed_refusal y.closed) (role_of_bytes o x)
         ∙ ap (refusal_at e id) (sym kind) ∙ taken_all.1
 
-    two : deliver_cut e id a b ≡ closed_by (read_unidirectional f id u (role_after (knows_sessions e.announced) x.0 b))
+    two : deliver_cut e id a b ≡ closed_by (read_unidirectional f id u (role_after (known_streams e.announced) x.0 b))
     two =
         ap (λ g. deliver g id b) left ∙ delivered_as f id u b (h.closed ∙ taken_all.0) still open_now there
-        ∙ ap (λ (own : Announced). closed_by (read_unidirectional f id u (role_after (knows_sessions own) u.role b))) h.announced
-        ∙ ap (λ r. closed_by (read_unidirectional f id u (role_after (knows_sessions e.announced) r b))) (ap (λ y. y.role) (role_of_bytes o x))
+        ∙ ap (λ (own : Announced). closed_by (read_unidirectional f id u (role_after (known_streams own) u.role b))) h.announced
+        ∙ ap (λ r. closed_by (read_unidirectional f id u (role_after (known_streams e.announced) r b))) (ap (λ y. y.role) (role_of_bytes o x))
 
 pub cut_as : (Left : EndpointHistory → EndpointHistory → Type 0) (one two : Option Refusal × EndpointHistory) → CutAs Left one two → SameAnswers Left one two
 cut_as Left one two c = subst (λ p. SameAnswers Left p two) (sym c.first_is) (subst (λ p. SameAnswers Left (closed_by c.first) p) (sym c.second_is) (closed_same Left c.first c.second c.alike))
@@ -263,12 +266,12 @@ found_cut e id a b kind none plain =
     let c = role_cut_of e id a b kind none in
     let o = unidirectional_at e id in
     record {
-      first = read_unidirectional e id o (then_role (knows_sessions e.announced) b c.heard);
-      second = read_unidirectional (read_unidirectional e id o c.heard).0 id (with_bytes o c.heard) (role_after (knows_sessions e.announced) c.heard.0 b);
+      first = read_unidirectional e id o (then_role (known_streams e.announced) b c.heard);
+      second = read_unidirectional (read_unidirectional e id o c.heard).0 id (with_bytes o c.heard) (role_after (known_streams e.announced) c.heard.0 b);
       first_is = c.at_once;
       second_is = c.apart;
-      alike = subst (λ role. Alike (LeftAs role e.own.replies) (read_unidirectional e id o (then_role (knows_sessions e.announced) b c.heard)) (read_unidirectional (read_unidirectional e id o c.heard).0 id (with_bytes o c.heard) (role_after (knows_sessions e.announced) c.heard.0 b))) (sym c.same_role)
-          (by_role (knows_sessions e.announced) e id o c.heard.0 c.heard.1 b c.good c.untold (subst IsNoSession c.same_role plain));
+      alike = subst (λ role. Alike (LeftAs role e.own.replies) (read_unidirectional e id o (then_role (known_streams e.announced) b c.heard)) (read_unidirectional (read_unidirectional e id o c.heard).0 id (with_bytes o c.heard) (role_after (known_streams e.announced) c.heard.0 b))) (sym c.same_role)
+          (by_role (known_streams e.announced) e id o c.heard.0 c.heard.1 b c.good c.untold (subst IsNoSession c.same_role plain));
     }
 
 pub cut_delivery : (e : EndpointHistory) (id : ℕ) (a b : List ℕ) → kind_of e.side id ≡ PeerUnidirectional → (deliver e id a).0 ≡ None → IsNoSession (role_with e id (a ++ b))
@@ -284,7 +287,7 @@ second_fault first id e found other code = by_second (is_second first id)
     by_second false is h = h is
 
 pub role_fault : (e : EndpointHistory) (id : ℕ) (o : Unidirectional) (role : Role) (rest b : List ℕ) (code : ℕ) → (role ≡ Control → e.peer.settings ≡ None → e.decoder_unread ≡ [])
-    → (read_unidirectional e id o (role, rest)).1 ≡ Some code → (read_unidirectional e id o (then_role (knows_sessions e.announced) b (role, rest))).1 ≡ Some code
+    → (read_unidirectional e id o (role, rest)).1 ≡ Some code → (read_unidirectional e id o (then_role (known_streams e.announced) b (role, rest))).1 ≡ Some code
 role_fault e id o (Untold front) rest b code early is = absurd (cc)
 role_fault e id o Control rest b code early is =
     let w = with_unidirectional e id (record o { role = Control }) in
@@ -301,6 +304,7 @@ role_fault e id o Decoder rest b code early is =
 role_fault e id o (Session n) rest b code early is = is
 role_fault e id o (Push n) rest b code early is = is
 role_fault e id o Ignored rest b code early is = absurd (cc)
+role_fault e id o (Other kind) rest b code early is = absurd (cc)
 
 bytes_fault : (e : EndpointHistory) (id : ℕ) (a b : List ℕ) (k : Kind) (code : ℕ) → (e.peer.settings ≡ None → e.decoder_unread ≡ []) → (bytes_at e id a k).1 ≡ Some code → (bytes_at e id (a ++ b) k).1 ≡ Some code
 bytes_fault e id a b Request code early is = absurd (cc)

@@ -11,7 +11,6 @@ use Rattle.h3_proto.specs.declared.stream.Side.TheVariants.{Client, Server}
 use Rattle.h3_wire.specs.ExcessiveFrames.{is_excessive_by}
 use Rattle.h3_wire.specs.Frames.{Front, Whole, Unknown, Refused, Unfinished, frame_by}
 use Rattle.h3_wire.specs.Known.{known_by}
-use Rattle.h3_wire.specs.StreamHeaders.{control_encoding}
 use Rattle.h3_priority.specs.Priority.{PriorityParameters, priority_of}
 use Rattle.h3_wire.specs.Update.{Update}
 use Rattle.h3_wire.specs.declared.proto.frame.PayloadLen.{PayloadLen}
@@ -43,8 +42,9 @@ use Rattle.h3_connection.specs.Lasts.{last_id}
 use Rattle.h3_connection.specs.LastLaws.{last_appended}
 use Rattle.h3_connection.specs.Outgoing.{Outgoing as Out, nothing_sent, is_sent_off, part_bytes_waiting, end_waits}
 use Rattle.h3_connection.specs.OwnIds.{control_id}
-use Rattle.h3_connection.specs.OwnUpdates.{control_frames}
-use Rattle.h3_connection.specs.PeerReading.{Peer, PeerFound, with_unread, is_no_element, is_no_goaway, is_above, is_below, read_max_push, read_priority, read_update, read_frame, unless_fault, at_front, read_within, read_peer}
+use Rattle.h3_connection.specs.OwnSettings.{control_start}
+use Rattle.h3_connection.specs.OwnUpdates.{OwnUpdate, control_frames}
+use Rattle.h3_connection.specs.PeerReading.{Peer, PeerFound, having_frame, is_no_element, is_no_goaway, is_above, is_below, read_max_push, read_priority, read_update, read_frame, unless_fault, at_front, read_within, read_peer}
 use Rattle.h3_connection.specs.Pulling.{Pulled, pull_stream, just, next_item, is_client}
 use Rattle.h3_connection.specs.Sending.{pull_at, pull_unless, pull_request, pull_peer, pulled, within_limit, if_too_many, after_answer, body_refusal, trailer_refusal, finish_refusal, reset_refusal, outgoing_at, goaway, cancel_refusal, asked}
 use Rattle.h3_connection.specs.Outgoing.{with_finish, with_reset}
@@ -52,13 +52,13 @@ use Rattle.h3_connection.specs.Shutdown.{are_seen_below, takes_no_more, is_done,
 use Rattle.h3_connection.specs.StreamSets.{Streams, stream_at, set_stream}
 use Rattle.h3_connection.specs.StreamTestLaws.{all_pass, each_pass}
 use Rattle.h3_connection.specs.Unidirectional.{Unidirectional, Role, with_bytes, role_after}
-use Rattle.h3_connection.specs.Unidirectional.Role.{Untold, Control, Encoder, Decoder, Session, Push, Ignored}
+use Rattle.h3_connection.specs.Unidirectional.Role.{Untold, Control, Encoder, Decoder, Session, Push, Ignored, Other}
 use Rattle.h3_connection.proofs.Seen.{eq_refl}
 use Rattle.h3_connection.proofs.SameSetups.{same_setup}
 use Rattle.h3_connection.proofs.SentOff.{sent_in, stop_refused, body_refused, trailer_refused, finish_refused, reset_refused}
-use Rattle.h3_connection.proofs.LeavesDone.{Over, Leaves, Rests, written, settled_in, itself, at_rest, rests, leaves_then, receives, does_leave, taken_leaves, open_leaves, head_leaves, set_leaves, body_does, advance_leaves, end_leaves, goaway_leaves}
+use Rattle.h3_connection.proofs.LeavesDone.{Over, Leaves, Rests, start_and_updates, written, settled_in, itself, at_rest, rests, leaves_then, receives, does_leave, taken_leaves, open_leaves, head_leaves, set_leaves, body_does, advance_leaves, end_leaves, goaway_leaves}
 use Rattle.h3_wire.specs.declared.frame.kinds.FrameKinds.{FrameKinds}
-use Rattle.h3_connection.specs.StrictConnection.{knows_sessions, kinds_of}
+use Rattle.h3_connection.specs.StrictConnection.{known_streams, kinds_of}
 
 -- The peer's GOAWAY frames stay, whatever its control stream says.
 abbrev HasGoaway : Peer → Type 0
@@ -107,7 +107,7 @@ found_goes (q, Some code) go h later = h
 found_goes (q, None) go h later = later q h
 
 front_goes : (side : Side) (p : Peer) (bytes : List ℕ) (x : Front) (go : Peer → PeerFound) → HasGoaway p → ((q : Peer) → HasGoaway q → HasGoaway (go q).0) → HasGoaway (at_front go side p bytes x).0
-front_goes side p bytes (Whole f rest) go h later = found_goes (read_frame side (with_unread p rest) p.settings f) go (frame_goes side (with_unread p rest) p.settings f h) later
+front_goes side p bytes (Whole f rest) go h later = found_goes (read_frame side (having_frame p f bytes rest) p.settings f) go (frame_goes side (having_frame p f bytes rest) p.settings f h) later
 front_goes side p bytes (Unknown kind rest) go h later = h
 front_goes side p bytes (Refused e) go h later = h
 front_goes side p bytes (Unfinished least) go h later = h
@@ -206,6 +206,7 @@ role_rests e id Decoder bytes =
 role_rests e id (Session n) bytes = at_rest e
 role_rests e id (Push n) bytes = at_rest e
 role_rests e id Ignored bytes = at_rest e
+role_rests e id (Other kind) bytes = at_rest e
 
 heard_rests : (e : EndpointHistory) (id : ℕ) (o : Unidirectional) (heard : Role × List ℕ) → Rests e (read_unidirectional e id o heard).0
 heard_rests e id o (role, bytes) =
@@ -277,7 +278,7 @@ module _ (e : EndpointHistory) (q : ℕ) (over : Over e) (asked : e.side ≡ Ser
   arrives_at bytes Request kind opens none = request_leaves (bytes_at e q bytes Request).0 (kept (incoming_at e q) bytes) refl refl refl refl refl (λ h. h) opens kind none
   arrives_at bytes ServerOpened kind opens none = itself e
   arrives_at bytes OwnUnidirectional kind opens none = itself e
-  arrives_at bytes PeerUnidirectional kind opens none = rests e _ (heard_rests e q (unidirectional_at e q) (role_after (knows_sessions e.announced) (unidirectional_at e q).role bytes))
+  arrives_at bytes PeerUnidirectional kind opens none = rests e _ (heard_rests e q (unidirectional_at e q) (role_after (known_streams e.announced) (unidirectional_at e q).role bytes))
 
   ends_at : (k : Kind) → kind_of e.side q ≡ k → e.closed ≡ None → refusal_at e q k ≡ None → Leaves e (end_at e q k).0
   ends_at Request kind opens none = request_leaves (end_at e q Request).0 (with_end (incoming_at e q)) refl refl refl refl refl (λ h. h) opens kind none
@@ -417,16 +418,16 @@ record After (e f : EndpointHistory) : Type 0 where
   over : Over f
   announced : f.announced ≡ e.announced
   taken : e.own.control_taken ≤ f.own.control_taken
-  updates : f.own.updates ≡ e.own.updates
+  text : start_and_updates f ≡ start_and_updates e
 
 over_after : (e : EndpointHistory) (calls : List Call) → Over e → (e.side ≡ Server → e.announced.choices.extensions.requests_rejected ≡ true) → (e.side ≡ Server → LeavesOutRejected e calls) → After e (endpoint_after e calls)
-over_after e [] over asked left = record { over = over; announced = refl; taken = omega arith; updates = refl }
+over_after e [] over asked left = record { over = over; announced = refl; taken = omega arith; text = refl }
 over_after e (c ∷ calls) over asked left =
     let f : EndpointHistory = (called e c).1 in
     let setup = same_setup e c in
     let leaves = call_leaves e c over asked (λ server. (left server).0) in
     let after = over_after f calls (still_over e f setup.side leaves over) (λ server. ap (λ a. a.choices.extensions.requests_rejected) setup.announced ∙ asked (sym setup.side ∙ server)) (λ server. (left (sym setup.side ∙ server)).1) in
-    record { over = after.over; announced = after.announced ∙ setup.announced; taken = omega (arith, leaves.taken, after.taken); updates = after.updates ∙ leaves.updates }
+    record { over = after.over; announced = after.announced ∙ setup.announced; taken = omega (arith, leaves.taken, after.taken); text = after.text ∙ leaves.text }
 
 -- What is done with, by its receiver and its sender.
 abbrev waiting_of : Option Out → List ℕ → List ℕ
@@ -464,17 +465,18 @@ over_served e over =
 
 -- What was written on the control stream was taken, and is as it was.
 abbrev control_text : EndpointHistory → List ℕ
-control_text e = control_encoding e.announced.settings ++ control_frames 0 e.own.goaways e.own.updates
+control_text e = control_start e.announced.settings e.own.further ++ control_frames 0 e.own.goaways e.own.updates
 
 control_waits : (e : EndpointHistory) → own_waiting e (control_id e.side) ≡ drop e.own.control_taken (control_text e)
 control_waits e = rw (eq_refl (control_id e.side)) refl
 
-still_taken : (e f : EndpointHistory) → f.announced ≡ e.announced → f.own.goaways ≡ e.own.goaways → f.own.updates ≡ e.own.updates → e.own.control_taken ≤ f.own.control_taken → is_control_taken e ≡ true → is_control_taken f ≡ true
-still_taken e f announced goaways updates more was =
+still_taken : (e f : EndpointHistory) → f.announced ≡ e.announced → f.own.goaways ≡ e.own.goaways → start_and_updates f ≡ start_and_updates e → e.own.control_taken ≤ f.own.control_taken → is_control_taken e ≡ true → is_control_taken f ≡ true
+still_taken e f announced goaways others more was =
     let none : length (drop e.own.control_taken (control_text e)) ≡ 0 = eqb-true (length (drop e.own.control_taken (control_text e))) 0 (ap (λ l. length l == 0) (sym (control_waits e)) ∙ was) in
     let text : control_text f ≡ control_text e =
-    ap (λ a. control_encoding a.settings ++ control_frames 0 f.own.goaways f.own.updates) announced ∙ ap (λ ids. control_encoding e.announced.settings ++ control_frames 0 ids f.own.updates) goaways
-    ∙ ap (λ us. control_encoding e.announced.settings ++ control_frames 0 e.own.goaways us) updates in
+    ap (λ (a : Announced). control_start a.settings f.own.further ++ control_frames 0 f.own.goaways f.own.updates) announced
+    ∙ ap (λ ids. control_start e.announced.settings f.own.further ++ control_frames 0 ids f.own.updates) goaways
+    ∙ ap (λ (x : List OwnUpdate × List (ℕ × ℕ)). control_start e.announced.settings x.1 ++ control_frames 0 e.own.goaways x.0) others in
     let before = length-drop e.own.control_taken (control_text e) in
     let after = length-drop f.own.control_taken (control_text e) in
     let left : length (drop f.own.control_taken (control_text e)) ≡ 0 = omega (arith, none, before, after, more) in
@@ -500,4 +502,4 @@ drained_stays e calls none goaways drained =
     let f : EndpointHistory = endpoint_after e calls in
     let parts = and_parts (is_served e) (is_control_taken e) drained in
     let later = after e calls none parts.0 in
-    and_from (is_served f) (is_control_taken f) (over_served f later.over) (still_taken e f later.announced goaways later.updates later.taken parts.1)
+    and_from (is_served f) (is_control_taken f) (over_served f later.over) (still_taken e f later.announced goaways later.text later.taken parts.1)

@@ -21,9 +21,9 @@ use Rattle.h3_connection.specs.Isolation.{FindsNoFault}
 use Rattle.h3_connection.specs.Pulling.{is_client}
 use Rattle.h3_connection.specs.Sending.{pull, pull_at, pull_unless, pull_request, pull_peer, pulled_unidirectional}
 use Rattle.h3_connection.specs.StreamSets.{stream_at}
-use Rattle.h3_connection.specs.StrictConnection.{knows_sessions}
-use Rattle.h3_connection.specs.Unidirectional.{Unidirectional, Role, untold, role_after, with_bytes, raw, pull_session, if_over, pull_unidirectional}
-use Rattle.h3_connection.specs.Unidirectional.Role.{Untold, Control, Encoder, Decoder, Session, Push, Ignored}
+use Rattle.h3_connection.specs.StrictConnection.{known_streams}
+use Rattle.h3_connection.specs.Unidirectional.{Unidirectional, Role, untold, role_after, with_bytes, raw, raw_or_reset, pull_other, pull_session, if_over, pull_unidirectional}
+use Rattle.h3_connection.specs.Unidirectional.Role.{Untold, Control, Encoder, Decoder, Session, Push, Ignored, Other}
 use Rattle.h3_connection.specs.UnknownStreams.{is_on}
 use Rattle.h3_connection.proofs.AlikePieces.{was_end, open_pull, told_is}
 use Rattle.h3_connection.proofs.Bounded.{calls_on, call_on, new_on}
@@ -42,42 +42,50 @@ pub open_after : (calls : List Call) (e : EndpointHistory) → e.closed ≡ None
 open_after [] e open_still goes = open_still
 open_after (c ∷ calls) e open_still goes = open_after calls (called e c).1 goes.0 goes.1
 
--- a session whose end was handed out
+-- the role of a stream whose bytes are pulled: of a session, or of another type
+data IsHanded (role : Role) : Type 0 where
+  OfSession : (n : ℕ) → role ≡ Session n → IsHanded role
+  OfOther : (kind : ℕ) → role ≡ Other kind → IsHanded role
+
+-- such a stream whose end was handed out
 record SessionOver (id : ℕ) (g : EndpointHistory) : Type 0 where
-  n : ℕ
   stream : Unidirectional
   here : stream_at g.unidirectional id ≡ Some stream
-  session : stream.role ≡ Session n
+  session : IsHanded stream.role
   over : stream.is_over ≡ true
 
-set_over : (id : ℕ) (e : EndpointHistory) (u : Unidirectional) (n : ℕ) → u.role ≡ Session n → u.is_over ≡ true → SessionOver id (with_unidirectional e id u)
-set_over id e u n session over = record { n = n; stream = u; here = at_same e.unidirectional id u; session = session; over = over }
+set_over : (id : ℕ) (e : EndpointHistory) (u : Unidirectional) → IsHanded u.role → u.is_over ≡ true → SessionOver id (with_unidirectional e id u)
+set_over id e u session over = record { stream = u; here = at_same e.unidirectional id u; session = session; over = over }
 
--- what the end of a session leaves
+-- its end is handed out again
+pulled_over : (o : Unidirectional) → IsHanded o.role → o.is_over ≡ true → pull_unidirectional o o.role ≡ (answer.Item item.End, o)
+pulled_over o (OfSession n is) over = ap (pull_unidirectional o) is ∙ ap (λ b. if_over b o n) over
+pulled_over o (OfOther kind is) over = ap (pull_unidirectional o) is ∙ ap (λ b. pull_other b o) over
+
+-- what the end of such a stream leaves
 record EndedSession (x : Unidirectional) : Type 0 where
-  n : ℕ
-  session : x.role ≡ Session n
+  session : IsHanded x.role
   over : x.is_over ≡ true
 
 ends_session : (o : Unidirectional) → (pull_unidirectional o o.role).0 ≡ answer.Item item.End → EndedSession (pull_unidirectional o o.role).1
 ends_session o = by_role o.role refl
   where
-    ended_raw : ℕ → Bool → Pull × Unidirectional
-    ended_raw n b = if b then (answer.Item item.End, record o { is_over = true }) else (answer.Pending, o)
+    ended_raw : Bool → Pull × Unidirectional
+    ended_raw b = if b then (answer.Item item.End, record o { is_over = true }) else (answer.Pending, o)
 
     told_raw : ℕ → Bool → Pull × Unidirectional
     told_raw n told = if told then raw o o.unread else (answer.Item (item.Session n), record o { is_told = true })
 
-    by_end : (n : ℕ) → o.role ≡ Session n → (b : Bool) → (ended_raw n b).0 ≡ answer.Item item.End → EndedSession (ended_raw n b).1
-    by_end n is true h = record { n = n; session = is; over = refl }
-    by_end n is false h = absurd (cc)
+    by_end : IsHanded o.role → (b : Bool) → (ended_raw b).0 ≡ answer.Item item.End → EndedSession (ended_raw b).1
+    by_end is true h = record { session = is; over = refl }
+    by_end is false h = absurd (cc)
 
-    by_raw : (n : ℕ) → o.role ≡ Session n → (pieces : List (List ℕ)) → (raw o pieces).0 ≡ answer.Item item.End → EndedSession (raw o pieces).1
-    by_raw n is [] h = by_end n is o.ended h
-    by_raw n is (piece ∷ pieces) h = absurd (cc)
+    by_raw : IsHanded o.role → (pieces : List (List ℕ)) → (raw o pieces).0 ≡ answer.Item item.End → EndedSession (raw o pieces).1
+    by_raw is [] h = by_end is o.ended h
+    by_raw is (piece ∷ pieces) h = absurd (cc)
 
     by_told : (n : ℕ) → o.role ≡ Session n → (told : Bool) → (told_raw n told).0 ≡ answer.Item item.End → EndedSession (told_raw n told).1
-    by_told n is true h = by_raw n is o.unread h
+    by_told n is true h = by_raw (OfSession n is) o.unread h
     by_told n is false h = absurd (cc)
 
     by_reset : (n : ℕ) → o.role ≡ Session n → (code : Option ℕ) → (pull_session n o code).0 ≡ answer.Item item.End → EndedSession (pull_session n o code).1
@@ -85,8 +93,16 @@ ends_session o = by_role o.role refl
     by_reset n is None h = by_told n is o.is_told h
 
     by_over : (n : ℕ) → o.role ≡ Session n → (b : Bool) → o.is_over ≡ b → (if_over b o n).0 ≡ answer.Item item.End → EndedSession (if_over b o n).1
-    by_over n is true over h = record { n = n; session = is; over = over }
+    by_over n is true over h = record { session = OfSession n is; over = over }
     by_over n is false over h = by_reset n is o.reset_code h
+
+    by_code : (kind : ℕ) → o.role ≡ Other kind → (code : Option ℕ) → (raw_or_reset o code).0 ≡ answer.Item item.End → EndedSession (raw_or_reset o code).1
+    by_code kind is (Some code) h = absurd (cc)
+    by_code kind is None h = by_raw (OfOther kind is) o.unread h
+
+    by_left : (kind : ℕ) → o.role ≡ Other kind → (b : Bool) → o.is_over ≡ b → (pull_other b o).0 ≡ answer.Item item.End → EndedSession (pull_other b o).1
+    by_left kind is true over h = record { session = OfOther kind is; over = over }
+    by_left kind is false over h = by_code kind is o.reset_code h
 
     no_end : (b c : Bool) → (if b then answer.NoMessages else (if c then answer.Pending else answer.NoMessages)) ≡ answer.Item item.End → ⊥
     no_end true c h = cc
@@ -101,6 +117,7 @@ ends_session o = by_role o.role refl
     by_role (Session n) is h = by_over n is o.is_over refl h
     by_role (Push n) is h = absurd (cc)
     by_role Ignored is h = absurd (cc)
+    by_role (Other kind) is h = by_left kind is o.is_over refl h
 
 session_begins : (e : EndpointHistory) (id : ℕ) → e.closed ≡ None → kind_of e.side id ≡ PeerUnidirectional → (pull e id).0 ≡ answer.Item item.End → SessionOver id (pull e id).1
 session_begins e id open_still kind is = by_stream (stream_at e.unidirectional id) refl
@@ -114,20 +131,19 @@ session_begins e id open_still kind is = by_stream (stream_at e.unidirectional i
         let x = pull_unidirectional o o.role in
         let to : pull e id ≡ (x.0, with_unidirectional e id x.1) = at ∙ ap (pull_peer e id) some ∙ told_is e id x in
         let h = ends_session o (ap (λ (y : Pull × EndpointHistory). y.0) (sym to) ∙ is) in
-        subst (λ (y : Pull × EndpointHistory). SessionOver id y.1) (sym to) (set_over id e x.1 h.n h.session h.over)
+        subst (λ (y : Pull × EndpointHistory). SessionOver id y.1) (sym to) (set_over id e x.1 h.session h.over)
 
 session_end : (e : EndpointHistory) (id : ℕ) → e.closed ≡ None → kind_of e.side id ≡ PeerUnidirectional → SessionOver id e → (pull e id).0 ≡ answer.Item item.End
 session_end e id open_still kind h =
     let o = h.stream in
-    let over : pull_unidirectional o o.role ≡ (answer.Item item.End, o) = ap (pull_unidirectional o) h.session ∙ ap (λ b. if_over b o h.n) h.over in
-    ap (λ (y : Pull × EndpointHistory). y.0) (open_pull e id PeerUnidirectional open_still kind ∙ ap (pull_peer e id) h.here ∙ ap (pulled_unidirectional e id) over)
+    ap (λ (y : Pull × EndpointHistory). y.0) (open_pull e id PeerUnidirectional open_still kind ∙ ap (pull_peer e id) h.here ∙ ap (pulled_unidirectional e id) (pulled_over o h.session h.over))
 
 -- what comes leaves it over
 taken_over : (id : ℕ) (closed : Option ℕ) (r : Option Refusal) (e : EndpointHistory) (found : Found) → SessionOver id e → SessionOver id found.0 → SessionOver id (done Done (taken closed r e found)).1
 taken_over id (Some code) r e found h k = h
 taken_over id None (Some r) e found h k = h
 taken_over id None None e (f, None) h k = k
-taken_over id None None e (f, Some code) h k = record { n = k.n; stream = k.stream; here = k.here; session = k.session; over = k.over }
+taken_over id None None e (f, Some code) h k = record { stream = k.stream; here = k.here; session = k.session; over = k.over }
 
 module _ (id : ℕ) (e : EndpointHistory) (kind : kind_of e.side id ≡ PeerUnidirectional) (h : SessionOver id e) where
   there : unidirectional_at e id ≡ h.stream
@@ -136,31 +152,38 @@ module _ (id : ℕ) (e : EndpointHistory) (kind : kind_of e.side id ≡ PeerUnid
   bytes_over : (bytes : List ℕ) → SessionOver id (bytes_at e id bytes (kind_of e.side id)).0
   bytes_over bytes =
       subst (λ k. SessionOver id (bytes_at e id bytes k).0) (sym kind)
-      (subst (λ x. SessionOver id (read_unidirectional e id x (role_after (knows_sessions e.announced) x.role bytes)).0) (sym there)
-      (subst (λ role. SessionOver id (read_unidirectional e id h.stream (role_after (knows_sessions e.announced) role bytes)).0) (sym h.session) (set_over id e (with_bytes h.stream (Session h.n, bytes)) h.n refl h.over)))
+      (subst (λ x. SessionOver id (read_unidirectional e id x (role_after (known_streams e.announced) x.role bytes)).0) (sym there)
+      (by_role h.session))
+    where
+      ReadAs : Role → Type 0
+      ReadAs role = SessionOver id (read_unidirectional e id h.stream (role_after (known_streams e.announced) role bytes)).0
+
+      by_role : IsHanded h.stream.role → ReadAs h.stream.role
+      by_role (OfSession n is) = subst ReadAs (sym is) (set_over id e (with_bytes h.stream (Session n, bytes)) (OfSession n refl) h.over)
+      by_role (OfOther kind is) = subst ReadAs (sym is) (set_over id e (with_bytes h.stream (Other kind, bytes)) (OfOther kind refl) h.over)
 
   end_over : SessionOver id (end_at e id (kind_of e.side id)).0
   end_over =
       subst (λ k. SessionOver id (end_at e id k).0) (sym kind)
-      (subst (λ (x : Unidirectional). SessionOver id (closing e id (record x { ended = true })).0) (sym there) (set_over id e (record h.stream { ended = true }) h.n h.session h.over))
+      (subst (λ (x : Unidirectional). SessionOver id (closing e id (record x { ended = true })).0) (sym there) (set_over id e (record h.stream { ended = true }) h.session h.over))
 
   reset_over : (code : ℕ) → SessionOver id (reset_at e id code (kind_of e.side id)).0
   reset_over code =
       subst (λ k. SessionOver id (reset_at e id code k).0) (sym kind)
-      (subst (λ (x : Unidirectional). SessionOver id (closing e id (record x { reset_code = Some code })).0) (sym there) (set_over id e (record h.stream { reset_code = Some code }) h.n h.session h.over))
+      (subst (λ (x : Unidirectional). SessionOver id (closing e id (record x { reset_code = Some code })).0) (sym there) (set_over id e (record h.stream { reset_code = Some code }) h.session h.over))
 
   pull_over : SessionOver id (called e (PullStream id)).1
   pull_over = by_closed e.closed
     where
       over : pull_unidirectional h.stream h.stream.role ≡ (answer.Item item.End, h.stream)
-      over = ap (pull_unidirectional h.stream) h.session ∙ ap (λ b. if_over b h.stream h.n) h.over
+      over = pulled_over h.stream h.session h.over
 
       by_closed : (closed : Option ℕ) → SessionOver id (was_pulled (pull_unless closed e (pull_at e id (kind_of e.side id)))).1
       by_closed (Some code) = h
       by_closed None =
           subst (λ k. SessionOver id (was_pulled (pull_at e id k)).1) (sym kind)
           (subst (λ x. SessionOver id (was_pulled (pull_peer e id x)).1) (sym h.here)
-          (subst (λ x. SessionOver id (was_pulled (pulled_unidirectional e id x)).1) (sym over) (set_over id e h.stream h.n h.session h.over)))
+          (subst (λ x. SessionOver id (was_pulled (pulled_unidirectional e id x)).1) (sym over) (set_over id e h.stream h.session h.over)))
 
   here_over : (c : Call) → is_on id c ≡ true → SessionOver id (called e c).1
   here_over (Deliver q bytes) on = subst (λ n. SessionOver id (called e (Deliver n bytes)).1) (sym (to_eq q id on)) (taken_over id e.closed (delivery_refusal e id) e _ h (bytes_over bytes))
@@ -187,7 +210,7 @@ module _ (id : ℕ) (e : EndpointHistory) (kind : kind_of e.side id ≡ PeerUnid
       by_test true on = here_over c on
       by_test false off =
           let kept = (other_call id (Some h.stream) e e.unidirectional (record { agree = λ q ne. refl; here = h.here }) c off).left.others.here in
-          record { n = h.n; stream = h.stream; here = kept; session = h.session; over = h.over }
+          record { stream = h.stream; here = kept; session = h.session; over = h.over }
 
 session_after : (calls : List Call) (id : ℕ) (e : EndpointHistory) → kind_of e.side id ≡ PeerUnidirectional → SessionOver id e → SessionOver id (endpoint_after e calls)
 session_after [] id e kind h = h

@@ -27,7 +27,7 @@ use Rattle.h3_connection.specs.Outgoing.{Outgoing as Out, is_end_next}
 use Rattle.h3_connection.specs.Pulling.{Pulled, pull_stream, is_client}
 use Rattle.h3_connection.specs.Sending.{does, open_refusal, pull_at, pull_unless, pull_request, pull_peer, within_limit, after_answer, advance_at, sent_bytes, counted}
 use Rattle.h3_connection.specs.StreamSets.{stream_at}
-use Rattle.h3_connection.specs.StrictConnection.{knows_sessions}
+use Rattle.h3_connection.specs.StrictConnection.{known_streams}
 use Rattle.h3_connection.specs.Unidirectional.{Unidirectional}
 use Rattle.h3_connection.proofs.Brought.{goes_from_new, encoders_are_peers}
 use Rattle.h3_connection.proofs.EndStays.{over_pulled}
@@ -188,7 +188,7 @@ module _ (side : Side) (own : Announced) (id : ℕ) where
   seen_known T e s OpenRequest next sees_it k opens = record { ends = λ over. absurd (cc); below = λ client. opens refl }
   seen_known T e s (Deliver q bytes) next sees_it k opens = by_same (q == id)
     where
-      by_same : (b : Bool) → KnownOf side id next (if b then unless_refused (request_refusal side s.incoming) s (with_seen s (kept (seen_incoming s) bytes)) else seen_encoder_bytes (knows_sessions own) own.choices.unfinished_limit s q bytes).1.incoming
+      by_same : (b : Bool) → KnownOf side id next (if b then unless_refused (request_refusal side s.incoming) s (with_seen s (kept (seen_incoming s) bytes)) else seen_encoder_bytes (known_streams own) own.choices.unfinished_limit s q bytes).1.incoming
       by_same true = changed side id next s (λ i. kept i bytes) k (λ i accepted well over. absurd (open_stream side i accepted well over)) (λ over. absurd (cc))
       by_same false = as_seen side id next (closed_refusal (s.fronts q).closed) s _ k refl
   seen_known T e s (DeliverEnd q) next sees_it k opens = by_same (q == id)

@@ -35,7 +35,7 @@ use Rattle.h3_connection.specs.declared.setup.Announced.{Announced}
 use Rattle.h3_connection.proofs.SameSetups.{same_setup}
 use Rattle.h3_connection.proofs.SeenEncoder.{to_eq, by_eq, encoder_bytes_seen, one_way_bytes_unseen, closing_seen, closing_unseen, pull_front, pulled_front}
 use Rattle.h3_field.specs.Field.{Field}
-use Rattle.h3_connection.specs.StrictConnection.{knows_sessions}
+use Rattle.h3_connection.specs.StrictConnection.{known_streams}
 
 pub true_not_false : true ≡ false → ⊥
 true_not_false x = cc
@@ -128,7 +128,7 @@ true_or false = refl
 deliver_step : (T : ℕ → Bool) (id : ℕ) (e : EndpointHistory) (s : Sight) (q : ℕ) (bytes : List ℕ) → Before T id e s
     → (called e (Deliver q bytes)).1.closed ≡ None → AreEncoders T (called e (Deliver q bytes)).1
     → StepIsSeen T id e (called e (Deliver q bytes)).1 s (Deliver q bytes) (called e (Deliver q bytes)).0
-deliver_step T id e s q bytes b = arrival_step T id e s q (λ i. kept i bytes) (seen_encoder_bytes (knows_sessions e.announced) (limit_of e) s q bytes) (bytes_at e q bytes) (Deliver q bytes) b
+deliver_step T id e s q bytes b = arrival_step T id e s q (λ i. kept i bytes) (seen_encoder_bytes (known_streams e.announced) (limit_of e) s q bytes) (bytes_at e q bytes) (Deliver q bytes) b
     (record { sees_it = refl; as_seen = refl })
     (record {
       end = with_incoming (opened e q) q (kept (incoming_at e q) bytes);

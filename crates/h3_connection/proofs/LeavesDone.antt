@@ -54,6 +54,10 @@ pub record Over (e : EndpointHistory) : Type 0 where
   pub settled : (id : ℕ) → is_some (stream_at e.incoming id) ≡ true → settled_in (stream_at e.incoming id) ≡ true
   pub sent : (id : ℕ) → is_some (stream_at e.incoming id) ≡ true → sent_in (stream_at e.outgoing id) ≡ true
 
+-- what stands on the own control stream beside GOAWAY frames and the settings of a meaning
+abbrev pub start_and_updates : EndpointHistory → List OwnUpdate × List (ℕ × ℕ)
+start_and_updates e = (e.own.updates, e.own.further)
+
 -- What a call leaves: the streams that were seen, and what was done with. An id that is named later is no higher, and what was taken stays so.
 pub record Leaves (e f : EndpointHistory) : Type 0 where
   pub seen : (id : ℕ) → is_some (stream_at f.incoming id) ≡ is_some (stream_at e.incoming id)
@@ -62,14 +66,14 @@ pub record Leaves (e f : EndpointHistory) : Type 0 where
   pub named : (test : ℕ → Bool) → are_seen_below (last_id e.own.goaways) test ≡ true → are_seen_below (last_id f.own.goaways) test ≡ true
   pub peer : is_some (last_id e.peer.goaways) ≡ true → is_some (last_id f.peer.goaways) ≡ true
   pub taken : e.own.control_taken ≤ f.own.control_taken
-  pub updates : f.own.updates ≡ e.own.updates
+  pub text : start_and_updates f ≡ start_and_updates e
 
 pub itself : (e : EndpointHistory) → Leaves e e
-itself e = record { seen = λ id. refl; settled = λ id h. h; sent = λ id h. h; named = λ test h. h; peer = λ h. h; taken = omega arith; updates = refl }
+itself e = record { seen = λ id. refl; settled = λ id h. h; sent = λ id h. h; named = λ test h. h; peer = λ h. h; taken = omega arith; text = refl }
 
 -- what was written on the own control stream
-abbrev pub written : EndpointHistory → List ℕ × List OwnUpdate
-written e = (e.own.goaways, e.own.updates)
+abbrev pub written : EndpointHistory → List ℕ × (List OwnUpdate × List (ℕ × ℕ))
+written e = (e.own.goaways, start_and_updates e)
 
 -- no stream changes
 pub record Rests (e f : EndpointHistory) : Type 0 where
@@ -91,7 +95,7 @@ rests e f h =
       named = λ test was. ap (λ w. are_seen_below (last_id w.0) test) h.written_same ∙ was;
       peer = h.peer;
       taken = omega (arith, h.control_taken);
-      updates = ap (λ w. w.1) h.written_same;
+      text = ap (λ w. w.1) h.written_same;
     }
 
 -- one stream changes at its sender
@@ -115,7 +119,7 @@ sends e f q h =
       named = λ test was. ap (λ w. are_seen_below (last_id w.0) test) h.written_same ∙ was;
       peer = λ was. ap (λ p. is_some (last_id p.goaways)) h.peer ∙ was;
       taken = omega (arith, h.control_taken);
-      updates = ap (λ w. w.1) h.written_same;
+      text = ap (λ w. w.1) h.written_same;
     }
 
 -- and one at its receiver
@@ -134,7 +138,7 @@ receives e f q i j was is outgoing same control_taken peer settles =
       named = λ test before. ap (λ w. are_seen_below (last_id w.0) test) same ∙ before;
       peer = λ before. ap (λ p. is_some (last_id p.goaways)) peer ∙ before;
       taken = omega (arith, control_taken);
-      updates = ap (λ w. w.1) same;
+      text = ap (λ w. w.1) same;
     }
   where
     here : stream_at f.incoming q ≡ Some j
@@ -151,7 +155,7 @@ leaves_then e f g h k = record {
   named = λ test was. k.named test (h.named test was);
   peer = λ was. k.peer (h.peer was);
   taken = omega (arith, h.taken, k.taken);
-  updates = k.updates ∙ h.updates;
+  text = k.text ∙ h.text;
 }
 
 -- a call that is refused, or what it does
@@ -163,7 +167,7 @@ pub taken_leaves : (closed : Option ℕ) (r : Option Refusal) (e : EndpointHisto
 taken_leaves (Some code) r e found h = itself e
 taken_leaves None (Some r) e found h = itself e
 taken_leaves None None e (f, None) h = h refl refl
-taken_leaves None None e (f, Some code) h = let g = h refl refl in record { seen = g.seen; settled = g.settled; sent = g.sent; named = g.named; peer = g.peer; taken = g.taken; updates = g.updates }
+taken_leaves None None e (f, Some code) h = let g = h refl refl in record { seen = g.seen; settled = g.settled; sent = g.sent; named = g.named; peer = g.peer; taken = g.taken; text = g.text }
 
 -- Requests that are opened: none behind a GOAWAY.
 none_opened : (closed : Option ℕ) (side : Side) (last : Option ℕ) (next : ℕ) → (side ≡ Client → is_some last ≡ true) → closed_or closed (refusal_to_open side last next) ≡ None → ⊥
@@ -241,7 +245,7 @@ advance_leaves e q count None was = by_tests (q == control_id e.side) (q == enco
   where
     by_tests : (control encoder decoder : Bool)
         → Leaves e (record e { own = if control then record e.own { control_taken = e.own.control_taken + count } else (if encoder then record e.own { encoder_taken = e.own.encoder_taken + count } else (if decoder then record e.own { decoder_taken = e.own.decoder_taken + count } else e.own)) })
-    by_tests true encoder decoder = record { seen = λ id. refl; settled = λ id h. h; sent = λ id h. h; named = λ test h. h; peer = λ h. h; taken = omega arith; updates = refl }
+    by_tests true encoder decoder = record { seen = λ id. refl; settled = λ id h. h; sent = λ id h. h; named = λ test h. h; peer = λ h. h; taken = omega arith; text = refl }
     by_tests false true decoder = rests e _ (record { incoming = refl; outgoing = refl; written_same = refl; control_taken = refl; peer = λ h. h })
     by_tests false false true = rests e _ (record { incoming = refl; outgoing = refl; written_same = refl; control_taken = refl; peer = λ h. h })
     by_tests false false false = rests e _ (record { incoming = refl; outgoing = refl; written_same = refl; control_taken = refl; peer = λ h. h })
@@ -281,5 +285,5 @@ goaway_leaves e n = does_leave (goaway_refusal e n) e _ Done (λ none. record {
   named = λ test all. ap (λ o. are_seen_below o test) (last_appended e.own.goaways n) ∙ fewer_below n (last_id e.own.goaways) test (low_named e.closed e.side n (last_id e.own.goaways) none) all;
   peer = λ h. h;
   taken = omega arith;
-  updates = refl;
+  text = refl;
 })

@@ -19,7 +19,8 @@ use Rattle.h3_wire.specs.Update.{Update}
 use Rattle.h3_wire.specs.declared.proto.frame.PayloadLen.{PayloadLen}
 use Rattle.h3_wire.specs.declared.proto.frame.Frame.{Frame}
 use Rattle.h3_wire.specs.declared.proto.frame.Frame.TheVariants as frame
-use Rattle.h3_connection.specs.PeerReading.{Peer, PeerFound, with_unread, is_no_element, is_no_goaway, is_above, is_below, read_max_push, read_priority, read_update, read_frame, unless_fault, at_front, unless_excessive, read_peer}
+use Rattle.h3_connection.specs.PeerReading.{Peer, PeerFound, with_unread, having_frame, is_no_element, is_no_goaway, is_above, is_below, read_max_push, read_priority, read_update, read_frame, unless_fault, at_front, unless_excessive, read_peer}
+use Rattle.h3_connection.specs.OtherSettingsLaws.{others_more}
 use Rattle.h3_connection.specs.Lasts.{last_id}
 use Rattle.h3_connection.specs.SkippingLaws.{rest_shorter, skipped_step}
 use Rattle.h3_connection.specs.PeerReadingLaws.{no_length, peer_step, step_excessive, step_within}
@@ -163,11 +164,14 @@ front_more kinds limit side p bytes more x is small go = by_front x is
 
     by_front : (y : Front) → frame_by kinds (known_by kinds bytes) ≡ y → ReadsMore kinds limit side more (read_peer kinds limit side (with_unread p (bytes ++ more))) (read_peer kinds limit side (with_unread p bytes))
     by_front (Whole f rest) e =
-        let found = found_more kinds limit side more rest (read_frame side p p.settings f) (λ q. go q rest (rest_shorter kinds bytes rest f e)) in (
+        let had : Peer = having_frame p f (known_by kinds bytes) rest in
+        let found = found_more kinds limit side more rest (read_frame side had p.settings f) (λ q. go q rest (rest_shorter kinds bytes rest f e)) in (
           found.0,
-          there (Whole f rest) e tt ∙ ap (λ z. unless_fault z (read_peer kinds limit side)) (frame_with side p (rest ++ more) p.settings f)
+          there (Whole f rest) e tt
+              ∙ ap (λ o. unless_fault (read_frame side (record p { unread = rest ++ more; others = o }) p.settings f) (read_peer kinds limit side)) (others_more kinds p.settings f p.others (known_by kinds bytes) more rest e)
+              ∙ ap (λ z. unless_fault z (read_peer kinds limit side)) (frame_with side had (rest ++ more) p.settings f)
               ∙ found.1
-              ∙ sym (ap (then_peer kinds limit side more found.0) (here (Whole f rest) e ∙ ap (λ z. unless_fault z (read_peer kinds limit side)) (frame_with side p rest p.settings f))),
+              ∙ sym (ap (then_peer kinds limit side more found.0) (here (Whole f rest) e ∙ ap (λ z. unless_fault z (read_peer kinds limit side)) (frame_with side had rest p.settings f))),
         )
     by_front (Refused why) e = (known_by kinds bytes ++ more, there (Refused why) e tt ∙ sym (ap (then_peer kinds limit side more (known_by kinds bytes ++ more)) (here (Refused why) e)))
     by_front (Unknown kind rest) e = waits_more kinds limit side p bytes more (here (Unknown kind rest) e)

@@ -10,9 +10,9 @@ use Rattle.h3_connection.specs.Incoming.{Incoming}
 use Rattle.h3_connection.specs.Keeping.{read_arrival, read_all, unless_faulty}
 use Rattle.h3_connection.specs.StreamSets.{stream_at}
 use Rattle.h3_connection.specs.Unidirectional.{Unidirectional, Role, with_bytes, role_after}
-use Rattle.h3_connection.specs.Unidirectional.Role.{Untold, Control, Encoder, Decoder, Session, Push, Ignored}
+use Rattle.h3_connection.specs.Unidirectional.Role.{Untold, Control, Encoder, Decoder, Session, Push, Ignored, Other}
 use Rattle.h3_connection.proofs.Quiet.{Quiet, quiet_control, quiet_decoder}
-use Rattle.h3_connection.specs.StrictConnection.{knows_sessions}
+use Rattle.h3_connection.specs.StrictConnection.{known_streams}
 
 pub record Stays (e f : EndpointHistory) : Type 0 where
   pub closed : f.closed ≡ e.closed
@@ -40,6 +40,7 @@ role_stays e id Decoder bytes =
 role_stays e id (Session n) bytes = same e
 role_stays e id (Push n) bytes = same e
 role_stays e id Ignored bytes = same e
+role_stays e id (Other kind) bytes = same e
 
 peer_stays : (e : EndpointHistory) (id : ℕ) (o : Unidirectional) (read_as : Role × List ℕ) → Stays e (read_unidirectional e id o read_as).0
 peer_stays e id o (role, bytes) = let h = role_stays (with_unidirectional e id (with_bytes o (role, bytes))) id role bytes in record { closed = h.closed; next_id = h.next_id }
@@ -52,7 +53,7 @@ pub bytes_stay : (e : EndpointHistory) (id : ℕ) (bytes : List ℕ) (k : Kind) 
 bytes_stay e id bytes Request = opened_stays e _ id (stream_at e.incoming id) refl refl
 bytes_stay e id bytes ServerOpened = same e
 bytes_stay e id bytes OwnUnidirectional = same e
-bytes_stay e id bytes PeerUnidirectional = peer_stays e id (unidirectional_at e id) (role_after (knows_sessions e.announced) (unidirectional_at e id).role bytes)
+bytes_stay e id bytes PeerUnidirectional = peer_stays e id (unidirectional_at e id) (role_after (known_streams e.announced) (unidirectional_at e id).role bytes)
 
 pub end_stays : (e : EndpointHistory) (id : ℕ) (k : Kind) → Stays e (end_at e id k).0
 end_stays e id Request = opened_stays e _ id (stream_at e.incoming id) refl refl

@@ -9,7 +9,7 @@ use Rattle.h3_connection.specs.StreamSets.{stream_at}
 use Rattle.h3_connection.specs.Incoming.{Incoming}
 use Rattle.h3_connection.specs.Outgoing.{Outgoing as Out, is_end_next}
 use Rattle.h3_connection.specs.Unidirectional.{Unidirectional, Role, with_bytes, role_after}
-use Rattle.h3_connection.specs.Unidirectional.Role.{Untold, Control, Encoder, Decoder, Session, Push, Ignored}
+use Rattle.h3_connection.specs.Unidirectional.Role.{Untold, Control, Encoder, Decoder, Session, Push, Ignored, Other}
 use Rattle.h3_connection.specs.Endpoint.{EndpointHistory, Kind, kind_of}
 use Rattle.h3_connection.specs.Endpoint.Kind.{Request, ServerOpened, OwnUnidirectional, PeerUnidirectional}
 use Rattle.h3_connection.specs.Control.{Found, read_control, read_encoder, read_decoder}
@@ -19,7 +19,7 @@ use Rattle.h3_connection.specs.CallLists.{Call, Result, called, done, was_pulled
 use Rattle.h3_connection.specs.EndsWaiting.{end_taken_at, end_taken_if}
 use Rattle.h3_connection.specs.CallLists.Call.{OpenRequest, SendHead, SendBody, SendTrailer, Finish, Reset, Goaway, Advance, TakeEnd, Outgoing, Deliver, DeliverEnd, DeliverReset, PullStream, Cancel, Show}
 use Rattle.h3_connection.proofs.Quiet.{Quiet, quiet_control, quiet_decoder}
-use Rattle.h3_connection.specs.StrictConnection.{knows_sessions}
+use Rattle.h3_connection.specs.StrictConnection.{known_streams}
 
 pub record SameSetup (e f : EndpointHistory) : Type 0 where
   pub side : f.side ≡ e.side
@@ -47,6 +47,7 @@ hearing e id Decoder bytes = second e _ (read_decoder (record e { decoder_on = S
 hearing e id (Session n) bytes = itself e
 hearing e id (Push n) bytes = itself e
 hearing e id Ignored bytes = itself e
+hearing e id (Other kind) bytes = itself e
 
 unidirectional : (e : EndpointHistory) (id : ℕ) (o : Unidirectional) (heard : Role × List ℕ) → SameSetup e (read_unidirectional e id o heard).0
 unidirectional e id o (role, bytes) = let h = hearing (with_unidirectional e id (with_bytes o (role, bytes))) id role bytes in record { side = h.side; announced = h.announced }
@@ -68,7 +69,7 @@ bytes_on : (e : EndpointHistory) (q : ℕ) (bytes : List ℕ) (k : Kind) → Sam
 bytes_on e q bytes Request = came_on e _ q refl refl
 bytes_on e q bytes ServerOpened = itself e
 bytes_on e q bytes OwnUnidirectional = itself e
-bytes_on e q bytes PeerUnidirectional = unidirectional e q (unidirectional_at e q) (role_after (knows_sessions e.announced) (unidirectional_at e q).role bytes)
+bytes_on e q bytes PeerUnidirectional = unidirectional e q (unidirectional_at e q) (role_after (known_streams e.announced) (unidirectional_at e q).role bytes)
 
 end_on : (e : EndpointHistory) (q : ℕ) (k : Kind) → SameSetup e (end_at e q k).0
 end_on e q Request = came_on e _ q refl refl

@@ -6,7 +6,7 @@ use Rattle.h3_connection.specs.declared.event.Refusal.{Refusal}
 use Rattle.h3_connection.specs.StreamSets.{Streams, stream_at, set_stream}
 use Rattle.h3_connection.specs.Incoming.{Incoming, nothing_came}
 use Rattle.h3_connection.specs.Unidirectional.{Unidirectional, Role, untold, with_bytes}
-use Rattle.h3_connection.specs.Unidirectional.Role.{Untold, Control, Encoder, Decoder, Session, Push, Ignored}
+use Rattle.h3_connection.specs.Unidirectional.Role.{Untold, Control, Encoder, Decoder, Session, Push, Ignored, Other}
 use Rattle.h3_connection.specs.Endpoint.{EndpointHistory, limit_of, is_second}
 use Rattle.h3_connection.specs.Control.{Found, read_encoder, read_decoder, read_control}
 use Rattle.h3_connection.specs.Delivering.{incoming_at, opened_at, opened, taken, only_one, unless_second, heard_as, request_refusal}
@@ -148,6 +148,7 @@ heard_as_role e q Decoder bytes p =
 heard_as_role e q (Session id) bytes p = of_quiet e e q _ refl (still e)
 heard_as_role e q (Push id) bytes p = of_quiet e e q _ refl (still e)
 heard_as_role e q Ignored bytes p = of_quiet e e q _ refl (still e)
+heard_as_role e q (Other kind) bytes p = of_quiet e e q _ refl (still e)
 
 pub role_of_bytes : (o : Unidirectional) (heard : Role × List ℕ) → front_of (with_bytes o heard) ≡ record (front_of o) { role = heard.0 }
 role_of_bytes o (Untold front, bytes) = refl
@@ -157,3 +158,4 @@ role_of_bytes o (Decoder, bytes) = refl
 role_of_bytes o (Session id, bytes) = refl
 role_of_bytes o (Push id, bytes) = refl
 role_of_bytes o (Ignored, bytes) = refl
+role_of_bytes o (Other kind, bytes) = refl

@@ -3,8 +3,8 @@ use Rattle.std.proofs.Common.{arith, ◌≡◌, ℕ, Bool, true, false, List, []
 use Rattle.std.specs.Prelude.{Option, Some, None, if◌then◌else◌, ◌==◌, unwrap_or}
 use Rattle.std.proofs.lemmas.Grind.{common_steps}
 use Rattle.h3_connection.specs.StreamSets.{stream_at, set_stream}
-use Rattle.h3_connection.specs.Unidirectional.{Unidirectional, Role, untold, is_closed, role_after, with_bytes, pull_unidirectional, raw, pull_session, if_over}
-use Rattle.h3_connection.specs.Unidirectional.Role.{Untold, Control, Encoder, Decoder, Session, Push, Ignored}
+use Rattle.h3_connection.specs.Unidirectional.{Unidirectional, Role, untold, is_closed, role_after, with_bytes, pull_unidirectional, raw, raw_or_reset, pull_other, pull_session, if_over}
+use Rattle.h3_connection.specs.Unidirectional.Role.{Untold, Control, Encoder, Decoder, Session, Push, Ignored, Other}
 use Rattle.h3_connection.specs.Endpoint.{EndpointHistory, limit_of}
 use Rattle.h3_connection.specs.Control.{Found}
 use Rattle.h3_connection.specs.Delivering.{unidirectional_at, with_unidirectional, taken, closed_refusal, closing, read_unidirectional}
@@ -12,7 +12,7 @@ use Rattle.h3_connection.specs.CallLists.{done}
 use Rattle.h3_connection.specs.CallLists.Result.{Done}
 use Rattle.h3_connection.specs.Isolation.{Front, Sight, IsSight, AreEncoders, front_of, unless_refused, hears, with_front, seen_encoder_bytes, seen_encoder_closing}
 use Rattle.h3_connection.proofs.Seen.{at_same, at_other, HeardAs, heard_as_role, role_of_bytes}
-use Rattle.h3_connection.specs.StrictConnection.{knows_sessions}
+use Rattle.h3_connection.specs.StrictConnection.{known_streams}
 
 pub to_eq : (a b : ℕ) → (a == b) ≡ true → a ≡ b
 to_eq a b h = grind (arith, common_steps)
@@ -49,7 +49,7 @@ fronts_kept T id e f s q o h w blind p t =
 
 -- the end after bytes of a peer's unidirectional stream
 abbrev After : EndpointHistory → ℕ → List ℕ → Found
-After e q bytes = read_unidirectional e q (unidirectional_at e q) (role_after (knows_sessions e.announced) (unidirectional_at e q).role bytes)
+After e q bytes = read_unidirectional e q (unidirectional_at e q) (role_after (known_streams e.announced) (unidirectional_at e q).role bytes)
 
 pub heard_bytes : (e : EndpointHistory) (q : ℕ) (o : Unidirectional) (heard : Role × List ℕ) → (read_unidirectional e q o heard).1 ≡ None
     → HeardAs (with_unidirectional e q (with_bytes o heard)) (read_unidirectional e q o heard).0 q heard
@@ -58,17 +58,17 @@ heard_bytes e q o (role, bytes) p = heard_as_role (with_unidirectional e q (with
 -- a stream that is seen
 pub encoder_bytes_seen : (T : ℕ → Bool) (id : ℕ) (e : EndpointHistory) (s : Sight) (q : ℕ) (bytes : List ℕ) → IsSight T id e s → T q ≡ true
     → let r = done Done (taken None (closed_refusal (is_closed (unidirectional_at e q))) e (After e q bytes)) in
-    r.1.closed ≡ None → (r.0 ≡ (seen_encoder_bytes (knows_sessions e.announced) (limit_of e) s q bytes).0) × IsSight T id r.1 (seen_encoder_bytes (knows_sessions e.announced) (limit_of e) s q bytes).1
+    r.1.closed ≡ None → (r.0 ≡ (seen_encoder_bytes (known_streams e.announced) (limit_of e) s q bytes).0) × IsSight T id r.1 (seen_encoder_bytes (known_streams e.announced) (limit_of e) s q bytes).1
 encoder_bytes_seen T id e s q bytes h t = subst (λ g. let r = done Done (taken None (closed_refusal (is_closed (unidirectional_at e q))) e (After e q bytes)) in
     r.1.closed ≡ None → let sg = unless_refused (closed_refusal g.closed) s
-    (with_front (record s { decoding = hears (limit_of e) s.decoding (role_after (knows_sessions e.announced) g.role bytes) }) q (record g { role = (role_after (knows_sessions e.announced) g.role bytes).0 })) in
+    (with_front (record s { decoding = hears (limit_of e) s.decoding (role_after (known_streams e.announced) g.role bytes) }) q (record g { role = (role_after (known_streams e.announced) g.role bytes).0 })) in
     (r.0 ≡ sg.0) × IsSight T id r.1 sg.1) (h.fronts q t) (go (is_closed (unidirectional_at e q)) (After e q bytes) refl)
   where
     o : Unidirectional
     o = unidirectional_at e q
 
     heard : Role × List ℕ
-    heard = role_after (knows_sessions e.announced) o.role bytes
+    heard = role_after (known_streams e.announced) o.role bytes
 
     new : Sight
     new = with_front (record s { decoding = hears (limit_of e) s.decoding heard }) q (record (front_of o) { role = heard.0 })
@@ -98,6 +98,7 @@ hears_only_encoder e q (Decoder, bytes) f = refl
 hears_only_encoder e q (Session id, bytes) f = refl
 hears_only_encoder e q (Push id, bytes) f = refl
 hears_only_encoder e q (Ignored, bytes) f = refl
+hears_only_encoder e q (Other kind, bytes) f = refl
 
 true_is_not_false : true ≡ false → ⊥
 true_is_not_false x = cc
@@ -112,7 +113,7 @@ one_way_bytes_unseen T id e s q bytes h blind = go (is_closed (unidirectional_at
     o = unidirectional_at e q
 
     heard : Role × List ℕ
-    heard = role_after (knows_sessions e.announced) o.role bytes
+    heard = role_after (known_streams e.announced) o.role bytes
 
     go : (closed : Bool) (found : Found) → found ≡ After e q bytes
         → let r = done Done (taken None (closed_refusal closed) e found) in r.1.closed ≡ None → AreEncoders T r.1 → IsSight T id r.1 s
@@ -199,6 +200,14 @@ over_front : (o : Unidirectional) (id : ℕ) (over : Bool) → front_of (if_over
 over_front o id true = refl
 over_front o id false = session_front o id o.reset_code
 
+code_front : (o : Unidirectional) (code : Option ℕ) → front_of (raw_or_reset o code).1 ≡ front_of o
+code_front o (Some code) = refl
+code_front o None = raw_front o o.unread
+
+other_front : (o : Unidirectional) (over : Bool) → front_of (pull_other over o).1 ≡ front_of o
+other_front o true = refl
+other_front o false = code_front o o.reset_code
+
 pub pull_front : (o : Unidirectional) (role : Role) → front_of (pull_unidirectional o role).1 ≡ front_of o
 pull_front o (Untold front) = refl
 pull_front o Control = refl
@@ -207,6 +216,7 @@ pull_front o Decoder = refl
 pull_front o (Session id) = over_front o id o.is_over
 pull_front o (Push id) = refl
 pull_front o Ignored = refl
+pull_front o (Other kind) = other_front o o.is_over
 
 -- A pull of a unidirectional stream is not seen.
 pub pulled_front : (T : ℕ → Bool) (id : ℕ) (e : EndpointHistory) (s : Sight) (q : ℕ) (o new : Unidirectional) → IsSight T id e s

@@ -10,6 +10,7 @@ use Rattle.h3_messages.specs.declared.content.Content.{Content}
 use Rattle.h3_messages.specs.declared.content.Content.TheVariants.{Exactly, Exceeded}
 use Rattle.h3_proto.specs.declared.stream.Side.TheVariants.{Client, Server}
 use Rattle.h3_connection.specs.Endpoint.{EndpointHistory}
+use Rattle.h3_connection.specs.Remembering.{settings_known}
 use Rattle.h3_connection.specs.Outgoing.{Outgoing, is_unsent, nothing_sent, takes_body, takes_end, takes_head, with_body, with_finish, with_said}
 use Rattle.h3_connection.specs.Outgoing as sent
 use Rattle.h3_connection.specs.OwnIds.{other}
@@ -112,7 +113,7 @@ trails e id trailer rest sent =
     let fields = head_fields trailer in
     let protocol = broken_protocol e.announced trailer in
     let early = early_trailer (left_to_send e id) in
-    let behind = unless_malformed (broken_trailer e.announced fields) ((is_too_large e.peer.settings fields, refusal.TooLarge (section_size fields)) ∷ []) in
+    let behind = unless_malformed (broken_trailer e.announced fields) ((is_too_large (settings_known e.announced e.peer.settings) fields, refusal.TooLarge (section_size fields)) ∷ []) in
     let pseudo = (has_pseudo trailer, refusal.PseudoInTrailer) ∷ unless_malformed early behind in
     let allowed = not_closed e.closed _ (was_allowed (trailer_refusal e id trailer) e rest sent) in
     let there = passed (not (is_open e id)) refusal.NotOpen ((not (takes_body (outgoing_at e id)), refusal.OutOfOrder) ∷ unless_malformed protocol pseudo) allowed in
@@ -137,7 +138,7 @@ takes : (e : EndpointHistory) (id : ℕ) (head : Head) (after : EndpointHistory)
 takes e id head after done =
     let fields = head_fields head in
     let wrong = unless_going (sender_at e id).going (unless_malformed (broken_protocol e.announced head)
-    ((not (is_for (other e.side) head), refusal.WrongSide) ∷ unless_malformed (broken_head_at e id fields) ((is_too_large e.peer.settings fields, refusal.TooLarge (section_size fields)) ∷ []))) in
+    ((not (is_for (other e.side) head), refusal.WrongSide) ∷ unless_malformed (broken_head_at e id fields) ((is_too_large (settings_known e.announced e.peer.settings) fields, refusal.TooLarge (section_size fields)) ∷ []))) in
     let allowed = not_closed e.closed _ (was_allowed (head_refusal e id head) e after done) in
     let there = passed (not (is_open e id)) refusal.NotOpen ((not (takes_head (outgoing_at e id)), refusal.OutOfOrder) ∷ wrong) allowed in
     first_true (sent.is_unended (outgoing_at e id)) (is_unsent (outgoing_at e id).parts) (is_true (takes_head (outgoing_at e id)) (head_test (not (takes_head (outgoing_at e id))) refusal.OutOfOrder wrong there))

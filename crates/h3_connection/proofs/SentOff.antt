@@ -10,6 +10,7 @@ use Rattle.h3_connection.specs.declared.event.Refusal.TheVariants as refusal
 use Rattle.h3_connection.specs.Endpoint.{EndpointHistory, is_critical_id}
 use Rattle.h3_connection.specs.Outgoing.{Outgoing, nothing_sent, is_unended, is_unsent, last_is_trailer, is_sent_off, takes_head, takes_body, takes_end, part_bytes_waiting, end_waits, written_part}
 use Rattle.h3_connection.specs.Refusals.{SenderStream, first_of, not_next, of_list, refusal_to_stop, with_pseudo, wrong_length, wrong_side, unless_going}
+use Rattle.h3_connection.specs.Remembering.{settings_known}
 use Rattle.h3_connection.specs.Sending.{closed_or, outgoing_at, is_open, seen_at, head_refusal, body_refusal, trailer_refusal, finish_refusal, reset_refusal, sender_at, broken_head_at}
 use Rattle.h3_connection.specs.StreamSets.{stream_at}
 use Rattle.h3_connection.specs.StrictSending.{broken_protocol, broken_trailer, early_trailer, passes_content, unless_malformed}
@@ -108,7 +109,7 @@ module _ (e : EndpointHistory) (id : ℕ) (sent : sent_in (stream_at e.outgoing 
   head_refused head none =
       let fields = head_fields head in
       next_refused e.closed (seen_at e id) (takes_head o)
-      (unless_going (sender_at e id).going (unless_malformed (broken_protocol e.announced head) (wrong_side e.side head ∷ of_list (broken_head_at e id fields) e.peer.settings fields)))
+      (unless_going (sender_at e id).going (unless_malformed (broken_protocol e.announced head) (wrong_side e.side head ∷ of_list (broken_head_at e id fields) (settings_known e.announced e.peer.settings) fields)))
       (and_left (is_unended o) (is_unsent o.parts) over) none
 
   pub body_refused : (size : ℕ) → body_refusal e id size ≡ None → ⊥
@@ -117,7 +118,7 @@ module _ (e : EndpointHistory) (id : ℕ) (sent : sent_in (stream_at e.outgoing 
   pub trailer_refused : (head : Head) → trailer_refusal e id head ≡ None → ⊥
   trailer_refused head none =
       let fields = head_fields head in
-      next_refused e.closed (seen_at e id) (takes_body o) (unless_malformed (broken_protocol e.announced head) (with_pseudo head ∷ unless_malformed (early_trailer o.content) (of_list (broken_trailer e.announced fields) e.peer.settings fields))) takes_none none
+      next_refused e.closed (seen_at e id) (takes_body o) (unless_malformed (broken_protocol e.announced head) (with_pseudo head ∷ unless_malformed (early_trailer o.content) (of_list (broken_trailer e.announced fields) (settings_known e.announced e.peer.settings) fields))) takes_none none
 
   pub finish_refused : finish_refusal e id ≡ None → ⊥
   finish_refused none = next_refused e.closed (seen_at e id) (takes_end o) (wrong_length (not (may_end o.content)) ∷ []) (and_left (is_unended o) (not (is_unsent o.parts)) over) none

@@ -21,7 +21,7 @@ use Rattle.h3_connection.specs.SendingContracts.{CutsOff}
 use Rattle.h3_connection.specs.State.{EndpointState, StandsFor}
 use Rattle.h3_connection.specs.StreamSets.{stream_at}
 use Rattle.h3_connection.specs.Unidirectional.{Role, role_after, with_bytes}
-use Rattle.h3_connection.specs.Unidirectional.Role.{Untold, Control, Encoder, Decoder, Session, Push, Ignored}
+use Rattle.h3_connection.specs.Unidirectional.Role.{Untold, Control, Encoder, Decoder, Session, Push, Ignored, Other}
 use Rattle.h3_connection.proofs.Bounded.{as_before, rests, opens, hears, hears_more, sets_peer, arrival_on, forgets, changes_at}
 use Rattle.h3_connection.proofs.Quiet.{Quiet, quiet_if_learned}
 
@@ -34,6 +34,7 @@ holds_as e id (Decoder, bytes) h = rests e _ refl refl refl refl h
 holds_as e id (Session n, bytes) h = h
 holds_as e id (Push n, bytes) h = h
 holds_as e id (Ignored, bytes) h = h
+holds_as e id (Other kind, bytes) h = h
 
 holds : (e : EndpointHistory) (id : ℕ) (bytes : List ℕ) → IsBounded e → IsBounded (held e id bytes)
 holds e id bytes h =

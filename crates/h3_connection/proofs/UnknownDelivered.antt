@@ -25,7 +25,7 @@ use Rattle.h3_connection.proofs.Seen.{at_same, eq_refl}
 use Rattle.h3_connection.proofs.EndStays.{pull_is}
 use Rattle.h3_connection.proofs.UnknownFrames.{unknown_left_out, pull_unknown}
 use Rattle.h3_wire.specs.declared.frame.kinds.FrameKinds.{FrameKinds}
-use Rattle.h3_connection.specs.StrictConnection.{kinds_of, knows_sessions}
+use Rattle.h3_connection.specs.StrictConnection.{kinds_of, known_streams}
 
 -- what a pull of the stream leaves does not rest on what the stream was
 pulled_anew : (e : EndpointHistory) (id : ℕ) (j : Incoming) (p : Pulled) → pulled (with_incoming e id j) id (within_limit (with_incoming e id j) id p) ≡ pulled e id (within_limit e id p)
@@ -82,7 +82,7 @@ delivered_control e id bytes c =
     ap (λ closed. taken closed (delivery_refusal e id) e (bytes_at e id bytes (kind_of e.side id))) c.open_still
     ∙ ap (λ refused. taken None refused e (bytes_at e id bytes (kind_of e.side id))) c.accepted
     ∙ ap (λ k. closed_by (bytes_at e id bytes k)) c.kind
-    ∙ ap (λ role. closed_by (read_unidirectional e id o (role_after (knows_sessions e.announced) role bytes))) c.role
+    ∙ ap (λ role. closed_by (read_unidirectional e id o (role_after (known_streams e.announced) role bytes))) c.role
     ∙ ap (λ first. closed_by (only_one first id f (read_control (record f { control_on = Some id }) bytes))) c.first
     ∙ ap (λ same. closed_by (unless_second (not same) f (read_control (record f { control_on = Some id }) bytes))) (eq_refl id)
 

@@ -24,8 +24,8 @@ use Rattle.h3_connection.specs.Outgoing.{Outgoing as Out, is_end_next}
 use Rattle.h3_connection.specs.Pulling.{pull_stream}
 use Rattle.h3_connection.specs.Sending.{does, open_refusal, head_refusal, body_refusal, trailer_refusal, finish_refusal, reset_refusal, goaway_refusal, cancel_refusal, advance_at, after_answer, within_limit, pull_request, pulled_unidirectional, pull_peer, pull_at, pull_unless}
 use Rattle.h3_connection.specs.StreamSets.{Streams, stream_at, set_stream}
-use Rattle.h3_connection.specs.Unidirectional.{Unidirectional, Role, untold, is_closed, is_critical, role_after, with_bytes, pull_unidirectional}
-use Rattle.h3_connection.specs.Unidirectional.Role.{Untold, Control, Encoder, Decoder, Session, Push, Ignored}
+use Rattle.h3_connection.specs.Unidirectional.{StreamKinds, Unidirectional, Role, untold, is_closed, is_critical, role_after, with_bytes, pull_unidirectional}
+use Rattle.h3_connection.specs.Unidirectional.Role.{Untold, Control, Encoder, Decoder, Session, Push, Ignored, Other}
 use Rattle.h3_connection.specs.UnknownStreams.{IsUnread, is_on, without_stream, answers_without}
 use Rattle.h3_connection.proofs.AlikeReading.{control_with, decoder_with}
 use Rattle.h3_connection.proofs.RoleCuts.{role_cut}
@@ -35,7 +35,7 @@ use Rattle.h3_connection.proofs.Seen.{at_same, at_other, eq_refl}
 use Rattle.h3_connection.specs.Codes.{closed_critical_stream}
 use Rattle.h3_connection.specs.StreamSetLaws.{set-same}
 use Rattle.h3_connection.proofs.SeenEncoder.{to_eq}
-use Rattle.h3_connection.specs.StrictConnection.{knows_sessions}
+use Rattle.h3_connection.specs.StrictConnection.{known_streams}
 
 abbrev pub with_others : EndpointHistory → Streams Unidirectional → EndpointHistory
 with_others e t = record e { unidirectional = t }
@@ -123,6 +123,7 @@ module _ (id : ℕ) (o : Option Unidirectional) where
   heard_both e t q (Session n) bytes h = record { fault = refl; left = but e t h }
   heard_both e t q (Push n) bytes h = record { fault = refl; left = but e t h }
   heard_both e t q Ignored bytes h = record { fault = refl; left = but e t h }
+  heard_both e t q (Other kind) bytes h = record { fault = refl; left = but e t h }
 
   read_both : (e : EndpointHistory) (t : Streams Unidirectional) (q : ℕ) (u : Unidirectional) (x : Role × List ℕ) → (q == id) ≡ false → Fits e.unidirectional t → FoundBoth (read_unidirectional e q u x) (read_unidirectional (with_others e t) q u x)
   read_both e t q u (role, bytes) ne h =
@@ -162,7 +163,7 @@ module _ (id : ℕ) (o : Option Unidirectional) where
       bytes_both bytes OwnUnidirectional = record { fault = refl; left = here }
       bytes_both bytes PeerUnidirectional =
           let u = unidirectional_at e q in
-          subst (λ x. FoundBoth (bytes_at e q bytes PeerUnidirectional) (read_unidirectional two q x (role_after (knows_sessions e.announced) x.role bytes))) (sym there) (read_both e t q u (role_after (knows_sessions e.announced) u.role bytes) ne h)
+          subst (λ x. FoundBoth (bytes_at e q bytes PeerUnidirectional) (read_unidirectional two q x (role_after (known_streams e.announced) x.role bytes))) (sym there) (read_both e t q u (role_after (known_streams e.announced) u.role bytes) ne h)
 
       end_both : (k : Kind) → FoundBoth (end_at e q k) (end_at two q k)
       end_both Request = record { fault = refl; left = opened_both q (stream_at e.incoming q) (with_end (incoming_at e q)) }
@@ -252,14 +253,15 @@ module _ (id : ℕ) (o : Option Unidirectional) where
 
 -- what is known of the stream: all bytes to come give it no type, it is closed, or the connection is
 data Harmless (id : ℕ) (e : EndpointHistory) (rest : List ℕ) : Type 0 where
-  Reads : IsUnread (role_after (knows_sessions e.announced) (unidirectional_at e id).role rest).0 → Harmless id e rest
+  Reads : IsUnread (role_after (known_streams e.announced) (unidirectional_at e id).role rest).0 → Harmless id e rest
   Shut : IsUnread (unidirectional_at e id).role → is_closed (unidirectional_at e id) ≡ true → Harmless id e rest
   Faulty : (code : ℕ) → e.closed ≡ Some code → Harmless id e rest
 
 -- a role that is told stays
-unread_before : (sessions : Bool) (role : Role) (rest : List ℕ) → IsUnread (role_after sessions role rest).0 → IsUnread role
+unread_before : (sessions : StreamKinds) (role : Role) (rest : List ℕ) → IsUnread (role_after sessions role rest).0 → IsUnread role
 unread_before sessions (Untold front) rest h = tt
 unread_before sessions Ignored rest h = tt
+unread_before sessions (Other kind) rest h = h
 unread_before sessions Control rest h = h
 unread_before sessions Encoder rest h = h
 unread_before sessions Decoder rest h = h
@@ -283,16 +285,17 @@ turned id q ne = by_test (id == q) refl
     by_test true is = sym (eq_refl q) ∙ ap (λ n. q == n) (sym (to_eq id q is)) ∙ ne
 
 -- the stream is now this, with a role that is not told
-now_is : (id : ℕ) (e : EndpointHistory) (u : Unidirectional) (rest : List ℕ) → IsUnread (role_after (knows_sessions e.announced) u.role rest).0 → Goes id e (with_unidirectional e id u) rest
+now_is : (id : ℕ) (e : EndpointHistory) (u : Unidirectional) (rest : List ℕ) → IsUnread (role_after (known_streams e.announced) u.role rest).0 → Goes id e (with_unidirectional e id u) rest
 now_is id e u rest h = record {
   same = refl;
   agree = λ q ne. at_other e.unidirectional id q u (turned id q ne);
-  harmless = Reads (subst (λ o. IsUnread (role_after (knows_sessions e.announced) (unwrap_or o untold).role rest).0) (sym (at_same e.unidirectional id u)) h);
+  harmless = Reads (subst (λ o. IsUnread (role_after (known_streams e.announced) (unwrap_or o untold).role rest).0) (sym (at_same e.unidirectional id u)) h);
 }
 
 not_critical : (role : Role) → IsUnread role → is_critical role ≡ false
 not_critical (Untold front) h = refl
 not_critical Ignored h = refl
+not_critical (Other kind) h = absurd h
 not_critical Control h = absurd h
 not_critical Encoder h = absurd h
 not_critical Decoder h = absurd h
@@ -304,7 +307,7 @@ module _ (id : ℕ) (e : EndpointHistory) (kind : kind_of e.side id ≡ PeerUnid
   o = unidirectional_at e id
 
   -- an arrival is refused, or does this
-  arrives_own : (bytes : List ℕ) (found : Found) → Harmless id e (bytes ++ rest) → (IsUnread (role_after (knows_sessions e.announced) (unidirectional_at e id).role (bytes ++ rest)).0 → Goes id e (done Done (closed_by found)).1 rest)
+  arrives_own : (bytes : List ℕ) (found : Found) → Harmless id e (bytes ++ rest) → (IsUnread (role_after (known_streams e.announced) (unidirectional_at e id).role (bytes ++ rest)).0 → Goes id e (done Done (closed_by found)).1 rest)
       → Goes id e (done Done (taken e.closed (delivery_refusal e id) e found)).1 rest
   arrives_own bytes found h go = by_closed e.closed (is_closed (unidirectional_at e id)) refl refl h
     where
@@ -319,28 +322,29 @@ module _ (id : ℕ) (e : EndpointHistory) (kind : kind_of e.side id ≡ PeerUnid
       by_closed None true is shut_is (Shut unread closed) =
           subst (λ r. Goes id e (done Done (taken None r e found)).1 rest) (sym (refused true shut_is)) (stays_as id e rest (Shut unread shut_is))
       by_closed None true is shut_is (Reads k) =
-          subst (λ r. Goes id e (done Done (taken None r e found)).1 rest) (sym (refused true shut_is)) (stays_as id e rest (Shut (unread_before (knows_sessions e.announced) (unidirectional_at e id).role (bytes ++ rest) k) shut_is))
+          subst (λ r. Goes id e (done Done (taken None r e found)).1 rest) (sym (refused true shut_is)) (stays_as id e rest (Shut (unread_before (known_streams e.announced) (unidirectional_at e id).role (bytes ++ rest) k) shut_is))
       by_closed None false is shut_is (Reads k) = subst (λ r. Goes id e (done Done (taken None r e found)).1 rest) (sym (refused false shut_is)) (go k)
 
   bytes_own : (bytes : List ℕ) → Harmless id e (bytes ++ rest) → Goes id e (called e (Deliver id bytes)).1 rest
   bytes_own bytes h = arrives_own bytes (bytes_at e id bytes (kind_of e.side id)) h (λ k.
       subst (λ a. Goes id e (done Done (closed_by (bytes_at e id bytes a))).1 rest) (sym kind)
-      (by_role (role_after (knows_sessions e.announced) o.role bytes) (subst (λ (x : Role × List ℕ). IsUnread x.0) (role_cut (knows_sessions e.announced) o.role bytes rest) k)))
+      (by_role (role_after (known_streams e.announced) o.role bytes) (subst (λ (x : Role × List ℕ). IsUnread x.0) (role_cut (known_streams e.announced) o.role bytes rest) k)))
     where
-      by_role : (x : Role × List ℕ) → IsUnread (role_after (knows_sessions e.announced) x.0 rest).0 → Goes id e (done Done (closed_by (read_unidirectional e id (unidirectional_at e id) x))).1 rest
+      by_role : (x : Role × List ℕ) → IsUnread (role_after (known_streams e.announced) x.0 rest).0 → Goes id e (done Done (closed_by (read_unidirectional e id (unidirectional_at e id) x))).1 rest
       by_role (Untold front, more) k = now_is id e (record (unidirectional_at e id) { role = Untold front }) rest k
       by_role (Ignored, more) k = now_is id e (record (unidirectional_at e id) { role = Ignored }) rest k
+      by_role (Other kind, more) k = absurd k
       by_role (Control, more) k = absurd k
       by_role (Encoder, more) k = absurd k
       by_role (Decoder, more) k = absurd k
       by_role (Session n, more) k = absurd k
       by_role (Push n, more) k = absurd k
 
-  closing_own : (u : Unidirectional) → u.role ≡ (unidirectional_at e id).role → IsUnread (role_after (knows_sessions e.announced) (unidirectional_at e id).role rest).0 → Goes id e (done Done (closed_by (closing e id u))).1 rest
+  closing_own : (u : Unidirectional) → u.role ≡ (unidirectional_at e id).role → IsUnread (role_after (known_streams e.announced) (unidirectional_at e id).role rest).0 → Goes id e (done Done (closed_by (closing e id u))).1 rest
   closing_own u same k =
-      let role : is_critical u.role ≡ false = ap is_critical same ∙ not_critical (unidirectional_at e id).role (unread_before (knows_sessions e.announced) (unidirectional_at e id).role rest k) in
+      let role : is_critical u.role ≡ false = ap is_critical same ∙ not_critical (unidirectional_at e id).role (unread_before (known_streams e.announced) (unidirectional_at e id).role rest k) in
       subst (λ b. Goes id e (done Done (closed_by (with_unidirectional e id u, if b then Some closed_critical_stream else None))).1 rest) (sym role)
-      (now_is id e u rest (subst (λ r. IsUnread (role_after (knows_sessions e.announced) r rest).0) (sym same) k))
+      (now_is id e u rest (subst (λ r. IsUnread (role_after (known_streams e.announced) r rest).0) (sym same) k))
 
   end_own : Harmless id e rest → Goes id e (called e (DeliverEnd id)).1 rest
   end_own h = arrives_own [] (end_at e id (kind_of e.side id)) h (λ k. subst (λ a. Goes id e (done Done (closed_by (end_at e id a))).1 rest) (sym kind) (closing_own (record (unidirectional_at e id) { ended = true }) refl k))
@@ -356,6 +360,7 @@ module _ (id : ℕ) (e : EndpointHistory) (kind : kind_of e.side id ≡ PeerUnid
       by_role : (role : Role) → IsUnread role → (pull_unidirectional u role).1 ≡ u
       by_role (Untold front) h = refl
       by_role Ignored h = refl
+      by_role (Other kind) h = absurd h
       by_role Control h = absurd h
       by_role Encoder h = absurd h
       by_role Decoder h = absurd h
@@ -363,7 +368,7 @@ module _ (id : ℕ) (e : EndpointHistory) (kind : kind_of e.side id ≡ PeerUnid
       by_role (Push n) h = absurd h
 
   unread_now : Harmless id e rest → (code : Option ℕ) → e.closed ≡ code → code ≡ None → IsUnread (unidirectional_at e id).role
-  unread_now (Reads k) code is none = unread_before (knows_sessions e.announced) (unidirectional_at e id).role rest k
+  unread_now (Reads k) code is none = unread_before (known_streams e.announced) (unidirectional_at e id).role rest k
   unread_now (Shut k closed) code is none = k
   unread_now (Faulty other fault) code is none = let wrong : Some other ≡ None = sym fault ∙ is ∙ none in absurd (cc)
 
@@ -429,8 +434,8 @@ brings_none id Show ne = refl
 -- what is known stays by another call
 still_harmless : (id : ℕ) (e g : EndpointHistory) (rest : List ℕ) → g.announced ≡ e.announced → stream_at g.unidirectional id ≡ stream_at e.unidirectional id → ((code : ℕ) → e.closed ≡ Some code → g.closed ≡ Some code) → Harmless id e rest → Harmless id g rest
 still_harmless id e g rest own kept_at closed (Reads k) =
-    Reads (subst (λ (a : Announced). IsUnread (role_after (knows_sessions a) (unidirectional_at g id).role rest).0) (sym own)
-    (subst (λ o. IsUnread (role_after (knows_sessions e.announced) (unwrap_or o untold).role rest).0) (sym kept_at) k))
+    Reads (subst (λ (a : Announced). IsUnread (role_after (known_streams a) (unidirectional_at g id).role rest).0) (sym own)
+    (subst (λ o. IsUnread (role_after (known_streams e.announced) (unwrap_or o untold).role rest).0) (sym kept_at) k))
 still_harmless id e g rest own kept_at closed (Shut k shut) = Shut (subst (λ o. IsUnread (unwrap_or o untold).role) (sym kept_at) k) (ap (λ o. is_closed (unwrap_or o untold)) kept_at ∙ shut)
 still_harmless id e g rest own kept_at closed (Faulty code is) = Faulty code (closed code is)
 
@@ -456,6 +461,6 @@ without_answers id (c ∷ calls) e f a kind h = by_test (is_on id c) refl (λ g 
         ap (λ r. r ∷ answers_without id (called e c).1 calls) there.answer
         ∙ ap (λ l. (called f c).0 ∷ l) (go (called f c).1 (record { same = there.left.same; agree = there.left.others.agree }) (still_harmless id e (called e c).1 (brought_on id calls) (same_setup e c).announced there.left.others.here (λ code. stays e c code) known))
 
-pub without_from_new : (side : Side) (own : Announced) (id : ℕ) (calls : List Call) → kind_of side id ≡ PeerUnidirectional → IsUnread (role_after (knows_sessions own) (Untold []) (brought_on id calls)).0
+pub without_from_new : (side : Side) (own : Announced) (id : ℕ) (calls : List Call) → kind_of side id ≡ PeerUnidirectional → IsUnread (role_after (known_streams own) (Untold []) (brought_on id calls)).0
     → answers_without id (new_endpoint side own) calls ≡ answers (new_endpoint side own) (without_stream id calls)
 without_from_new side own id calls kind unread = without_answers id calls (new_endpoint side own) (new_endpoint side own) (record { same = refl; agree = λ q ne. refl }) kind (Reads unread)

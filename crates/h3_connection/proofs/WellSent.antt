@@ -4,6 +4,7 @@ use Rattle.std.specs.Prelude.{not}
 use Rattle.h3_field.specs.Field.{section_size}
 use Rattle.h3_header.specs.Head.{head_fields, has_pseudo}
 use Rattle.h3_connection.specs.Outgoing.{takes_head, takes_body, OwnTrailer}
+use Rattle.h3_connection.specs.Remembering.{settings_known}
 use Rattle.h3_connection.specs.OwnIds.{other}
 use Rattle.h3_connection.specs.Pulling.{is_for}
 use Rattle.h3_connection.specs.Sections.{written_section}
@@ -20,14 +21,14 @@ sends_well_formed_heads e peer id head strict sent =
     let fields = head_fields head in
     let protocol = broken_protocol e.announced head in
     let broken = broken_head_at e id fields in
-    let size = (is_too_large e.peer.settings fields, refusal.TooLarge (section_size fields)) ∷ [] in
+    let size = (is_too_large (settings_known e.announced e.peer.settings) fields, refusal.TooLarge (section_size fields)) ∷ [] in
     let wrong = (not (is_for (other e.side) head), refusal.WrongSide) ∷ unless_malformed broken size in
     let after = asked (counted (appended (encoded e id fields) id (head_part head (written_section e.encoder id fields))) (fields_cost fields)) id fields in
     let allowed = not_closed e.closed _ (was_allowed (head_refusal e id head) e after sent) in
     let going = (sender_at e id).going in
     let there = passed (not (is_open e id)) refusal.NotOpen ((not (takes_head (outgoing_at e id)), refusal.OutOfOrder) ∷ unless_going going (unless_malformed protocol wrong)) allowed in
     let placed = not_early protocol wrong (not_going going (unless_malformed protocol wrong) (passed (not (takes_head (outgoing_at e id))) refusal.OutOfOrder (unless_going going (unless_malformed protocol wrong)) there)) in
-    head_taken e.side e.announced peer e.peer.settings (known_of (stream_at e.incoming id)) fields strict.strict strict.knows
+    head_taken e.side e.announced peer (settings_known e.announced e.peer.settings) (known_of (stream_at e.incoming id)) fields strict.strict strict.knows
     (not_malformed broken size (passed (not (is_for (other e.side) head)) refusal.WrongSide (unless_malformed broken size) placed))
 
 pub sends_well_formed_trailers : SendsWellFormedTrailers
@@ -35,7 +36,7 @@ sends_well_formed_trailers e peer id trailer strict sent =
     let fields = head_fields trailer in
     let protocol = broken_protocol e.announced trailer in
     let broken = broken_trailer e.announced fields in
-    let size = (is_too_large e.peer.settings fields, refusal.TooLarge (section_size fields)) ∷ [] in
+    let size = (is_too_large (settings_known e.announced e.peer.settings) fields, refusal.TooLarge (section_size fields)) ∷ [] in
     let early = early_trailer (outgoing_at e id).content in
     let behind = unless_malformed broken size in
     let pseudo = (has_pseudo trailer, refusal.PseudoInTrailer) ∷ unless_malformed early behind in

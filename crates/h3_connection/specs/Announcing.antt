@@ -1,5 +1,5 @@
 -- What an endpoint announces (RFC 9114, section 7.2.4; RFC 9204, section 5).
-use Rattle.std.specs.Prelude.{◌≡◌, ℕ, Bool, false, ◌&&◌, ◌*◌, ◌-◌, ◌^◌, List, [], ◌∷◌, ◌++◌, max, nat_le, nat_lt, if◌then◌else◌, unwrap_or, Result, Ok, Err}
+use Rattle.std.specs.Prelude.{◌≡◌, ℕ, Bool, false, ◌&&◌, ◌*◌, ◌-◌, ◌^◌, List, [], ◌∷◌, ◌++◌, max, nat_le, nat_lt, if◌then◌else◌, unwrap_or, None, Result, Ok, Err}
 use Rattle.h3_proto.specs.Config.{is_enabled, is_limit}
 use Rattle.h3_proto.specs.Settings.{value_of}
 use Rattle.h3_proto.specs.declared.config.Choices.{Choices}
@@ -33,7 +33,7 @@ unless_alone a = if announces_alone a then Err (Settings (InvalidSettingValue 0x
 
 -- the settings of a configuration, with those of the table behind them
 abbrev pub announcing : List (ℕ × ℕ) → Limits → Choices → Announced
-announcing pairs limits choices = record { settings = pairs ++ (1, limits.table) ∷ (7, limits.blocked) ∷ []; limits = limits; choices = choices }
+announcing pairs limits choices = record { settings = pairs ++ (1, limits.table) ∷ (7, limits.blocked) ∷ []; limits = limits; choices = choices; remembered = None }
 
 abbrev pub with_limits : Result (List (ℕ × ℕ)) SettingsError → Limits → Choices → Result Announced NewError
 with_limits (Ok pairs) limits choices = unless_alone (announcing pairs limits choices)

@@ -14,7 +14,7 @@ use Rattle.h3_connection.specs.StreamSets.{stream_at, set_stream}
 use Rattle.h3_connection.specs.Incoming.{Incoming, nothing_came, given_up}
 use Rattle.h3_connection.specs.Outgoing.{nothing_sent}
 use Rattle.h3_connection.specs.Unidirectional.{Unidirectional, Role, untold, is_closed, is_critical, role_after, with_bytes}
-use Rattle.h3_connection.specs.StrictConnection.{knows_sessions, session_fault}
+use Rattle.h3_connection.specs.StrictConnection.{known_streams, session_fault}
 use Rattle.h3_connection.specs.Unidirectional.Role.{Control, Encoder, Decoder, Push, Session}
 use Rattle.h3_connection.specs.Endpoint.{EndpointHistory, Kind, replied, is_second, kind_of}
 use Rattle.h3_connection.specs.Endpoint.Kind.{Request, ServerOpened, OwnUnidirectional, PeerUnidirectional}
@@ -111,7 +111,7 @@ abbrev pub bytes_at : EndpointHistory → ℕ → List ℕ → Kind → Found
 bytes_at e id bytes Request = (with_incoming (opened e id) id (kept (incoming_at e id) bytes), None)
 bytes_at e id bytes ServerOpened = (e, Some stream_creation_error)
 bytes_at e id bytes OwnUnidirectional = (e, None)
-bytes_at e id bytes PeerUnidirectional = read_unidirectional e id (unidirectional_at e id) (role_after (knows_sessions e.announced) (unidirectional_at e id).role bytes)
+bytes_at e id bytes PeerUnidirectional = read_unidirectional e id (unidirectional_at e id) (role_after (known_streams e.announced) (unidirectional_at e id).role bytes)
 
 -- Bytes come on a stream.
 abbrev pub deliver : EndpointHistory → ℕ → List ℕ → Option Refusal × EndpointHistory

@@ -5,9 +5,9 @@ use Rattle.h3_connection.specs.declared.event.Refusal.{Refusal}
 use Rattle.h3_connection.specs.Control.{increment}
 use Rattle.h3_connection.specs.Delivering.{deliver, unidirectional_at}
 use Rattle.h3_connection.specs.Endpoint.{EndpointHistory}
-use Rattle.h3_connection.specs.StrictConnection.{knows_sessions}
+use Rattle.h3_connection.specs.StrictConnection.{known_streams}
 use Rattle.h3_connection.specs.Unidirectional.{Role, role_after}
-use Rattle.h3_connection.specs.Unidirectional.Role.{Encoder, Session}
+use Rattle.h3_connection.specs.Unidirectional.Role.{Encoder, Other, Session}
 
 -- The answers are the same, and where nothing is refused this holds of what is left.
 pub record SameAnswers (Left : EndpointHistory → EndpointHistory → Type 0) (one two : Option Refusal × EndpointHistory) : Type 0 where
@@ -36,11 +36,12 @@ LeftAs _ before one two = one ≡ two
 
 -- what these bytes make of the stream's role
 abbrev pub role_with : EndpointHistory → ℕ → List ℕ → Role
-role_with e id bytes = (role_after (knows_sessions e.announced) (unidirectional_at e id).role bytes).0
+role_with e id bytes = (role_after (known_streams e.announced) (unidirectional_at e id).role bytes).0
 
--- no session: what comes of one waits in pieces to be pulled
+-- no session, and no stream of another type: what comes of one waits in pieces to be pulled
 abbrev pub IsNoSession : Role → Type 0
 IsNoSession (Session id) = ⊥
+IsNoSession (Other kind) = ⊥
 IsNoSession _ = Unit {0}
 
 -- the same bytes in two deliveries

@@ -1,7 +1,6 @@
 -- One endpoint of a connection, with what it wrote so far.
 use Rattle.std.specs.Prelude.{ℕ, ◌%◌, Bool, false, not, ◌||◌, List, [], ◌++◌, drop, flat_map, count_by, if◌then◌else◌, ◌==◌, nat_lt, Option, Some, None}
 use Rattle.h3_coding.specs.Encodings.{encoding}
-use Rattle.h3_wire.specs.StreamHeaders.{control_encoding}
 use Rattle.h3_field.specs.Instruction.{EncoderInstruction, DecoderInstruction, encoder_bytes, decoder_bytes}
 use Rattle.h3_proto.specs.Config.{is_limit}
 use Rattle.h3_proto.specs.declared.config.Choices.{Choices}
@@ -20,14 +19,18 @@ use Rattle.h3_connection.specs.Incoming.{Incoming}
 use Rattle.h3_connection.specs.PeerReading.{Peer, none_read}
 use Rattle.h3_connection.specs.Listeners.{Decoding}
 use Rattle.h3_connection.specs.StrictConnection.{is_strict}
+use Rattle.h3_connection.specs.OwnSettings.{control_start}
 use Rattle.h3_connection.specs.OwnUpdates.{OwnUpdate, control_frames}
 pub use Rattle.h3_connection.specs.OwnUpdates.{goaway_encoding}
+use Rattle.h3_connection.specs.OtherSettings.{most_others}
 use Rattle.h3_connection.specs.Updates.{most_updates}
 use Rattle.h3_connection.specs.Outgoing.{Outgoing, part_bytes_waiting}
 use Rattle.h3_connection.specs.Unidirectional.{Unidirectional}
 
 -- what was written on the own streams, and how much of each text was taken
 pub record Own : Type 0 where
+  -- settings of no meaning here that it announces beside the others
+  pub further : List (ℕ × ℕ)
   pub goaways : List ℕ
   -- what a client said of the priorities of its requests
   pub updates : List OwnUpdate
@@ -109,15 +112,20 @@ new_endpoint side announced =
       control_on = None;
       encoder_on = None;
       decoder_on = None;
-      peer = none_read (most_updates announced);
+      peer = none_read (most_updates announced) (most_others announced);
       decoding = record { decoder = first_decoder announced; unread = [] };
       encoder = first_encoder announced;
       decoder_unread = [];
-      own = record { goaways = []; updates = []; control_taken = 0; instructions = []; encoder_taken = 0; replies = []; decoder_taken = 0 };
+      own = record { further = []; goaways = []; updates = []; control_taken = 0; instructions = []; encoder_taken = 0; replies = []; decoder_taken = 0 };
       kept = [];
       sent = 0;
       order = no_order;
     }
+
+-- and where it announces these further settings
+abbrev pub new_endpoint_with : Side → Announced → List (ℕ × ℕ) → EndpointHistory
+new_endpoint_with side announced further =
+    record (new_endpoint side announced) { own = record (new_endpoint side announced).own { further = further } }
 
 -- the longest frame whose payload it keeps until it is whole
 abbrev pub limit_of : EndpointHistory → ℕ
@@ -168,7 +176,7 @@ heads_waiting r streams = count_by (λ s. nat_lt r.table.inserted s.1.waits_for)
 -- what waits to be taken
 abbrev pub own_waiting : EndpointHistory → ℕ → List ℕ
 own_waiting e id =
-    if id == control_id e.side then drop e.own.control_taken (control_encoding e.announced.settings ++ control_frames 0 e.own.goaways e.own.updates) else (
+    if id == control_id e.side then drop e.own.control_taken (control_start e.announced.settings e.own.further ++ control_frames 0 e.own.goaways e.own.updates) else (
     if id == encoder_id e.side then drop e.own.encoder_taken (encoding 2 ++ flat_map encoder_bytes e.own.instructions) else (
     if id == decoder_id e.side then drop e.own.decoder_taken (encoding 3 ++ flat_map decoder_bytes e.own.replies) else []))
 

@@ -17,7 +17,8 @@ use Rattle.h3_wire.specs.KnownLaws.{known-other}
 use Rattle.h3_wire.specs.declared.proto.frame.FrameError.{FrameError}
 use Rattle.h3_wire.specs.declared.proto.frame.Frame.TheVariants as frame
 use Rattle.h3_connection.specs.FirstSettings.{FirstRead, Fails, HasHead, NoHead, Nothing, Settings, SettingsFront, Bad, Came, Waits}
-use Rattle.h3_connection.specs.PeerReading.{Peer, PeerFound, with_unread, read_frame, refused_code, unless_fault, at_front, read_peer}
+use Rattle.h3_connection.specs.PeerReading.{Peer, PeerFound, read_frame, refused_code, unless_fault, at_front, read_peer}
+use Rattle.h3_connection.specs.OtherSettings.{with_others, with_told}
 use Rattle.h3_connection.specs.PeerReadingLaws.{no_length, settings_stay, step_excessive, step_within}
 use Rattle.h3_wire.specs.declared.frame.kinds.FrameKinds.{FrameKinds}
 
@@ -105,10 +106,11 @@ waiting kinds limit side p least same waits small =
 reads_settings : (kinds : FrameKinds) (limit : ℕ) (side : Side) (p : Peer) (pairs : List (ℕ × ℕ)) (rest : List ℕ) → p.settings ≡ None → known_by kinds p.unread ≡ p.unread → frame_by kinds p.unread ≡ Whole (frame.Settings pairs) rest
     → is_excessive_by kinds limit p.unread ≡ false → (read_peer kinds limit side p).0.settings ≡ Some pairs
 reads_settings kinds limit side p pairs rest none same whole small =
-    let there : read_peer kinds limit side p ≡ read_peer kinds limit side (record p { unread = rest; settings = Some pairs }) =
+    let told : Peer = record p { unread = rest; settings = Some pairs; others = with_told p.others p.unread } in
+    let there : read_peer kinds limit side p ≡ read_peer kinds limit side told =
     step_within kinds limit side p (ap (is_excessive_by kinds limit) same ∙ small) ∙ ap (λ l. at_front (read_peer kinds limit side) side p l (frame_by kinds l)) same ∙ ap (at_front (read_peer kinds limit side) side p p.unread) whole
-    ∙ ap (λ o. unless_fault (read_frame side (with_unread p rest) o (frame.Settings pairs)) (read_peer kinds limit side)) none in
-    ap (λ (x : PeerFound). x.0.settings) there ∙ settings_stay kinds limit side (record p { unread = rest; settings = Some pairs }) pairs refl
+    ∙ ap (λ o. unless_fault (read_frame side (record p { unread = rest; others = with_others o (frame.Settings pairs) p.others p.unread }) o (frame.Settings pairs)) (read_peer kinds limit side)) none in
+    ap (λ (x : PeerFound). x.0.settings) there ∙ settings_stay kinds limit side told pairs refl
 
 refused : (kinds : FrameKinds) (limit : ℕ) (side : Side) (p : Peer) (e : FrameError) → known_by kinds p.unread ≡ p.unread → frame_by kinds p.unread ≡ Refused e → is_excessive_by kinds limit p.unread ≡ false
     → read_peer kinds limit side p ≡ (p, Some (refused_code p.settings e))

@@ -11,8 +11,8 @@ use Rattle.h3_connection.specs.declared.event.StreamFault.TheVariants as stream_
 use Rattle.h3_connection.specs.StreamSets.{stream_at}
 use Rattle.h3_connection.specs.Incoming.{Incoming, nothing_came, having_told}
 use Rattle.h3_connection.specs.Pulling.{pull_stream, is_client}
-use Rattle.h3_connection.specs.StrictConnection.{knows_sessions}
-use Rattle.h3_connection.specs.Unidirectional.{Unidirectional, Role, untold, is_closed, role_after}
+use Rattle.h3_connection.specs.StrictConnection.{known_streams}
+use Rattle.h3_connection.specs.Unidirectional.{StreamKinds, Unidirectional, Role, untold, is_closed, role_after}
 use Rattle.h3_connection.specs.Unidirectional.Role.{Encoder}
 use Rattle.h3_connection.specs.Endpoint.{EndpointHistory, Kind, kind_of, new_endpoint}
 use Rattle.h3_connection.specs.Endpoint.Kind.{Request, PeerUnidirectional}
@@ -101,9 +101,9 @@ is_encoder _ = false
 abbrev pub hears : ℕ → Decoding → Role × List ℕ → Decoding
 hears most d (role, bytes) = if is_encoder role then after_hearing (heard_more most d bytes) else d
 
-abbrev pub seen_encoder_bytes : Bool → ℕ → Sight → ℕ → List ℕ → Seen
-seen_encoder_bytes sessions most s q bytes =
-    let heard = role_after sessions (s.fronts q).role bytes in
+abbrev pub seen_encoder_bytes : StreamKinds → ℕ → Sight → ℕ → List ℕ → Seen
+seen_encoder_bytes known most s q bytes =
+    let heard = role_after known (s.fronts q).role bytes in
     unless_refused (closed_refusal (s.fronts q).closed) s
     (with_front (record s { decoding = hears most s.decoding heard }) q (record (s.fronts q) { role = heard.0 }))
 
@@ -117,7 +117,7 @@ seen side own id s OpenRequest = (Opened id, with_seen s nothing_came)
 seen side own id s (SendHead q head) = (Done, with_told side s (head_fields head) s.incoming)
 seen side own id s (Deliver q bytes) =
     if q == id then unless_refused (request_refusal side s.incoming) s (with_seen s (kept (seen_incoming s) bytes))
-    else seen_encoder_bytes (knows_sessions own) own.choices.unfinished_limit s q bytes
+    else seen_encoder_bytes (known_streams own) own.choices.unfinished_limit s q bytes
 seen side own id s (DeliverEnd q) =
     if q == id then unless_refused (request_refusal side s.incoming) s (with_seen s (with_end (seen_incoming s)))
     else seen_encoder_closing s q

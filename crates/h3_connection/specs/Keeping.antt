@@ -15,7 +15,7 @@ use Rattle.h3_connection.specs.Incoming.{Incoming}
 use Rattle.h3_connection.specs.Sending.{pull_at, pull_unless}
 use Rattle.h3_connection.specs.StreamSets.{stream_at}
 use Rattle.h3_connection.specs.Unidirectional.{Unidirectional, Role}
-use Rattle.h3_connection.specs.Unidirectional.Role.{Session}
+use Rattle.h3_connection.specs.Unidirectional.Role.{Other, Session}
 
 -- What an arrival does.
 abbrev pub read_arrival : EndpointHistory → Arrival → Found
@@ -71,6 +71,7 @@ is_settled_request (Some i) = is_some i.fault || i.is_over
 
 abbrev pub is_settled_session : Unidirectional → Role → Bool
 is_settled_session o (Session id) = o.is_over || is_some o.reset_code
+is_settled_session o (Other kind) = o.is_over || is_some o.reset_code
 is_settled_session o _ = false
 
 abbrev pub is_settled_peer : Option Unidirectional → Bool

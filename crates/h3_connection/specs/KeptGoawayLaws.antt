@@ -14,7 +14,7 @@ use Rattle.h3_connection.specs.Codes.{excessive_load, id_error}
 use Rattle.h3_connection.specs.KeptGoaways.{alone, kept_goaways, kept_peer, kept_found}
 use Rattle.h3_connection.specs.Lasts.{last_id}
 use Rattle.h3_connection.specs.LastLaws.{last_appended}
-use Rattle.h3_connection.specs.PeerReading.{Peer, PeerFound, with_unread, is_above, is_below, is_no_element, is_no_goaway, read_goaway, read_max_push, read_priority, read_update, read_frame, unless_fault, at_front, read_within, read_peer}
+use Rattle.h3_connection.specs.PeerReading.{Peer, PeerFound, with_unread, having_frame, is_above, is_below, is_no_element, is_no_goaway, read_goaway, read_max_push, read_priority, read_update, read_frame, unless_fault, at_front, read_within, read_peer}
 use Rattle.h3_connection.specs.Updates.{with_update}
 use Rattle.h3_wire.specs.declared.frame.kinds.FrameKinds.{FrameKinds}
 
@@ -102,7 +102,7 @@ then_same last (p, Some code) (q, None) go alike h = let wrong : Some code ≡ N
 then_same last (p, None) (q, Some code) go alike h = let wrong : None ≡ Some code = ap (λ (x : PeerFound). x.1) h in absurd (cc)
 
 front_same : (last : Bool) (go : Peer → PeerFound) (side : Side) (p : Peer) (bytes : List ℕ) (x : Front) → ((q : Peer) → kept_found last (go (kept_peer last q)) ≡ kept_found last (go q)) → kept_found last (at_front go side (kept_peer last p) bytes x) ≡ kept_found last (at_front go side p bytes x)
-front_same last go side p bytes (Whole f rest) alike = then_same last _ _ go alike (frame_same last side (with_unread p rest) p.settings f)
+front_same last go side p bytes (Whole f rest) alike = then_same last _ _ go alike (frame_same last side (having_frame p f bytes rest) p.settings f)
 front_same last go side p bytes (Refused e) alike = same_found last (with_unread p bytes) _
 front_same last go side p bytes (Unknown kind rest) alike = same_found last (with_unread p bytes) None
 front_same last go side p bytes (Unfinished least) alike = same_found last (with_unread p bytes) None

@@ -11,7 +11,11 @@ pub mod FaultTexts
 pub mod OwnIds
 pub mod Order
 pub mod Updates
+pub mod OtherSettings
+pub mod OtherSettingsLaws
+pub mod Remembering
 pub mod OwnUpdates
+pub mod OwnSettings
 pub mod FirstAbove
 pub mod Lasts
 pub mod LastLaws

@@ -27,7 +27,7 @@ use Rattle.h3_connection.specs.declared.event.Item.TheVariants as item
 use Rattle.h3_connection.specs.declared.event.Pull.{Pull}
 use Rattle.h3_connection.specs.declared.event.Pull.TheVariants as pull
 use Rattle.h3_wire.specs.declared.frame.kinds.FrameKinds.{FrameKinds}
-use Rattle.h3_connection.specs.StrictConnection.{kinds_of, knows_sessions}
+use Rattle.h3_connection.specs.StrictConnection.{kinds_of, known_streams}
 use Rattle.h3_connection.specs.Unidirectional.{Role, role_after, with_bytes}
 use Rattle.h3_connection.specs.Unidirectional.Role.{Control, Encoder, Decoder}
 use Rattle.h3_qpack.specs.DecoderState.{DecoderState}
@@ -75,7 +75,7 @@ held_as e id (_, bytes) = e
 abbrev pub held : EndpointHistory → ℕ → List ℕ → EndpointHistory
 held e id bytes =
     let o = unidirectional_at e id in
-    let read_as = role_after (knows_sessions e.announced) o.role bytes in
+    let read_as = role_after (known_streams e.announced) o.role bytes in
     held_as (with_unidirectional e id (with_bytes o read_as)) id read_as
 
 -- the endpoint after some frames of the control stream. The table is used as soon as the settings came
@@ -108,7 +108,7 @@ pub data ReadsOn : EndpointHistory → List Arrival → EndpointHistory → List
       → ReadsOn e (BytesCame id (front ++ rest) ∷ more) new (BytesCame id rest ∷ more)
   -- its bytes go to those that the stream's reader holds, and an empty arrival stands for them
   Holds : {e : EndpointHistory} {id : ℕ} {bytes : List ℕ} {more : List Arrival} → kind_of e.side id ≡ PeerUnidirectional
-      → is_reader e id (role_after (knows_sessions e.announced) (unidirectional_at e id).role bytes).0 ≡ true
+      → is_reader e id (role_after (known_streams e.announced) (unidirectional_at e id).role bytes).0 ≡ true
       → ReadsOn e (BytesCame id bytes ∷ more) (held e id bytes) (BytesCame id [] ∷ more)
   -- a front of the bytes that are held of the control stream
   ReadsFrames : {e : EndpointHistory} {id : ℕ} {p : Peer} {more : List Arrival} → e.control_on ≡ Some id → MayRead e p → PeerReadsPart (kinds_of e.announced) (limit_of e) e.side e.peer p

@@ -13,6 +13,7 @@ use Rattle.h3_wire.specs.declared.proto.frame.FrameError.{FrameError}
 use Rattle.h3_wire.specs.declared.proto.frame.FrameError.TheVariants as error
 use Rattle.h3_connection.specs.Codes.{excessive_load, frame_unexpected, general_protocol_error, id_error, missing_settings, refusal_code, settings_code}
 use Rattle.h3_connection.specs.Lasts.{last_id}
+use Rattle.h3_connection.specs.OtherSettings.{OtherSettings, no_others, with_others}
 use Rattle.h3_connection.specs.Updates.{Updates, no_updates, with_update}
 use Rattle.h3_priority.specs.Priority.{PriorityParameters, priority_of}
 use Rattle.h3_proto.specs.StreamIds.{is_request_stream}
@@ -24,10 +25,12 @@ pub record Peer : Type 0 where
   pub goaways : List ℕ
   pub most_pushes : Option ℕ
   pub updates : Updates
+  pub others : OtherSettings
 
--- of a peer of whose updates so many are kept
-abbrev pub none_read : ℕ → Peer
-none_read most = record { unread = []; settings = None; goaways = []; most_pushes = None; updates = no_updates most }
+-- of a peer of whose updates, and of whose settings of no meaning, so many are kept
+abbrev pub none_read : ℕ → ℕ → Peer
+none_read updates others =
+    record { unread = []; settings = None; goaways = []; most_pushes = None; updates = no_updates updates; others = no_others others }
 
 -- the peer after its bytes were read, and the code of a connection fault
 abbrev pub PeerFound : Type 0
@@ -99,8 +102,12 @@ abbrev pub unless_fault : PeerFound → (Peer → PeerFound) → PeerFound
 unless_fault (p, Some code) go = (p, Some code)
 unless_fault (p, None) go = go p
 
+-- the peer whose next frame is this one, which stands in these bytes in front of the rest
+abbrev pub having_frame : Peer → Frame PayloadLen → List ℕ → List ℕ → Peer
+having_frame p f bytes rest = record p { unread = rest; others = with_others p.settings f p.others bytes }
+
 abbrev pub at_front : (Peer → PeerFound) → Side → Peer → List ℕ → Front → PeerFound
-at_front go side p bytes (Whole f rest) = unless_fault (read_frame side (with_unread p rest) p.settings f) go
+at_front go side p bytes (Whole f rest) = unless_fault (read_frame side (having_frame p f bytes rest) p.settings f) go
 at_front go side p bytes (Refused e) = (with_unread p bytes, Some (refused_code p.settings e))
 at_front go side p bytes (Unknown kind rest) = (with_unread p bytes, None)
 at_front go side p bytes (Unfinished least) = (with_unread p bytes, None)

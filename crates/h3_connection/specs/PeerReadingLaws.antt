@@ -19,7 +19,7 @@ use Rattle.h3_wire.specs.declared.proto.frame.Frame.{Frame}
 use Rattle.h3_wire.specs.declared.proto.frame.Frame.TheVariants as frame
 use Rattle.h3_connection.specs.Codes.{excessive_load}
 use Rattle.h3_connection.specs.Lasts.{last_id}
-use Rattle.h3_connection.specs.PeerReading.{Peer, PeerFound, with_unread, is_no_element, is_no_goaway, is_above, is_below, read_max_push, read_priority, read_update, read_frame, unless_fault, at_front, unless_excessive, read_within, read_peer}
+use Rattle.h3_connection.specs.PeerReading.{Peer, PeerFound, with_unread, having_frame, is_no_element, is_no_goaway, is_above, is_below, read_max_push, read_priority, read_update, read_frame, unless_fault, at_front, unless_excessive, read_within, read_peer}
 use Rattle.h3_connection.specs.SkippingLaws.{rest_shorter, known-nil}
 use Rattle.h3_wire.specs.declared.frame.kinds.FrameKinds.{FrameKinds}
 
@@ -69,8 +69,8 @@ unless_same (p, None) go other h = h p refl
 front_same : (go other : Peer → PeerFound) (side : Side) (p : Peer) (bytes : List ℕ) (x : Front) → ((f : Frame PayloadLen) (rest : List ℕ) → x ≡ Whole f rest → (q : Peer) → q.unread ≡ rest → go q ≡ other q)
     → at_front go side p bytes x ≡ at_front other side p bytes x
 front_same go other side p bytes (Whole f rest) h =
-    unless_same (read_frame side (with_unread p rest) p.settings f) go other
-    (λ q is. h f rest refl q (ap (λ (x : Peer). x.unread) is ∙ frame_keeps side (with_unread p rest) p.settings f))
+    unless_same (read_frame side (having_frame p f bytes rest) p.settings f) go other
+    (λ q is. h f rest refl q (ap (λ (x : Peer). x.unread) is ∙ frame_keeps side (having_frame p f bytes rest) p.settings f))
 front_same go other side p bytes (Unknown kind rest) h = refl
 front_same go other side p bytes (Refused e) h = refl
 front_same go other side p bytes (Unfinished least) h = refl
@@ -178,8 +178,8 @@ stay_found pairs (q, None) go h later = later q h
 stay_front : (side : Side) (p : Peer) (pairs : List (ℕ × ℕ)) (bytes : List ℕ) (x : Front) (go : Peer → PeerFound) → p.settings ≡ Some pairs → ((q : Peer) → q.settings ≡ Some pairs → (go q).0.settings ≡ Some pairs)
     → (at_front go side p bytes x).0.settings ≡ Some pairs
 stay_front side p pairs bytes (Whole f rest) go h later =
-    stay_found pairs (read_frame side (with_unread p rest) p.settings f) go
-    (ap (λ o. (read_frame side (with_unread p rest) o f).0.settings) h ∙ frame_settings side (with_unread p rest) pairs f ∙ h) later
+    stay_found pairs (read_frame side (having_frame p f bytes rest) p.settings f) go
+    (ap (λ o. (read_frame side (having_frame p f bytes rest) o f).0.settings) h ∙ frame_settings side (having_frame p f bytes rest) pairs f ∙ h) later
 stay_front side p pairs bytes (Unknown kind rest) go h later = h
 stay_front side p pairs bytes (Refused e) go h later = h
 stay_front side p pairs bytes (Unfinished least) go h later = h

@@ -3,7 +3,7 @@ use Rattle.std.specs.Prelude.{◌≡◌, ◌≤◌, ℕ, ◌++◌, Bool, List, [
 use Rattle.h3_connection.specs.Bounds.{StandsBounded}
 use Rattle.h3_connection.specs.Endpoint.{EndpointHistory, bytes_waiting}
 use Rattle.h3_connection.specs.KeptGoaways.{keeps_last, kept_goaways}
-use Rattle.h3_connection.specs.Shown.{has_outgoing, is_finished, is_reset, table_sizes, waiting_heads, block_tries, peer_limits}
+use Rattle.h3_connection.specs.Shown.{has_outgoing, is_finished, is_reset, table_sizes, waiting_heads, block_tries, peer_limits, peer_setting}
 use Rattle.h3_connection.specs.State.{EndpointState, StandsFor}
 use Rattle.h3_connection.specs.declared.event.PeerLimits.{PeerLimits}
 use Rattle.h3_connection.specs.declared.event.TableSizes.{TableSizes}
@@ -39,6 +39,10 @@ ShowsReset s id result = Shows (λ e. is_reset e id) s result
 -- `peer_settings`: the pairs of the SETTINGS frame that was read
 abbrev pub ShowsSettings : EndpointState → Option (List (ℕ × ℕ)) → Type 0
 ShowsSettings s result = Shows (λ e. e.peer.settings) s result
+
+-- `peer_setting`
+abbrev pub ShowsPeerSetting : EndpointState → ℕ → Option ℕ → Type 0
+ShowsPeerSetting s id result = Shows (λ e. peer_setting e id) s result
 
 -- `peer_goaways`: the ids of the GOAWAY frames that were read, in order; or the last one alone where a choice limits the ids that are kept
 abbrev pub ShowsGoaways : EndpointState → List ℕ → Type 0

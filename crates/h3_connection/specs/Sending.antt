@@ -2,6 +2,7 @@
 use Rattle.std.specs.Prelude.{ℕ, ◌+◌, ◌-◌, ◌^◌, min, Bool, true, false, not, ◌||◌, List, [], ◌∷◌, ◌++◌, codes, length, slice_index, if◌then◌else◌, ◌==◌, nat_lt, Option, Some, None, is_some, unwrap_or}
 use Rattle.h3_field.specs.Field.{Field}
 use Rattle.h3_qpack.specs.SectionEncoding.{sent_section}
+use Rattle.h3_connection.specs.Remembering.{settings_known}
 use Rattle.h3_connection.specs.Refusals.{Sender, SenderStream, seen, refusal_of_head, refusal_of_body, refusal_of_trailer, refusal_of_end, refusal_to_stop, refusal_to_open, refusal_of_goaway}
 use Rattle.h3_connection.specs.Sections.{written_section, own_instructions}
 use Rattle.h3_connection.specs.Pulling.{is_client, is_interim}
@@ -70,7 +71,7 @@ seen_at e id = seen (is_open e id) (outgoing_at e id)
 
 abbrev pub sender_at : EndpointHistory → ℕ → Sender
 sender_at e id =
-    record { side = e.side; stream = seen_at e id; settings = e.peer.settings; going = begins_none_after e.announced e.side (last_id e.peer.goaways) }
+    record { side = e.side; stream = seen_at e id; settings = settings_known e.announced e.peer.settings; going = begins_none_after e.announced e.side (last_id e.peer.goaways) }
 
 -- A server knows what was asked once it read the request's head
 abbrev pub known_of : Option Incoming → Option Content
@@ -79,7 +80,7 @@ known_of (Some i) = i.response
 
 -- the rule that a list breaks as a head that is sent on a stream
 abbrev pub broken_head_at : EndpointHistory → ℕ → List Field → Option Malformation
-broken_head_at e id fields = broken_head e.side e.announced e.peer.settings (known_of (stream_at e.incoming id)) fields
+broken_head_at e id fields = broken_head e.side e.announced (settings_known e.announced e.peer.settings) (known_of (stream_at e.incoming id)) fields
 
 abbrev pub head_refusal : EndpointHistory → ℕ → Head → Option Refusal
 head_refusal e id head =

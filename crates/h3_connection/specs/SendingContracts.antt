@@ -1,12 +1,14 @@
 -- What each call that sends, opens or gives up promises: for every history that is stored, the exact answer, what stands after
 -- it, and what is left where memory was refused.
-use Rattle.std.specs.Prelude.{◌≡◌, ◌≢◌, ℕ, ◌≤◌, List, length, take, min, Option, Some, None, Result, Ok, Err}
+use Rattle.std.specs.Prelude.{◌≡◌, ◌≢◌, ℕ, ◌≤◌, List, [], length, take, min, Option, Some, None, Result, Ok, Err}
 use Rattle.h3_field.specs.Field.{Field}
 use Rattle.h3_header.specs.Head.{Head, head_fields}
+use Rattle.h3_proto.specs.Further.{further_from}
+use Rattle.h3_proto.specs.declared.frame.SettingsError.{SettingsError}
 use Rattle.h3_proto.specs.declared.stream.Side.{Side}
 use Rattle.h3_connection.specs.Answers.{call_refused, body_refused}
 use Rattle.h3_connection.specs.Calls.{IsSame, MakesEnd, IsNewError}
-use Rattle.h3_connection.specs.Endpoint.{EndpointHistory, bytes_waiting}
+use Rattle.h3_connection.specs.Endpoint.{EndpointHistory, bytes_waiting, new_endpoint_with}
 use Rattle.h3_connection.specs.Sections.{with_insertions}
 use Rattle.h3_connection.specs.Sending.{open_request, send_head, send_body, send_trailer, finish, reset, goaway, cancel, advance}
 use Rattle.h3_connection.specs.State.{EndpointState, StandsFor}
@@ -14,11 +16,23 @@ use Rattle.h3_connection.specs.declared.event.Refusal.{Refusal}
 use Rattle.h3_connection.specs.declared.event.Refusal.TheVariants as refusal
 use Rattle.h3_connection.specs.declared.setup.Announced.{Announced}
 use Rattle.h3_connection.specs.declared.setup.NewError.{NewError}
+use Rattle.h3_connection.specs.declared.setup.NewError.TheVariants as new_error
 
 -- `new`: what stands for the beginning of what was announced, or the first refusal of the setup
 abbrev pub Creates : Side → Result Announced NewError → Result EndpointState NewError → Type 0
 Creates side made (Ok s) = MakesEnd side made s
 Creates side made (Err e) = IsNewError e made
+
+-- `new_with`: what stands for the beginning of what was announced with these further settings, or why they are refused
+abbrev pub CreatesFurther : Side → Announced → Result (List (ℕ × ℕ)) SettingsError → Result EndpointState NewError → Type 0
+CreatesFurther side a (Ok further) (Ok s) = StandsFor s (new_endpoint_with side a further)
+CreatesFurther side a (Ok further) (Err e) = e ≡ new_error.OutOfMemory
+CreatesFurther side a (Err e) result = Creates side (Err (new_error.Settings e)) result
+
+-- These are judged last
+abbrev pub CreatesWith : Side → Result Announced NewError → List (ℕ × ℕ) → Result EndpointState NewError → Type 0
+CreatesWith side (Ok a) pairs result = CreatesFurther side a (further_from a.settings [] pairs) result
+CreatesWith side (Err e) pairs result = Creates side (Err e) result
 
 -- A call does this, or is refused with nothing changed. Want of memory comes last, and changes nothing.
 pub record DoesOrRefuses (act : EndpointHistory → Option Refusal × EndpointHistory) (old new : EndpointState) (refused : Option Refusal) : Type 0 where

@@ -3,6 +3,7 @@ use Rattle.std.specs.Prelude.{ℕ, ◌^◌, ◌-◌, Bool, false, ◌||◌, List
 use Rattle.h3_field.specs.Field.{section_size}
 use Rattle.h3_table.specs.Table.{table}
 use Rattle.h3_proto.specs.Settings.{value_of}
+use Rattle.h3_connection.specs.OtherSettings.{setting_in}
 use Rattle.h3_connection.specs.OwnIds.{is_own}
 use Rattle.h3_connection.specs.StreamSets.{stream_at}
 use Rattle.h3_connection.specs.Delivering.{incoming_at}
@@ -24,6 +25,10 @@ is_reset e id = unwrap_or (option_map (λ o. o.is_reset) (stream_at e.outgoing i
 
 abbrev pub limits_of : List (ℕ × ℕ) → PeerLimits
 limits_of pairs = record { capacity = unwrap_or (value_of 1 pairs) 0; blocked = unwrap_or (value_of 7 pairs) 0; section = unwrap_or (value_of 6 pairs) (2 ^ 62 - 1) }
+
+-- a setting of the peer, also one of no meaning that is kept
+abbrev pub peer_setting : EndpointHistory → ℕ → Option ℕ
+peer_setting e id = setting_in e.peer.settings e.peer.others id
 
 -- unknown until the peer's settings came
 abbrev pub peer_limits : EndpointHistory → Option PeerLimits

@@ -3,7 +3,6 @@ use Rattle.std.specs.Prelude.{if◌then◌else◌, ◌≡◌, ℕ, Bool, List, [
 use Rattle.h3_coding.specs.Encodings.{encoding}
 use Rattle.h3_messages.specs.declared.content.Content.{Content}
 use Rattle.h3_messages.specs.declared.content.Content.TheVariants.{Unsaid}
-use Rattle.h3_wire.specs.StreamHeaders.{control_encoding}
 use Rattle.h3_field.specs.Instruction.{encoder_bytes, decoder_bytes}
 use Rattle.std.specs.Map.{lookup}
 use Rattle.std.specs.BTreeMap.{is_at}
@@ -23,6 +22,7 @@ use Rattle.h3_connection.specs.PeerReading.{Peer}
 use Rattle.h3_connection.specs.Arrivals.{Arrival, stream_of}
 use Rattle.h3_connection.specs.StreamSets.{Streams, HaveDistinctIds, stream_at}
 use Rattle.h3_connection.specs.Endpoint.{EndpointHistory, own_waiting, kind_of}
+use Rattle.h3_connection.specs.OwnSettings.{control_start}
 use Rattle.h3_connection.specs.OwnUpdates.{OwnUpdate, control_frames}
 use Rattle.h3_connection.specs.Endpoint.Kind.{Request, PeerUnidirectional}
 use Rattle.h3_connection.specs.declared.setup.Announced.{Announced}
@@ -103,7 +103,7 @@ SameAt same (Some x) None = ⊥
 
 -- of each own text no more was taken than there is
 pub record TakesWhatIsThere (e : EndpointHistory) : Type 0 where
-  pub control : e.own.control_taken ≤ length (control_encoding e.announced.settings ++ control_frames 0 e.own.goaways e.own.updates)
+  pub control : e.own.control_taken ≤ length (control_start e.announced.settings e.own.further ++ control_frames 0 e.own.goaways e.own.updates)
   pub encoder : e.own.encoder_taken ≤ length (encoding 2 ++ flat_map encoder_bytes e.own.instructions)
   pub decoder : e.own.decoder_taken ≤ length (encoding 3 ++ flat_map decoder_bytes e.own.replies)
 

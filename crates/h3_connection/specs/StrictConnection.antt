@@ -7,6 +7,7 @@ use Rattle.h3_proto.specs.declared.stream.Side.{Side}
 use Rattle.h3_proto.specs.declared.stream.Side.TheVariants.{Client, Server}
 use Rattle.h3_wire.specs.declared.frame.kinds.FrameKinds.{FrameKinds}
 use Rattle.h3_connection.specs.Codes.{id_error}
+use Rattle.h3_connection.specs.Unidirectional.{StreamKinds}
 use Rattle.h3_connection.specs.declared.setup.Announced.{Announced}
 
 -- it does
@@ -60,6 +61,10 @@ session_fault own id = if is_no_session own id then Some id_error else None
 -- type of an unknown frame, and 0x54 that of an unknown stream (RFC 9114, section 9)
 abbrev pub knows_sessions : Announced → Bool
 knows_sessions own = not (is_strict own) || is_enabled 0x2b603742 own.settings
+
+-- Unidirectional streams of types that have no meaning are handed out to a caller that asks for it
+abbrev pub known_streams : Announced → StreamKinds
+known_streams own = record { sessions = knows_sessions own; others = own.choices.extensions.other_streams }
 
 -- PRIORITY_UPDATE is known if what it says is kept (RFC 9218, section 7.2)
 abbrev pub knows_updates : Announced → Bool

@@ -3,6 +3,7 @@
 use Rattle.std.specs.Prelude.{◌≡◌, ℕ, true, None}
 use Rattle.h3_header.specs.Head.{Head, head_fields}
 use Rattle.h3_connection.specs.Announcing.{connects}
+use Rattle.h3_connection.specs.Remembering.{settings_known}
 use Rattle.h3_connection.specs.Endpoint.{EndpointHistory}
 use Rattle.h3_connection.specs.OwnIds.{other}
 use Rattle.h3_connection.specs.Sending.{send_head, send_trailer}
@@ -14,7 +15,7 @@ use Rattle.h3_connection.specs.declared.setup.Announced.{Announced}
 -- the endpoint asks for strict messages, and the peer announced extended CONNECT where its settings say so
 pub record IsStrictTo (e : EndpointHistory) (peer : Announced) : Type 0 where
   pub strict : e.announced.choices.strict_messages ≡ true
-  pub knows : peer_connects e.peer.settings ≡ true → connects peer ≡ true
+  pub knows : peer_connects (settings_known e.announced e.peer.settings) ≡ true → connects peer ≡ true
 
 abbrev pub SendsWellFormedHeads : Type 0
 SendsWellFormedHeads =

@@ -1,6 +1,7 @@
 -- A unidirectional stream of the peer at its receiver.
-use Rattle.std.specs.Prelude.{ℕ, Bool, true, false, ◌||◌, List, [], ◌∷◌, ◌++◌, if◌then◌else◌, ◌==◌, Option, Some, None, is_some}
+use Rattle.std.specs.Prelude.{ℕ, Bool, true, false, not, ◌&&◌, ◌||◌, List, [], ◌∷◌, ◌++◌, if◌then◌else◌, ◌==◌, Option, Some, None, is_some}
 use Rattle.h3_coding.specs.Varint.{varint_at}
+use Rattle.h3_proto.specs.OtherSettings.{is_reserved}
 use Rattle.h3_wire.specs.Pieces.{with_piece}
 use Rattle.h3_connection.specs.declared.event.Item.TheVariants as item
 use Rattle.h3_connection.specs.declared.event.Pull.{Pull}
@@ -17,10 +18,18 @@ pub data Role : Type 0 where
   Session : (id : ℕ) → Role
   Push : (id : ℕ) → Role
   Ignored : Role
+  -- of a type that has no meaning here, and what comes is handed out
+  Other : (kind : ℕ) → Role
+
+-- What an endpoint knows of unidirectional streams: whether sessions of WebTransport have a meaning, and whether streams of other types are
+-- handed out.
+pub record StreamKinds : Type 0 where
+  pub sessions : Bool
+  pub others : Bool
 
 pub record Unidirectional : Type 0 where
   pub role : Role
-  -- what was delivered of a session and not handed out
+  -- what was delivered of a session, or of a stream of another type, and not handed out
   pub unread : List (List ℕ)
   pub ended : Bool
   pub reset_code : Option ℕ
@@ -51,24 +60,29 @@ abbrev pub session_role : Bool → ℕ → Role
 session_role true id = Session id
 session_role false id = Ignored
 
+-- a stream of another type, which is no reserved one (RFC 9114, section 6.2.3), where such ones are handed out
+abbrev pub other_role : Bool → ℕ → Role
+other_role others kind = if others && not (is_reserved kind) then Other kind else Ignored
+
 -- RFC 9114 6.2: type of a unidirectional stream
-abbrev pub of_kind : Bool → List ℕ → Option (ℕ × List ℕ) → Role × List ℕ
-of_kind sessions front None = (Untold front, [])
-of_kind sessions front (Some (kind, rest)) =
+abbrev pub of_kind : StreamKinds → List ℕ → Option (ℕ × List ℕ) → Role × List ℕ
+of_kind known front None = (Untold front, [])
+of_kind known front (Some (kind, rest)) =
     if kind == 0 then (Control, rest) else (
     if kind == 1 then with_id Push front (varint_at rest) else (
     if kind == 2 then (Encoder, rest) else (
     if kind == 3 then (Decoder, rest) else (
-    if kind == 0x54 then with_id (session_role sessions) front (varint_at rest) else (Ignored, rest)))))
+    if kind == 0x54 then with_id (session_role known.sessions) front (varint_at rest) else (other_role known.others kind, rest)))))
 
 -- the role after further bytes, and those of them that are for that role
-abbrev pub role_after : Bool → Role → List ℕ → Role × List ℕ
-role_after sessions (Untold front) bytes = of_kind sessions (front ++ bytes) (varint_at (front ++ bytes))
-role_after sessions role bytes = (role, bytes)
+abbrev pub role_after : StreamKinds → Role → List ℕ → Role × List ℕ
+role_after known (Untold front) bytes = of_kind known (front ++ bytes) (varint_at (front ++ bytes))
+role_after known role bytes = (role, bytes)
 
--- bytes of a session wait to be pulled
+-- bytes of a session, and of a stream of another type, wait to be pulled
 abbrev pub with_bytes : Unidirectional → Role × List ℕ → Unidirectional
 with_bytes o (Session id, bytes) = record o { role = Session id; unread = with_piece o.unread bytes }
+with_bytes o (Other kind, bytes) = record o { role = Other kind; unread = with_piece o.unread bytes }
 with_bytes o (role, bytes) = record o { role = role }
 
 -- the type of a session is whole, and its id is not
@@ -93,7 +107,17 @@ abbrev pub if_over : Bool → Unidirectional → ℕ → Pull × Unidirectional
 if_over true o id = (pull.Item item.End, o)
 if_over false o id = pull_session id o o.reset_code
 
+-- of a stream of another type nothing is told first: its type is known by its role
+abbrev pub raw_or_reset : Unidirectional → Option ℕ → Pull × Unidirectional
+raw_or_reset o (Some code) = (pull.Fault (Stream (stream_fault.Reset code)), o)
+raw_or_reset o None = raw o o.unread
+
+abbrev pub pull_other : Bool → Unidirectional → Pull × Unidirectional
+pull_other true o = (pull.Item item.End, o)
+pull_other false o = raw_or_reset o o.reset_code
+
 abbrev pub pull_unidirectional : Unidirectional → Role → Pull × Unidirectional
 pull_unidirectional o (Untold front) = (untold_pull o front, o)
 pull_unidirectional o (Session id) = if_over o.is_over o id
+pull_unidirectional o (Other kind) = pull_other o.is_over o
 pull_unidirectional o _ = (pull.NoMessages, o)

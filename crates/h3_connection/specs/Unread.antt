@@ -15,7 +15,7 @@ use Rattle.h3_connection.specs.State.{EndpointState}
 use Rattle.h3_connection.specs.StrictConnection.{kinds_of}
 use Rattle.h3_connection.specs.declared.setup.Announced.{Announced}
 use Rattle.h3_connection.specs.Unidirectional.{Unidirectional, Role}
-use Rattle.h3_connection.specs.Unidirectional.Role.{Untold, Session}
+use Rattle.h3_connection.specs.Unidirectional.Role.{Other, Session, Untold}
 
 abbrev pub is_message : Place → Bool
 is_message InSession = false
@@ -30,10 +30,11 @@ abbrev pub held_of_request : Announced → Incoming → ℕ
 held_of_request own i =
     (if begins_frame i then held_length (kinds_of own) (concat i.unread) else length (concat i.unread)) + length (unwrap_or i.section [])
 
--- of a unidirectional stream of the peer: its type, while that is not whole, and what was not handed out of a session
+-- of a unidirectional stream of the peer: its type, while that is not whole, and what was not handed out of a session or a stream of another type
 abbrev pub held_of_role : Unidirectional → Role → ℕ
 held_of_role o (Untold front) = length front
 held_of_role o (Session id) = length (concat o.unread)
+held_of_role o (Other kind) = length (concat o.unread)
 held_of_role o _ = 0
 
 -- what a reader of the peer's control, encoder or decoder stream has not read, so many bytes, where this is its stream

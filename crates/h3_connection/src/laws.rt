@@ -140,7 +140,7 @@ pub fn drained_stays()
 
 ghost use Rattle.h3_connection.specs.Delivering.{delivery_refusal, unidirectional_at, with_unidirectional};
 ghost use Rattle.h3_connection.specs.Endpoint.Kind.{PeerUnidirectional};
-ghost use Rattle.h3_connection.specs.StrictConnection.{kinds_of, knows_sessions};
+ghost use Rattle.h3_connection.specs.StrictConnection.{kinds_of, knows_sessions, known_streams};
 ghost use Rattle.h3_connection.specs.Unidirectional.{role_after};
 ghost use Rattle.h3_connection.specs.Unidirectional.Role.{Untold, Ignored};
 ghost use Rattle.h3_connection.specs.CallLists.{answers};
@@ -152,9 +152,9 @@ ghost use Rattle.h3_connection.specs.UnknownStreams.{IsUnread, without_stream, a
 /// has a fault.
 pub fn unknown_streams_change_nothing_else()
     ensures bytes { (e : EndpointHistory) (id : ℕ) (bytes rest : List ℕ) → e.closed ≡ None → kind_of e.side id ≡ PeerUnidirectional → delivery_refusal e id ≡ None →
-        role_after (knows_sessions e.announced) (unidirectional_at e id).role bytes ≡ (Ignored, rest) →
+        role_after (known_streams e.announced) (unidirectional_at e id).role bytes ≡ (Ignored, rest) →
         deliver e id bytes ≡ (None, with_unidirectional e id (record (unidirectional_at e id) { role = Ignored })) }
-    ensures calls { (side : Side) (own : Announced) (id : ℕ) (calls : List Call) → kind_of side id ≡ PeerUnidirectional → IsUnread (role_after (knows_sessions own) (Untold []) (brought_on id calls)).0 →
+    ensures calls { (side : Side) (own : Announced) (id : ℕ) (calls : List Call) → kind_of side id ≡ PeerUnidirectional → IsUnread (role_after (known_streams own) (Untold []) (brought_on id calls)).0 →
         answers_without id (new_endpoint side own) calls ≡ answers (new_endpoint side own) (without_stream id calls) }
 {}
 
@@ -372,4 +372,43 @@ ghost use Rattle.h3_connection.specs.EndpointTurns.{turns_of, EndpointTurn, Wait
 pub fn none_has_a_third_turn()
     ensures { (urgency waiting id : ℕ) (r : Rounds) (turns : List EndpointTurn) → urgency < length r.rounds → WaitsForTurn urgency waiting (Some r) turns →
         turns_of urgency id turns ≤ 2 }
+{}
+
+ghost use Rattle.h3_wire.specs.StreamHeaders.{control_encoding};
+ghost use Rattle.h3_wire.specs.declared.proto.frame.Frame.{Frame};
+ghost use Rattle.h3_wire.specs.declared.proto.frame.PayloadLen.{PayloadLen};
+ghost use Rattle.h3_connection.specs.Endpoint.{new_endpoint_with};
+ghost use Rattle.h3_connection.specs.OtherSettings.{OtherSettings, value_in, with_others};
+ghost use Rattle.h3_connection.specs.OwnSettings.{control_start};
+ghost use Rattle.h3_connection.specs.PeerReading.{Peer, having_frame, with_unread};
+ghost use Rattle.h3_connection.specs.Shown.{peer_setting};
+
+/// If an endpoint keeps no settings without a meaning, none are read (`kept`, `read`), and it shows those that have a meaning (`shown`).
+pub fn without_other_settings_none_are_kept()
+    ensures kept { (settings : Option (List (ℕ × ℕ))) (f : Frame PayloadLen) (o : OtherSettings) (bytes : List ℕ) → o.most ≡ 0 → with_others settings f o bytes ≡ o }
+    ensures read { (p : Peer) (f : Frame PayloadLen) (bytes rest : List ℕ) → p.others.most ≡ 0 → having_frame p f bytes rest ≡ with_unread p rest }
+    ensures shown { (e : EndpointHistory) (id : ℕ) → e.peer.others.kept ≡ [] → peer_setting e id ≡ value_in e.peer.settings id }
+{}
+
+/// An endpoint that announces no further settings is as `new_endpoint` makes it (`new`), and its control stream begins with its settings alone
+/// (`text`).
+pub fn without_further_settings_nothing_more_is_announced()
+    ensures new { (side : Side) (own : Announced) → new_endpoint_with side own [] ≡ new_endpoint side own }
+    ensures text { (settings : List (ℕ × ℕ)) → control_start settings [] ≡ control_encoding settings }
+{}
+
+ghost use Rattle.h3_connection.specs.Unidirectional.{other_role};
+
+/// If an endpoint delivers no streams of other types, a stream of a type without a meaning is ignored (`ignored`, `known`).
+pub fn without_other_streams_none_are_handed_out()
+    ensures known { (own : Announced) → own.choices.extensions.other_streams ≡ false → (known_streams own).others ≡ false }
+    ensures ignored { (kind : ℕ) → other_role false kind ≡ Ignored }
+{}
+
+ghost use Rattle.h3_connection.specs.Remembering.{settings_known};
+
+/// If an endpoint remembers no settings, those that came count alone (`came`). Once they came, they count in any case (`known`).
+pub fn without_remembered_settings_those_that_came_count()
+    ensures came { (own : Announced) (settings : Option (List (ℕ × ℕ))) → own.remembered ≡ None → settings_known own settings ≡ settings }
+    ensures known { (own : Announced) (pairs : List (ℕ × ℕ)) → settings_known own (Some pairs) ≡ Some pairs }
 {}

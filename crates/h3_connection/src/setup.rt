@@ -1,15 +1,20 @@
 //! What an endpoint announces.
-ghost use Rattle.std.specs.Prelude.{◌≡◌, ◌<◌, ◌≤◌, ◌^◌};
+ghost use Rattle.std.specs.Prelude.{◌≡◌, ◌<◌, ◌≤◌, ◌^◌, ◌&&◌, not, option_copied};
 ghost use Rattle.h3_proto.specs.Config.{announced, is_enabled};
+ghost use Rattle.h3_proto.specs.OtherSettings.{is_reserved};
 ghost use Rattle.h3_connection.specs.Announcing.{announced_by, connects, is_below_announced, least_limit, section_of};
 ghost use Rattle.h3_connection.specs.StrictConnection.{announces_alone, have_bad_value, is_no_flag, is_no_session, judges_connect, kinds_of, knows_sessions, lacks_datagrams, refuses_settings};
+ghost use Rattle.h3_connection.specs.OtherSettings.{most_others};
+ghost use Rattle.h3_connection.specs.Remembering.{settings_known};
 ghost use Rattle.h3_connection.specs.Updates.{most_updates};
 
 use h3_coding::varint::VarInt;
 use h3_proto::config::{
-    Choices, Config, MAX_BLOCKED_STREAMS, MAX_PRIORITY_UPDATES, MAX_TABLE_CAPACITY,
+    Choices, Config, MAX_BLOCKED_STREAMS, MAX_OTHER_SETTINGS, MAX_PRIORITY_UPDATES,
+    MAX_TABLE_CAPACITY,
 };
 use h3_proto::frame::{SettingId, Settings, SettingsError};
+use h3_proto::other_settings::is_reserved;
 use h3_proto::stream::Side;
 use h3_wire::frame::FrameKinds;
 
@@ -53,6 +58,8 @@ pub struct Announced {
     pub limits: Limits,
     /// What it chooses for itself, which the peer does not learn.
     pub choices: Choices,
+    /// What a client remembers of its server's settings from an earlier connection (RFC 9114, section 7.2.4.2).
+    pub remembered: Option<Settings>,
 }
 
 impl Announced {
@@ -82,6 +89,7 @@ impl Announced {
             settings,
             limits,
             choices,
+            remembered: None,
         };
         if announced.announces_alone() {
             return Err(NewError::Settings(SettingsError::InvalidSettingValue(
@@ -93,6 +101,16 @@ impl Announced {
             return Err(NewError::UnfinishedLimit);
         }
         Ok(announced)
+    }
+
+    /// Which settings of the peer count: those that came, and until then those that it remembers.
+    pub fn settings_known<'a>(&'a self, came: Option<&'a Settings>) -> Option<&'a Settings>
+        ensures { option_copied result ≡ settings_known self.now (option_copied came.entry) }
+    {
+        match came {
+            Some(settings) => Some(settings),
+            None => self.remembered.as_ref(),
+        }
     }
 
     /// Whether it asks for a strict connection, and announces WebTransport without datagrams, which no such endpoint takes of its peer.
@@ -135,6 +153,14 @@ impl Announced {
             || is_enabled(&self.settings, SettingId::ENABLE_WEBTRANSPORT)
     }
 
+    /// Whether a unidirectional stream of this type, which has no meaning, is delivered: the caller asks for it, and the type is not reserved
+    /// (RFC 9114, section 6.2.3).
+    pub fn hands_out(&self, kind: u64) -> bool
+        ensures { result ≡ (self.now.choices.extensions.other_streams && not (is_reserved kind)) }
+    {
+        self.choices.extensions.other_streams && !is_reserved(kind)
+    }
+
     /// Which kinds of frames it knows.
     pub fn kinds(&self) -> FrameKinds
         ensures { result ≡ kinds_of self.now }
@@ -154,6 +180,17 @@ impl Announced {
             .extensions
             .priority_updates
             .min(MAX_PRIORITY_UPDATES) as usize
+    }
+
+    /// How many of the peer's settings it keeps that have no meaning here (RFC 9114, section 7.2.4).
+    pub fn most_others(&self) -> usize
+        ensures value { result ≡ most_others self.now }
+        ensures few { result ≤ 64 }
+    {
+        self.choices
+            .extensions
+            .other_settings
+            .min(MAX_OTHER_SETTINGS) as usize
     }
 
     /// Whether it limits what is unfinished to less than what a peer may send that keeps to what is announced.

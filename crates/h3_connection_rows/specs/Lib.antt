@@ -23,3 +23,5 @@ pub mod ServerCases5
 pub mod ServerCases6
 pub mod OrderRows
 pub mod UpdateRows
+pub mod SettingRows
+pub mod OtherStreamRows

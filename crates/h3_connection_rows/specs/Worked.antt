@@ -1,5 +1,5 @@
 -- Values of worked cases: bytes written as digits, heads by their field lists, and plain configurations.
-use Rattle.std.specs.Prelude.{true, ℕ, ◌+◌, ◌*◌, ◌-◌, List, [], ◌∷◌, map, if◌then◌else◌, nat_lt}
+use Rattle.std.specs.Prelude.{true, ℕ, ◌+◌, ◌*◌, ◌-◌, List, [], ◌∷◌, map, if◌then◌else◌, nat_lt, None}
 use Rattle.h3_field.specs.Field.{Field, plain_field}
 use Rattle.h3_header.specs.Head.{Head, trailer_head, head_fields}
 use Rattle.h3_header.specs.HeadRead.{HeadRead, IsHead, IsNone, head_of}
@@ -37,6 +37,7 @@ plain section capacity blocked =
       settings = (6, section) ∷ (8, 0) ∷ (0x2b603742, 0) ∷ (0x33, 0) ∷ (0x2b603743, 0) ∷ (1, capacity) ∷ (7, blocked) ∷ [];
       limits = record { table = capacity; blocked = blocked };
       choices = no_choices;
+      remembered = None;
     }
 
 -- the same, and strict messages

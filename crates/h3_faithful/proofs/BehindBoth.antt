@@ -94,6 +94,7 @@ module _ (setup : Setup) (k : KeepingWorld) (ends : Ends) (h : StandsKeeping (pl
     stands = h.stands;
     side_is = λ side. ap (λ (e : EndpointHistory). e.side) (ahead_is side) ∙ (at side).side_is;
     closed = λ side. ap (λ (e : EndpointHistory). e.closed) (ahead_is side) ∙ (at side).no_fault;
+    remembered = λ side. ap (λ (e : EndpointHistory). e.announced.remembered) (ahead_is side) ∙ ap (λ (x : Announced). x.remembered) (at side).announced ∙ (at side).remembered;
     settings = λ side. ap (λ (e : EndpointHistory). e.peer.settings) (ahead_is side);
     decoder = λ side. ap (λ (e : EndpointHistory). e.decoding.decoder) (ahead_is side);
     next_id = ap (λ (e : EndpointHistory). e.next_id) (ahead_is Client);

@@ -49,4 +49,4 @@ every_event laws setup made plain w ends (event.Show side) sendable h = show_on 
 -- **Two new endpoints that judge plainly run in a world over every schedule.**
 pub two_ends_run : (laws : Laws) (setup : Setup) (events : List Event) → IsMadeSetup setup → JudgesPlainly setup → AllByRecursion (IsSendable setup) events → RunsOn setup (empty_world setup) (new_ends setup) events
 two_ends_run laws setup events made plain sendable =
-    runs_on setup (λ w ends e. every_event laws setup made plain w ends e) (empty_world setup) (new_ends setup) events sendable (begins setup plain (laws.worlds.begins setup))
+    runs_on setup (λ w ends e. every_event laws setup made plain w ends e) (empty_world setup) (new_ends setup) events sendable (begins setup made plain (laws.worlds.begins setup))

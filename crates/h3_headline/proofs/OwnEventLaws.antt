@@ -24,7 +24,7 @@ use Rattle.h3_world.specs.Order.{is_finished}
 use Rattle.h3_headline.specs.Cited.{StreamLaws}
 use Rattle.h3_headline.specs.OwnEventLaws.{own_come, own_outgoing, own_waits}
 use Rattle.h3_headline.specs.OwnStreams.{AnswersAlike, OwnCome, accepted}
-use Rattle.h3_headline.specs.Standing.{Stands, StandsAt}
+use Rattle.h3_headline.specs.Standing.{Stands, StandsAt, WritesNoMore}
 
 abbrev pub given_as : Answer → Ends → Answer × Ends
 given_as a ends = (a, ends)
@@ -41,7 +41,7 @@ pub own_first : (side acting : Side) (id : ℕ) (b : Bool) → side ≡ acting �
 own_first side acting id b same own = ap (λ s. is_own s id || b) same ∙ ap (λ t. t || b) own
 
 -- the answer of the ends to a delivery of bytes that are there, or not
-given_own : (setup : Setup) (w : World) (ends : Ends) (writer : Side) (id count : ℕ) (after : EndpointHistory) → StandsAt setup w writer (end_at ends writer) → (party w writer).own.updates ≡ [] → is_own writer id ≡ true
+given_own : (setup : Setup) (w : World) (ends : Ends) (writer : Side) (id count : ℕ) (after : EndpointHistory) → StandsAt setup w writer (end_at ends writer) → WritesNoMore (party w writer).own → is_own writer id ≡ true
     → arrives (end_at ends (other writer)) (BytesCame id (take count (bytes_waiting (end_at ends writer) id))) ≡ accepted after
     → (short : Bool) → nat_lt (waiting setup w writer id) count ≡ short
     → answered ends (event.Deliver writer id count)

@@ -7,9 +7,10 @@ use Rattle.h3_proto.specs.declared.stream.Side.TheVariants.{Client, Server}
 use Rattle.h3_world.specs.Streams.{is_open, exchange, flow}
 use Rattle.h3_world.specs.World.{empty_world, no_exchange}
 use Rattle.h3_proto.specs.declared.stream.Side.{Side}
-use Rattle.h3_world.specs.Setup.{JudgesPlainly, Setup, TakesAnyLength, announced_at}
+use Rattle.h3_world.specs.Setup.{IsMadeSetup, JudgesPlainly, Setup, TakesAnyLength, announced_at}
 use Rattle.h3_connection.specs.OwnIds.{other}
 use Rattle.h3_connection.specs.PeerReading.{none_read}
+use Rattle.h3_connection.specs.OtherSettings.{most_others}
 use Rattle.h3_connection.specs.Updates.{most_updates}
 use Rattle.h3_connection.specs.Endpoint.{new_endpoint}
 use Rattle.std.specs.List.{AllByRecursion}
@@ -41,7 +42,7 @@ above_none n = grind (arith, common_steps)
 no_settings : (setup : Setup) (side : Side) → are_settings_there setup side 0 ≡ false
 no_settings setup side = ap (λ n. nat_le n 0) (length_settings (announced_at setup side)) ∙ above_none (length (settings_frame_of (announced_at setup side)))
 
-control_at : (setup : Setup) (side : Side) → HasControl setup side 0 [] None None (none_read (most_updates (announced_at setup side)))
+control_at : (setup : Setup) (side : Side) → HasControl setup side 0 [] None None (none_read (most_updates (announced_at setup side)) (most_others (announced_at setup side)))
 control_at setup side =
     let none = no_settings setup (other side) in
     record {
@@ -51,6 +52,7 @@ control_at setup side =
       goaways_are = refl;
       most_pushes = refl;
       updates = refl;
+      others = rw none refl;
       unread = rw none refl;
     }
 
@@ -58,12 +60,13 @@ decoder_at : (setup : Setup) (side : Side) → [] ≡ replies_unread (are_settin
 decoder_at setup side = rw (no_settings setup (other side)) refl
 
 -- One new endpoint.
-pub begins_at : (setup : Setup) (side : Side) → TakesAnyLength (announced_at setup side) → StandsAt setup (empty_world setup) side (new_endpoint side (announced_at setup side))
-begins_at setup Client any =
+pub begins_at : (setup : Setup) (side : Side) → TakesAnyLength (announced_at setup side) → (announced_at setup side).remembered ≡ None → StandsAt setup (empty_world setup) side (new_endpoint side (announced_at setup side))
+begins_at setup Client any none =
     record {
       side_is = refl;
       announced = refl;
       any = any;
+      remembered = none;
       no_fault = refl;
       nothing_kept = refl;
       own = refl;
@@ -76,11 +79,12 @@ begins_at setup Client any =
       incoming = λ id. rw (none_open setup Client id) tt;
       distinct = tt;
     }
-begins_at setup Server any =
+begins_at setup Server any none =
     record {
       side_is = refl;
       announced = refl;
       any = any;
+      remembered = none;
       no_fault = refl;
       nothing_kept = refl;
       own = refl;
@@ -108,11 +112,11 @@ nothing_sent setup Server id = by (is_request_stream id)
     by false = tt
 
 -- Both of them.
-pub begins : (setup : Setup) → JudgesPlainly setup → IsSoundWorld setup (empty_world setup) → Stands setup (empty_world setup) (new_ends setup)
-begins setup plain sound =
+pub begins : (setup : Setup) → IsMadeSetup setup → JudgesPlainly setup → IsSoundWorld setup (empty_world setup) → Stands setup (empty_world setup) (new_ends setup)
+begins setup made plain sound =
     record {
-      at_client = begins_at setup Client (plain Client).1;
-      at_server = begins_at setup Server (plain Server).1;
+      at_client = begins_at setup Client (plain Client).1 (made.sides Client).remembered;
+      at_server = begins_at setup Server (plain Server).1 (made.sides Server).remembered;
       next_id = refl;
       few = omega arith;
       sound = sound;

@@ -9,6 +9,7 @@ use Rattle.h3_connection.specs.declared.setup.Announced.{Announced}
 use Rattle.h3_world.specs.OwnStreams.{settings_bytes}
 use Rattle.h3_connection.specs.Endpoint.{goaway_encoding}
 use Rattle.h3_proto.specs.declared.stream.Side.{Side}
+use Rattle.h3_connection.specs.OtherSettings.{with_told}
 use Rattle.h3_connection.specs.PeerReading.{Peer, with_unread, read_within, read_peer}
 use Rattle.std.proofs.lemmas.Grind.{common_steps}
 use Rattle.h3_qpack.specs.WholeInstructions.{whole_in, rest_in}
@@ -149,7 +150,7 @@ now_known writer a came count gs h all short fits kinds top =
     let most = length (S ++ more) - 1 in
     let fuel : length (S ++ more) ≡ suc most = omega (arith, some, length-append S more) in
     let enough : length ids ≤ most = omega (arith, some, length-append S more, length-append (flat_map goaway_encoding ids) rest, few_goaways ids) in
-    let q = record p { settings = Some (with_meaning a.settings) } in
+    let q = record p { settings = Some (with_meaning a.settings); others = with_told p.others S } in
     let none = no_goaways a came gs short in
     let first : AreGoaways writer (last_id q.goaways) ids = subst (λ l. AreGoaways writer (last_id l) ids) (sym none) (goaways_front writer None (whole_in goaway_encoding n gs) gs all) in
     peer_within kinds (other writer) p (p.unread ++ new_bytes writer a came count gs)

@@ -9,7 +9,9 @@ use Rattle.h3_wire.specs.UnfinishedLaws.{front_of_frame}
 use Rattle.h3_wire.specs.declared.proto.frame.Frame.TheVariants as frame
 use Rattle.h3_proto.specs.declared.stream.Side.{Side}
 use Rattle.h3_wire.specs.Frames.{Front, frame_by, Whole, Unknown, Refused, Unfinished, settings_frame}
-use Rattle.h3_connection.specs.PeerReading.{Peer, with_unread, at_front, read_within, read_peer, read_frame, unless_fault, PeerFound, is_above, is_no_goaway}
+use Rattle.h3_connection.specs.OtherSettings.{with_others, with_told}
+use Rattle.h3_connection.specs.OtherSettingsLaws.{others_more}
+use Rattle.h3_connection.specs.PeerReading.{Peer, having_frame, with_unread, at_front, read_within, read_peer, read_frame, unless_fault, PeerFound, is_above, is_no_goaway}
 use Rattle.h3_wire.specs.declared.proto.frame.Frame.{Frame}
 use Rattle.h3_wire.specs.declared.proto.frame.PayloadLen.{PayloadLen}
 use Rattle.h3_proto.specs.Pairs.{payload_of}
@@ -31,7 +33,7 @@ use Rattle.h3_wire.specs.declared.frame.kinds.FrameKinds.{FrameKinds}
 
 -- Without a limit all read alike.
 front_alike : (go both : Peer → PeerFound) (side : Side) (p : Peer) (bytes : List ℕ) (x : Front) → ((q : Peer) → go q ≡ both q) → at_front go side p bytes x ≡ at_front both side p bytes x
-front_alike go both side p bytes (Whole f rest) h = fault_alike (read_frame side (with_unread p rest) p.settings f)
+front_alike go both side p bytes (Whole f rest) h = fault_alike (read_frame side (having_frame p f bytes rest) p.settings f)
   where
     fault_alike : (x : PeerFound) → unless_fault x go ≡ unless_fault x both
     fault_alike (q, Some code) = refl
@@ -70,7 +72,7 @@ waits kinds (suc most) side p bytes u =
 
 -- a whole frame at the front
 frame_read : (kinds : FrameKinds) (most : ℕ) (side : Side) (p : Peer) (bytes rest : List ℕ) (f : Frame PayloadLen) → frame_by kinds bytes ≡ Whole f rest
-    → read_within kinds (suc most) no_limit side (with_unread p bytes) ≡ unless_fault (read_frame side (with_unread p rest) p.settings f) (read_within kinds most no_limit side)
+    → read_within kinds (suc most) no_limit side (with_unread p bytes) ≡ unless_fault (read_frame side (having_frame p f bytes rest) p.settings f) (read_within kinds most no_limit side)
 frame_read kinds most side p bytes rest f e =
     unlimited kinds most side (with_unread p bytes)
     ∙ ap (λ l. at_front (read_within kinds most no_limit side) side (with_unread p bytes) l (frame_by kinds l)) (known-other kinds bytes (subst IsKnown (sym e) tt))
@@ -78,13 +80,17 @@ frame_read kinds most side p bytes rest f e =
 
 -- The settings.
 pub settings_read : (kinds : FrameKinds) (most : ℕ) (side : Side) (p : Peer) (a : Announced) (more : List ℕ) → Announces a → p.settings ≡ None
-    → read_within kinds (suc most) no_limit side (with_unread p (frame_encoding 4 (payload_of a.settings) ++ more)) ≡ read_within kinds most no_limit side (with_unread (record p { settings = Some (with_meaning a.settings) }) more)
+    → read_within kinds (suc most) no_limit side (with_unread p (frame_encoding 4 (payload_of a.settings) ++ more)) ≡ read_within kinds most no_limit side (with_unread (record p { settings = Some (with_meaning a.settings); others = with_told p.others (frame_encoding 4 (payload_of a.settings)) }) more)
 settings_read kinds most side p a more h none =
     let kept = with_meaning a.settings in
+    let front = frame_encoding 4 (payload_of a.settings) in
+    let alone : frame_by kinds front ≡ Whole (frame.Settings kept) [] =
+    ap (frame_by kinds) (sym (append-nil front)) ∙ written_settings kinds a.settings [] h.small ∙ ap (λ r. settings_frame r []) h.received in
     let whole : frame_by kinds (frame_encoding 4 (payload_of a.settings) ++ more) ≡ Whole (frame.Settings kept) more =
     written_settings kinds a.settings more h.small ∙ ap (λ r. settings_frame r more) h.received in
     frame_read kinds most side p (frame_encoding 4 (payload_of a.settings) ++ more) more (frame.Settings kept) whole
-    ∙ ap (λ o. unless_fault (read_frame side (with_unread p more) o (frame.Settings kept)) (read_within kinds most no_limit side)) none
+    ∙ ap (λ o. unless_fault (read_frame side (record p { unread = more; others = with_others o (frame.Settings kept) p.others (front ++ more) }) o (frame.Settings kept)) (read_within kinds most no_limit side)) none
+    ∙ ap (λ x. read_within kinds most no_limit side (record p { unread = more; settings = Some kept; others = x })) (others_more kinds None (frame.Settings kept) p.others front more [] alone)
 
 -- less than that is none
 pub settings_wait : (kinds : FrameKinds) (a : Announced) (n : ℕ) → Announces a → n < length (frame_encoding 4 (payload_of a.settings)) → IsUnfinishedFront kinds (take n (frame_encoding 4 (payload_of a.settings)))
@@ -100,7 +106,7 @@ goaway_read kinds most writer p pairs id more known small allowed below =
     let q = with_unread p more in
     let next : PeerFound = no_fault (record q { goaways = p.goaways ++ id ∷ [] }) in
     frame_read kinds most side p (goaway_encoding id ++ more) more (frame.Goaway id) (written_goaway kinds id more small)
-    ∙ ap (λ o. unless_fault (read_frame side q o (frame.Goaway id)) go) known
+    ∙ ap (λ o. unless_fault (read_frame side (record p { unread = more; others = with_others o (frame.Goaway id) p.others (goaway_encoding id ++ more) }) o (frame.Goaway id)) go) known
     ∙ ap (λ b. unless_fault (if b || is_above id (last_id p.goaways) then (q, Some id_error) else next) go) allowed
     ∙ ap (λ b. unless_fault (if b then (q, Some id_error) else next) go) below
 

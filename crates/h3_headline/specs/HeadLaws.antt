@@ -20,6 +20,7 @@ use Rattle.h3_world.specs.Order.{outgoing_of}
 use Rattle.h3_world.specs.Sending.{appended, having_encoded, section_sent, with_section}
 use Rattle.h3_world.specs.Streams.{flow, is_open}
 use Rattle.h3_world.specs.World.{World, party, with_party}
+use Rattle.h3_connection.specs.Remembering as remembering
 use Rattle.h3_world.specs.Came.{settings_known}
 use Rattle.h3_world.specs.Setup.{Setup, announced_at, IsPlain, takes_any}
 use Rattle.std.specs.Prelude.{option_map, not, ◌&&◌, is_some, ◌||◌}
@@ -112,8 +113,12 @@ section_does setup w ends side id fields kind own h of_section opened unfinished
     (flow_extended setup u side id new.sent g mid f midway (is_open-with_party w side side p id ∙ opened) extends))
 
 -- the peer's section size, as far as it is known
-too_large_agrees : (setup : Setup) (w : World) (side : Side) (e : EndpointHistory) (fields : List Field) → StandsAt setup w side e → is_too_large e.peer.settings fields ≡ is_too_large (settings_known setup w side) fields
-too_large_agrees setup w side e fields h = ap (λ o. is_too_large o fields) h.control.settings ∙ by_there (are_settings_there setup (other side) (party w (other side)).own.control_taken)
+too_large_agrees : (setup : Setup) (w : World) (side : Side) (e : EndpointHistory) (fields : List Field) → StandsAt setup w side e
+    → is_too_large (remembering.settings_known e.announced e.peer.settings) fields ≡ is_too_large (settings_known setup w side) fields
+too_large_agrees setup w side e fields h =
+    ap (λ (a : Announced). is_too_large (remembering.settings_known a e.peer.settings) fields) h.announced
+    ∙ ap (λ r. is_too_large (remembering.settings_or r e.peer.settings) fields) h.remembered
+    ∙ ap (λ o. is_too_large o fields) h.control.settings ∙ by_there (are_settings_there setup (other side) (party w (other side)).own.control_taken)
   where
     by_there : (t : Bool) → is_too_large (if t then Some (with_meaning (announced_at setup (other side)).settings) else None) fields ≡ is_too_large (if t then Some (announced_at setup (other side)).settings else None) fields
     by_there true = too_large_with_meaning (announced_at setup (other side)).settings fields
@@ -122,7 +127,7 @@ too_large_agrees setup w side e fields h = ap (λ o. is_too_large o fields) h.co
 -- an endpoint that asks for no strict messages refuses no list by their rules
 no_broken_head : (setup : Setup) (w : World) (side : Side) (e : EndpointHistory) (id : ℕ) (fields : List Field) → IsPlain (announced_at setup side) → StandsAt setup w side e → broken_head_at e id fields ≡ None
 no_broken_head setup w side e id fields plain h =
-    ap (λ b. let rule : Option Malformation = if b then option_map malformation_by (violation_of_own_head e.side e.peer.settings (known_of (stream_at e.incoming id)) fields) else None in rule) (ap (λ (a : Announced). a.choices.strict_messages) h.announced ∙ plain.0)
+    ap (λ b. let rule : Option Malformation = if b then option_map malformation_by (violation_of_own_head e.side (remembering.settings_known e.announced e.peer.settings) (known_of (stream_at e.incoming id)) fields) else None in rule) (ap (λ (a : Announced). a.choices.strict_messages) h.announced ∙ plain.0)
 
 no_broken_trailer : (setup : Setup) (w : World) (side : Side) (e : EndpointHistory) (fields : List Field) → IsPlain (announced_at setup side) → StandsAt setup w side e → broken_trailer e.announced fields ≡ None
 no_broken_trailer setup w side e fields plain h =
@@ -203,13 +208,13 @@ heads_served setup w ends side id head fields told broken plain h same writable 
     let there = refusal_of_head (sender_at setup w side id) broken None head fields in
     subst (λ n. Serves setup (ends_of.done ends side answer.Done (does (sender.unless_closed e here) e n)) (machine.done there w answer.Done after)) (sym (unasked setup w side e new id fields plain b.here refl))
     (call_agrees setup w after ends side answer.Done answer.Done (sender.unless_closed e here) there new h
-    (refusal_agrees setup w side id e (λ o. (not (takes_head o), refusal.OutOfOrder) ∷ unless_going going (unless_malformed told ((not (is_for (other e.side) head), refusal.WrongSide) ∷ unless_malformed (broken_head_at e id fields) ((is_too_large e.peer.settings fields, size) ∷ [])))) b.here
-    ∙ ap (λ g. first_of ((not (is_open w side id), refusal.NotOpen) ∷ (not (takes_head to), refusal.OutOfOrder) ∷ unless_going g (unless_malformed told ((not (is_for (other e.side) head), refusal.WrongSide) ∷ unless_malformed (broken_head_at e id fields) ((is_too_large e.peer.settings fields, size) ∷ [])))))
+    (refusal_agrees setup w side id e (λ o. (not (takes_head o), refusal.OutOfOrder) ∷ unless_going going (unless_malformed told ((not (is_for (other e.side) head), refusal.WrongSide) ∷ unless_malformed (broken_head_at e id fields) ((is_too_large (remembering.settings_known e.announced e.peer.settings) fields, size) ∷ [])))) b.here
+    ∙ ap (λ g. first_of ((not (is_open w side id), refusal.NotOpen) ∷ (not (takes_head to), refusal.OutOfOrder) ∷ unless_going g (unless_malformed told ((not (is_for (other e.side) head), refusal.WrongSide) ∷ unless_malformed (broken_head_at e id fields) ((is_too_large (remembering.settings_known e.announced e.peer.settings) fields, size) ∷ [])))))
     (going_agrees setup w side e b.here)
-    ∙ ap (λ p. first_of ((not (is_open w side id), refusal.NotOpen) ∷ (not (takes_head to), refusal.OutOfOrder) ∷ unless_going none (unless_malformed p ((not (is_for (other e.side) head), refusal.WrongSide) ∷ unless_malformed (broken_head_at e id fields) ((is_too_large e.peer.settings fields, size) ∷ []))))) same
-    ∙ ap (λ m. first_of ((not (is_open w side id), refusal.NotOpen) ∷ (not (takes_head to), refusal.OutOfOrder) ∷ unless_going none (unless_malformed broken ((not (is_for (other e.side) head), refusal.WrongSide) ∷ unless_malformed m ((is_too_large e.peer.settings fields, size) ∷ [])))))
+    ∙ ap (λ p. first_of ((not (is_open w side id), refusal.NotOpen) ∷ (not (takes_head to), refusal.OutOfOrder) ∷ unless_going none (unless_malformed p ((not (is_for (other e.side) head), refusal.WrongSide) ∷ unless_malformed (broken_head_at e id fields) ((is_too_large (remembering.settings_known e.announced e.peer.settings) fields, size) ∷ []))))) same
+    ∙ ap (λ m. first_of ((not (is_open w side id), refusal.NotOpen) ∷ (not (takes_head to), refusal.OutOfOrder) ∷ unless_going none (unless_malformed broken ((not (is_for (other e.side) head), refusal.WrongSide) ∷ unless_malformed m ((is_too_large (remembering.settings_known e.announced e.peer.settings) fields, size) ∷ [])))))
     (no_broken_head setup w side e id fields plain b.here)
-    ∙ ap (λ s. first_of ((not (is_open w side id), refusal.NotOpen) ∷ (not (takes_head to), refusal.OutOfOrder) ∷ unless_going none (unless_malformed broken ((not (is_for (other s) head), refusal.WrongSide) ∷ (is_too_large e.peer.settings fields, size) ∷ [])))) b.here.side_is
+    ∙ ap (λ s. first_of ((not (is_open w side id), refusal.NotOpen) ∷ (not (takes_head to), refusal.OutOfOrder) ∷ unless_going none (unless_malformed broken ((not (is_for (other s) head), refusal.WrongSide) ∷ (is_too_large (remembering.settings_known e.announced e.peer.settings) fields, size) ∷ [])))) b.here.side_is
     ∙ ap (λ t. first_of ((not (is_open w side id), refusal.NotOpen) ∷ (not (takes_head to), refusal.OutOfOrder) ∷ unless_going none (unless_malformed broken ((not (is_for (other side) head), refusal.WrongSide) ∷ (t, size) ∷ [])))) (too_large_agrees setup w side e fields b.here))
     (λ goes.
     let last = (is_too_large (settings_known setup w side) fields, size) ∷ [] in
@@ -272,9 +277,9 @@ trailers_served setup w ends side id head fields told broken plain h same writab
     (sender.unless_closed e (refusal_of_trailer (sender.sender_at e id) told (early_trailer (sender.outgoing_at e id).content) (broken_trailer e.announced fields) head fields))
     (refusal_of_trailer (sender_at setup w side id) broken None None head fields)
     (counted (part_appended (encoded e id fields) id (OwnTrailer (written_section e.encoder id fields))) (fields_cost fields)) h
-    (refusal_agrees setup w side id e (λ o. (not (takes_body o), refusal.OutOfOrder) ∷ unless_malformed told ((has_pseudo head, refusal.PseudoInTrailer) ∷ unless_malformed (early_trailer o.content) (unless_malformed (broken_trailer e.announced fields) ((is_too_large e.peer.settings fields, size) ∷ [])))) b.here
-    ∙ ap (λ p. first_of ((not (is_open w side id), refusal.NotOpen) ∷ (not (takes_body to), refusal.OutOfOrder) ∷ unless_malformed p ((has_pseudo head, refusal.PseudoInTrailer) ∷ unless_malformed (early_trailer to.content) (unless_malformed (broken_trailer e.announced fields) ((is_too_large e.peer.settings fields, size) ∷ []))))) same
-    ∙ ap (λ m. first_of ((not (is_open w side id), refusal.NotOpen) ∷ (not (takes_body to), refusal.OutOfOrder) ∷ unless_malformed broken ((has_pseudo head, refusal.PseudoInTrailer) ∷ unless_malformed m ((is_too_large e.peer.settings fields, size) ∷ []))))
+    (refusal_agrees setup w side id e (λ o. (not (takes_body o), refusal.OutOfOrder) ∷ unless_malformed told ((has_pseudo head, refusal.PseudoInTrailer) ∷ unless_malformed (early_trailer o.content) (unless_malformed (broken_trailer e.announced fields) ((is_too_large (remembering.settings_known e.announced e.peer.settings) fields, size) ∷ [])))) b.here
+    ∙ ap (λ p. first_of ((not (is_open w side id), refusal.NotOpen) ∷ (not (takes_body to), refusal.OutOfOrder) ∷ unless_malformed p ((has_pseudo head, refusal.PseudoInTrailer) ∷ unless_malformed (early_trailer to.content) (unless_malformed (broken_trailer e.announced fields) ((is_too_large (remembering.settings_known e.announced e.peer.settings) fields, size) ∷ []))))) same
+    ∙ ap (λ m. first_of ((not (is_open w side id), refusal.NotOpen) ∷ (not (takes_body to), refusal.OutOfOrder) ∷ unless_malformed broken ((has_pseudo head, refusal.PseudoInTrailer) ∷ unless_malformed m ((is_too_large (remembering.settings_known e.announced e.peer.settings) fields, size) ∷ []))))
     (no_broken_trailer setup w side e fields plain b.here)
     ∙ ap (λ t. first_of ((not (is_open w side id), refusal.NotOpen) ∷ (not (takes_body to), refusal.OutOfOrder) ∷ unless_malformed broken ((has_pseudo head, refusal.PseudoInTrailer) ∷ (t, size) ∷ []))) (too_large_agrees setup w side e fields b.here))
     (λ goes.

@@ -27,7 +27,6 @@ use Rattle.h3_connection.specs.StrictConnection.{is_strict, settings_refused, ki
 use Rattle.h3_connection.specs.StrictConnectionLaws.{held_taken, known_missed}
 use Rattle.h3_connection.specs.PeerReading.{Peer, PeerFound, with_unread, read_peer}
 use Rattle.h3_connection.specs.Unidirectional.{Unidirectional}
-use Rattle.h3_connection.specs.Updates.{most_updates}
 use Rattle.h3_world.specs.OwnStreams.{settings_bytes}
 use Rattle.std.proofs.lemmas.Grind.{common_steps}
 use Rattle.h3_connection.specs.Delivering.{heard_as, unless_second, with_unidirectional}
@@ -40,7 +39,7 @@ use Rattle.h3_headline.specs.FlowLaws.{other-other}
 use Rattle.h3_headline.specs.ListeningLaws.{no_sum, no_sum_too}
 use Rattle.h3_headline.specs.PeerStreams.{Announces, MayListen, after_control, behind_type, controlling, knowing, learned_encoder, limited_by, no_limit, peer_by, peer_of, role_by, settings_frame_of, settled, with_role, without_fault}
 use Rattle.h3_headline.specs.RoleLaws.{is_first}
-use Rattle.h3_headline.specs.Standing.{HasControl, came_on, replies_unread, with_meaning}
+use Rattle.h3_headline.specs.Standing.{HasControl, came_on, replies_unread, with_meaning, most_kept}
 
 knows_limits : (e : EndpointHistory) (a : Announced) → Announces a → learned e (with_meaning a.settings) ≡ knowing e a.limits
 knows_limits e a h =
@@ -84,14 +83,15 @@ settles laws a x before false true came replies any h was now left written accep
 
 -- what it knows, as a value
 pub peer_is : (setup : Setup) (side : Side) (came : ℕ) (gs : List ℕ) (stream : Option Unidirectional) (on : Option ℕ) (peer : Peer) → HasControl setup side came gs stream on peer
-    → peer ≡ peer_by (most_updates (announced_at setup side)) (announced_at setup (other side)) (nat_le (length (settings_bytes (announced_at setup (other side)))) came) came gs
+    → peer ≡ peer_by (most_kept (announced_at setup side)) (announced_at setup (other side)) (nat_le (length (settings_bytes (announced_at setup (other side)))) came) came gs
 peer_is setup side came gs stream on peer h =
-    let p = peer_by (most_updates (announced_at setup side)) (announced_at setup (other side)) (nat_le (length (settings_bytes (announced_at setup (other side)))) came) came gs in
-    ap (λ x. peer_of x peer.settings peer.goaways peer.most_pushes peer.updates) h.unread
-    ∙ ap (λ x. peer_of p.unread x peer.goaways peer.most_pushes peer.updates) h.settings
-    ∙ ap (λ x. peer_of p.unread p.settings x peer.most_pushes peer.updates) h.goaways_are
-    ∙ ap (λ x. peer_of p.unread p.settings p.goaways x peer.updates) h.most_pushes
-    ∙ ap (λ x. peer_of p.unread p.settings p.goaways p.most_pushes x) h.updates
+    let p = peer_by (most_kept (announced_at setup side)) (announced_at setup (other side)) (nat_le (length (settings_bytes (announced_at setup (other side)))) came) came gs in
+    ap (λ x. peer_of x peer.settings peer.goaways peer.most_pushes peer.updates peer.others) h.unread
+    ∙ ap (λ x. peer_of p.unread x peer.goaways peer.most_pushes peer.updates peer.others) h.settings
+    ∙ ap (λ x. peer_of p.unread p.settings x peer.most_pushes peer.updates peer.others) h.goaways_are
+    ∙ ap (λ x. peer_of p.unread p.settings p.goaways x peer.updates peer.others) h.most_pushes
+    ∙ ap (λ x. peer_of p.unread p.settings p.goaways p.most_pushes x peer.others) h.updates
+    ∙ ap (λ x. peer_of p.unread p.settings p.goaways p.most_pushes p.updates x) h.others
 
 not_yet : (a n : ℕ) → nat_le a n ≡ false → n < a
 not_yet a n e = grind (arith, common_steps, e)
@@ -109,7 +109,7 @@ pub control_came : (laws : StreamLaws) (setup : Setup) (side : Side) (e : Endpoi
     (behind_type came count (settings_frame_of (announced_at setup (other side)) ++ flat_map goaway_encoding gs))
     ≡ without_fault (after_control (nat_le (length (settings_bytes (announced_at setup (other side)))) came) (nat_le (length (settings_bytes (announced_at setup (other side)))) (came + count))
     (controlling e (control_id (other side)) (with_role (role_by (came + count) Control)) (came_on (came + count) (control_id (other side)))
-    (peer_by (most_updates (announced_at setup side)) (announced_at setup (other side)) (nat_le (length (settings_bytes (announced_at setup (other side)))) (came + count)) (came + count) gs))
+    (peer_by (most_kept (announced_at setup side)) (announced_at setup (other side)) (nat_le (length (settings_bytes (announced_at setup (other side)))) (came + count)) (came + count) gs))
     (announced_at setup (other side)).limits replies_came replies)
 control_came laws setup side e came count gs replies_came replies stream h m = by_test (came + count == 0) refl
   where
@@ -119,8 +119,8 @@ control_came laws setup side e came count gs replies_came replies stream h m = b
     a : Announced
     a = announced_at setup (other side)
 
-    top : ℕ
-    top = most_updates (announced_at setup side)
+    top : ℕ × ℕ
+    top = most_kept (announced_at setup side)
 
     L : ℕ
     L = length (settings_bytes a)

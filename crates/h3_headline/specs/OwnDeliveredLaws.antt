@@ -19,7 +19,6 @@ use Rattle.h3_world.specs.Setup.{Setup, announced_at}
 use Rattle.std.specs.Prelude.{is_some}
 use Rattle.h3_field.specs.InstructionAnswer.{IsReply}
 use Rattle.h3_qpack.specs.Instructions.{AreAccepted}
-use Rattle.h3_connection.specs.Updates.{most_updates}
 use Rattle.h3_world.specs.OwnStreams.{settings_bytes}
 use Rattle.h3_headline.specs.Cited.{IsRead, StreamLaws}
 use Rattle.h3_headline.specs.LearningLaws.{control_came}
@@ -27,7 +26,7 @@ use Rattle.h3_headline.specs.ListeningLaws.{decoder_came, encoder_came}
 use Rattle.h3_headline.specs.OwnStreams.{Takes, accepted}
 use Rattle.h3_headline.specs.PeerStreams.{MayListen, added_since, after_control, controlling, decoding_of, encoder_then, hearing, listening, peer_by, replies_between, role_by, settings_frame_of, with_role}
 use Rattle.h3_headline.specs.RoleLaws.{delivered_typed, heard_typed, kind_of_control, kind_of_decoder, kind_of_encoder, typed_control, typed_decoder, typed_encoder}
-use Rattle.h3_headline.specs.Standing.{HasControl, HasDecoderStream, HasEncoderStream, came_on, replies_unread}
+use Rattle.h3_headline.specs.Standing.{HasControl, HasDecoderStream, HasEncoderStream, came_on, replies_unread, most_kept}
 use Rattle.h3_headline.specs.WritesMoreLaws.{type_of_control, type_of_decoder, type_of_encoder}
 
 pub arrives_plain : (e : EndpointHistory) (id : ℕ) (bytes : List ℕ) → e.kept ≡ [] → arrives e (BytesCame id bytes) ≡ deliver e id bytes
@@ -76,7 +75,7 @@ pub control_delivered : (laws : StreamLaws) (setup : Setup) (side : Side) (e : E
     → arrives e (BytesCame (control_id (other side)) (take count (drop came (settings_bytes (announced_at setup (other side)) ++ flat_map goaway_encoding gs))))
     ≡ accepted (after_control (nat_le (length (settings_bytes (announced_at setup (other side)))) came) (nat_le (length (settings_bytes (announced_at setup (other side)))) (came + count))
     (controlling e (control_id (other side)) (with_role (role_by (came + count) Control)) (came_on (came + count) (control_id (other side)))
-    (peer_by (most_updates (announced_at setup side)) (announced_at setup (other side)) (nat_le (length (settings_bytes (announced_at setup (other side)))) (came + count)) (came + count) gs))
+    (peer_by (most_kept (announced_at setup side)) (announced_at setup (other side)) (nat_le (length (settings_bytes (announced_at setup (other side)))) (came + count)) (came + count) gs))
     (announced_at setup (other side)).limits replies_came replies)
 control_delivered laws setup side e came count gs replies_came replies t h m =
     let id = control_id (other side) in
@@ -86,7 +85,7 @@ control_delivered laws setup side e came count gs replies_came replies t h m =
     let G = flat_map goaway_encoding gs in
     let bytes = take count (drop came (settings_bytes a ++ G)) in
     let new =
-    after_control (nat_le L came) (nat_le L (came + count)) (controlling e id (with_role (role_by (came + count) Control)) (came_on (came + count) id) (peer_by (most_updates (announced_at setup side)) a (nat_le L (came + count)) (came + count) gs)) a.limits replies_came replies in
+    after_control (nat_le L came) (nat_le L (came + count)) (controlling e id (with_role (role_by (came + count) Control)) (came_on (came + count) id) (peer_by (most_kept (announced_at setup side)) a (nat_le L (came + count)) (came + count) gs)) a.limits replies_came replies in
     arrives_plain e id bytes t.nothing_kept
     ∙ delivered_typed e new id came Control bytes t.no_fault (ap (λ s. kind_of s id) t.side_is ∙ kind_of_control side) h.stream_is
     (ap (λ l. bytes_at e id (take count (drop came l)) PeerUnidirectional) (append_assoc (encoding 0) S G)

@@ -18,12 +18,13 @@ use Rattle.h3_world.specs.OwnStreams.{control_stream, encoder_stream, decoder_st
 use Rattle.h3_world.specs.Setup.{Setup, announced_at, IsMadeSetup}
 use Rattle.h3_connection.specs.declared.arrival.Arrival.TheVariants.{BytesCame}
 use Rattle.h3_connection.specs.Keeping.{arrives}
+use Rattle.h3_connection.specs.OwnUpdates.{OwnUpdate}
 use Rattle.h3_world.specs.Sound.{IsSoundWorld}
 use Rattle.h3_headline.specs.Cited.{StreamLaws}
 use Rattle.h3_headline.specs.FlowLaws.{same_number}
 use Rattle.h3_headline.specs.OwnOverLaws.{advanced_is, control_over, decoder_over, encoder_over, left_control, left_decoder, left_encoder, waiting_own, writer_over}
 use Rattle.h3_headline.specs.OwnStreams.{GoesOver, OwnCome, left_of}
-use Rattle.h3_headline.specs.Standing.{IsWritable, StandsAt}
+use Rattle.h3_headline.specs.Standing.{IsWritable, StandsAt, WritesNoMore}
 
 -- no request stream has the id of an own stream
 control_closed : (w : World) (side : Side) → is_open w side (control_id side) ≡ false
@@ -62,11 +63,11 @@ waits_by false true c n m k other_waits xs ys zs h = length-drop m ys
 waits_by false false true n m k other_waits xs ys zs h = length-drop k zs
 waits_by false false false n m k other_waits xs ys zs h = absurd (cc)
 
--- no update is written
-pub without_updates : (side : Side) (own : Own) (a : Announced) (id : ℕ) → own.updates ≡ [] → left_of side own a id ≡ left_of side (record own { updates = [] }) a id
-without_updates side own a id none = ap (λ us. left_of side (record own { updates = us }) a id) none
+-- no update is written, and no further setting
+pub without_updates : (side : Side) (own : Own) (a : Announced) (id : ℕ) → WritesNoMore own → left_of side own a id ≡ left_of side (record own { updates = []; further = [] }) a id
+without_updates side own a id none = ap (λ (x : List OwnUpdate × List (ℕ × ℕ)). left_of side (record own { updates = x.0; further = x.1 }) a id) none
 
-pub own_waits : (setup : Setup) (w : World) (side : Side) (id : ℕ) (e : EndpointHistory) → StandsAt setup w side e → (party w side).own.updates ≡ [] → is_own side id ≡ true → shown.waiting e id ≡ waiting setup w side id
+pub own_waits : (setup : Setup) (w : World) (side : Side) (id : ℕ) (e : EndpointHistory) → StandsAt setup w side e → WritesNoMore (party w side).own → is_own side id ≡ true → shown.waiting e id ≡ waiting setup w side id
 own_waits setup w side id e h none own =
     let p = party w side in
     ap length (waiting_own setup w side id e h (own_outgoing setup w side id e h own) ∙ without_updates side p.own (announced_at setup side) id none)

@@ -8,7 +8,6 @@ use Rattle.h3_world.specs.Streams.{flow, is_open}
 use Rattle.h3_world.specs.World.{World, Party, party}
 use Rattle.h3_connection.specs.OwnIds.{other, encoder_id, decoder_id, is_own, control_id}
 use Rattle.h3_field.specs.Instruction.{EncoderInstruction, DecoderInstruction, encoder_bytes}
-use Rattle.h3_connection.specs.Updates.{most_updates}
 use Rattle.h3_world.specs.Sound.{IsSoundWriter}
 use Rattle.std.specs.Prelude.{◌==◌}
 use Rattle.h3_connection.specs.Unidirectional.{Unidirectional}
@@ -25,7 +24,7 @@ use Rattle.h3_headline.specs.FlowLaws.{same_number}
 use Rattle.h3_headline.specs.MovesLaws.{set_at, stands_moved}
 use Rattle.h3_headline.specs.OwnStreams.{Hears, SameStreams, writing}
 use Rattle.h3_headline.specs.PeerStreams.{after_control, controlling, decoding_of, hearing, listening, peer_by, role_by, with_role}
-use Rattle.h3_headline.specs.Standing.{HasControl, HasControlOf, HasDecoderStream, HasDecoderStreamOf, HasEncoderStream, HasEncoderStreamOf, ReceivesAt, StandsAt, are_settings_there, came_on, replies_unread}
+use Rattle.h3_headline.specs.Standing.{HasControl, HasControlOf, HasDecoderStream, HasDecoderStreamOf, HasEncoderStream, HasEncoderStreamOf, ReceivesAt, StandsAt, are_settings_there, came_on, replies_unread, most_kept}
 use Rattle.h3_headline.specs.WritesMoreLaws.{decoder_stream_more, encoder_stream_more}
 
 outgoing_same : (setup : Setup) (w v : World) (side : Side) (e : EndpointHistory) → StandsAt setup w side e → SameStreams w v
@@ -66,6 +65,7 @@ reader_stands setup w v side e f h same m =
       side_is = ap (λ x. x.side) m.same ∙ h.side_is;
       announced = ap (λ x. x.announced) m.same ∙ h.announced;
       any = h.any;
+      remembered = h.remembered;
       no_fault = ap (λ x. x.closed) m.same ∙ h.no_fault;
       nothing_kept = ap (λ x. x.kept) m.same ∙ h.nothing_kept;
       own = m.own;
@@ -206,7 +206,7 @@ pub controlling_stands : (setup : Setup) (w v : World) (side : Side) (e : Endpoi
     → are_settings_there setup (other side) (party w (other side)).own.control_taken ≡ b → are_settings_there setup (other side) ((party w (other side)).own.control_taken + count) ≡ c → (b ≡ true → c ≡ true)
     → (f : EndpointHistory)
     → f ≡ after_control b c (controlling e (control_id (other side)) (with_role (role_by ((party w (other side)).own.control_taken + count) Control)) (came_on ((party w (other side)).own.control_taken + count) (control_id (other side)))
-    (peer_by (most_updates (announced_at setup side)) (announced_at setup (other side)) c ((party w (other side)).own.control_taken + count) (party w (other side)).own.goaways)) (announced_at setup (other side)).limits (party w (other side)).own.decoder_taken (party w (other side)).own.replies
+    (peer_by (most_kept (announced_at setup side)) (announced_at setup (other side)) c ((party w (other side)).own.control_taken + count) (party w (other side)).own.goaways)) (announced_at setup (other side)).limits (party w (other side)).own.decoder_taken (party w (other side)).own.replies
     → (party v (other side)).own ≡ record (party w (other side)).own { control_taken = (party w (other side)).own.control_taken + count }
     → f.own ≡ (party v side).own → f.encoder ≡ (party v side).encoder → StandsAt setup v side f
 controlling_stands setup w v side e count b c h same knew knows order f is there own_is encoder_is =
@@ -215,7 +215,7 @@ controlling_stands setup w v side e count b c h same knew knows order f is there
     let a = announced_at setup (other side) in
     let many = own.control_taken + count in
     let o = with_role (role_by many Control) in
-    let peer = peer_by (most_updates (announced_at setup side)) a c many own.goaways in
+    let peer = peer_by (most_kept (announced_at setup side)) a c many own.goaways in
     let x = controlling e id o (came_on many id) peer in
     let rest : f ≡ record x { encoder = f.encoder; own = f.own; decoder_unread = f.decoder_unread } =
     subst (λ y. y ≡ record x { encoder = y.encoder; own = y.own; decoder_unread = y.decoder_unread }) (sym is) (keeps_rest b c x a.limits own.decoder_taken own.replies) in
@@ -232,7 +232,7 @@ controlling_stands setup w v side e count b c h same knew knows order f is there
       encoder = encoder_is;
       control = subst (λ y. HasControlOf setup side y g) (sym there)
           (subst (λ y. HasControl setup side many own.goaways y (came_on many id) peer) (sym (set-here e.unidirectional id o))
-          (subst (λ t. HasControl setup side many own.goaways (Some o) (came_on many id) (peer_by (most_updates (announced_at setup side)) a t many own.goaways)) knows (record { stream_is = refl; is_on = refl; settings = refl; goaways_are = refl; most_pushes = refl; updates = refl; unread = refl })));
+          (subst (λ t. HasControl setup side many own.goaways (Some o) (came_on many id) (peer_by (most_kept (announced_at setup side)) a t many own.goaways)) knows (record { stream_is = refl; is_on = refl; settings = refl; goaways_are = refl; most_pushes = refl; updates = refl; others = refl; unread = refl })));
       encoder_stream = subst (λ y. HasEncoderStreamOf setup side y g) (sym there)
           (subst (λ y. HasEncoderStream setup side own.encoder_taken own.instructions y e.encoder_on e.decoding) (elsewhere e id (encoder_id (other side)) o (control_not_encoder (other side))) h.encoder_stream);
       decoder_stream = subst (λ y. HasDecoderStreamOf setup side y g) (sym there)

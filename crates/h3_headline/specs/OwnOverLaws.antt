@@ -5,8 +5,8 @@ use Rattle.h3_world.specs.Sound.{IsSoundWorld, IsSoundParty}
 use Rattle.h3_world.specs.World.{World, party, Party}
 use Rattle.std.proofs.Common.{◌≡◌, ℕ, Option, Some, None, ap, ◌∙◌, ◌+◌, ◌++◌, drop, flat_map, refl, ◌-◌, length, sym, subst, take, arith, Bool, true, false, if◌then◌else◌, List, ◌≤◌, []}
 use Rattle.h3_connection.specs.Endpoint.{EndpointHistory, bytes_waiting, own_waiting, Own, goaway_encoding, first_decoder}
-use Rattle.h3_connection.specs.OwnUpdates.{control_frames}
-use Rattle.h3_connection.specs.Updates.{most_updates}
+use Rattle.h3_connection.specs.OwnSettings.{control_start}
+use Rattle.h3_connection.specs.OwnUpdates.{OwnUpdate, control_frames}
 use Rattle.h3_connection.specs.Outgoing.{Outgoing, part_bytes_waiting}
 use Rattle.h3_connection.specs.StreamSets.{stream_at}
 use Rattle.h3_world.specs.Setup.{Setup, TakesAnyLength, announced_at, IsMadeSetup}
@@ -38,7 +38,7 @@ use Rattle.h3_headline.specs.OwnMovesLaws.{controlling_stands, hearing_stands, l
 use Rattle.h3_headline.specs.OwnStreams.{GoesOver, Takes, further_own, insertions_of, left_of, listened_to, party_of, read_of, writing}
 use Rattle.h3_headline.specs.OwnWorldLaws.{advanced_control, advanced_decoder, advanced_encoder, insertions_listened, listened_writes, reader_after, replies_listened, settings_listened, streams_after, writer_after}
 use Rattle.h3_headline.specs.PeerStreams.{added_since, after_control, controlling, encoder_then, peer_by, replies_between, role_by, with_role}
-use Rattle.h3_headline.specs.Standing.{IsWritable, StandsAt, are_settings_there, came_on, with_meaning}
+use Rattle.h3_headline.specs.Standing.{IsWritable, WritesNoMore, StandsAt, are_settings_there, came_on, with_meaning, most_kept}
 use Rattle.h3_headline.specs.UnitLaws.{whole_within}
 
 pub party_sound : (setup : Setup) (w : World) (side : Side) → IsSoundWorld setup w → IsSoundParty setup w side
@@ -52,9 +52,9 @@ waiting_own setup w side id e h none =
     ∙ ap (λ o. left_of side o e.announced id) h.own
     ∙ ap (λ a. left_of side (party w side).own a id) h.announced
 
-pub left_control : (side : Side) (own : Own) (a : Announced) → own.updates ≡ [] → left_of side own a (control_id side) ≡ drop own.control_taken (settings_bytes a ++ flat_map goaway_encoding own.goaways)
-left_control Client own a none = ap (λ us. drop own.control_taken (settings_bytes a ++ control_frames 0 own.goaways us)) none
-left_control Server own a none = ap (λ us. drop own.control_taken (settings_bytes a ++ control_frames 0 own.goaways us)) none
+pub left_control : (side : Side) (own : Own) (a : Announced) → WritesNoMore own → left_of side own a (control_id side) ≡ drop own.control_taken (settings_bytes a ++ flat_map goaway_encoding own.goaways)
+left_control Client own a none = ap (λ (x : List OwnUpdate × List (ℕ × ℕ)). drop own.control_taken (control_start a.settings x.1 ++ control_frames 0 own.goaways x.0)) none
+left_control Server own a none = ap (λ (x : List OwnUpdate × List (ℕ × ℕ)). drop own.control_taken (control_start a.settings x.1 ++ control_frames 0 own.goaways x.0)) none
 
 pub left_encoder : (side : Side) (own : Own) (a : Announced) → left_of side own a (encoder_id side) ≡ drop own.encoder_taken (encoding 2 ++ flat_map encoder_bytes own.instructions)
 left_encoder Client own a = refl
@@ -197,7 +197,7 @@ control_over laws setup w side count e made sound writable h =
     let fits : knew ≡ false → AreAccepted e.encoder replies =
     λ t. subst (λ b. AreAccepted e.encoder (drop (length (if b then decoder_instructions_in (own.decoder_taken - 1) replies else [])) replies)) t left in
     let order : knew ≡ true → knows ≡ true = λ t. still L own.control_taken many t (omega arith) in
-    let x = controlling e id (with_role (role_by many Control)) (came_on many id) (peer_by (most_updates (announced_at setup side)) a knows many own.goaways) in
+    let x = controlling e id (with_role (role_by many Control)) (came_on many id) (peer_by (most_kept (announced_at setup side)) a knows many own.goaways) in
     let f = after_control knew knows x a.limits own.decoder_taken replies in
     let advanced = advanced_control own (other side) count in
     let there = ap (λ (q : Party). q.own) (writer_after setup w side id count) ∙ advanced in

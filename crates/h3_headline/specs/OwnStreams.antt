@@ -18,7 +18,7 @@ use Rattle.h3_connection.specs.Sending.{own_advanced, advance}
 use Rattle.h3_proto.specs.declared.stream.Side.TheVariants.{Client, Server}
 use Rattle.h3_connection.specs.declared.event.Refusal.{Refusal}
 use Rattle.std.specs.Prelude.{◌==◌}
-use Rattle.h3_wire.specs.StreamHeaders.{control_encoding}
+use Rattle.h3_connection.specs.OwnSettings.{control_start}
 use Rattle.h3_coding.specs.Encodings.{encoding}
 use Rattle.h3_connection.specs.declared.setup.Announced.{Announced}
 use Rattle.h3_connection.specs.Keeping.{arrives}
@@ -120,7 +120,7 @@ accepted e = (None, e)
 -- The writer: what waits, and the endpoint once it was taken.
 abbrev pub left_of : Side → Own → Announced → ℕ → List ℕ
 left_of side own a id =
-    if id == control_id side then drop own.control_taken (control_encoding a.settings ++ control_frames 0 own.goaways own.updates) else (
+    if id == control_id side then drop own.control_taken (control_start a.settings own.further ++ control_frames 0 own.goaways own.updates) else (
     if id == encoder_id side then drop own.encoder_taken (encoding 2 ++ flat_map encoder_bytes own.instructions) else (
     if id == decoder_id side then drop own.decoder_taken (encoding 3 ++ flat_map decoder_bytes own.replies) else []))
 

@@ -9,12 +9,13 @@ use Rattle.h3_qpack.specs.Exchange as exchange
 use Rattle.h3_proto.specs.Pairs.{payload_of}
 use Rattle.h3_proto.specs.Settings.{value_of, settings_of}
 use Rattle.h3_world.specs.Following.{opening}
-use Rattle.h3_connection.specs.Unidirectional.{Role, Unidirectional, role_after, with_bytes, untold}
+use Rattle.h3_connection.specs.Unidirectional.{StreamKinds, Role, Unidirectional, role_after, with_bytes, untold}
 use Rattle.h3_connection.specs.Unidirectional.Role.{Untold}
 use Rattle.h3_wire.specs.Encoded.{frame_encoding}
 use Rattle.h3_qpack.specs.WholeInstructions.{whole_in, rest_in, decoder_instructions_in}
 use Rattle.h3_connection.specs.Endpoint.{goaway_encoding, EndpointHistory, Own}
 use Rattle.h3_connection.specs.PeerReading.{Peer, PeerFound, with_unread, read_peer}
+use Rattle.h3_connection.specs.OtherSettings.{OtherSettings}
 use Rattle.h3_connection.specs.Updates.{Updates, no_updates}
 use Rattle.h3_world.specs.OwnStreams.{settings_bytes}
 use Rattle.h3_proto.specs.declared.stream.Side.{Side}
@@ -32,7 +33,7 @@ use Rattle.h3_field.specs.Instruction.EncoderInstruction.{SetCapacity}
 use Rattle.std.specs.List.{AllByRecursion}
 use Rattle.h3_field.specs.InstructionAnswer.{IsReply}
 use Rattle.h3_qpack.specs.Instructions.{AreAccepted}
-use Rattle.h3_headline.specs.Standing.{AreGoaways, replies_unread, with_meaning}
+use Rattle.h3_headline.specs.Standing.{AreGoaways, others_once, replies_unread, with_meaning}
 use Rattle.h3_wire.specs.declared.frame.kinds.FrameKinds.{FrameKinds}
 
 -- the parts of what is announced
@@ -68,8 +69,8 @@ behind_type came count units = take (came + count - 1 - (came - 1)) (drop (came 
 
 -- The byte tells the role, which then stays.
 pub record IsTyped (kind : ℕ) (role : Role) : Type 0 where
-  pub first : (sessions : Bool) (rest : List ℕ) → role_after sessions (Untold []) (kind ∷ rest) ≡ (role, rest)
-  pub stays : (sessions : Bool) (bytes : List ℕ) → role_after sessions role bytes ≡ (role, bytes)
+  pub first : (known : StreamKinds) (rest : List ℕ) → role_after known (Untold []) (kind ∷ rest) ≡ (role, rest)
+  pub stays : (known : StreamKinds) (bytes : List ℕ) → role_after known role bytes ≡ (role, bytes)
   pub keeps : (o : Unidirectional) (bytes : List ℕ) → with_bytes o (role, bytes) ≡ record o { role = role }
 
 abbrev pub roled : Role → List ℕ → Role × List ℕ
@@ -83,15 +84,17 @@ with_role role = record untold { role = role }
 abbrev pub settings_frame_of : Announced → List ℕ
 settings_frame_of a = frame_encoding 4 (payload_of a.settings)
 
--- what is known of the writer, where its settings are there or not, after so many bytes; no update came, of which so many would be kept
-abbrev pub peer_by : ℕ → Announced → Bool → ℕ → List ℕ → Peer
+-- what is known of the writer, where its settings are there or not, after so many bytes; no update came, of which so many would be kept, and so
+-- many settings of no meaning
+abbrev pub peer_by : ℕ × ℕ → Announced → Bool → ℕ → List ℕ → Peer
 peer_by most a there n goaways =
     record {
       unread = if there then rest_in goaway_encoding (n - length (settings_bytes a)) goaways else drop 1 (take n (settings_bytes a));
       settings = if there then Some (with_meaning a.settings) else None;
       goaways = take (whole_in goaway_encoding (n - length (settings_bytes a)) goaways) goaways;
       most_pushes = None;
-      updates = no_updates most;
+      updates = no_updates most.0;
+      others = others_once there most.1 a;
     }
 
 -- no frame is too long
@@ -107,7 +110,7 @@ module _ (writer : Side) (a : Announced) (came count : ℕ) (gs : List ℕ) wher
   new_bytes = behind_type came count (settings_frame_of a ++ flat_map goaway_encoding gs)
 
   abbrev pub Reads : Bool → Bool → Type 0
-  Reads b c = (kinds : FrameKinds) (most : ℕ) → read_peer kinds no_limit (other writer) (with_unread (peer_by most a b came gs) ((peer_by most a b came gs).unread ++ new_bytes)) ≡ no_fault (peer_by most a c (came + count) gs)
+  Reads b c = (kinds : FrameKinds) (most : ℕ × ℕ) → read_peer kinds no_limit (other writer) (with_unread (peer_by most a b came gs) ((peer_by most a b came gs).unread ++ new_bytes)) ≡ no_fault (peer_by most a c (came + count) gs)
 
 abbrev pub having_read : Peer → List ℕ → List ℕ → Peer
 having_read p ids rest = record p { goaways = p.goaways ++ ids; unread = rest }
@@ -181,8 +184,8 @@ settled before after e = then_decoder before after (if_learned before after e) N
 abbrev pub controlling : EndpointHistory → ℕ → Unidirectional → Option ℕ → Peer → EndpointHistory
 controlling e id o on peer = record (with_unidirectional e id o) { control_on = on; peer = peer }
 
-abbrev pub peer_of : List ℕ → Option (List (ℕ × ℕ)) → List ℕ → Option ℕ → Updates → Peer
-peer_of unread settings goaways most_pushes updates = record { unread = unread; settings = settings; goaways = goaways; most_pushes = most_pushes; updates = updates }
+abbrev pub peer_of : List ℕ → Option (List (ℕ × ℕ)) → List ℕ → Option ℕ → Updates → OtherSettings → Peer
+peer_of unread settings goaways most_pushes updates others = record { unread = unread; settings = settings; goaways = goaways; most_pushes = most_pushes; updates = updates; others = others }
 
 -- What is said of the endpoint before.
 pub record MayListen (setup : Setup) (side : Side) (e : EndpointHistory) (came : ℕ) (gs : List ℕ) (replies_came : ℕ) (replies : List DecoderInstruction) : Type 0 where

@@ -2,7 +2,7 @@
 use Rattle.std.proofs.Common.{◌+◌, ◌<◌, lit<, ◌∷◌, ◌++◌, refl, sym, ap, ◌∙◌, ◌≡◌, ℕ, List, false, arith, if◌then◌else◌, [], zero, suc, ◌-◌, take, drop, Option, Some, None, Bool, true}
 use Rattle.h3_coding.specs.Varint.{varint_at}
 use Rattle.h3_coding.specs.VarintLaws.{reads_shortest, none_at_end}
-use Rattle.h3_connection.specs.Unidirectional.{of_kind, Role, role_after, Unidirectional, untold, with_bytes, is_closed}
+use Rattle.h3_connection.specs.Unidirectional.{StreamKinds, of_kind, Role, role_after, Unidirectional, untold, with_bytes, is_closed}
 use Rattle.h3_connection.specs.Unidirectional.Role.{Control, Encoder, Decoder, Untold}
 use Rattle.std.specs.Prelude.{◌==◌, unwrap_or}
 use Rattle.std.proofs.lemmas.Grind.{common_steps}
@@ -16,7 +16,7 @@ use Rattle.h3_connection.specs.OwnIds.{other, control_id, encoder_id, decoder_id
 use Rattle.h3_headline.specs.PeerStreams.{IsTyped, behind_type, role_by, roled, with_role}
 use Rattle.h3_headline.specs.Standing.{IsPeerStream, came_on}
 use Rattle.h3_headline.specs.WritesMoreLaws.{type_of_control, type_of_decoder, type_of_encoder}
-use Rattle.h3_connection.specs.StrictConnection.{knows_sessions}
+use Rattle.h3_connection.specs.StrictConnection.{known_streams}
 
 pub typed_control : IsTyped 0 Control
 typed_control =
@@ -51,7 +51,7 @@ not_none n h = grind (arith, common_steps, h)
 told : (role : Role) (n : ℕ) → 0 < n → role_by n role ≡ role
 told role n h = ap (λ b. if b then Untold [] else role) (not_none n h)
 
-pub role_then : (sessions : Bool) (kind : ℕ) (role : Role) (came count : ℕ) (units : List ℕ) → IsTyped kind role
+pub role_then : (sessions : StreamKinds) (kind : ℕ) (role : Role) (came count : ℕ) (units : List ℕ) → IsTyped kind role
     → role_after sessions (role_by came role) (take count (drop came (kind ∷ units))) ≡ (role_by (came + count) role, behind_type came count units)
 role_then sessions kind role zero zero units t = ap (λ o. of_kind sessions [] o) none_at_end
 role_then sessions kind role zero (suc m) units t =
@@ -82,8 +82,8 @@ heard_typed e id kind role came count units t h =
     let bytes = take count (drop came (kind ∷ units)) in
     let next = role_by (came + count) role in
     let rest = behind_type came count units in
-    ap (λ o. read_unidirectional e id o (role_after (knows_sessions e.announced) o.role bytes)) (peer_stream came role (stream_at e.unidirectional id) h)
-    ∙ ap (λ x. read_unidirectional e id (with_role (role_by came role)) x) (role_then (knows_sessions e.announced) kind role came count units t)
+    ap (λ o. read_unidirectional e id o (role_after (known_streams e.announced) o.role bytes)) (peer_stream came role (stream_at e.unidirectional id) h)
+    ∙ ap (λ x. read_unidirectional e id (with_role (role_by came role)) x) (role_then (known_streams e.announced) kind role came count units t)
     ∙ ap (λ o. heard_as (with_unidirectional e id o) id next rest) (with_role_then kind role (role_by came role) rest (came + count == 0) t)
 
 -- A delivery on it that finds no fault.

@@ -59,6 +59,7 @@ counted_stands setup w side n e f h =
         side_is = h.here.side_is;
         announced = h.here.announced;
         any = h.here.any;
+        remembered = h.here.remembered;
         no_fault = h.here.no_fault;
         nothing_kept = h.here.nothing_kept;
         own = h.here.own;

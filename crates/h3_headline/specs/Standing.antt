@@ -19,9 +19,13 @@ use Rattle.h3_world.specs.OwnStreams.{settings_bytes}
 use Rattle.h3_qpack.specs.WholeInstructions.{rest_in, whole_in}
 use Rattle.h3_connection.specs.Endpoint.{goaway_encoding, EndpointHistory, Own, first_decoder}
 use Rattle.h3_field.specs.Instruction.{DecoderInstruction, decoder_bytes, EncoderInstruction, encoder_bytes}
+use Rattle.h3_proto.specs.Pairs.{payload_of}
 use Rattle.h3_proto.specs.Settings.{is_known}
 use Rattle.h3_connection.specs.PeerReading.{Peer, is_above, is_no_goaway}
 use Rattle.h3_qpack.specs.DecoderState.{decoder_after_all}
+use Rattle.h3_connection.specs.declared.setup.Announced.{Announced}
+use Rattle.h3_connection.specs.OtherSettings.{OtherSettings, most_others, no_others, with_told}
+use Rattle.h3_connection.specs.OwnUpdates.{OwnUpdate}
 use Rattle.h3_connection.specs.Updates.{most_updates, no_updates}
 use Rattle.h3_connection.specs.Listeners.{Decoding}
 use Rattle.h3_connection.specs.StreamSets.{stream_at, HaveDistinctIds}
@@ -127,6 +131,14 @@ replies_unread knows came replies = if knows then rest_in decoder_bytes (came - 
 abbrev pub with_meaning : List (ℕ × ℕ) → List (ℕ × ℕ)
 with_meaning pairs = filter (λ p. is_known p.0) pairs
 
+-- of how much of what the other side says an endpoint keeps: of updates, and of settings of no meaning
+abbrev pub most_kept : Announced → ℕ × ℕ
+most_kept a = (most_updates a, most_others a)
+
+-- what is kept of the settings of no meaning, of so many at most, once the settings of this side came
+abbrev pub others_once : Bool → ℕ → Announced → OtherSettings
+others_once there most a = if there then with_told (no_others most) (frame_encoding 4 (payload_of a.settings)) else no_others most
+
 -- What the endpoint of a side has of the control stream of the other side, of which so many bytes came and on which these GOAWAY
 -- frames were written: the stream, whether it is read, and what it said.
 pub record HasControl (setup : Setup) (side : Side) (came : ℕ) (goaways : List ℕ) (stream : Option Unidirectional) (on : Option ℕ) (peer : Peer) : Type 0 where
@@ -137,6 +149,7 @@ pub record HasControl (setup : Setup) (side : Side) (came : ℕ) (goaways : List
   pub most_pushes : peer.most_pushes ≡ None
   -- no side writes PRIORITY_UPDATE
   pub updates : peer.updates ≡ no_updates (most_updates (announced_at setup side))
+  pub others : peer.others ≡ others_once (are_settings_there setup (other side) came) (most_others (announced_at setup side)) (announced_at setup (other side))
   pub unread : peer.unread ≡ control_left setup (other side) came goaways
 
 -- of its encoder stream, on which these instructions were written
@@ -169,6 +182,8 @@ pub record StandsAt (setup : Setup) (w : World) (side : Side) (e : EndpointHisto
   pub announced : e.announced ≡ announced_at setup side
   -- it takes what is sent, however long
   pub any : TakesAnyLength (announced_at setup side)
+  -- it remembers no settings of an earlier connection
+  pub remembered : (announced_at setup side).remembered ≡ None
   pub no_fault : e.closed ≡ None
   pub nothing_kept : e.kept ≡ []
   pub own : e.own ≡ (party w side).own
@@ -182,18 +197,26 @@ pub record StandsAt (setup : Setup) (w : World) (side : Side) (e : EndpointHisto
   pub incoming : (id : ℕ) → ReceivesAt (is_open w side id) (flow w (other side) id) (stream_at e.incoming id)
   pub distinct : HaveDistinctIds e.incoming
 
+-- what stands on a control stream beside its settings and GOAWAY frames
+abbrev pub more_of : Own → List OwnUpdate × List (ℕ × ℕ)
+more_of own = (own.updates, own.further)
+
 -- GOAWAY frames as a side may write them behind an earlier one: a server names request streams, and none is above the one before it.
 abbrev pub AreGoaways : Side → Option ℕ → List ℕ → Type 0
 AreGoaways side before [] = Unit {0}
 AreGoaways side before (id ∷ ids) =
     (id < 2 ^ 62) × (is_no_goaway (other side) id ≡ false) × (is_above id before ≡ false) × AreGoaways side (Some id) ids
 
+-- It writes no update of a priority, and announces no further settings.
+abbrev pub WritesNoMore : Own → Type 0
+WritesNoMore own = more_of own ≡ ([], [])
+
 -- What a side wrote on its own streams is what writers take.
 pub record IsWritable (side : Side) (own : Own) : Type 0 where
   pub goaways : AreGoaways side None own.goaways
   pub instructions : AllByRecursion IsWrittenInstruction own.instructions
   pub replies : AllByRecursion IsReply own.replies
-  pub updates : own.updates ≡ []
+  pub updates : WritesNoMore own
 
 -- A section is read as the kind of part that it was sent as (RFC 9114, sections 4.1 and 4.3), by who takes any protocol or the two names
 -- alone: a head is for that side, and an interim one has such a status, and no other; a trailer has no pseudo-header fields; and each reads as

@@ -98,6 +98,7 @@ control_more setup side came goaways more stream on peer within h =
       goaways_are = h.goaways_are ∙ sym (taken_same goaway_encoding goaways_some n goaways more fits);
       most_pushes = h.most_pushes;
       updates = h.updates;
+      others = h.others;
       unread = h.unread ∙ sym (ap (λ l. if are_settings_there setup (other side) came then l else drop 1 (take came start)) (rest_same goaway_encoding goaways_some n goaways more fits));
     }
 

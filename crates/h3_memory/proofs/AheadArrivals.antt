@@ -15,7 +15,7 @@ use Rattle.h3_memory.specs.Kept.{Delivery}
 use Rattle.h3_memory.specs.Keeping.{Held, ahead}
 use Rattle.h3_memory.proofs.Ahead.{encoder_ahead}
 use Rattle.h3_memory.proofs.AheadReading.{control_ahead, decoder_ahead}
-use Rattle.h3_connection.specs.StrictConnection.{knows_sessions}
+use Rattle.h3_connection.specs.StrictConnection.{known_streams}
 
 -- A stream of the peer that told its role, and is the one that is read as such.
 pub record IsTold (e : EndpointHistory) (id : ℕ) (role : Role) (on : Option ℕ) : Type 0 where
@@ -24,12 +24,12 @@ pub record IsTold (e : EndpointHistory) (id : ℕ) (role : Role) (on : Option �
   pub only : is_second on id ≡ false
 
 -- the bytes of such a stream go to its reader
-told_bytes : (e : EndpointHistory) (id : ℕ) (role : Role) (bytes : List ℕ) → ((bytes : List ℕ) → role_after (knows_sessions e.announced) role bytes ≡ (role, bytes)) → kind_of e.side id ≡ PeerUnidirectional → unidirectional_at e id ≡ record untold { role = role }
+told_bytes : (e : EndpointHistory) (id : ℕ) (role : Role) (bytes : List ℕ) → ((bytes : List ℕ) → role_after (known_streams e.announced) role bytes ≡ (role, bytes)) → kind_of e.side id ≡ PeerUnidirectional → unidirectional_at e id ≡ record untold { role = role }
     → ((bytes : List ℕ) → with_bytes (record untold { role = role }) (role, bytes) ≡ record untold { role = role })
     → read_arrival e (BytesCame id bytes) ≡ heard_as (with_unidirectional e id (record untold { role = role })) id role bytes
 told_bytes e id role bytes same peer told left =
     ap (bytes_at e id bytes) peer
-    ∙ ap (λ o. read_unidirectional e id o (role_after (knows_sessions e.announced) o.role bytes)) told
+    ∙ ap (λ o. read_unidirectional e id o (role_after (known_streams e.announced) o.role bytes)) told
     ∙ ap (λ x. read_unidirectional e id (record untold { role = role }) x) (same bytes)
     ∙ ap (λ o. heard_as (with_unidirectional e id o) id role bytes) (left bytes)
 

@@ -5,6 +5,7 @@ use Rattle.std.specs.Prelude.{map, is_some, unwrap_or, option_map}
 use Rattle.h3_field.specs.Field.{Field, section_size}
 use Rattle.h3_header.specs.Head.{Head, has_pseudo}
 use Rattle.h3_connection.specs.OwnIds.{other}
+use Rattle.h3_connection.specs.Remembering.{settings_known}
 use Rattle.h3_connection.specs.declared.arrival.Arrival.{Arrival}
 use Rattle.h3_connection.specs.Endpoint.{EndpointHistory}
 use Rattle.h3_connection.specs.Incoming.{Incoming}
@@ -80,7 +81,7 @@ head_as e id told head fields = head_by e id told (broken_head_at e id fields) h
 -- An end that asks for no strict messages judges by no rule of them.
 judges_nothing : (e : EndpointHistory) (id : ℕ) (told : Option Malformation) (head : Head) (fields : List Field) → e.announced.choices.strict_messages ≡ false → head_as e id told head fields ≡ head_by e id told None head fields
 judges_nothing e id told head fields plain =
-    ap (λ b. let rule : Option Malformation = if b then option_map malformation_by (violation_of_own_head e.side e.peer.settings (known_of (stream_at e.incoming id)) fields) else None in head_by e id told rule head fields) plain
+    ap (λ b. let rule : Option Malformation = if b then option_map malformation_by (violation_of_own_head e.side (settings_known e.announced e.peer.settings) (known_of (stream_at e.incoming id)) fields) else None in head_by e id told rule head fields) plain
 
 abbrev pub trailer_as : EndpointHistory → ℕ → Option Malformation → Head → List Field → Option Refusal × EndpointHistory
 trailer_as e id told head fields =
@@ -126,7 +127,7 @@ module _ (mine : List Delivery) (held : Held) (incoming : Streams Incoming) (kep
           ∷ unless_going (begins_none_after behind.announced behind.side (last_id behind.peer.goaways))
           (unless_malformed told
           ((not (is_for (other behind.side) head), refusal.WrongSide)
-          ∷ (is_too_large behind.peer.settings fields, refusal.TooLarge (section_size fields)) ∷ []))
+          ∷ (is_too_large (settings_known behind.announced behind.peer.settings) fields, refusal.TooLarge (section_size fields)) ∷ []))
 
   -- **A trailer.**
   pub trailer_ahead : (id : ℕ) (told : Option Malformation) (head : Head) (fields : List Field) → trailer_as (ahead behind mine held incoming kept) id told head fields ≡ lifted (trailer_as behind id told head fields)
@@ -141,7 +142,7 @@ module _ (mine : List Delivery) (held : Held) (incoming : Streams Incoming) (kep
           (not (takes_body o), refusal.OutOfOrder)
           ∷ unless_malformed told
           ((has_pseudo head, refusal.PseudoInTrailer)
-          ∷ unless_malformed (early_trailer o.content) (unless_malformed (broken_trailer behind.announced fields) ((is_too_large behind.peer.settings fields, refusal.TooLarge (section_size fields)) ∷ [])))
+          ∷ unless_malformed (early_trailer o.content) (unless_malformed (broken_trailer behind.announced fields) ((is_too_large (settings_known behind.announced behind.peer.settings) fields, refusal.TooLarge (section_size fields)) ∷ [])))
 
   -- **The end of a message.**
   pub finish_ahead : (id : ℕ) → finish (ahead behind mine held incoming kept) id ≡ lifted (finish behind id)

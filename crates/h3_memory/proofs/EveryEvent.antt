@@ -46,4 +46,4 @@ every_event q laws setup made plain frames =
 pub ends_run : (q : KeptLaws) (laws : Laws) (setup : Setup) (events : List Event) (answers : List Answer) (ends : Ends) → IsMadeSetup setup → JudgesPlainly setup → AllByRecursion (IsSendable setup) events → EndsRun (new_ends setup) events answers ends
     → RunsWithMemory setup events answers ends
 ends_run q laws setup events answers ends made plain sendable run =
-    two_ends_run_with_memory setup (every_event q laws setup made plain (frames_step q laws setup made)) (λ k before after e a sends h on. stands_happen q laws.worlds setup k before after e a sends h on) (begins setup plain (laws.worlds.begins setup)) events answers ends sendable run
+    two_ends_run_with_memory setup (every_event q laws setup made plain (frames_step q laws setup made)) (λ k before after e a sends h on. stands_happen q laws.worlds setup k before after e a sends h on) (begins setup made plain (laws.worlds.begins setup)) events answers ends sendable run

@@ -92,12 +92,13 @@ module _ (setup : Setup) (w : World) (side : Side) where
         side_is = h.side_is;
         announced = h.announced;
         any = h.any;
+        remembered = h.remembered;
         no_fault = h.no_fault;
         nothing_kept = h.nothing_kept;
         own = h.own ∙ sym (ap (λ (p : Party). p.own) reader_is);
         encoder = h.encoder ∙ sym (ap (λ (p : Party). p.encoder) reader_is);
         control = subst (λ (p : Party). HasControlOf setup side p.own (back_reader e)) (sym writer_is)
-            (record { stream_is = h.control.stream_is; is_on = h.control.is_on; settings = h.control.settings; goaways_are = h.control.goaways_are; most_pushes = h.control.most_pushes; updates = h.control.updates; unread = h.control.unread });
+            (record { stream_is = h.control.stream_is; is_on = h.control.is_on; settings = h.control.settings; goaways_are = h.control.goaways_are; most_pushes = h.control.most_pushes; updates = h.control.updates; others = h.control.others; unread = h.control.unread });
         encoder_stream = subst (λ (p : Party). HasEncoderStreamOf setup side p.own (back_reader e)) (sym writer_is)
             (record { stream_is = h.encoder_stream.stream_is; is_on = h.encoder_stream.is_on; decoder = h.encoder_stream.decoder; unread = h.encoder_stream.unread });
         decoder_stream = subst (λ (p : Party). HasDecoderStream side (are_settings_there setup s p.own.control_taken) p.own.decoder_taken p.own.replies (stream_at e.unidirectional (decoder_id s)) e.decoder_on []) (sym writer_is)
@@ -118,6 +119,7 @@ module _ (setup : Setup) (w : World) (side : Side) where
         side_is = h.side_is;
         announced = h.announced;
         any = h.any;
+        remembered = h.remembered;
         no_fault = h.no_fault;
         nothing_kept = h.nothing_kept;
         own = ap (λ (o : Own). record o { decoder_taken = min 1 o.decoder_taken }) h.own ∙ sym (ap (λ (p : Party). p.own) writer_is);

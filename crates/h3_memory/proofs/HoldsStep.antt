@@ -44,7 +44,7 @@ use Rattle.h3_memory.proofs.ReadsWhole.{ReadsFirst, reads_first}
 use Rattle.h3_memory.proofs.ReadDeliveries.{read_on}
 use Rattle.h3_memory.proofs.TellsType.{Tells, tells_control, tells_decoder, tells_encoder, told_holds}
 use Rattle.h3_memory.proofs.TextsOf.{by_truth, second_is}
-use Rattle.h3_connection.specs.StrictConnection.{knows_sessions}
+use Rattle.h3_connection.specs.StrictConnection.{known_streams}
 
 -- Of a stream of which nothing came nothing is left.
 no_frames_left : (setup : Setup) (writer : Side) (ids : List ℕ) → control_left setup writer 0 ids ≡ []
@@ -153,9 +153,9 @@ module _ (qpack : KeptLaws) (laws : Laws) (setup : Setup) (w : World) (side : Si
 
   -- **Bytes are held.**
   untold_step : (q count : ℕ) (ds : List Delivery) (id : ℕ) (bytes : List ℕ) (more : List Arrival) → is_own u q ≡ true → came_of w u q ≡ 0 → Reading setup w side mine (Bytes q count ∷ ds) f g (BytesCame id bytes ∷ more)
-      → is_reader f id (role_after (knows_sessions f.announced) (unidirectional_at f id).role bytes).0 ≡ true → PartStep setup w side mine (Bytes q count ∷ ds) (reading.held f id bytes) g (BytesCame id [] ∷ more)
+      → is_reader f id (role_after (known_streams f.announced) (unidirectional_at f id).role bytes).0 ≡ true → PartStep setup w side mine (Bytes q count ∷ ds) (reading.held f id bytes) g (BytesCame id [] ∷ more)
   untold_step q count ds id [] more own none r reads =
-      absurd (clash (ap (λ x. is_reader x id (role_after (knows_sessions x.announced) (unidirectional_at x id).role []).0) r.here.is ∙ ap (λ n. is_reader F n (role_after (knows_sessions F.announced) (unidirectional_at F n).role []).0) r.here.kept.0 ∙ tells.nothing) reads)
+      absurd (clash (ap (λ x. is_reader x id (role_after (known_streams x.announced) (unidirectional_at x id).role []).0) r.here.is ∙ ap (λ n. is_reader F n (role_after (known_streams F.announced) (unidirectional_at F n).role []).0) r.here.kept.0 ∙ tells.nothing) reads)
     where
       F : EndpointHistory
       F = ahead r.er mine r.here.held r.here.incoming []
@@ -211,7 +211,7 @@ module _ (qpack : KeptLaws) (laws : Laws) (setup : Setup) (w : World) (side : Si
           ∙ ap (λ n. reading.held first.next n bytes) (sym r.here.kept.0)
 
   pub holds_step : (ds : List Delivery) (id : ℕ) (bytes : List ℕ) (more : List Arrival) → Reading setup w side mine ds f g (BytesCame id bytes ∷ more) → kind_of f.side id ≡ PeerUnidirectional
-      → is_reader f id (role_after (knows_sessions f.announced) (unidirectional_at f id).role bytes).0 ≡ true → PartStep setup w side mine ds (reading.held f id bytes) g (BytesCame id [] ∷ more)
+      → is_reader f id (role_after (known_streams f.announced) (unidirectional_at f id).role bytes).0 ≡ true → PartStep setup w side mine ds (reading.held f id bytes) g (BytesCame id [] ∷ more)
   holds_step [] id bytes more r kind reads = absurd r.here.kept
   holds_step (End q ∷ ds) id bytes more r kind reads = absurd r.here.kept
   holds_step (Reset q ∷ ds) id bytes more r kind reads = absurd r.here.kept

@@ -29,7 +29,7 @@ use Rattle.h3_headline.specs.FlowLaws.{open_there}
 use Rattle.h3_headline.specs.OwnEventLaws.{own_outgoing, own_waits}
 use Rattle.h3_headline.specs.OwnOverLaws.{waiting_own}
 use Rattle.h3_headline.specs.RoleLaws.{peer_stream}
-use Rattle.h3_headline.specs.Standing.{StandsAt}
+use Rattle.h3_headline.specs.Standing.{StandsAt, WritesNoMore}
 use Rattle.h3_memory.specs.Kept.{Delivery, read_deliveries}
 use Rattle.h3_memory.specs.Keeping.{Held, ahead, came_of, handed_stream, text_of}
 use Rattle.h3_memory.proofs.Ahead.{at_mapped, further_taken}
@@ -80,7 +80,7 @@ pub record Waits (setup : Setup) (w : World) (side : Side) (g : EndpointHistory)
   pub waits : shown.waiting g id ≡ waiting setup w side id
   pub front : (count : ℕ) → count ≤ waiting setup w side id → take count (bytes_waiting g id) ≡ take count (drop (came_of w side id) (text_of setup w side id))
 
-pub waits_at : (setup : Setup) (w : World) (side : Side) (e : EndpointHistory) (held : Held) (incoming : Streams Incoming) (kept : List Arrival) (id : ℕ) → StandsAt setup w side e → (party w side).own.updates ≡ [] → has_outgoing w side id ≡ true
+pub waits_at : (setup : Setup) (w : World) (side : Side) (e : EndpointHistory) (held : Held) (incoming : Streams Incoming) (kept : List Arrival) (id : ℕ) → StandsAt setup w side e → WritesNoMore (party w side).own → has_outgoing w side id ≡ true
     → Waits setup w side (ahead e [] held incoming kept) id
 waits_at setup w side e held incoming kept id h none there = by_truth (is_own side id) own_waits_so message_waits
   where

@@ -19,7 +19,7 @@ use Rattle.h3_connection.specs.OwnIds.{other, is_own, control_id, encoder_id, de
 use Rattle.h3_connection.specs.PeerReading.{PeerFound, read_peer}
 use Rattle.h3_connection.specs.StreamSets.{Streams, stream_at}
 use Rattle.h3_connection.specs.Unidirectional.{Role, role_after, with_bytes}
-use Rattle.h3_connection.specs.Unidirectional.Role.{Untold, Control, Encoder, Decoder, Push, Session, Ignored}
+use Rattle.h3_connection.specs.Unidirectional.Role.{Untold, Control, Encoder, Decoder, Push, Session, Ignored, Other}
 use Rattle.h3_world.specs.Setup.{Setup, announced_at}
 use Rattle.h3_world.specs.World.{World, party}
 use Rattle.h3_headline.specs.OwnEventLaws.{each_own}
@@ -31,7 +31,7 @@ use Rattle.h3_memory.specs.Kept.{Delivery}
 use Rattle.h3_memory.specs.Keeping.{Held, ahead, came_of, held_of, text_of}
 use Rattle.h3_memory.proofs.AheadOwn.{IsOwnStream, control_comes, encoder_comes, decoder_comes}
 use Rattle.h3_memory.proofs.KeptAlike.{held_without}
-use Rattle.h3_connection.specs.StrictConnection.{kinds_of, knows_sessions}
+use Rattle.h3_connection.specs.StrictConnection.{kinds_of, known_streams}
 
 -- What the one behind has of each.
 control_is : (setup : Setup) (w : World) (side : Side) (e : EndpointHistory) → StandsAt setup w side e → IsOwnStream e (control_id (other side)) (party w (other side)).own.control_taken Control e.control_on
@@ -160,9 +160,10 @@ heard_leaves e id Decoder bytes = by_test (is_second e.decoder_on id)
 heard_leaves e id (Push push) bytes = refl
 heard_leaves e id (Session session) bytes = refl
 heard_leaves e id Ignored bytes = refl
+heard_leaves e id (Other kind) bytes = refl
 
 pub unidirectional_leaves : (e : EndpointHistory) (id : ℕ) (bytes : List ℕ) → kind_of e.side id ≡ PeerUnidirectional → streams_of (read_arrival e (BytesCame id bytes)).0 ≡ streams_of e
-unidirectional_leaves e id bytes kind = ap (λ k. streams_of (bytes_at e id bytes k).0) kind ∙ by_role (role_after (knows_sessions e.announced) (unidirectional_at e id).role bytes)
+unidirectional_leaves e id bytes kind = ap (λ k. streams_of (bytes_at e id bytes k).0) kind ∙ by_role (role_after (known_streams e.announced) (unidirectional_at e id).role bytes)
   where
     by_role : (x : Role × List ℕ) → streams_of (read_unidirectional e id (unidirectional_at e id) x).0 ≡ streams_of e
     by_role (role, rest) = heard_leaves (with_unidirectional e id (with_bytes (unidirectional_at e id) (role, rest))) id role rest

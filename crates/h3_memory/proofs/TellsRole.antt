@@ -16,7 +16,7 @@ use Rattle.h3_connection.specs.LimitedListeningLaws.{listens_nothing}
 use Rattle.h3_connection.specs.PeerReading.{Peer, read_peer, with_unread}
 use Rattle.h3_connection.specs.StreamSets.{stream_at}
 use Rattle.h3_connection.specs.StreamSetLaws.{set-same}
-use Rattle.h3_connection.specs.StrictConnection.{is_strict, stream_fault, kinds_of, knows_sessions}
+use Rattle.h3_connection.specs.StrictConnection.{is_strict, stream_fault, kinds_of, known_streams}
 use Rattle.h3_connection.specs.StrictConnectionLaws.{nothing_held, nothing_told}
 use Rattle.h3_connection.specs.Unidirectional.{Unidirectional, Role, untold, role_after, with_bytes}
 use Rattle.h3_connection.specs.Unidirectional.Role.{Untold, Control, Encoder, Decoder}
@@ -52,11 +52,11 @@ same_stream : (e : EndpointHistory) (id : ℕ) (role : Role) → stream_at e.uni
 same_stream e id role there = ap (λ l. record e { unidirectional = l }) (set-same e.unidirectional id (with_role role) there)
 
 -- the bytes go to the role
-pub role_reads : (e : EndpointHistory) (id : ℕ) (role : Role) (on : Option ℕ) (bytes : List ℕ) → ((bytes : List ℕ) → role_after (knows_sessions e.announced) role bytes ≡ (role, bytes)) → ((bytes : List ℕ) → with_bytes (with_role role) (role, bytes) ≡ with_role role)
+pub role_reads : (e : EndpointHistory) (id : ℕ) (role : Role) (on : Option ℕ) (bytes : List ℕ) → ((bytes : List ℕ) → role_after (known_streams e.announced) role bytes ≡ (role, bytes)) → ((bytes : List ℕ) → with_bytes (with_role role) (role, bytes) ≡ with_role role)
     → IsReadAs e id role on → read_arrival e (BytesCame id bytes) ≡ heard_as e id role bytes
 role_reads e id role on bytes same left h =
     ap (bytes_at e id bytes) h.kind
-    ∙ ap (λ (o : Option Unidirectional). read_unidirectional e id (Rattle.std.specs.Prelude.unwrap_or o untold) (role_after (knows_sessions e.announced) (Rattle.std.specs.Prelude.unwrap_or o untold).role bytes)) h.stream
+    ∙ ap (λ (o : Option Unidirectional). read_unidirectional e id (Rattle.std.specs.Prelude.unwrap_or o untold) (role_after (known_streams e.announced) (Rattle.std.specs.Prelude.unwrap_or o untold).role bytes)) h.stream
     ∙ ap (λ x. read_unidirectional e id (with_role role) x) (same bytes)
     ∙ ap (λ o. heard_as (with_unidirectional e id o) id role bytes) (left bytes)
     ∙ ap (λ x. heard_as x id role bytes) (same_stream e id role h.stream)

@@ -34,11 +34,11 @@ use Rattle.h3_memory.proofs.OwnAhead.{own_stream_is}
 use Rattle.h3_memory.proofs.OwnNames.{control_own, encoder_own, decoder_own}
 use Rattle.h3_memory.proofs.PartsHeld.{holding}
 use Rattle.h3_memory.proofs.TellsRole.{IsReadAs, told_stream, no_bytes_heard, no_bytes_listened, no_bytes_controlled}
-use Rattle.h3_connection.specs.StrictConnection.{knows_sessions}
+use Rattle.h3_connection.specs.StrictConnection.{known_streams}
 
 -- A stream that told its type: its bytes stand behind those that are held.
 abbrev held_by : EndpointHistory → ℕ → List ℕ → Option Unidirectional → EndpointHistory
-held_by e id bytes o = reading.held_as (with_unidirectional e id (with_bytes (unwrap_or o untold) (role_after (knows_sessions e.announced) (unwrap_or o untold).role bytes))) id (role_after (knows_sessions e.announced) (unwrap_or o untold).role bytes)
+held_by e id bytes o = reading.held_as (with_unidirectional e id (with_bytes (unwrap_or o untold) (role_after (known_streams e.announced) (unwrap_or o untold).role bytes))) id (role_after (known_streams e.announced) (unwrap_or o untold).role bytes)
 
 same_stream : (e : EndpointHistory) (id : ℕ) (role : Role) → stream_at e.unidirectional id ≡ Some (with_role role) → with_unidirectional e id (with_role role) ≡ e
 same_stream e id role there = ap (λ l. record e { unidirectional = l }) (set-same e.unidirectional id (with_role role) there)
@@ -114,7 +114,7 @@ told_holds setup w Server mine held incoming e id bytes h own told =
 -- A stream of which nothing came: its first byte tells its type, and the others go to those that are held.
 pub record Tells (f : EndpointHistory) (q : ℕ) (text : List ℕ) : Type 0 where
   pub first : (b count : ℕ) (bytes : List ℕ) → b ∷ bytes ≡ take count text → (next : EndpointHistory) → read_arrival f (BytesCame q (b ∷ [])) ≡ found_as next → reading.held f q (b ∷ bytes) ≡ reading.held next q bytes
-  pub nothing : is_reader f q (role_after (knows_sessions f.announced) (unidirectional_at f q).role []).0 ≡ false
+  pub nothing : is_reader f q (role_after (known_streams f.announced) (unidirectional_at f q).role []).0 ≡ false
 
 -- such a stream
 pub record IsUntold (f : EndpointHistory) (q : ℕ) (role : Role) (on : Option ℕ) : Type 0 where
@@ -129,32 +129,32 @@ first_byte : (b kind count : ℕ) (bytes units : List ℕ) → b ∷ bytes ≡ t
 first_byte b kind zero bytes units is = absurd (cc)
 first_byte b kind (suc n) bytes units is = cc
 
-untold_nothing : (f : EndpointHistory) (q kind : ℕ) (role : Role) (on : Option ℕ) (units : List ℕ) → IsTyped kind role → IsUntold f q role on → is_reader f q (role_after (knows_sessions f.announced) (unidirectional_at f q).role []).0 ≡ false
+untold_nothing : (f : EndpointHistory) (q kind : ℕ) (role : Role) (on : Option ℕ) (units : List ℕ) → IsTyped kind role → IsUntold f q role on → is_reader f q (role_after (known_streams f.announced) (unidirectional_at f q).role []).0 ≡ false
 untold_nothing f q kind role on units typed h =
-    ap (λ (o : Unidirectional). is_reader f q (role_after (knows_sessions f.announced) o.role []).0) (untold_is f q role on h)
-    ∙ ap (λ (x : Role × List ℕ). is_reader f q x.0) (role_then (knows_sessions f.announced) kind role 0 0 units typed)
+    ap (λ (o : Unidirectional). is_reader f q (role_after (known_streams f.announced) o.role []).0) (untold_is f q role on h)
+    ∙ ap (λ (x : Role × List ℕ). is_reader f q x.0) (role_then (known_streams f.announced) kind role 0 0 units typed)
 
 -- the bytes behind the type, of one that has just told it
 abbrev told_at : EndpointHistory → ℕ → Role → EndpointHistory
 told_at f q role = with_unidirectional f q (with_role role)
 
-tells_held : (f : EndpointHistory) (q b : ℕ) (role : Role) (on : Option ℕ) (bytes : List ℕ) → IsUntold f q role on → role_after (knows_sessions f.announced) (Untold []) (b ∷ bytes) ≡ (role, bytes) → with_bytes (with_role (Untold [])) (role, bytes) ≡ with_role role
+tells_held : (f : EndpointHistory) (q b : ℕ) (role : Role) (on : Option ℕ) (bytes : List ℕ) → IsUntold f q role on → role_after (known_streams f.announced) (Untold []) (b ∷ bytes) ≡ (role, bytes) → with_bytes (with_role (Untold [])) (role, bytes) ≡ with_role role
     → reading.held f q (b ∷ bytes) ≡ reading.held_as (told_at f q role) q (role, bytes)
 tells_held f q b role on bytes h tells left =
-    ap (λ (o : Unidirectional). reading.held_as (with_unidirectional f q (with_bytes o (role_after (knows_sessions f.announced) o.role (b ∷ bytes)))) q (role_after (knows_sessions f.announced) o.role (b ∷ bytes))) (untold_is f q role on h)
+    ap (λ (o : Unidirectional). reading.held_as (with_unidirectional f q (with_bytes o (role_after (known_streams f.announced) o.role (b ∷ bytes)))) q (role_after (known_streams f.announced) o.role (b ∷ bytes))) (untold_is f q role on h)
     ∙ ap (λ x. reading.held_as (with_unidirectional f q (with_bytes (with_role (Untold [])) x)) q x) tells
     ∙ ap (λ o. reading.held_as (with_unidirectional f q o) q (role, bytes)) left
 
-tells_read : (f : EndpointHistory) (q b : ℕ) (role : Role) (on : Option ℕ) → IsUntold f q role on → role_after (knows_sessions f.announced) (Untold []) (b ∷ []) ≡ (role, []) → with_bytes (with_role (Untold [])) (role, []) ≡ with_role role
+tells_read : (f : EndpointHistory) (q b : ℕ) (role : Role) (on : Option ℕ) → IsUntold f q role on → role_after (known_streams f.announced) (Untold []) (b ∷ []) ≡ (role, []) → with_bytes (with_role (Untold [])) (role, []) ≡ with_role role
     → read_arrival f (BytesCame q (b ∷ [])) ≡ heard_as (told_at f q role) q role []
 tells_read f q b role on h tells left =
     ap (bytes_at f q (b ∷ [])) h.kind
-    ∙ ap (λ (o : Unidirectional). read_unidirectional f q o (role_after (knows_sessions f.announced) o.role (b ∷ []))) (untold_is f q role on h)
+    ∙ ap (λ (o : Unidirectional). read_unidirectional f q o (role_after (known_streams f.announced) o.role (b ∷ []))) (untold_is f q role on h)
     ∙ ap (λ x. read_unidirectional f q (with_role (Untold [])) x) tells
     ∙ ap (λ o. heard_as (with_unidirectional f q o) q role []) left
 
 -- of one that told it
-held_told : (x : EndpointHistory) (q : ℕ) (role : Role) (bytes : List ℕ) → stream_at x.unidirectional q ≡ Some (with_role role) → role_after (knows_sessions x.announced) role bytes ≡ (role, bytes) → with_bytes (with_role role) (role, bytes) ≡ with_role role
+held_told : (x : EndpointHistory) (q : ℕ) (role : Role) (bytes : List ℕ) → stream_at x.unidirectional q ≡ Some (with_role role) → role_after (known_streams x.announced) role bytes ≡ (role, bytes) → with_bytes (with_role role) (role, bytes) ≡ with_role role
     → reading.held x q bytes ≡ reading.held_as x q (role, bytes)
 held_told x q role bytes there same left =
     ap (held_by x q bytes) there
@@ -169,7 +169,7 @@ pub tells_control : (f : EndpointHistory) (q : ℕ) (units : List ℕ) → IsUnt
 tells_control f q units h none =
     record {
       first = λ b count bytes is next reads.
-          let tells : (l : List ℕ) → role_after (knows_sessions f.announced) (Untold []) (b ∷ l) ≡ (Control, l) = λ l. ap (λ k. role_after (knows_sessions f.announced) (Untold []) (k ∷ l)) (first_byte b 0 count bytes units is) ∙ typed_control.first (knows_sessions f.announced) l in
+          let tells : (l : List ℕ) → role_after (known_streams f.announced) (Untold []) (b ∷ l) ≡ (Control, l) = λ l. ap (λ k. role_after (known_streams f.announced) (Untold []) (k ∷ l)) (first_byte b 0 count bytes units is) ∙ typed_control.first (known_streams f.announced) l in
           let x : EndpointHistory = record (told_at f q Control) { control_on = Some q } in
           let read : read_arrival f (BytesCame q (b ∷ [])) ≡ found_as x =
           tells_read f q b Control f.control_on h (tells []) refl ∙ ap (λ t. unless_second t (told_at f q Control) (read_control x [])) h.only ∙ no_bytes_controlled x none in
@@ -183,7 +183,7 @@ pub tells_encoder : (laws : StreamLaws) (f : EndpointHistory) (q : ℕ) (units :
 tells_encoder laws f q units h none =
     record {
       first = λ b count bytes is next reads.
-          let tells : (l : List ℕ) → role_after (knows_sessions f.announced) (Untold []) (b ∷ l) ≡ (Encoder, l) = λ l. ap (λ k. role_after (knows_sessions f.announced) (Untold []) (k ∷ l)) (first_byte b 2 count bytes units is) ∙ typed_encoder.first (knows_sessions f.announced) l in
+          let tells : (l : List ℕ) → role_after (known_streams f.announced) (Untold []) (b ∷ l) ≡ (Encoder, l) = λ l. ap (λ k. role_after (known_streams f.announced) (Untold []) (k ∷ l)) (first_byte b 2 count bytes units is) ∙ typed_encoder.first (known_streams f.announced) l in
           let x : EndpointHistory = record (told_at f q Encoder) { encoder_on = Some q } in
           let read : read_arrival f (BytesCame q (b ∷ [])) ≡ found_as x =
           tells_read f q b Encoder f.encoder_on h (tells []) refl ∙ ap (λ t. unless_second t (told_at f q Encoder) (read_encoder x [])) h.only ∙ no_bytes_heard x none in
@@ -197,7 +197,7 @@ pub tells_decoder : (laws : StreamLaws) (f : EndpointHistory) (q : ℕ) (units :
 tells_decoder laws f q units h none =
     record {
       first = λ b count bytes is next reads.
-          let tells : (l : List ℕ) → role_after (knows_sessions f.announced) (Untold []) (b ∷ l) ≡ (Decoder, l) = λ l. ap (λ k. role_after (knows_sessions f.announced) (Untold []) (k ∷ l)) (first_byte b 3 count bytes units is) ∙ typed_decoder.first (knows_sessions f.announced) l in
+          let tells : (l : List ℕ) → role_after (known_streams f.announced) (Untold []) (b ∷ l) ≡ (Decoder, l) = λ l. ap (λ k. role_after (known_streams f.announced) (Untold []) (k ∷ l)) (first_byte b 3 count bytes units is) ∙ typed_decoder.first (known_streams f.announced) l in
           let x : EndpointHistory = record (told_at f q Decoder) { decoder_on = Some q } in
           let read : read_arrival f (BytesCame q (b ∷ [])) ≡ found_as x =
           tells_read f q b Decoder f.decoder_on h (tells []) refl ∙ ap (λ t. unless_second t (told_at f q Decoder) (read_decoder x [])) h.only ∙ no_bytes_listened x none in

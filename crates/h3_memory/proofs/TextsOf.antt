@@ -15,6 +15,7 @@ use Rattle.h3_world.specs.World.{World, party}
 use Rattle.h3_headline.specs.FlowLaws.{same_number}
 use Rattle.h3_headline.specs.OwnEventLaws.{each_own, own_closed, without_updates}
 use Rattle.h3_headline.specs.OwnStreams.{left_of}
+use Rattle.h3_headline.specs.Standing.{WritesNoMore}
 use Rattle.h3_headline.specs.WaitingLaws.{self}
 use Rattle.h3_memory.specs.Keeping.{came_of, text_of}
 
@@ -51,13 +52,13 @@ pub own_closed_never : (w : World) (writer : Side) (id : ℕ) → is_own writer 
 own_closed_never w writer id own = ap (λ b. not b && ((flow w writer id).ended || (flow w writer id).reset_came)) own
 
 -- What waits of an own stream is what has not come of it.
-pub own_left_is : (setup : Setup) (w : World) (writer : Side) (id : ℕ) → (party w writer).own.updates ≡ [] → is_own writer id ≡ true → left_of writer (party w writer).own (announced_at setup writer) id ≡ drop (came_of w writer id) (text_of setup w writer id)
+pub own_left_is : (setup : Setup) (w : World) (writer : Side) (id : ℕ) → WritesNoMore (party w writer).own → is_own writer id ≡ true → left_of writer (party w writer).own (announced_at setup writer) id ≡ drop (came_of w writer id) (text_of setup w writer id)
 own_left_is setup w Client id none own =
     without_updates Client (party w Client).own (announced_at setup Client) id none
-    ∙ each_own (λ i. left_of Client (record (party w Client).own { updates = [] }) (announced_at setup Client) i ≡ drop (came_of w Client i) (text_of setup w Client i)) Client id own refl refl refl
+    ∙ each_own (λ i. left_of Client (record (party w Client).own { updates = []; further = [] }) (announced_at setup Client) i ≡ drop (came_of w Client i) (text_of setup w Client i)) Client id own refl refl refl
 own_left_is setup w Server id none own =
     without_updates Server (party w Server).own (announced_at setup Server) id none
-    ∙ each_own (λ i. left_of Server (record (party w Server).own { updates = [] }) (announced_at setup Server) i ≡ drop (came_of w Server i) (text_of setup w Server i)) Server id own refl refl refl
+    ∙ each_own (λ i. left_of Server (record (party w Server).own { updates = []; further = [] }) (announced_at setup Server) i ≡ drop (came_of w Server i) (text_of setup w Server i)) Server id own refl refl refl
 
 -- an open stream is no own one
 pub open_apart : (w : World) (writer : Side) (id : ℕ) → is_open w writer id ≡ true → is_own writer id ≡ false

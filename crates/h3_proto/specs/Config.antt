@@ -21,7 +21,7 @@ default_settings = record {
 
 -- what an end chooses that chooses nothing
 abbrev pub no_extensions : Extensions
-no_extensions = record { kept_ids = 2 ^ 62 - 1; requests_rejected = false; any_protocol = false; secrets_guarded = false; shortest_strings = false; strict_connection = false; priority_updates = 0 }
+no_extensions = record { kept_ids = 2 ^ 62 - 1; requests_rejected = false; any_protocol = false; secrets_guarded = false; shortest_strings = false; strict_connection = false; priority_updates = 0; other_settings = 0; other_streams = false }
 
 abbrev pub no_choices : Choices
 no_choices =

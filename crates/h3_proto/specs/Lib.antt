@@ -10,4 +10,7 @@ pub mod Payloads
 pub mod Announced
 pub mod ReceivedLaws
 pub mod Settings
+pub mod OtherSettings
+pub mod Further
+pub mod Remembered
 pub mod StreamIds

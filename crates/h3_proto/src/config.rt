@@ -85,6 +85,9 @@ pub const MAX_BLOCKED_STREAMS: u64 = 65535;
 /// The most streams of which a server keeps what PRIORITY_UPDATE frames said (RFC 9218, section 7.2).
 pub const MAX_PRIORITY_UPDATES: u64 = 128;
 
+/// The most settings without a meaning here that are kept of those of a peer (RFC 9114, section 7.2.4).
+pub const MAX_OTHER_SETTINGS: u64 = 64;
+
 /// What an end chooses for itself beyond what it announces. None of it is sent to the peer, and by default nothing is asked for.
 #[derive(Clone, Copy, Debug)]
 pub struct Choices {
@@ -121,6 +124,10 @@ pub struct Extensions {
     /// Of so many streams a server keeps what PRIORITY_UPDATE frames said, until it is used. 0: such frames are of unknown types (RFC 9218,
     /// section 7.2). More than `MAX_PRIORITY_UPDATES` is the same as that.
     pub priority_updates: u64,
+    /// So many of the peer's settings are kept that have no meaning here. More than `MAX_OTHER_SETTINGS` is the same as that.
+    pub other_settings: u64,
+    /// Unidirectional streams of types that have no meaning here are delivered (RFC 9114, section 6.2).
+    pub other_streams: bool,
 }
 
 impl Default for Extensions {
@@ -135,6 +142,8 @@ impl Default for Extensions {
             shortest_strings: false,
             strict_connection: false,
             priority_updates: 0,
+            other_settings: 0,
+            other_streams: false,
         }
     }
 }
@@ -383,6 +392,29 @@ impl Config {
         } }
     {
         self.choices.extensions.priority_updates = most;
+        self
+    }
+
+    /// How many of the peer's settings are kept whose ids have no meaning here, at most 64: the first ones of its SETTINGS frame. A reserved
+    /// id is not kept (RFC 9114, section 7.2.4.1). A greater value is the same as 64. 0 by default: such settings are ignored.
+    pub fn with_other_settings(mut self, most: u64) -> Self
+        ensures { result ≡ record self {
+          choices = record self.choices { extensions = record self.choices.extensions { other_settings = most } };
+        } }
+    {
+        self.choices.extensions.other_settings = most;
+        self
+    }
+
+    /// Whether the peer's unidirectional streams of types that have no meaning here are delivered (RFC 9114, section 6.2). Off by default: what
+    /// comes on them is thrown away. A stream of a reserved type (section 6.2.3) is never delivered, nor one of WebTransport if that is not
+    /// known here.
+    pub fn with_other_streams(mut self, handed_out: bool) -> Self
+        ensures { result ≡ record self {
+          choices = record self.choices { extensions = record self.choices.extensions { other_streams = handed_out } };
+        } }
+    {
+        self.choices.extensions.other_streams = handed_out;
         self
     }
 

@@ -64,14 +64,14 @@ impl SettingId {
     }
 
     // Whether it is one of HTTP/2's, which HTTP/3 refuses.
-    fn is_forbidden(self) -> bool
+    pub(crate) fn is_forbidden(self) -> bool
         ensures { result ≡ is_forbidden self }
     {
         matches!(self.0, 0 | 2 | 3 | 4 | 5)
     }
 
     // Whether it has a meaning here.
-    fn is_known(self) -> bool
+    pub(crate) fn is_known(self) -> bool
         ensures { result ≡ is_known self }
     {
         matches!(self.0, 1 | 6 | 7 | 8 | 0x33 | 0x2b603742 | 0x2b603743)
@@ -216,7 +216,7 @@ impl Settings {
     }
 
     // Whether there is a setting of this id.
-    fn contains(&self, id: SettingId) -> bool
+    pub(crate) fn contains(&self, id: SettingId) -> bool
         ensures { result ≡ has_id id self.now }
     {
         self.entries[..self.len].iter().any(|pair| pair.0 == id.0)
@@ -310,7 +310,7 @@ impl Settings {
 
 // Takes a pair that lies within the first `len` bytes, and answers it with how many of those bytes
 // follow it.
-fn get_pair<B: Buf>(buf: &mut B, len: usize) -> Option<(u64, u64, usize)>
+pub(crate) fn get_pair<B: Buf>(buf: &mut B, len: usize) -> Option<(u64, u64, usize)>
     requires { len ≤ length (B.unread buf.old) }
     ensures some { IfSome result (λ p. (pair_at (take len (B.unread buf.old))
         ≡ Some ((p.0, p.1), take p.2 (B.unread buf.new)))

@@ -4,7 +4,10 @@
 pub mod config;
 pub mod error;
 pub mod frame;
+pub mod further;
 pub mod laws;
+pub mod other_settings;
 pub mod push;
+pub mod remembered;
 pub mod stream;
 pub mod webtransport;

@@ -7,6 +7,7 @@ use Rattle.h3_proto.specs.StreamIds.{is_request_stream}
 use Rattle.h3_proto.specs.declared.stream.Side.{Side}
 use Rattle.h3_proto.specs.declared.stream.Side.TheVariants.{Client, Server}
 use Rattle.h3_connection.specs.Arrivals.{is_closed_in}
+use Rattle.h3_connection.specs.Remembering.{settings_known}
 use Rattle.h3_connection.specs.declared.arrival.Arrival.{Arrival}
 use Rattle.h3_connection.specs.Delivering.{closed_refusal}
 use Rattle.h3_connection.specs.Endpoint.{EndpointHistory}
@@ -36,10 +37,10 @@ refused_is : (s : EndpointState) (e : EndpointHistory) (id : ℕ) → StandsFor 
 refused_is s e id h =
     let asked = is_request_stream id in
     let sending = option_map is_open (option_map (λ (r : RequestState). r.outgoing) (kept_at s.requests id)) in
-    ap (λ closed. refusal_by closed asked (announces s.announced.settings && peer_announces s.peer.settings) sending) h.closed
-    ∙ ap (λ a. refusal_by e.closed asked (announces a.settings && peer_announces s.peer.settings) sending) h.announced
-    ∙ ap (λ p. refusal_by e.closed asked (announces e.announced.settings && peer_announces p.settings) sending) h.peer
-    ∙ ap (refusal_by e.closed asked (announces e.announced.settings && peer_announces e.peer.settings)) (sending_at (stream_at e.outgoing id) (option_map (λ (r : RequestState). r.outgoing) (kept_at s.requests id)) (h.outgoing id))
+    ap (λ closed. refusal_by closed asked (announces s.announced.settings && peer_announces (settings_known s.announced s.peer.settings)) sending) h.closed
+    ∙ ap (λ a. refusal_by e.closed asked (announces a.settings && peer_announces (settings_known a s.peer.settings)) sending) h.announced
+    ∙ ap (λ p. refusal_by e.closed asked (announces e.announced.settings && peer_announces (settings_known e.announced p.settings)) sending) h.peer
+    ∙ ap (refusal_by e.closed asked (announces e.announced.settings && peer_announces (settings_known e.announced e.peer.settings))) (sending_at (stream_at e.outgoing id) (option_map (λ (r : RequestState). r.outgoing) (kept_at s.requests id)) (h.outgoing id))
 
 pub shows_head : (s : EndpointState) (id : ℕ) (head : List ℕ) → None ≡ datagram_refused s id → head ≡ head_bytes id → ShowsDatagramHead s id (Ok head)
 shows_head s id head none is = λ e h. ap Ok is ∙ ap (λ r. unless_refused r (head_bytes id)) (none ∙ refused_is s e id h)
@@ -173,6 +174,6 @@ is_for r id payload read takes =
 pub read_back : (s r : EndpointHistory) (id : ℕ) (head payload : List ℕ) → ((i : ℕ) (p : List ℕ) → i < 2 ^ 62 → i % 4 ≡ 0 → datagram_of (head_bytes i ++ p) ≡ Some (i, p))
     → id < 2 ^ 62 → datagram_head s id ≡ Ok head → TakesDatagrams r id → read_datagram r (head ++ payload) ≡ (For id (length head), r)
 read_back s r id head payload law below given takes =
-    let parts = request_of id s.closed (is_request_stream id) (announces s.announced.settings && peer_announces s.peer.settings) (option_map is_unended (stream_at s.outgoing id)) head given in
+    let parts = request_of id s.closed (is_request_stream id) (announces s.announced.settings && peer_announces (settings_known s.announced s.peer.settings)) (option_map is_unended (stream_at s.outgoing id)) head given in
     let back = is_for r id payload (law id payload below (eqb-true (id % 4) 0 parts.0)) takes in
     subst (λ h. read_datagram r (h ++ payload) ≡ (For id (length h), r)) (sym parts.1) back

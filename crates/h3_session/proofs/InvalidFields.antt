@@ -14,6 +14,7 @@ use Rattle.h3_proto.specs.declared.config.Choices.{Choices}
 use Rattle.h3_proto.specs.declared.stream.Side.{Side}
 use Rattle.h3_proto.specs.declared.stream.Side.TheVariants.{Client, Server}
 use Rattle.h3_connection.specs.Calls.{IsSame}
+use Rattle.h3_connection.specs.Remembering.{settings_known}
 use Rattle.h3_connection.specs.Endpoint.{EndpointHistory}
 use Rattle.h3_connection.specs.OwnIds.{other}
 use Rattle.h3_connection.specs.Pulling.{is_for, is_interim}
@@ -127,8 +128,8 @@ module _ (s : EndpointState) (id : ℕ) (fields : List Field) where
   any = s.announced.choices.extensions.any_protocol
 
   module _ (head : Head) (reads : head_by any fields ≡ IsHead head) where
-    spaced_head : (side : Side) → violation_of_own_head side s.peer.settings (known_in (kept_at s.requests id)) fields ≡ Some violation.Value → HasSpacedValue any true fields
-    spaced_head Client is = spaced_of_request any fields head reads (peer_connects s.peer.settings) is
+    spaced_head : (side : Side) → violation_of_own_head side (settings_known s.announced s.peer.settings) (known_in (kept_at s.requests id)) fields ≡ Some violation.Value → HasSpacedValue any true fields
+    spaced_head Client is = spaced_of_request any fields head reads (peer_connects (settings_known s.announced s.peer.settings)) is
     spaced_head Server is = spaced_of_response any fields head reads (known_in (kept_at s.requests id)) is
 
     spaced : (place : SendPlace) → violation_behind place s id fields ≡ Some violation.Value → HasSpacedValue any true fields
@@ -147,9 +148,9 @@ module _ (s : EndpointState) (id : ℕ) (fields : List Field) where
   module _ (place : SendPlace) where
     told_broken : (o : Option Refusal) → (o ≢ Some refusal.OutOfMemory → o ≡ refused_behind s id place fields) → TellsBroken o place s id fields
     told_broken (Some (refusal.Malformed malformation.Name)) list =
-        by_list (broken_behind place s id fields) (is_too_large s.peer.settings fields) (section_size fields) malformation.Name (sym (list (λ memory. absurd (cc))))
+        by_list (broken_behind place s id fields) (is_too_large (settings_known s.announced s.peer.settings) fields) (section_size fields) malformation.Name (sym (list (λ memory. absurd (cc))))
     told_broken (Some (refusal.Malformed malformation.Value)) list =
-        by_list (broken_behind place s id fields) (is_too_large s.peer.settings fields) (section_size fields) malformation.Value (sym (list (λ memory. absurd (cc))))
+        by_list (broken_behind place s id fields) (is_too_large (settings_known s.announced s.peer.settings) fields) (section_size fields) malformation.Value (sym (list (λ memory. absurd (cc))))
     told_broken _ list = tt
 
     none_told : (r : Refusal) → NamesNone r → TellsBroken (Some r) place s id fields
@@ -159,9 +160,9 @@ module _ (s : EndpointState) (id : ℕ) (fields : List Field) where
 
     judged_broken : (refused told : Refusal) → NamesNone refused → IsJudgedOr s id place fields refused told → TellsBroken (Some told) place s id fields
     judged_broken refusal.OutOfMemory (refusal.Malformed malformation.Name) none h =
-        by_list (broken_behind place s id fields) (is_too_large s.peer.settings fields) (section_size fields) malformation.Name (h.list refl (λ same. absurd (cc)))
+        by_list (broken_behind place s id fields) (is_too_large (settings_known s.announced s.peer.settings) fields) (section_size fields) malformation.Name (h.list refl (λ same. absurd (cc)))
     judged_broken refusal.OutOfMemory (refusal.Malformed malformation.Value) none h =
-        by_list (broken_behind place s id fields) (is_too_large s.peer.settings fields) (section_size fields) malformation.Value (h.list refl (λ same. absurd (cc)))
+        by_list (broken_behind place s id fields) (is_too_large (settings_known s.announced s.peer.settings) fields) (section_size fields) malformation.Value (h.list refl (λ same. absurd (cc)))
     judged_broken refusal.OutOfMemory _ none h = tt
     judged_broken refused told none h = subst (λ r. TellsBroken (Some r) place s id fields) (sym (h.other (λ same. absurd (cc)))) (none_told refused none)
 

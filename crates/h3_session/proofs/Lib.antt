@@ -70,3 +70,4 @@ pub mod OpeningAt
 pub mod PeerKinds
 pub mod Unblocked
 pub mod Events
+mod BeginningWith

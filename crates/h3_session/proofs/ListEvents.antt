@@ -6,6 +6,7 @@ use Rattle.h3_header.specs.Head.{Head, trailer_head}
 use Rattle.h3_header.specs.HeadRead.{HeadRead, HeadRefusal, IsHead, IsNone, head_by, head_of, head_of_any, read_from, refusal_at, unless_refused}
 use Rattle.h3_header.specs.Reads.{head_of_fields, kind_of, with_field}
 use Rattle.h3_header.specs.ReadTakenLaws.{heads_are_taken}
+use Rattle.h3_connection.specs.Remembering.{settings_known}
 use Rattle.h3_connection.specs.Endpoint.{EndpointHistory}
 use Rattle.h3_connection.specs.Outgoing.{takes_head, takes_body}
 use Rattle.h3_connection.specs.Refusals.{of_list, refusal_of_head, refusal_of_trailer, with_pseudo, wrong_side}
@@ -47,7 +48,7 @@ module _ (e : EndpointHistory) (id : ℕ) (fields : List Field) where
 
   read_head : (r : HeadRead) → head_by any fields ≡ r → send_read_head e id fields r ≡ head_sent (unread_by r) (head_of_fields fields)
   read_head (IsHead h) is = ap (λ b. head_sent (rule b) h) (heads_are_taken any fields h is) ∙ ap (head_sent None) (head_is any fields h is)
-  read_head (IsNone why) is = sym (malformed_third why e.closed (not (is_open e id)) (not (takes_head (outgoing_at e id))) (sender_at e id).going (wrong_side e.side (head_of_fields fields) ∷ of_list (broken_head_at e id fields) e.peer.settings fields) e (after_head e id (head_of_fields fields) fields))
+  read_head (IsNone why) is = sym (malformed_third why e.closed (not (is_open e id)) (not (takes_head (outgoing_at e id))) (sender_at e id).going (wrong_side e.side (head_of_fields fields) ∷ of_list (broken_head_at e id fields) (settings_known e.announced e.peer.settings) fields) e (after_head e id (head_of_fields fields) fields))
 
   pub fields_sent : send_fields e id fields ≡ events.send_fields e id fields
   fields_sent = read_head (head_by any fields) refl
@@ -58,7 +59,7 @@ module _ (e : EndpointHistory) (id : ℕ) (fields : List Field) where
 
   read_trailer : (r : HeadRead) → head_by any fields ≡ r → send_read_trailer e id fields r ≡ trailer_sent (unread_by r) (head_of_fields fields)
   read_trailer (IsHead h) is = ap (λ b. trailer_sent (rule b) h) (heads_are_taken any fields h is) ∙ ap (trailer_sent None) (head_is any fields h is)
-  read_trailer (IsNone why) is = sym (malformed_third why e.closed (not (is_open e id)) (not (takes_body (outgoing_at e id))) None (with_pseudo (head_of_fields fields) ∷ unless_malformed (early_trailer (outgoing_at e id).content) (of_list (broken_trailer e.announced fields) e.peer.settings fields)) e (after_trailer e id fields))
+  read_trailer (IsNone why) is = sym (malformed_third why e.closed (not (is_open e id)) (not (takes_body (outgoing_at e id))) None (with_pseudo (head_of_fields fields) ∷ unless_malformed (early_trailer (outgoing_at e id).content) (of_list (broken_trailer e.announced fields) (settings_known e.announced e.peer.settings) fields)) e (after_trailer e id fields))
 
   pub trailer_fields_sent : send_trailer_fields e id fields ≡ events.send_trailer_fields e id fields
   trailer_fields_sent = read_trailer (head_by any fields) refl

@@ -8,6 +8,7 @@ use Rattle.h3_header.specs.ReadTakenLaws.{heads_are_taken}
 use Rattle.h3_outgoing.specs.Sent as sent
 use Rattle.h3_proto.specs.declared.stream.Side.{Side}
 use Rattle.h3_connection.specs.Answers.{call_refused}
+use Rattle.h3_connection.specs.Remembering.{settings_known}
 use Rattle.h3_connection.specs.Endpoint.{EndpointHistory}
 use Rattle.h3_connection.specs.OwnIds.{other}
 use Rattle.h3_connection.specs.Pulling.{is_for, is_interim}
@@ -240,7 +241,7 @@ module _ (s : EndpointState) (id : ℕ) (fields : List Field) where
 
   -- the rules of a head behind those of its stream
   abbrev sides : EndpointHistory → Head → List (Bool × Refusal)
-  sides e head = (not (is_for (other e.side) head), refusal.WrongSide) ∷ unless_malformed (broken_head_at e id fields) ((is_too_large e.peer.settings fields, refusal.TooLarge (section_size fields)) ∷ [])
+  sides e head = (not (is_for (other e.side) head), refusal.WrongSide) ∷ unless_malformed (broken_head_at e id fields) ((is_too_large (settings_known e.announced e.peer.settings) fields, refusal.TooLarge (section_size fields)) ∷ [])
 
   as_fields : (new : EndpointState) (told : Option Refusal) → SendsList (λ e. send_read_head e id fields read) s new id fields told → SendsList (λ e. send_fields e id fields) s new id fields told
   as_fields new told h =
@@ -267,7 +268,7 @@ module _ (s : EndpointState) (id : ℕ) (fields : List Field) where
             let here : first_of (wrong_side e.side head ∷ []) ≡ Some later
             = subst (λ side. side_refused side head ≡ Some later) stands.side (errs differs) in
             ap (λ o. does o e (after_head e id head fields))
-            (head_behind e head is ∙ ap (λ p. first_of (unless_malformed p (sides e head))) (taken_in e head stands (is_taken head refl)) ∙ behind_rule (not (is_for (other e.side) head)) refusal.WrongSide (judged_last (broken_head_at e id fields) (is_too_large e.peer.settings fields) (section_size fields)) later here)
+            (head_behind e head is ∙ ap (λ p. first_of (unless_malformed p (sides e head))) (taken_in e head stands (is_taken head refl)) ∙ behind_rule (not (is_for (other e.side) head)) refusal.WrongSide (judged_last (broken_head_at e id fields) (is_too_large (settings_known e.announced e.peer.settings) fields) (section_size fields)) later here)
             ∙ ap (λ t. (Some t, e)) (refused_later (not (is_for (other e.side) head)) refusal.WrongSide later here);
         map = λ memory. (
           many memory,
@@ -275,7 +276,7 @@ module _ (s : EndpointState) (id : ℕ) (fields : List Field) where
               subst MayLackMap (sym (head_behind e head is)
               ∙ sym (told_of (listed_head_refusal e id head fields) e (after_head e id head fields)))
               (may_malformed (broken_protocol e.announced head) (sides e head)
-              (may_behind (not (is_for (other e.side) head)) refusal.WrongSide (broken_head_at e id fields) (is_too_large e.peer.settings fields) (section_size fields) tt)),
+              (may_behind (not (is_for (other e.side) head)) refusal.WrongSide (broken_head_at e id fields) (is_too_large (settings_known e.announced e.peer.settings) fields) (section_size fields) tt)),
         );
       }
   head_begins (IsNone why) later is_taken errs many =
@@ -322,7 +323,7 @@ module _ (s : EndpointState) (id : ℕ) (fields : List Field) where
   abbrev pseudo : EndpointHistory → Head → List (Bool × Refusal)
   pseudo e trailer =
       (has_pseudo trailer, refusal.PseudoInTrailer) ∷
-      unless_malformed (early_trailer (outgoing_at e id).content) (unless_malformed (broken_trailer e.announced fields) ((is_too_large e.peer.settings fields, refusal.TooLarge (section_size fields)) ∷ []))
+      unless_malformed (early_trailer (outgoing_at e id).content) (unless_malformed (broken_trailer e.announced fields) ((is_too_large (settings_known e.announced e.peer.settings) fields, refusal.TooLarge (section_size fields)) ∷ []))
 
   as_trailer_fields : (new : EndpointState) (told : Option Refusal) → SendsList (λ e. send_read_trailer e id fields read) s new id fields told → SendsList (λ e. send_trailer_fields e id fields) s new id fields told
   as_trailer_fields new told h =
@@ -347,7 +348,7 @@ module _ (s : EndpointState) (id : ℕ) (fields : List Field) where
         first = trailer_first (IsHead trailer);
         told = λ differs e stands is.
             ap (λ o. does o e (after_trailer e id fields))
-            (trailer_behind e trailer is ∙ ap (λ p. first_of (unless_malformed p (pseudo e trailer))) (taken_in e trailer stands (is_taken trailer refl)) ∙ behind_rule (has_pseudo trailer) refusal.PseudoInTrailer (judged_trailer (early_trailer (outgoing_at e id).content) (broken_trailer e.announced fields) (is_too_large e.peer.settings fields) (section_size fields)) later (errs differs))
+            (trailer_behind e trailer is ∙ ap (λ p. first_of (unless_malformed p (pseudo e trailer))) (taken_in e trailer stands (is_taken trailer refl)) ∙ behind_rule (has_pseudo trailer) refusal.PseudoInTrailer (judged_trailer (early_trailer (outgoing_at e id).content) (broken_trailer e.announced fields) (is_too_large (settings_known e.announced e.peer.settings) fields) (section_size fields)) later (errs differs))
             ∙ ap (λ t. (Some t, e)) (refused_later (has_pseudo trailer) refusal.PseudoInTrailer later (errs differs));
         map = λ memory. (
           many memory,
@@ -355,7 +356,7 @@ module _ (s : EndpointState) (id : ℕ) (fields : List Field) where
               subst MayLackMap (sym (trailer_behind e trailer is)
               ∙ sym (told_of (listed_trailer_refusal e id trailer fields) e (after_trailer e id fields)))
               (may_malformed (broken_protocol e.announced trailer) (pseudo e trailer)
-              (may_behind_early (has_pseudo trailer) refusal.PseudoInTrailer (early_trailer (outgoing_at e id).content) (broken_trailer e.announced fields) (is_too_large e.peer.settings fields) (section_size fields) tt)),
+              (may_behind_early (has_pseudo trailer) refusal.PseudoInTrailer (early_trailer (outgoing_at e id).content) (broken_trailer e.announced fields) (is_too_large (settings_known e.announced e.peer.settings) fields) (section_size fields) tt)),
         );
       }
   trailer_begins (IsNone why) later is_taken errs many =

@@ -7,6 +7,7 @@ use Rattle.h3_header.specs.Reads.{head_of_fields}
 use Rattle.h3_proto.specs.declared.stream.Side.{Side}
 use Rattle.h3_proto.specs.declared.stream.Side.TheVariants.{Client, Server}
 use Rattle.h3_connection.specs.Arrivals.{stream_of, is_closed_in}
+use Rattle.h3_connection.specs.Remembering.{settings_known}
 use Rattle.h3_connection.specs.Control.{Found}
 use Rattle.h3_connection.specs.Delivering.{incoming_at, taken, delivery_refusal, refusal_at, request_refusal, closed_refusal, server_opened_refusal, unidirectional_at}
 use Rattle.h3_connection.specs.Endpoint.{EndpointHistory, Kind, is_critical_id, kind_of}
@@ -140,8 +141,8 @@ begun_tells (Some id) rules h = refl
 pub head_tells : (e : EndpointHistory) (id : ℕ) (head : Head) → TellsNoMemory (sender.send_head e id head).0
 head_tells e id head =
     let broken = sender.broken_head_at e id (head_fields head) in
-    let listed = by_list broken (refusals.is_too_large e.peer.settings (head_fields head)) (section_size (head_fields head)) in
-    let rules = unless_malformed broken ((refusals.is_too_large e.peer.settings (head_fields head), refusal.TooLarge (section_size (head_fields head))) ∷ []) in
+    let listed = by_list broken (refusals.is_too_large (settings_known e.announced e.peer.settings) (head_fields head)) (section_size (head_fields head)) in
+    let rules = unless_malformed broken ((refusals.is_too_large (settings_known e.announced e.peer.settings) (head_fields head), refusal.TooLarge (section_size (head_fields head))) ∷ []) in
     let sides : Bool × Refusal = (not (is_for (other e.side) head), refusal.WrongSide) in
     let going = (sender.sender_at e id).going in
     does_tells (sender.head_refusal e id head) e _
@@ -150,14 +151,14 @@ head_tells e id head =
     (begun_tells going (unless_malformed (broken_protocol e.announced head) (sides ∷ rules))
     (malformed_tells (broken_protocol e.announced head) (sides ∷ rules)
     (if_tells (not (is_for (other e.side) head)) (Some refusal.WrongSide) listed refl
-    (list_tells broken (refusals.is_too_large e.peer.settings (head_fields head)) (section_size (head_fields head))))))))
+    (list_tells broken (refusals.is_too_large (settings_known e.announced e.peer.settings) (head_fields head)) (section_size (head_fields head))))))))
 
 -- and a list that goes out as it is
 pub fields_tell : (e : EndpointHistory) (id : ℕ) (fields : List Field) → TellsNoMemory (lists.send_fields e id fields).0
 fields_tell e id fields =
     let unread = unreadable (takes_any e.announced) fields in
     let broken = sender.broken_head_at e id fields in
-    let large = refusals.is_too_large e.peer.settings fields in
+    let large = refusals.is_too_large (settings_known e.announced e.peer.settings) fields in
     let rules = unless_malformed broken ((large, refusal.TooLarge (section_size fields)) ∷ []) in
     let wrong = not (is_for (other e.side) (head_of_fields fields)) in
     let sides : Bool × Refusal = (wrong, refusal.WrongSide) in
@@ -184,22 +185,22 @@ pub trailer_tells : (e : EndpointHistory) (id : ℕ) (head : Head) → TellsNoMe
 trailer_tells e id head =
     let broken = broken_trailer e.announced (head_fields head) in
     let early = early_trailer (sender.outgoing_at e id).content in
-    let listed = by_both early broken (refusals.is_too_large e.peer.settings (head_fields head)) (section_size (head_fields head)) in
-    let rules = unless_malformed early (unless_malformed broken ((refusals.is_too_large e.peer.settings (head_fields head), refusal.TooLarge (section_size (head_fields head))) ∷ [])) in
+    let listed = by_both early broken (refusals.is_too_large (settings_known e.announced e.peer.settings) (head_fields head)) (section_size (head_fields head)) in
+    let rules = unless_malformed early (unless_malformed broken ((refusals.is_too_large (settings_known e.announced e.peer.settings) (head_fields head), refusal.TooLarge (section_size (head_fields head))) ∷ [])) in
     let pseudo : Bool × Refusal = (has_pseudo head, refusal.PseudoInTrailer) in
     does_tells (sender.trailer_refusal e id head) e _
     (unless_closed_tells e.closed _
     (unordered_tells (not (sender.is_open e id)) (not (takes_body (sender.outgoing_at e id))) (refusals.first_of (unless_malformed (broken_protocol e.announced head) (pseudo ∷ rules)))
     (malformed_tells (broken_protocol e.announced head) (pseudo ∷ rules)
     (if_tells (has_pseudo head) (Some refusal.PseudoInTrailer) listed refl
-    (both_tell early broken (refusals.is_too_large e.peer.settings (head_fields head)) (section_size (head_fields head)))))))
+    (both_tell early broken (refusals.is_too_large (settings_known e.announced e.peer.settings) (head_fields head)) (section_size (head_fields head)))))))
 
 pub trailer_fields_tell : (e : EndpointHistory) (id : ℕ) (fields : List Field) → TellsNoMemory (lists.send_trailer_fields e id fields).0
 trailer_fields_tell e id fields =
     let unread = unreadable (takes_any e.announced) fields in
     let early = early_trailer (sender.outgoing_at e id).content in
     let broken = broken_trailer e.announced fields in
-    let large = refusals.is_too_large e.peer.settings fields in
+    let large = refusals.is_too_large (settings_known e.announced e.peer.settings) fields in
     let rules = unless_malformed early (unless_malformed broken ((large, refusal.TooLarge (section_size fields)) ∷ [])) in
     let pseudo : Bool × Refusal = (has_pseudo (head_of_fields fields), refusal.PseudoInTrailer) in
     does_tells (lists.trailer_fields_refusal e id fields) e _

@@ -14,11 +14,11 @@ use Rattle.h3_connection.specs.PeerReading.{Peer, PeerFound, read_peer}
 use Rattle.h3_connection.specs.StreamSets.{Streams}
 use Rattle.h3_connection.specs.StrictConnectionLaws.{refused_alike}
 use Rattle.h3_connection.specs.Unidirectional.{Unidirectional, Role, role_after, with_bytes}
-use Rattle.h3_connection.specs.Unidirectional.Role.{Untold, Control, Encoder, Decoder, Session, Push, Ignored}
+use Rattle.h3_connection.specs.Unidirectional.Role.{Untold, Control, Encoder, Decoder, Session, Push, Ignored, Other}
 use Rattle.h3_connection.specs.declared.arrival.Arrival.{Arrival}
 use Rattle.h3_connection.specs.declared.arrival.Arrival.TheVariants.{BytesCame, EndCame, ResetCame}
 use Rattle.h3_session.specs.Reading.{read_at}
-use Rattle.h3_connection.specs.StrictConnection.{kinds_of, knows_sessions}
+use Rattle.h3_connection.specs.StrictConnection.{kinds_of, known_streams}
 
 -- with these request streams
 abbrev pub with_requests : EndpointHistory → Streams Incoming → Streams Outgoing → EndpointHistory
@@ -124,6 +124,7 @@ heard_elsewhere e id Decoder bytes =
 heard_elsewhere e id (Session n) bytes = nothing_found e _
 heard_elsewhere e id (Push n) bytes = nothing_found e _
 heard_elsewhere e id Ignored bytes = nothing_found e None
+heard_elsewhere e id (Other kind) bytes = nothing_found e None
 
 unidirectional_elsewhere : (e : EndpointHistory) (id : ℕ) (o : Unidirectional) (x : Role × List ℕ) → LooksElsewhere e (read_unidirectional e id o x) (λ ins outs. read_unidirectional (with_requests e ins outs) id o x)
 unidirectional_elsewhere e id o (role, bytes) =
@@ -138,7 +139,7 @@ read_elsewhere e (ResetCame id code) ServerOpened none = nothing_found e _
 read_elsewhere e (BytesCame id bytes) OwnUnidirectional none = nothing_found e _
 read_elsewhere e (EndCame id) OwnUnidirectional none = nothing_found e _
 read_elsewhere e (ResetCame id code) OwnUnidirectional none = nothing_found e _
-read_elsewhere e (BytesCame id bytes) PeerUnidirectional none = unidirectional_elsewhere e id (unidirectional_at e id) (role_after (knows_sessions e.announced) (unidirectional_at e id).role bytes)
+read_elsewhere e (BytesCame id bytes) PeerUnidirectional none = unidirectional_elsewhere e id (unidirectional_at e id) (role_after (known_streams e.announced) (unidirectional_at e id).role bytes)
 read_elsewhere e (EndCame id) PeerUnidirectional none = record { apart = λ ins outs. refl; side = refl; kept = refl }
 read_elsewhere e (ResetCame id code) PeerUnidirectional none = record { apart = λ ins outs. refl; side = refl; kept = refl }
 
@@ -151,6 +152,7 @@ held_elsewhere e id (Decoder, bytes) = record { apart = λ ins outs. refl; side 
 held_elsewhere e id (Session n, bytes) = nothing_found e None
 held_elsewhere e id (Push n, bytes) = nothing_found e None
 held_elsewhere e id (Ignored, bytes) = nothing_found e None
+held_elsewhere e id (Other kind, bytes) = nothing_found e None
 
 pub frames_elsewhere : (e : EndpointHistory) (p : Peer) → LooksElsewhere e (after_frames e p, None) (λ ins outs. (after_frames (with_requests e ins outs) p, None))
 frames_elsewhere e p = let h = learned_elsewhere (record e { peer = p }) e.peer.settings p.settings None in record { apart = h.apart; side = h.side; kept = h.kept }

@@ -12,11 +12,11 @@ use Rattle.h3_connection.specs.Sending.{after_fault, after_answer, within_limit,
 use Rattle.h3_connection.specs.StandsLaws.{stands_receiving}
 use Rattle.h3_connection.specs.State.{EndpointState, RequestState, StandsFor, kept_at}
 use Rattle.h3_connection.specs.StreamSets.{stream_at}
-use Rattle.h3_connection.specs.Unidirectional.{Unidirectional, Role, pull_unidirectional, pull_session, if_over, raw, may_be_session, is_closed}
+use Rattle.h3_connection.specs.Unidirectional.{Unidirectional, Role, pull_unidirectional, pull_session, if_over, raw, may_be_session, is_closed, raw_or_reset, pull_other}
 use Rattle.h3_coding.specs.Varint.{varint_at}
 use Rattle.h3_proto.specs.declared.stream.Side.{Side}
 use Rattle.h3_proto.specs.declared.stream.Side.TheVariants.{Client, Server}
-use Rattle.h3_connection.specs.Unidirectional.Role.{Untold, Control, Encoder, Decoder, Session, Push, Ignored}
+use Rattle.h3_connection.specs.Unidirectional.Role.{Untold, Control, Encoder, Decoder, Session, Push, Ignored, Other}
 use Rattle.h3_connection.specs.declared.event.Pull.{Pull}
 use Rattle.h3_connection.specs.declared.event.Pull.TheVariants as answer
 use Rattle.h3_connection.specs.declared.event.Fault.{Fault}
@@ -232,6 +232,14 @@ module _ (P : Pull → Type 0) (h : HoldsPlainly P) where
   over_holds true o id = h.end_came
   over_holds false o id = session_holds id o o.reset_code
 
+  left_holds : (o : Unidirectional) (code : Option ℕ) → P (raw_or_reset o code).0
+  left_holds o (Some code) = h.was_reset code
+  left_holds o None = raw_holds o o.unread
+
+  other_holds : (b : Bool) (o : Unidirectional) → P (pull_other b o).0
+  other_holds true o = h.end_came
+  other_holds false o = left_holds o o.reset_code
+
   untold_holds : (a b : Bool) → P (if a then answer.NoMessages else (if b then answer.Pending else answer.NoMessages))
   untold_holds true b = h.none
   untold_holds false true = h.pending
@@ -245,6 +253,7 @@ module _ (P : Pull → Type 0) (h : HoldsPlainly P) where
   role_holds o (Session id) = over_holds o.is_over o id
   role_holds o (Push id) = h.none
   role_holds o Ignored = h.none
+  role_holds o (Other kind) = other_holds o.is_over o
 
   with_holds : (e : EndpointHistory) (id : ℕ) (p : Pull × Unidirectional) → P p.0 → P (pulled_unidirectional e id p).0
   with_holds e id (a, o) k = k

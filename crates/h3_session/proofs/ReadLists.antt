@@ -11,6 +11,7 @@ use Rattle.h3_header.specs.ReadsBack.{ReadsBackBy, as_read}
 use Rattle.h3_proto.specs.declared.stream.Side.{Side}
 use Rattle.h3_proto.specs.declared.stream.Side.TheVariants.{Client, Server}
 use Rattle.h3_connection.specs.Endpoint.{EndpointHistory}
+use Rattle.h3_connection.specs.Remembering.{settings_known}
 use Rattle.h3_connection.specs.Outgoing.{takes_head, takes_body}
 use Rattle.h3_connection.specs.OwnIds.{other}
 use Rattle.h3_connection.specs.Pulling.{is_for}
@@ -65,7 +66,7 @@ module _ (h : Head) (back : ReadsAsTaken h) (token : takes_protocol true h.proto
   rule taken = if taken then None else Some malformation.Value
 
   abbrev sides : Bool → List (Bool × Refusal)
-  sides b = (not b, refusal.WrongSide) ∷ unless_malformed (broken_head_at e id fields) ((is_too_large e.peer.settings fields, refusal.TooLarge (section_size fields)) ∷ [])
+  sides b = (not b, refusal.WrongSide) ∷ unless_malformed (broken_head_at e id fields) ((is_too_large (settings_known e.announced e.peer.settings) fields, refusal.TooLarge (section_size fields)) ∷ [])
 
   abbrev head_sent : Option Malformation → Bool → Option Refusal × EndpointHistory
   head_sent protocol b =
@@ -86,7 +87,7 @@ module _ (h : Head) (back : ReadsAsTaken h) (token : takes_protocol true h.proto
   abbrev pseudo : Bool → List (Bool × Refusal)
   pseudo b =
       (b, refusal.PseudoInTrailer) ∷
-      unless_malformed (early_trailer (outgoing_at e id).content) (unless_malformed (broken_trailer e.announced fields) ((is_too_large e.peer.settings fields, refusal.TooLarge (section_size fields)) ∷ []))
+      unless_malformed (early_trailer (outgoing_at e id).content) (unless_malformed (broken_trailer e.announced fields) ((is_too_large (settings_known e.announced e.peer.settings) fields, refusal.TooLarge (section_size fields)) ∷ []))
 
   abbrev trailer_sent : Option Malformation → Bool → Option Refusal × EndpointHistory
   trailer_sent protocol b =

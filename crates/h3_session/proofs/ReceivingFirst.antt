@@ -38,7 +38,7 @@ use Rattle.h3_session.proofs.OpeningElsewhere.{with_requests, LooksElsewhere, he
 use Rattle.h3_session.proofs.ReceivingArrives.{arrives_is, took_none}
 use Rattle.h3_session.proofs.ReceivingCancel.{nothing_changed}
 use Rattle.h3_session.proofs.ReceivingRefusals.{arrival_refusal_is}
-use Rattle.h3_connection.specs.StrictConnection.{kinds_of, knows_sessions}
+use Rattle.h3_connection.specs.StrictConnection.{kinds_of, known_streams}
 
 -- What came was read up to some point, beside one that has the stream open, which is open then in both.
 record Lands (id : ℕ) (e : EndpointHistory) (arrivals : List Arrival) (other : EndpointHistory) : Type 0 where
@@ -134,10 +134,10 @@ lands id e f other arrivals b kind some (Goes (ReadsFront front rest {id = q} {m
     comes_on (inr (inr later)) = inr (inr later)
 lands id e f other arrivals b kind some (Goes (Holds {id = q} {bytes} {more} kinds reads) read) =
     let o = unidirectional_at e q in
-    let x = role_after (knows_sessions e.announced) o.role bytes in
+    let x = role_after (known_streams e.announced) o.role bytes in
     let h = held_elsewhere (with_unidirectional e q (with_bytes o x)) q x in
     lands_else id e f other (BytesCame q bytes ∷ more) (BytesCame q [] ∷ more) (λ y. held y q bytes) b kind (record { apart = h.apart; side = h.side; kept = h.kept })
-    (Holds (by_rest (λ y. kind_of y.side q ≡ PeerUnidirectional) id e f b kinds) (by_rest (λ y. is_reader y q (role_after (knows_sessions y.announced) (unidirectional_at y q).role bytes).0 ≡ true) id e f b reads))
+    (Holds (by_rest (λ y. kind_of y.side q ≡ PeerUnidirectional) id e f b kinds) (by_rest (λ y. is_reader y q (role_after (known_streams y.announced) (unidirectional_at y q).role bytes).0 ≡ true) id e f b reads))
     (λ beside then_kind same. lands id (held e q bytes) (held f q bytes) other (BytesCame q [] ∷ more) beside then_kind
     (moves_on id (BytesCame q [] ∷ more) e (held e q bytes) same (same_stream id e (BytesCame q bytes) (BytesCame q []) more refl some)) read)
 lands id e f other arrivals b kind some (Goes (ReadsFrames {id = q} {p} {more} on may part) read) =

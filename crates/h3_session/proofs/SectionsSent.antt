@@ -3,6 +3,7 @@ use Rattle.std.proofs.Common.{◌≡◌, ℕ, ◌+◌, List, Option, Some, None,
 use Rattle.std.specs.Prelude.{◌≢◌, unwrap_or}
 use Rattle.h3_field.specs.Field.{Field}
 use Rattle.h3_connection.specs.Sending.{appended, counted, encoded, fields_cost}
+use Rattle.h3_connection.specs.Remembering.{settings_known}
 use Rattle.h3_connection.specs.State.{EndpointState, StandsFor}
 use Rattle.h3_connection.specs.declared.event.Malformation.{Malformation}
 use Rattle.h3_connection.specs.declared.event.Refusal.{Refusal}
@@ -25,14 +26,14 @@ section_refused s id fields place r unbroken refused = record {
 }
 
 -- of a list that breaks no rule its size tells, and of another one the rule
-pub of_size : (s : EndpointState) (id : ℕ) (place : SendPlace) (fields : List Field) (told : Option Refusal) → broken_behind place s id fields ≡ None → size_refused s.peer.settings fields ≡ told
+pub of_size : (s : EndpointState) (id : ℕ) (place : SendPlace) (fields : List Field) (told : Option Refusal) → broken_behind place s id fields ≡ None → size_refused (settings_known s.announced s.peer.settings) fields ≡ told
     → refused_behind s id place fields ≡ told
-of_size s id place fields told kept sized = ap (λ broken. list_refused broken s.peer.settings fields) kept ∙ sized
+of_size s id place fields told kept sized = ap (λ broken. list_refused broken (settings_known s.announced s.peer.settings) fields) kept ∙ sized
 
 pub section_malformed : (s : EndpointState) (id : ℕ) (fields : List Field) (place : SendPlace) (why : Malformation) → broken_behind place s id fields ≡ Some why
     → SendsFields (λ e. e) s s id fields place (Some (refusal.Malformed why))
 section_malformed s id fields place why broken =
-    section_refused s id fields place (refusal.Malformed why) (λ never. absurd (cc)) (λ _. ap (λ rule. list_refused rule s.peer.settings fields) broken)
+    section_refused s id fields place (refusal.Malformed why) (λ never. absurd (cc)) (λ _. ap (λ rule. list_refused rule (settings_known s.announced s.peer.settings) fields) broken)
 
 pub section_sent : (s mid now : EndpointState) (id : ℕ) (fields : List Field) (place : SendPlace) (sum : ℕ) → now ≡ mid → IsJudged s fields sum
     → refused_behind s id place fields ≡ None → Queues s mid id fields place → SendsFields (λ e. e) s (record now { sent = sum }) id fields place None

@@ -5,6 +5,7 @@ use Rattle.h3_field.specs.Field.{Field, section_size}
 use Rattle.h3_header.specs.Head.{Head}
 use Rattle.h3_outgoing.specs.Sent as sent
 use Rattle.h3_connection.specs.Answers.{call_refused}
+use Rattle.h3_connection.specs.Remembering.{settings_known}
 use Rattle.h3_connection.specs.Calls.{IsSame, AllSame}
 use Rattle.h3_connection.specs.Endpoint.{EndpointHistory}
 use Rattle.h3_connection.specs.Outgoing.{OwnPart, OwnInterim, OwnHead, OwnTrailer, is_unsent}
@@ -46,14 +47,14 @@ sized_only e f false size = tt
 
 module _ (rule : EndpointHistory → Option Refusal) (after : EndpointHistory → EndpointHistory) (old : EndpointState) (id : ℕ) (fields : List Field) (broken : Option Malformation) where
   -- a list that breaks no rule
-  unbroken_told : ((e : EndpointHistory) → StandsFor old e → rule e ≡ list_refused broken old.peer.settings fields) → broken ≡ None → (e : EndpointHistory) → StandsFor old e → NotMalformed (does (rule e) e (after e)).0
+  unbroken_told : ((e : EndpointHistory) → StandsFor old e → rule e ≡ list_refused broken (settings_known old.announced old.peer.settings) fields) → broken ≡ None → (e : EndpointHistory) → StandsFor old e → NotMalformed (does (rule e) e (after e)).0
   unbroken_told is none e h =
       subst (λ o. NotMalformed (does o e (after e)).0) (sym (is e h))
-      (subst (λ b. NotMalformed (does (list_refused b old.peer.settings fields) e (after e)).0) (sym none) (sized_only e (after e) (is_too_large old.peer.settings fields) (section_size fields)))
+      (subst (λ b. NotMalformed (does (list_refused b (settings_known old.announced old.peer.settings) fields) e (after e)).0) (sym none) (sized_only e (after e) (is_too_large (settings_known old.announced old.peer.settings) fields) (section_size fields)))
 
-  may_lack : ((e : EndpointHistory) → StandsFor old e → rule e ≡ list_refused broken old.peer.settings fields) → (e : EndpointHistory) → StandsFor old e → MayLackMemory (does (rule e) e (after e)).0
+  may_lack : ((e : EndpointHistory) → StandsFor old e → rule e ≡ list_refused broken (settings_known old.announced old.peer.settings) fields) → (e : EndpointHistory) → StandsFor old e → MayLackMemory (does (rule e) e (after e)).0
   may_lack is e h =
-      subst (λ o. MayLackMemory (does o e (after e)).0) (sym (is e h)) (lacks_by e (after e) broken (is_too_large old.peer.settings fields) (section_size fields))
+      subst (λ o. MayLackMemory (does o e (after e)).0) (sym (is e h)) (lacks_by e (after e) broken (is_too_large (settings_known old.announced old.peer.settings) fields) (section_size fields))
 
   pub section_refused : (r : Refusal) → ((e : EndpointHistory) → StandsFor old e → rule e ≡ Some r) → r ≢ refusal.OutOfMemory → SendsSection (λ e. does (rule e) e (after e)) old old id fields (Some r)
   section_refused r is is_rule =
@@ -64,7 +65,7 @@ module _ (rule : EndpointHistory → Option Refusal) (after : EndpointHistory �
         too_large = λ e h memory some. absurd (is_rule (cc));
       }
 
-  pub section_lacks : ((e : EndpointHistory) → StandsFor old e → rule e ≡ list_refused broken old.peer.settings fields) → SendsSection (λ e. does (rule e) e (after e)) old old id fields (Some refusal.OutOfMemory)
+  pub section_lacks : ((e : EndpointHistory) → StandsFor old e → rule e ≡ list_refused broken (settings_known old.announced old.peer.settings) fields) → SendsSection (λ e. does (rule e) e (after e)) old old id fields (Some refusal.OutOfMemory)
   section_lacks is =
       record {
         done = λ e h not_memory. absurd (not_memory refl);
@@ -79,11 +80,11 @@ module _ (rule : EndpointHistory → Option Refusal) (after : EndpointHistory �
   done_by new e (Some r) h is stands same = was_refused e (after e) new (rule e) r is (subst (λ v. StandsFor v e) (sym (same (λ never. absurd (cc)))) h)
 
   section_sends : (behind : EndpointHistory → EndpointHistory) (new : EndpointState) (place : SendPlace) (refused : Option Refusal) (part : EndpointHistory → OwnPart)
-      → ((e : EndpointHistory) → StandsFor old e → rule e ≡ list_refused broken old.peer.settings fields) → ((e : EndpointHistory) → StandsFor old e → IsPart e id fields place (part e))
+      → ((e : EndpointHistory) → StandsFor old e → rule e ≡ list_refused broken (settings_known old.announced old.peer.settings) fields) → ((e : EndpointHistory) → StandsFor old e → IsPart e id fields place (part e))
       → ((e : EndpointHistory) → after e ≡ behind (counted (appended (encoded e id fields) id (part e)) (fields_cost fields)))
       → broken ≡ broken_behind place old id fields → SendsFields behind old new id fields place refused → SendsSection (λ e. does (rule e) e (after e)) old new id fields refused
   section_sends behind new place refused part is parts afters rules h =
-      let same_list : refused_behind old id place fields ≡ list_refused broken old.peer.settings fields = ap (λ b. list_refused b old.peer.settings fields) (sym rules) in
+      let same_list : refused_behind old id place fields ≡ list_refused broken (settings_known old.announced old.peer.settings) fields = ap (λ b. list_refused b (settings_known old.announced old.peer.settings) fields) (sym rules) in
       record {
         done = λ e stands not_memory.
             done_by new e refused stands (is e stands ∙ sym (h.list not_memory ∙ same_list)) (λ none. subst (StandsFor new) (sym (afters e)) (h.done none e (part e) stands (parts e stands))) (λ some. h.same some not_memory);
@@ -154,7 +155,7 @@ same_told : (r q : Refusal) → ◌≡◌ {A = Option Refusal} (Some r) (Some q)
 same_told r q is = cc
 
 module _ (rule : EndpointHistory → Option Refusal) (after : EndpointHistory → EndpointHistory) (s : EndpointState) (id : ℕ) (fields : List Field) (broken : Option Malformation) (mid : Streams RequestState) (same : AllSame s.requests mid) where
-  section_judged : (r : Refusal) → ((e : EndpointHistory) → StandsFor s e → rule e ≡ list_refused broken s.peer.settings fields) → (r ≢ refusal.OutOfMemory → list_refused broken s.peer.settings fields ≡ Some r)
+  section_judged : (r : Refusal) → ((e : EndpointHistory) → StandsFor s e → rule e ≡ list_refused broken (settings_known s.announced s.peer.settings) fields) → (r ≢ refusal.OutOfMemory → list_refused broken (settings_known s.announced s.peer.settings) fields ≡ Some r)
       → (r ≡ refusal.OutOfMemory → broken ≡ None) → SendsJudged (λ e. does (rule e) e (after e)) s (record s { requests = mid }) id fields (Some r)
   section_judged r is told none = by (is_want r) refl
     where
@@ -175,8 +176,8 @@ module _ (rule : EndpointHistory → Option Refusal) (after : EndpointHistory �
 
 -- the rules of a list are those of its place, where the same is stored of the streams
 behind_alike : (place : SendPlace) (s : EndpointState) (id : ℕ) (requests : Streams RequestState) (fields : List Field) → AllSame s.requests requests → broken_behind place s id fields ≡ broken_behind place (record s { requests = requests }) id fields
-behind_alike NothingSent s id requests fields same = ap (λ o. broken_head s.side s.announced s.peer.settings (known_in o) fields) (sym (same.each id))
-behind_alike HeadSent s id requests fields same = ap (λ o. broken_head s.side s.announced s.peer.settings (known_in o) fields) (sym (same.each id))
+behind_alike NothingSent s id requests fields same = ap (λ o. broken_head s.side s.announced (settings_known s.announced s.peer.settings) (known_in o) fields) (sym (same.each id))
+behind_alike HeadSent s id requests fields same = ap (λ o. broken_head s.side s.announced (settings_known s.announced s.peer.settings) (known_in o) fields) (sym (same.each id))
 behind_alike TrailerSent s id requests fields same = refl
 
 -- `send_head`
@@ -220,13 +221,13 @@ head_is s e id head fields (Some r) h was takes =
     let section = written_section e.encoder id fields in
     record { sends_on = o.here; piece = head_piece (is_interim head.status) section; place_is = head_place (outgoing_at e id).parts (is_interim head.status) section o.unsent }
 
-head_rule : (s : EndpointState) (id : ℕ) (head : Head) (fields : List Field) → head_refused s id head ≡ None → (e : EndpointHistory) → StandsFor s e → listed_head_refusal e id head fields ≡ list_refused (broken_head_in s id fields) s.peer.settings fields
-head_rule s id head fields none e h = sym (head_refusal_is s e id head fields h) ∙ ap (λ o. or_later o (list_refused (broken_head_in s id fields) s.peer.settings fields)) none
+head_rule : (s : EndpointState) (id : ℕ) (head : Head) (fields : List Field) → head_refused s id head ≡ None → (e : EndpointHistory) → StandsFor s e → listed_head_refusal e id head fields ≡ list_refused (broken_head_in s id fields) (settings_known s.announced s.peer.settings) fields
+head_rule s id head fields none e h = sym (head_refusal_is s e id head fields h) ∙ ap (λ o. or_later o (list_refused (broken_head_in s id fields) (settings_known s.announced s.peer.settings) fields)) none
 
 head_refuses : (s : EndpointState) (id : ℕ) (head : Head) (fields : List Field) (r : Refusal) → head_refused s id head ≡ Some r → SendsListedHead s s id head fields (Err r)
 head_refuses s id head fields r is =
     section_refused (λ e. listed_head_refusal e id head fields) (λ e. after_head e id head fields) s id fields (broken_head_in s id fields) r
-    (λ e h. sym (head_refusal_is s e id head fields h) ∙ ap (λ o. or_later o (list_refused (broken_head_in s id fields) s.peer.settings fields)) is) (λ memory. head_takes_none s id head (is ∙ ap Some memory))
+    (λ e h. sym (head_refusal_is s e id head fields h) ∙ ap (λ o. or_later o (list_refused (broken_head_in s id fields) (settings_known s.announced s.peer.settings) fields)) is) (λ memory. head_takes_none s id head (is ∙ ap Some memory))
 
 head_lacks : (s : EndpointState) (id : ℕ) (head : Head) (fields : List Field) → head_refused s id head ≡ None → SendsListedHead s s id head fields (Err refusal.OutOfMemory)
 head_lacks s id head fields none = section_lacks (λ e. listed_head_refusal e id head fields) (λ e. after_head e id head fields) s id fields (broken_head_in s id fields) (head_rule s id head fields none)
@@ -310,8 +311,8 @@ head_judged s n id head fields place refused r closed sent at rest same why judg
         subst (λ v. SendsJudgedHead s v id head fields (Err r)) (sym rest)
         (section_judged (λ e. listed_head_refusal e id head fields) (λ e. after_head e id head fields) s id fields (broken_head_in s id fields) n.requests same r
         (head_rule s id head fields (open_rule ∙ is))
-        (λ differs. ap (λ b. list_refused b s.peer.settings fields) rules
-        ∙ ap (λ settings. list_refused (broken_behind place n id fields) settings fields) (ap (λ (v : EndpointState). v.peer.settings) (sym rest)) ∙ judged.list want differs)
+        (λ differs. ap (λ b. list_refused b (settings_known s.announced s.peer.settings) fields) rules
+        ∙ ap (λ settings. list_refused (broken_behind place n id fields) settings fields) (ap (λ (v : EndpointState). settings_known v.announced v.peer.settings) (sym rest)) ∙ judged.list want differs)
         (λ memory. rules ∙ judged.unbroken want memory))
 
 -- or it was sent
@@ -349,13 +350,13 @@ trailer_is s e id fields (Some r) h was takes =
       place_is = sym (place_pushed (outgoing_at e id).parts (OwnTrailer section) ∙ ap (λ b. if b && false then NothingSent else TrailerSent) o.sent);
     }
 
-trailer_rule : (s : EndpointState) (id : ℕ) (trailer : Head) (fields : List Field) → trailer_refused s id trailer ≡ None → (e : EndpointHistory) → StandsFor s e → listed_trailer_refusal e id trailer fields ≡ list_refused (broken_trailer s.announced fields) s.peer.settings fields
-trailer_rule s id trailer fields none e h = sym (trailer_refusal_is s e id trailer fields h) ∙ ap (λ o. or_later o (list_refused (broken_trailer s.announced fields) s.peer.settings fields)) none
+trailer_rule : (s : EndpointState) (id : ℕ) (trailer : Head) (fields : List Field) → trailer_refused s id trailer ≡ None → (e : EndpointHistory) → StandsFor s e → listed_trailer_refusal e id trailer fields ≡ list_refused (broken_trailer s.announced fields) (settings_known s.announced s.peer.settings) fields
+trailer_rule s id trailer fields none e h = sym (trailer_refusal_is s e id trailer fields h) ∙ ap (λ o. or_later o (list_refused (broken_trailer s.announced fields) (settings_known s.announced s.peer.settings) fields)) none
 
 trailer_refuses : (s : EndpointState) (id : ℕ) (trailer : Head) (fields : List Field) (r : Refusal) → trailer_refused s id trailer ≡ Some r → SendsListedTrailer s s id trailer fields (Err r)
 trailer_refuses s id trailer fields r is =
     section_refused (λ e. listed_trailer_refusal e id trailer fields) (λ e. after_trailer e id fields) s id fields (broken_trailer s.announced fields) r
-    (λ e h. sym (trailer_refusal_is s e id trailer fields h) ∙ ap (λ o. or_later o (list_refused (broken_trailer s.announced fields) s.peer.settings fields)) is) (λ memory. trailer_takes_none s id trailer (is ∙ ap Some memory))
+    (λ e h. sym (trailer_refusal_is s e id trailer fields h) ∙ ap (λ o. or_later o (list_refused (broken_trailer s.announced fields) (settings_known s.announced s.peer.settings) fields)) is) (λ memory. trailer_takes_none s id trailer (is ∙ ap Some memory))
 
 trailer_lacks : (s : EndpointState) (id : ℕ) (trailer : Head) (fields : List Field) → trailer_refused s id trailer ≡ None → SendsListedTrailer s s id trailer fields (Err refusal.OutOfMemory)
 trailer_lacks s id trailer fields none = section_lacks (λ e. listed_trailer_refusal e id trailer fields) (λ e. after_trailer e id fields) s id fields (broken_trailer s.announced fields) (trailer_rule s id trailer fields none)
@@ -428,8 +429,8 @@ trailer_judged s n id trailer fields refused r closed sent rest same why judged 
         subst (λ v. SendsJudgedTrailer s v id trailer fields (Err r)) (sym rest)
         (section_judged (λ e. listed_trailer_refusal e id trailer fields) (λ e. after_trailer e id fields) s id fields (broken_trailer s.announced fields) n.requests same r
         (trailer_rule s id trailer fields (open_rule ∙ is))
-        (λ differs. ap (λ b. list_refused b s.peer.settings fields) rules
-        ∙ ap (λ settings. list_refused (broken_behind TrailerSent n id fields) settings fields) (ap (λ (v : EndpointState). v.peer.settings) (sym rest)) ∙ judged.list want differs)
+        (λ differs. ap (λ b. list_refused b (settings_known s.announced s.peer.settings) fields) rules
+        ∙ ap (λ settings. list_refused (broken_behind TrailerSent n id fields) settings fields) (ap (λ (v : EndpointState). settings_known v.announced v.peer.settings) (sym rest)) ∙ judged.list want differs)
         (λ memory. rules ∙ judged.unbroken want memory))
 
 -- or it was sent

@@ -10,6 +10,7 @@ use Rattle.h3_outgoing.specs.HistoryLaws.{head_taken, body_taken, end_taken, sen
 use Rattle.h3_outgoing.specs.Sent as sent
 use Rattle.h3_streams.specs.PlacedLaws.{critical_stands}
 use Rattle.h3_connection.specs.Endpoint.{EndpointHistory, is_critical_id}
+use Rattle.h3_connection.specs.Remembering.{settings_known}
 use Rattle.h3_connection.specs.KeptGoaways.{keeps_last}
 use Rattle.h3_connection.specs.KeptGoawayLaws.{last_kept}
 use Rattle.h3_connection.specs.Lasts.{last_id}
@@ -58,11 +59,11 @@ sender side v settings going = record { side = side; stream = v; settings = sett
 
 sender_same : (s : EndpointState) (e : EndpointHistory) (id : ℕ) → StandsFor s e → sender_on s id ≡ sender_at e id
 sender_same s e id h =
-    ap (λ side. sender side (seen_in (kept_at s.requests id)) s.peer.settings (begins_none_after s.announced side (last_id s.peer.goaways))) h.side
-    ∙ ap (λ v. sender e.side v s.peer.settings (begins_none_after s.announced e.side (last_id s.peer.goaways))) (seen_same s e id h)
-    ∙ ap (λ a. sender e.side (seen_at e id) s.peer.settings (begins_none_after a e.side (last_id s.peer.goaways))) h.announced
-    ∙ ap (λ p. sender e.side (seen_at e id) p.settings (begins_none_after e.announced e.side (last_id p.goaways))) h.peer
-    ∙ ap (λ o. sender e.side (seen_at e id) e.peer.settings (begins_none_after e.announced e.side o)) (last_kept (keeps_last e.announced.choices) e.peer.goaways)
+    ap (λ side. sender side (seen_in (kept_at s.requests id)) (settings_known s.announced s.peer.settings) (begins_none_after s.announced side (last_id s.peer.goaways))) h.side
+    ∙ ap (λ v. sender e.side v (settings_known s.announced s.peer.settings) (begins_none_after s.announced e.side (last_id s.peer.goaways))) (seen_same s e id h)
+    ∙ ap (λ a. sender e.side (seen_at e id) (settings_known a s.peer.settings) (begins_none_after a e.side (last_id s.peer.goaways))) h.announced
+    ∙ ap (λ p. sender e.side (seen_at e id) (settings_known e.announced p.settings) (begins_none_after e.announced e.side (last_id p.goaways))) h.peer
+    ∙ ap (λ o. sender e.side (seen_at e id) (settings_known e.announced e.peer.settings) (begins_none_after e.announced e.side o)) (last_kept (keeps_last e.announced.choices) e.peer.goaways)
 
 -- how much content is still to be sent
 content_at : (o : Option Outgoing) (r : Option RequestState) → SameSender o r → (outgoing_in r).content ≡ (unwrap_or o nothing_sent).content
@@ -84,10 +85,10 @@ over_at (Some o) None h = absurd h.same
 -- the rule that a list breaks
 broken_same : (s : EndpointState) (e : EndpointHistory) (id : ℕ) (fields : List Field) → StandsFor s e → broken_head_in s id fields ≡ broken_head_at e id fields
 broken_same s e id fields h =
-    ap (λ side. broken_head side s.announced s.peer.settings (known_in (kept_at s.requests id)) fields) h.side
-    ∙ ap (λ own. broken_head e.side own s.peer.settings (known_in (kept_at s.requests id)) fields) h.announced
-    ∙ ap (λ p. broken_head e.side e.announced p.settings (known_in (kept_at s.requests id)) fields) h.peer
-    ∙ ap (λ i. broken_head e.side e.announced e.peer.settings (known_of i) fields) (h.incoming id)
+    ap (λ side. broken_head side s.announced (settings_known s.announced s.peer.settings) (known_in (kept_at s.requests id)) fields) h.side
+    ∙ ap (λ own. broken_head e.side own (settings_known own s.peer.settings) (known_in (kept_at s.requests id)) fields) h.announced
+    ∙ ap (λ p. broken_head e.side e.announced (settings_known e.announced p.settings) (known_in (kept_at s.requests id)) fields) h.peer
+    ∙ ap (λ i. broken_head e.side e.announced (settings_known e.announced e.peer.settings) (known_of i) fields) (h.incoming id)
 
 -- Opening a request stream.
 pub open_refusal_is : (s : EndpointState) (e : EndpointHistory) → StandsFor s e → open_refused s ≡ open_refusal e
@@ -159,11 +160,11 @@ in_more_parts None false false false p q r None (Some why) list = refl
 
 -- Sending a head, as a list.
 pub head_refusal_is : (s : EndpointState) (e : EndpointHistory) (id : ℕ) (head : Head) (fields : List Field) → StandsFor s e
-    → or_later (head_refused s id head) (list_refused (broken_head_in s id fields) s.peer.settings fields) ≡ listed_head_refusal e id head fields
+    → or_later (head_refused s id head) (list_refused (broken_head_in s id fields) (settings_known s.announced s.peer.settings) fields) ≡ listed_head_refusal e id head fields
 head_refusal_is s e id head fields h =
     let v = seen_in (kept_at s.requests id) in
     let broken = broken_head_in s id fields in
-    in_parts s.closed (not v.is_open) (not v.takes_head) (not (is_for (other s.side) head)) refusal.NotOpen refusal.OutOfOrder refusal.WrongSide (sender_on s id).going (broken_protocol s.announced head) (of_list broken s.peer.settings fields)
+    in_parts s.closed (not v.is_open) (not v.takes_head) (not (is_for (other s.side) head)) refusal.NotOpen refusal.OutOfOrder refusal.WrongSide (sender_on s id).going (broken_protocol s.announced head) (of_list broken (settings_known s.announced s.peer.settings) fields)
     ∙ ap (λ c. closed_or c (refusal_of_head (sender_on s id) (broken_protocol s.announced head) broken head fields)) h.closed
     ∙ ap (λ v. closed_or e.closed (refusal_of_head v (broken_protocol s.announced head) broken head fields)) (sender_same s e id h)
     ∙ ap (λ own. closed_or e.closed (refusal_of_head (sender_at e id) (broken_protocol own head) broken head fields)) h.announced
@@ -171,12 +172,12 @@ head_refusal_is s e id head fields h =
 
 -- Sending a trailer, as a list.
 pub trailer_refusal_is : (s : EndpointState) (e : EndpointHistory) (id : ℕ) (head : Head) (fields : List Field) → StandsFor s e
-    → or_later (trailer_refused s id head) (list_refused (broken_trailer s.announced fields) s.peer.settings fields) ≡ listed_trailer_refusal e id head fields
+    → or_later (trailer_refused s id head) (list_refused (broken_trailer s.announced fields) (settings_known s.announced s.peer.settings) fields) ≡ listed_trailer_refusal e id head fields
 trailer_refusal_is s e id head fields h =
     let v = seen_in (kept_at s.requests id) in
     let broken = broken_trailer s.announced fields in
     let early = early_trailer (outgoing_in (kept_at s.requests id)).content in
-    in_more_parts s.closed (not v.is_open) (not v.takes_body) (has_pseudo head) refusal.NotOpen refusal.OutOfOrder refusal.PseudoInTrailer (broken_protocol s.announced head) early (of_list broken s.peer.settings fields)
+    in_more_parts s.closed (not v.is_open) (not v.takes_body) (has_pseudo head) refusal.NotOpen refusal.OutOfOrder refusal.PseudoInTrailer (broken_protocol s.announced head) early (of_list broken (settings_known s.announced s.peer.settings) fields)
     ∙ ap (λ c. closed_or c (refusal_of_trailer (sender_on s id) (broken_protocol s.announced head) early broken head fields)) h.closed
     ∙ ap (λ v. closed_or e.closed (refusal_of_trailer v (broken_protocol s.announced head) early broken head fields)) (sender_same s e id h)
     ∙ ap (λ c. closed_or e.closed (refusal_of_trailer (sender_at e id) (broken_protocol s.announced head) (early_trailer c) broken head fields)) (content_same s e id h)

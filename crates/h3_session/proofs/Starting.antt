@@ -9,6 +9,7 @@ use Rattle.h3_connection.specs.declared.setup.Announced.{Announced}
 use Rattle.h3_connection.specs.Endpoint.{new_endpoint}
 use Rattle.h3_connection.specs.KeptGoaways.{keeps_last, kept_peer}
 use Rattle.h3_connection.specs.Order.{no_order}
+use Rattle.h3_connection.specs.OtherSettings.{most_others}
 use Rattle.h3_connection.specs.PeerReading.{none_read}
 use Rattle.h3_connection.specs.State.{EndpointState, IsReached, OwnStands, RequestState, StandsFor, TakesWhatIsThere}
 use Rattle.h3_connection.specs.StreamSets.{Streams}
@@ -51,9 +52,9 @@ stored side announced requests streams kept = record {
 }
 
 -- nothing is kept of nothing
-nothing_kept : (last : Bool) (most : ℕ) → none_read most ≡ kept_peer last (none_read most)
-nothing_kept true most = refl
-nothing_kept false most = refl
+nothing_kept : (last : Bool) (updates others : ℕ) → none_read updates others ≡ kept_peer last (none_read updates others)
+nothing_kept true updates others = refl
+nothing_kept false updates others = refl
 
 first_stands : (side : Side) (announced : Announced) → StandsFor (stored side announced [] (first_streams announced) []) (new_endpoint side announced)
 first_stands side announced = record {
@@ -68,7 +69,7 @@ first_stands side announced = record {
   control_on = refl;
   encoder_on = refl;
   decoder_on = refl;
-  peer = nothing_kept (keeps_last announced.choices) (most_updates announced);
+  peer = nothing_kept (keeps_last announced.choices) (most_updates announced) (most_others announced);
   decoding = refl;
   encoder = refl;
   decoder_unread = refl;

@@ -5,6 +5,7 @@ use Rattle.h3_field.specs.Field.{Field, section_size}
 use Rattle.h3_header.specs.Head.{has_pseudo}
 use Rattle.h3_header.specs.HeadRead.{HeadRead, IsHead, IsNone, head_by}
 use Rattle.h3_connection.specs.Endpoint.{EndpointHistory}
+use Rattle.h3_connection.specs.Remembering.{settings_known}
 use Rattle.h3_connection.specs.Outgoing.{takes_head, takes_body}
 use Rattle.h3_connection.specs.OwnIds.{other}
 use Rattle.h3_connection.specs.Pulling.{is_for}
@@ -29,14 +30,14 @@ head_list (IsHead head) e peer id fields strict sent =
     let after = after_head e id head fields in
     let protocol = broken_protocol e.announced head in
     let broken = broken_head_at e id fields in
-    let size = (is_too_large e.peer.settings fields, refusal.TooLarge (section_size fields)) ∷ [] in
+    let size = (is_too_large (settings_known e.announced e.peer.settings) fields, refusal.TooLarge (section_size fields)) ∷ [] in
     let wrong = (not (is_for (other e.side) head), refusal.WrongSide) ∷ unless_malformed broken size in
     let going = (sender_at e id).going in
     let judged = unless_going going (unless_malformed protocol wrong) in
     let allowed = not_closed e.closed _ (was_allowed rule e after sent) in
     let there = passed (not (is_open e id)) refusal.NotOpen ((not (takes_head (outgoing_at e id)), refusal.OutOfOrder) ∷ judged) allowed in
     let placed = not_early protocol wrong (not_going going (unless_malformed protocol wrong) (passed (not (takes_head (outgoing_at e id))) refusal.OutOfOrder judged there)) in
-    head_taken e.side e.announced peer e.peer.settings (known_of (stream_at e.incoming id)) fields strict.strict strict.knows
+    head_taken e.side e.announced peer (settings_known e.announced e.peer.settings) (known_of (stream_at e.incoming id)) fields strict.strict strict.knows
     (not_malformed broken size (passed (not (is_for (other e.side) head)) refusal.WrongSide (unless_malformed broken size) placed))
 
 trailer_list : (r : HeadRead) (e : EndpointHistory) (peer : Announced) (id : ℕ) (fields : List Field) → IsStrictTo e peer → (send_read_trailer e id fields r).0 ≡ None → broken_rule (other e.side) peer InBody fields ≡ None
@@ -46,7 +47,7 @@ trailer_list (IsHead trailer) e peer id fields strict sent =
     let after = after_trailer e id fields in
     let protocol = broken_protocol e.announced trailer in
     let broken = broken_trailer e.announced fields in
-    let size = (is_too_large e.peer.settings fields, refusal.TooLarge (section_size fields)) ∷ [] in
+    let size = (is_too_large (settings_known e.announced e.peer.settings) fields, refusal.TooLarge (section_size fields)) ∷ [] in
     let early = early_trailer (outgoing_at e id).content in
     let behind = unless_malformed broken size in
     let pseudo = (has_pseudo trailer, refusal.PseudoInTrailer) ∷ unless_malformed early behind in

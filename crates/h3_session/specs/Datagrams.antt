@@ -10,6 +10,7 @@ use Rattle.h3_connection.specs.Incoming.{Incoming}
 use Rattle.h3_connection.specs.Keeping.{is_settled_request}
 use Rattle.h3_connection.specs.Outgoing.{is_unended}
 use Rattle.h3_connection.specs.ReadingContracts.{Shows}
+use Rattle.h3_connection.specs.Remembering.{settings_known}
 use Rattle.h3_connection.specs.State.{EndpointState, StandsFor}
 use Rattle.h3_connection.specs.StreamSets.{stream_at}
 use Rattle.h3_connection.specs.declared.event.Refusal.TheVariants as refusal
@@ -49,12 +50,12 @@ refusal_by closed is_request is_announced sending =
 
 abbrev pub datagram_refusal : EndpointHistory → ℕ → Option DatagramError
 datagram_refusal e id =
-    refusal_by e.closed (is_request_stream id) (announces e.announced.settings && peer_announces e.peer.settings) (option_map is_unended (stream_at e.outgoing id))
+    refusal_by e.closed (is_request_stream id) (announces e.announced.settings && peer_announces (settings_known e.announced e.peer.settings)) (option_map is_unended (stream_at e.outgoing id))
 
 -- the same, by what is stored
 abbrev pub datagram_refused : EndpointState → ℕ → Option DatagramError
 datagram_refused s id =
-    refusal_by s.closed (is_request_stream id) (announces s.announced.settings && peer_announces s.peer.settings) (option_map is_open (sender_in s id))
+    refusal_by s.closed (is_request_stream id) (announces s.announced.settings && peer_announces (settings_known s.announced s.peer.settings)) (option_map is_open (sender_in s id))
 
 -- what stands in front of its payload, or the first refusal
 abbrev pub unless_refused : Option DatagramError → List ℕ → Result (List ℕ) DatagramError

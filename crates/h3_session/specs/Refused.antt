@@ -8,6 +8,7 @@ use Rattle.h3_outgoing.specs.Sent.{is_sent_off}
 use Rattle.h3_proto.specs.declared.stream.Side.{Side}
 use Rattle.h3_connection.specs.Endpoint.{kind_of}
 use Rattle.h3_connection.specs.Lasts.{last_id}
+use Rattle.h3_connection.specs.Remembering.{settings_known}
 use Rattle.h3_connection.specs.Refusals.{Sender, first_of, needed, of_list, or_later, refusal_of_goaway, refusal_to_open, refusal_to_stop, too_large, unless_going, with_pseudo, wrong_side}
 use Rattle.h3_connection.specs.Sending.{closed_or}
 use Rattle.h3_connection.specs.State.{EndpointState, OutgoingState, kept_at}
@@ -29,7 +30,7 @@ sender_in s id = option_map (λ r. r.outgoing) (kept_at s.requests id)
 -- the sender on a stream
 abbrev pub sender_on : EndpointState → ℕ → Sender
 sender_on s id =
-    record { side = s.side; stream = seen_in (kept_at s.requests id); settings = s.peer.settings; going = begins_none_after s.announced s.side (last_id s.peer.goaways) }
+    record { side = s.side; stream = seen_in (kept_at s.requests id); settings = settings_known s.announced s.peer.settings; going = begins_none_after s.announced s.side (last_id s.peer.goaways) }
 
 -- The rules of a sender in the parts in which a call asks them: that of the stream, what a head or a trailer is judged by before its list is made, what
 -- was sent in front of a trailer, and the list.
@@ -108,15 +109,15 @@ goaway_refused s id = closed_or s.closed (refusal_of_goaway s.side id s.last_goa
 -- The rule that a list breaks on a stream, where rules are asked, by the place of its message behind it: as a trailer, or as a head.
 abbrev pub violation_behind : SendPlace → EndpointState → ℕ → List Field → Option Violation
 violation_behind TrailerSent s id fields = violation_of_own_trailer fields
-violation_behind HeadSent s id fields = violation_of_own_head s.side s.peer.settings (known_in (kept_at s.requests id)) fields
-violation_behind NothingSent s id fields = violation_of_own_head s.side s.peer.settings (known_in (kept_at s.requests id)) fields
+violation_behind HeadSent s id fields = violation_of_own_head s.side (settings_known s.announced s.peer.settings) (known_in (kept_at s.requests id)) fields
+violation_behind NothingSent s id fields = violation_of_own_head s.side (settings_known s.announced s.peer.settings) (known_in (kept_at s.requests id)) fields
 
 abbrev pub broken_behind : SendPlace → EndpointState → ℕ → List Field → Option Malformation
 broken_behind place s id fields = if s.announced.choices.strict_messages then option_map malformation_by (violation_behind place s id fields) else None
 
 -- as a head
 abbrev pub broken_head_in : EndpointState → ℕ → List Field → Option Malformation
-broken_head_in s id fields = broken_head s.side s.announced s.peer.settings (known_in (kept_at s.requests id)) fields
+broken_head_in s id fields = broken_head s.side s.announced (settings_known s.announced s.peer.settings) (known_in (kept_at s.requests id)) fields
 
 -- The size of a section is judged last, and by the peer's settings.
 abbrev pub size_refused : Option (List (ℕ × ℕ)) → List Field → Option Refusal
@@ -127,4 +128,4 @@ list_refused broken settings fields = first_of (of_list broken settings fields)
 
 -- what refuses a section by its list, by the place of its message behind it
 abbrev pub refused_behind : EndpointState → ℕ → SendPlace → List Field → Option Refusal
-refused_behind s id place fields = list_refused (broken_behind place s id fields) s.peer.settings fields
+refused_behind s id place fields = list_refused (broken_behind place s id fields) (settings_known s.announced s.peer.settings) fields

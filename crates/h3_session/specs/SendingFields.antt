@@ -8,6 +8,7 @@ use Rattle.h3_qpack.specs.SectionEncoding.{draft_of, required_insert_count, sent
 use Rattle.h3_streams.specs.Placed.{StreamsState}
 use Rattle.h3_connection.specs.Endpoint.{EndpointHistory}
 use Rattle.h3_connection.specs.Outgoing.{OwnPart}
+use Rattle.h3_connection.specs.Remembering.{settings_known}
 use Rattle.h3_connection.specs.Sections.{written_section, own_instructions, having_inserted}
 use Rattle.h3_connection.specs.Sending.{appended, asked, encoded, outgoing_at, fields_cost, counted}
 use Rattle.h3_connection.specs.SendingContracts.{CutsOff}
@@ -71,5 +72,5 @@ pub record SendsFields (behind : EndpointHistory → EndpointHistory) (old new :
 -- The sum of what was sent, with the section.
 pub record IsJudged (s : EndpointState) (fields : List Field) (sum : ℕ) : Type 0 where
   pub small : section_size fields < 2 ^ 62
-  pub size : size_refused s.peer.settings fields ≡ None
+  pub size : size_refused (settings_known s.announced s.peer.settings) fields ≡ None
   pub sum_is : sum ≡ s.sent + fields_cost fields + 64

@@ -16,7 +16,7 @@ use Rattle.h3_connection.specs.State.{EndpointState, StandsFor, kept_at}
 use Rattle.h3_connection.specs.Unidirectional.{Unidirectional, Role, untold, role_after}
 use Rattle.h3_connection.specs.Unidirectional.Role.{Untold, Control}
 use Rattle.h3_streams.specs.Placed.{StreamsState, placed}
-use Rattle.h3_connection.specs.StrictConnection.{knows_sessions, kinds_of}
+use Rattle.h3_connection.specs.StrictConnection.{known_streams, kinds_of}
 
 -- a stream whose role was told is there
 pub is_there : (o : Option Unidirectional) (r : Role) → (unwrap_or o untold).role ≡ r → (Untold [] ≡ r → ⊥) → o ≡ Some (unwrap_or o untold)
@@ -34,7 +34,7 @@ own_id : (id : ℕ) → not (id == id) ≡ false
 own_id id = grind (arith, common_steps)
 
 as_control : (e : EndpointHistory) (id : ℕ) → (unidirectional_at e id).role ≡ Control → bytes_at e id [] PeerUnidirectional ≡ heard_as (with_unidirectional e id (record (unidirectional_at e id) { role = Control })) id Control []
-as_control e id role = ap (λ r. read_unidirectional e id (unidirectional_at e id) (role_after (knows_sessions e.announced) r [])) role
+as_control e id role = ap (λ r. read_unidirectional e id (unidirectional_at e id) (role_after (known_streams e.announced) r [])) role
 
 pub nothing_more : (e : EndpointHistory) (id : ℕ) → kind_of e.side id ≡ PeerUnidirectional → (unidirectional_at e id).role ≡ Control → e.control_on ≡ Some id → lacks_settings e ≡ false → read_peer (kinds_of e.announced) (limit_of e) e.side e.peer ≡ (e.peer, None)
     → read_arrival e (BytesCame id []) ≡ (touched e id, None)

@@ -9,7 +9,7 @@ use Rattle.std.specs.Ordering.{nat_cmp}
 use Rattle.h3_connection.specs.Calls.{Sets, AllSame}
 use Rattle.h3_connection.specs.State.{kept_at}
 use Rattle.h3_connection.specs.StreamSets.{Streams}
-use Rattle.h3_connection.specs.Unidirectional.{Unidirectional, Role, untold, is_critical, role_after, with_bytes, pull_unidirectional}
+use Rattle.h3_connection.specs.Unidirectional.{StreamKinds, Unidirectional, Role, untold, is_critical, role_after, with_bytes, pull_unidirectional}
 use Rattle.h3_connection.specs.Unread.{held_of_role}
 use Rattle.h3_connection.specs.declared.event.Pull.{Pull}
 use Rattle.h3_connection.specs.declared.event.Pull.TheVariants.{NoMessages}
@@ -50,7 +50,7 @@ sets_second xs zs ys ws id x same none sets =
     record { here = in_second zs ws id (same.each id ∙ none) ∙ sets.here; others = λ q ne. same_first xs zs ys ws q (same.each q) (sets.others q ne) }
 
 -- what is done to one of the lists
-pub receives : (sessions : Bool) (old new part later : Streams Unidirectional) (id : ℕ) (bytes : List ℕ) (received : Received) → peer_stream old id ≡ peer_stream part id → ((x : Unidirectional) → Sets part later id x → Sets old new id x)
+pub receives : (sessions : StreamKinds) (old new part later : Streams Unidirectional) (id : ℕ) (bytes : List ℕ) (received : Received) → peer_stream old id ≡ peer_stream part id → ((x : Unidirectional) → Sets part later id x → Sets old new id x)
     → Receives sessions part later id bytes received → Receives sessions old new id bytes received
 receives sessions old new part later id bytes received is lift r =
     record {
@@ -133,7 +133,7 @@ plain_pull x plain_role.Encoder = refl
 plain_pull x plain_role.Decoder = refl
 plain_pull x plain_role.Ignored = refl
 
-plain_after : (sessions : Bool) (role : PlainRole) (bytes : List ℕ) → role_after sessions (plain role) bytes ≡ (plain role, bytes)
+plain_after : (sessions : StreamKinds) (role : PlainRole) (bytes : List ℕ) → role_after sessions (plain role) bytes ≡ (plain role, bytes)
 plain_after sessions plain_role.Control bytes = refl
 plain_after sessions plain_role.Encoder bytes = refl
 plain_after sessions plain_role.Decoder bytes = refl
@@ -156,12 +156,12 @@ pulls_plain streams id role h =
     subst (λ o. Pulls o NoMessages streams streams id) (sym p.1)
     (ap (λ (a : Pull × Unidirectional). a.0) (sym is), subst (λ (a : Pull × Unidirectional). Sets streams streams id a.1) (sym is) (itself streams id x p.1))
 
-told_stays : (sessions : Bool) (role : PlainRole) (bytes : List ℕ) (r : Role) (rest : List ℕ) → role_after sessions (plain role) bytes ≡ (r, rest) → TellsFirst sessions (plain role) bytes r rest
+told_stays : (sessions : StreamKinds) (role : PlainRole) (bytes : List ℕ) (r : Role) (rest : List ℕ) → role_after sessions (plain role) bytes ≡ (r, rest) → TellsFirst sessions (plain role) bytes r rest
 told_stays sessions role bytes r rest h =
     let e : ◌≡◌ {A = Role × List ℕ} (plain role, bytes) (r, rest) = sym (plain_after sessions role bytes) ∙ h in
     record { front = []; cut = ap (λ (p : Role × List ℕ). p.1) e; tells = plain_after sessions role [] ∙ ap (λ (p : Role × List ℕ). (p.0, [])) e }
 
-pub receives_plain : (sessions : Bool) (streams : Streams Unidirectional) (id : ℕ) (role : PlainRole) (bytes : List ℕ) (received : Received) → IsPlain role (kept_at streams id) → received ≡ received_by (plain role, bytes)
+pub receives_plain : (sessions : StreamKinds) (streams : Streams Unidirectional) (id : ℕ) (role : PlainRole) (bytes : List ℕ) (received : Received) → IsPlain role (kept_at streams id) → received ≡ received_by (plain role, bytes)
     → Receives sessions streams streams id bytes received
 receives_plain sessions streams id role bytes received h is =
     let p = some_plain role (kept_at streams id) h in
@@ -179,12 +179,12 @@ pub same_itself : (streams : Streams Unidirectional) → AllSame streams streams
 same_itself streams = record { each = λ q. refl }
 
 -- bytes of a stream of the second list, while the first stays as it is
-pub receives_second : (sessions : Bool) (xs zs ys ws : Streams Unidirectional) (id : ℕ) (bytes : List ℕ) (received : Received) → AllSame xs zs → kept_at xs id ≡ None → Receives sessions ys ws id bytes received → Receives sessions (xs ++ ys) (zs ++ ws) id bytes received
+pub receives_second : (sessions : StreamKinds) (xs zs ys ws : Streams Unidirectional) (id : ℕ) (bytes : List ℕ) (received : Received) → AllSame xs zs → kept_at xs id ≡ None → Receives sessions ys ws id bytes received → Receives sessions (xs ++ ys) (zs ++ ws) id bytes received
 receives_second sessions xs zs ys ws id bytes received same none r =
     receives sessions (xs ++ ys) (zs ++ ws) ys ws id bytes received (stream_second xs ys id none) (λ x. sets_second xs zs ys ws id x same none) r
 
 -- of one that is in neither, and now in the first
-pub receives_first : (sessions : Bool) (xs zs ys : Streams Unidirectional) (id : ℕ) (bytes : List ℕ) (received : Received) → kept_at xs id ≡ None → kept_at ys id ≡ None → Receives sessions xs zs id bytes received → Receives sessions (xs ++ ys) (zs ++ ys) id bytes received
+pub receives_first : (sessions : StreamKinds) (xs zs ys : Streams Unidirectional) (id : ℕ) (bytes : List ℕ) (received : Received) → kept_at xs id ≡ None → kept_at ys id ≡ None → Receives sessions xs zs id bytes received → Receives sessions (xs ++ ys) (zs ++ ys) id bytes received
 receives_first sessions xs zs ys id bytes received none absent r =
     let whole : peer_stream (xs ++ ys) id ≡ peer_stream xs id = ap (λ o. unwrap_or o untold) (in_second xs ys id none ∙ absent ∙ sym none) in
     receives sessions (xs ++ ys) (zs ++ ys) xs zs id bytes received whole (λ x. sets_first xs zs ys id x) r

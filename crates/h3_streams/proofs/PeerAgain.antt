@@ -10,7 +10,7 @@ use Rattle.h3_wire.specs.Fronts.{IsKnown}
 use Rattle.h3_wire.specs.declared.proto.frame.PayloadLen.{PayloadLen}
 use Rattle.h3_wire.specs.declared.proto.frame.Frame.{Frame}
 use Rattle.h3_wire.specs.declared.proto.frame.Frame.TheVariants as frame
-use Rattle.h3_connection.specs.PeerReading.{Peer, PeerFound, with_unread, read_max_push, read_frame, unless_fault, at_front, read_peer}
+use Rattle.h3_connection.specs.PeerReading.{Peer, PeerFound, having_frame, with_unread, read_max_push, read_frame, unless_fault, at_front, read_peer}
 use Rattle.h3_connection.specs.PeerReadingLaws.{peer_step, step_excessive, step_within, frame_keeps, update_settings}
 use Rattle.h3_connection.specs.SkippingLaws.{rest_shorter}
 use Rattle.h3_unidirectional.specs.PeerLaws.{peer_waits}
@@ -51,9 +51,9 @@ along : (P : Peer → Type 0) → ((p : Peer) → ((q : Peer) → length q.unrea
 along P step p = along_within P step (suc (length p.unread)) p (omega arith)
 
 -- a peer after a frame has fewer bytes
-fewer_after : (kinds : FrameKinds) (side : Side) (p : Peer) (f : Frame PayloadLen) (rest : List ℕ) → frame_by kinds (known_by kinds p.unread) ≡ Whole f rest → length (read_frame side (with_unread p rest) p.settings f).0.unread < length p.unread
+fewer_after : (kinds : FrameKinds) (side : Side) (p : Peer) (f : Frame PayloadLen) (rest : List ℕ) → frame_by kinds (known_by kinds p.unread) ≡ Whole f rest → length (read_frame side (having_frame p f (known_by kinds p.unread) rest) p.settings f).0.unread < length p.unread
 fewer_after kinds side p f rest is =
-    let size : length (read_frame side (with_unread p rest) p.settings f).0.unread ≡ length rest = ap length (frame_keeps side (with_unread p rest) p.settings f) in
+    let size : length (read_frame side (having_frame p f (known_by kinds p.unread) rest) p.settings f).0.unread ≡ length rest = ap length (frame_keeps side (having_frame p f (known_by kinds p.unread) rest) p.settings f) in
     omega (arith, rest_shorter kinds p.unread rest f is, size)
 
 -- what is found behind a frame
@@ -64,8 +64,8 @@ kept_behind p (q, None) go h k = λ later. h (k later)
 settings_front : (kinds : FrameKinds) (limit : ℕ) (side : Side) (p : Peer) (x : Front) → frame_by kinds (known_by kinds p.unread) ≡ x → ((q : Peer) → length q.unread < length p.unread → Keeps q (read_peer kinds limit side q))
     → Keeps p (at_front (read_peer kinds limit side) side p (known_by kinds p.unread) x)
 settings_front kinds limit side p (Whole f rest) is each =
-    kept_behind p (read_frame side (with_unread p rest) p.settings f) (read_peer kinds limit side) (settings_kept side (with_unread p rest) f p.settings refl)
-    (each (read_frame side (with_unread p rest) p.settings f).0 (fewer_after kinds side p f rest is))
+    kept_behind p (read_frame side (having_frame p f (known_by kinds p.unread) rest) p.settings f) (read_peer kinds limit side) (settings_kept side (having_frame p f (known_by kinds p.unread) rest) f p.settings refl)
+    (each (read_frame side (having_frame p f (known_by kinds p.unread) rest) p.settings f).0 (fewer_after kinds side p f rest is))
 settings_front kinds limit side p (Unknown kind rest) is each = λ h. h
 settings_front kinds limit side p (Refused e) is each = λ h. h
 settings_front kinds limit side p (Unfinished least) is each = λ h. h
@@ -86,7 +86,7 @@ again_behind kinds limit side (q, None) h = h
 again_front : (kinds : FrameKinds) (limit : ℕ) (side : Side) (p : Peer) (x : Front) → frame_by kinds (known_by kinds p.unread) ≡ x → is_excessive_by kinds limit (known_by kinds p.unread) ≡ false
     → ((q : Peer) → length q.unread < length p.unread → Again kinds limit side (read_peer kinds limit side q)) → Again kinds limit side (at_front (read_peer kinds limit side) side p (known_by kinds p.unread) x)
 again_front kinds limit side p (Whole f rest) is small each =
-    again_behind kinds limit side (read_frame side (with_unread p rest) p.settings f) (each (read_frame side (with_unread p rest) p.settings f).0 (fewer_after kinds side p f rest is))
+    again_behind kinds limit side (read_frame side (having_frame p f (known_by kinds p.unread) rest) p.settings f) (each (read_frame side (having_frame p f (known_by kinds p.unread) rest) p.settings f).0 (fewer_after kinds side p f rest is))
 again_front kinds limit side p (Unknown kind rest) is small each = λ none. absurd (subst IsKnown is (known_is kinds p.unread))
 again_front kinds limit side p (Refused e) is small each = λ none. absurd (cc)
 again_front kinds limit side p (Unfinished least) is small each =

@@ -2,7 +2,7 @@
 use Rattle.std.proofs.Common.{◌≡◌, ℕ, Option, Some, None, ap, sym, subst, ◌∙◌, [], refl, List, ◌++◌, flat_map}
 use Rattle.std.specs.Prelude.{true, unwrap_or, IfSome}
 use Rattle.h3_connection.specs.Unidirectional.{Unidirectional, Role, is_critical, pull_unidirectional, untold}
-use Rattle.h3_connection.specs.Unidirectional.Role.{Untold, Control, Encoder, Decoder, Session, Push, Ignored}
+use Rattle.h3_connection.specs.Unidirectional.Role.{Untold, Control, Encoder, Decoder, Session, Push, Ignored, Other}
 use Rattle.h3_connection.specs.Delivering.{unidirectional_at}
 use Rattle.h3_connection.specs.Endpoint.{EndpointHistory, replied}
 use Rattle.h3_connection.specs.KeptGoaways.{keeps_last, kept_peer}
@@ -28,6 +28,7 @@ pull_told o (Untold front) h k = absurd (cc)
 pull_told o (Session id) h k = absurd (cc)
 pull_told o (Push id) h k = absurd (cc)
 pull_told o Ignored h k = absurd (cc)
+pull_told o (Other kind) h k = absurd (cc)
 
 -- what a pull answers
 pulled_by : (s : EndpointState) (x : StreamsState) (e : EndpointHistory) (id : ℕ) (there : Option Unidirectional) (given : Pull) (new : Streams Unidirectional) → StandsFor (placed s x) e

@@ -17,8 +17,8 @@ use Rattle.h3_connection.specs.StandsLaws.{stands_unidirectional}
 use Rattle.h3_connection.specs.State.{EndpointState, StandsFor, IsReached, IsToldPeer, kept_at}
 use Rattle.h3_connection.specs.StreamSets.{Streams, stream_at}
 use Rattle.h3_connection.specs.StreamSetLaws.{set-here}
-use Rattle.h3_connection.specs.Unidirectional.{Unidirectional, Role, untold, is_critical, role_after, with_bytes}
-use Rattle.h3_connection.specs.Unidirectional.Role.{Untold, Control, Encoder, Decoder, Session, Push, Ignored}
+use Rattle.h3_connection.specs.Unidirectional.{StreamKinds, Unidirectional, Role, untold, is_critical, role_after, with_bytes}
+use Rattle.h3_connection.specs.Unidirectional.Role.{Untold, Control, Encoder, Decoder, Session, Push, Ignored, Other}
 use Rattle.h3_unidirectional.specs.Kinds.{TellsFirst}
 use Rattle.h3_streams.proofs.PlacedLaws.{stands_map}
 use Rattle.h3_streams.specs.Placed.{StreamsState, placed, Reads}
@@ -27,7 +27,7 @@ use Rattle.h3_streams.proofs.Again.{is_there}
 use Rattle.h3_streams.proofs.Beginnings.{Begins, control_begins, encoder_begins, decoder_begins}
 use Rattle.h3_streams.proofs.EncoderReads.{first_found}
 use Rattle.h3_streams.proofs.Peers.{one_peer, peer_on, told_by, same_reader}
-use Rattle.h3_connection.specs.StrictConnection.{knows_sessions}
+use Rattle.h3_connection.specs.StrictConnection.{known_streams}
 
 -- the stream, told to be of this role
 abbrev pub told_as : EndpointHistory → ℕ → Role → EndpointHistory
@@ -41,8 +41,9 @@ told_bytes Decoder o l c = refl
 told_bytes (Session id) o l c = absurd (cc)
 told_bytes (Push id) o l c = absurd (cc)
 told_bytes Ignored o l c = absurd (cc)
+told_bytes (Other kind) o l c = absurd (cc)
 
-told_after : (sessions : Bool) (r : Role) (l : List ℕ) → is_critical r ≡ true → role_after sessions r l ≡ (r, l)
+told_after : (sessions : StreamKinds) (r : Role) (l : List ℕ) → is_critical r ≡ true → role_after sessions r l ≡ (r, l)
 told_after sessions (Untold front) l c = absurd (cc)
 told_after sessions Control l c = refl
 told_after sessions Encoder l c = refl
@@ -50,9 +51,10 @@ told_after sessions Decoder l c = refl
 told_after sessions (Session id) l c = absurd (cc)
 told_after sessions (Push id) l c = absurd (cc)
 told_after sessions Ignored l c = absurd (cc)
+told_after sessions (Other kind) l c = absurd (cc)
 
 -- a stream that told to be the connection's stays so
-pub told_kept : (sessions : Bool) (o : Unidirectional) (bytes : List ℕ) → is_critical o.role ≡ true → is_critical (with_bytes o (role_after sessions o.role bytes)).role ≡ true
+pub told_kept : (sessions : StreamKinds) (o : Unidirectional) (bytes : List ℕ) → is_critical o.role ≡ true → is_critical (with_bytes o (role_after sessions o.role bytes)).role ≡ true
 told_kept sessions o bytes c = subst (λ (p : Unidirectional). is_critical p.role ≡ true) (sym (ap (λ p. with_bytes o p) (told_after sessions o.role bytes c) ∙ told_bytes o.role o bytes c)) c
 
 not_untold : (r : Role) → is_critical r ≡ true → Untold [] ≡ r → ⊥
@@ -63,6 +65,7 @@ not_untold Decoder c e = cc
 not_untold (Session id) c e = cc
 not_untold (Push id) c e = cc
 not_untold Ignored c e = cc
+not_untold (Other kind) c e = cc
 
 reader_is : (e : EndpointHistory) (id : ℕ) (r : Role) → is_critical r ≡ true → is_reader e id r ≡ not (is_second (reader_on r e) id)
 reader_is e id (Untold front) c = absurd (cc)
@@ -72,6 +75,7 @@ reader_is e id Decoder c = refl
 reader_is e id (Session n) c = absurd (cc)
 reader_is e id (Push n) c = absurd (cc)
 reader_is e id Ignored c = absurd (cc)
+reader_is e id (Other kind) c = absurd (cc)
 
 -- its reader begins with no bytes
 begins_first : (s : EndpointState) (x : StreamsState) (e : EndpointHistory) (id : ℕ) (on : Option ℕ) (found : Found) → on ≡ None → Begins s x found → Begins s x (only_one on id e found)
@@ -85,13 +89,14 @@ begins_as Decoder s x e id c h told none = begins_first s (record x { decoder_on
 begins_as (Session n) s x e id c h told none = absurd (cc)
 begins_as (Push n) s x e id c h told none = absurd (cc)
 begins_as Ignored s x e id c h told none = absurd (cc)
+begins_as (Other kind) s x e id c h told none = absurd (cc)
 
 -- What is known of the bytes of such a stream: its role, the bytes for it, and the map of streams after them.
 pub record IsTold (x : StreamsState) (new : Streams Unidirectional) (e : EndpointHistory) (id : ℕ) (bytes : List ℕ) (r : Role) (rest : List ℕ) : Type 0 where
   pub critical : is_critical r ≡ true
-  pub after : role_after (knows_sessions e.announced) (unidirectional_at e id).role bytes ≡ (r, rest)
-  pub sets : Sets x.unidirectional new id (with_bytes (unidirectional_at e id) (role_after (knows_sessions e.announced) (unidirectional_at e id).role bytes))
-  pub front : TellsFirst (knows_sessions e.announced) (unidirectional_at e id).role bytes r rest
+  pub after : role_after (known_streams e.announced) (unidirectional_at e id).role bytes ≡ (r, rest)
+  pub sets : Sets x.unidirectional new id (with_bytes (unidirectional_at e id) (role_after (known_streams e.announced) (unidirectional_at e id).role bytes))
+  pub front : TellsFirst (known_streams e.announced) (unidirectional_at e id).role bytes r rest
 
 -- the map of streams stands for the stream with its role
 told_stands : (s : EndpointState) (x : StreamsState) (new : Streams Unidirectional) (e : EndpointHistory) (id : ℕ) (bytes : List ℕ) (r : Role) (rest : List ℕ) → StandsFor (placed s x) e → IsTold x new e id bytes r rest
@@ -131,7 +136,7 @@ stopped_held : (s : EndpointState) (x y : StreamsState) (new : Streams Unidirect
     → kind_of e.side id ≡ PeerUnidirectional → IsTold x new e id bytes r rest → is_second (reader_on r e) id ≡ false → StopsAt s y (held_as (told_as e id r) id (r, rest)) (BytesCame id [] ∷ []) left
     → held e id bytes ≡ held_as (told_as e id r) id (r, rest) → (held_as (told_as e id r) id (r, rest)).side ≡ e.side → StopsAt s y e (BytesCame id bytes ∷ []) left
 stopped_held s x y new e id bytes r rest left kind t first stops is side =
-    let reader : is_reader e id (role_after (knows_sessions e.announced) (unidirectional_at e id).role bytes).0 ≡ true = ap (λ (p : Role × List ℕ). is_reader e id p.0) t.after ∙ reader_is e id r t.critical ∙ ap not first in
+    let reader : is_reader e id (role_after (known_streams e.announced) (unidirectional_at e id).role bytes).0 ≡ true = ap (λ (p : Role × List ℕ). is_reader e id p.0) t.after ∙ reader_is e id r t.critical ∙ ap not first in
     record {
       after = stops.after;
       reads = λ more. ReadsSome.Steps (subst (λ g. ReadsOn e (BytesCame id bytes ∷ more) g (BytesCame id [] ∷ more)) is (ReadsOn.Holds kind reader)) (stops.reads more);
@@ -152,6 +157,7 @@ held_side e id Decoder rest = refl
 held_side e id (Session n) rest = refl
 held_side e id (Push n) rest = refl
 held_side e id Ignored rest = refl
+held_side e id (Other kind) rest = refl
 
 told_reader : (r : Role) (e : EndpointHistory) (id : ℕ) (r2 : Role) → reader_on r (told_as e id r2) ≡ reader_on r e
 told_reader (Untold front) e id r2 = refl
@@ -161,6 +167,7 @@ told_reader Decoder e id r2 = refl
 told_reader (Session n) e id r2 = refl
 told_reader (Push n) e id r2 = refl
 told_reader Ignored e id r2 = refl
+told_reader (Other kind) e id r2 = refl
 
 -- nothing of them was taken: the stream's role was told before
 stopped_before : (s : EndpointState) (x : StreamsState) (new : Streams Unidirectional) (e : EndpointHistory) (id : ℕ) (bytes : List ℕ) (r : Role) (rest : List ℕ) (left : List Arrival) → StandsFor (placed s x) e
@@ -168,10 +175,10 @@ stopped_before : (s : EndpointState) (x : StreamsState) (new : Streams Unidirect
     → StopsAt s (record x { unidirectional = new }) e (BytesCame id bytes ∷ []) left
 stopped_before s x new e id bytes r rest left h kind t before is =
     let o = unidirectional_at e id in
-    let same : (o.role, bytes) ≡ (r, rest) = sym (told_after (knows_sessions e.announced) o.role bytes before) ∙ t.after in
+    let same : (o.role, bytes) ≡ (r, rest) = sym (told_after (known_streams e.announced) o.role bytes before) ∙ t.after in
     let whole : rest ≡ bytes = sym (ap (λ (p : Role × List ℕ). p.1) same) in
     let there : stream_at e.unidirectional id ≡ Some o = is_there (stream_at e.unidirectional id) o.role refl (not_untold o.role before) in
-    let kept : with_bytes o (role_after (knows_sessions e.announced) o.role bytes) ≡ o = ap (λ p. with_bytes o p) (told_after (knows_sessions e.announced) o.role bytes before) ∙ told_bytes o.role o bytes before in
+    let kept : with_bytes o (role_after (known_streams e.announced) o.role bytes) ≡ o = ap (λ p. with_bytes o p) (told_after (known_streams e.announced) o.role bytes before) ∙ told_bytes o.role o bytes before in
     let here : kept_at new id ≡ stream_at e.unidirectional id = t.sets.here ∙ ap Some kept ∙ sym there in
     let stands = stands_map s x e new h (λ q. elim (cases_eq q id) [
       | inl is_id ↦ subst (λ n. kept_at new n ≡ stream_at e.unidirectional n) (sym is_id) here
@@ -213,6 +220,7 @@ reader_told Decoder e id c h is = told_by e.side e.unidirectional e.decoder_on i
 reader_told (Session n) e id c h is = absurd (cc)
 reader_told (Push n) e id c h is = absurd (cc)
 reader_told Ignored e id c h is = absurd (cc)
+reader_told (Other kind) e id c h is = absurd (cc)
 
 same_reading : (r : Role) (s : EndpointState) (x : StreamsState) (e : EndpointHistory) (id : ℕ) → is_critical r ≡ true → StandsFor (placed s x) e → reader_on r e ≡ Some id → x ≡ with_reader r x id
 same_reading (Untold front) s x e id c h is = absurd (cc)
@@ -222,6 +230,7 @@ same_reading Decoder s x e id c h is = ap (λ o. record x { decoder_on = o }) (h
 same_reading (Session n) s x e id c h is = absurd (cc)
 same_reading (Push n) s x e id c h is = absurd (cc)
 same_reading Ignored s x e id c h is = absurd (cc)
+same_reading (Other kind) s x e id c h is = absurd (cc)
 
 -- nothing of them was taken, by whether the stream was read as such before
 stopped_unheld : (s : EndpointState) (x : StreamsState) (new : Streams Unidirectional) (e : EndpointHistory) (id : ℕ) (bytes : List ℕ) (r : Role) (rest : List ℕ) (left : List Arrival) (on : Option ℕ) → StandsFor (placed s x) e

@@ -10,10 +10,11 @@ use Rattle.h3_connection.specs.Endpoint.Kind.{Request, ServerOpened, OwnUnidirec
 use Rattle.h3_connection.specs.Listeners.{Decoding, Encoding}
 use Rattle.h3_connection.specs.OwnIds.{other, is_own}
 use Rattle.h3_connection.specs.PeerReading.{Peer, none_read}
+use Rattle.h3_connection.specs.OtherSettings.{most_others}
 use Rattle.h3_connection.specs.Updates.{most_updates}
 use Rattle.h3_connection.specs.State.{EndpointState, OwnState, StandsFor, kept_at}
 use Rattle.h3_connection.specs.StreamSets.{Streams}
-use Rattle.h3_connection.specs.Unidirectional.{Unidirectional, Role, untold, is_critical, role_after, with_bytes, pull_unidirectional}
+use Rattle.h3_connection.specs.Unidirectional.{StreamKinds, Unidirectional, Role, untold, is_critical, role_after, with_bytes, pull_unidirectional}
 use Rattle.h3_connection.specs.declared.event.Pull.{Pull}
 use Rattle.h3_connection.specs.declared.event.Pull.TheVariants.{Pending}
 use Rattle.h3_connection.specs.declared.setup.Announced.{Announced}
@@ -54,7 +55,7 @@ first_streams announced =
       control_on = None;
       encoder_on = None;
       decoder_on = None;
-      peer = none_read (most_updates announced);
+      peer = none_read (most_updates announced) (most_others announced);
       decoding = record { decoder = first_decoder announced; unread = [] };
       encoding = record { encoder = encoder_state (first_encoder announced); unread = [] };
       own = first_own announced.settings;
@@ -96,12 +97,12 @@ pub record Closes (old new : Streams Unidirectional) (id : ℕ) (code : Option �
   pub sets : Sets old new id (closed_by (peer_stream old id) code)
   pub critical_is : critical ≡ is_critical (peer_stream old id).role
 
--- What bytes do to their stream, whether sessions are known or not: for whom they are, and what tells a role stands in front of the bytes that
+-- What bytes do to their stream, where these streams are known: for whom they are, and what tells a role stands in front of the bytes that
 -- are for it.
-pub record Receives (sessions : Bool) (old new : Streams Unidirectional) (id : ℕ) (bytes : List ℕ) (received : Received) : Type 0 where
-  pub sets : Sets old new id (with_bytes (peer_stream old id) (role_after sessions (peer_stream old id).role bytes))
-  pub given : received ≡ received_by (role_after sessions (peer_stream old id).role bytes)
-  pub front : (r : Role) (rest : List ℕ) → is_untold r ≡ false → role_after sessions (peer_stream old id).role bytes ≡ (r, rest) → TellsFirst sessions (peer_stream old id).role bytes r rest
+pub record Receives (known : StreamKinds) (old new : Streams Unidirectional) (id : ℕ) (bytes : List ℕ) (received : Received) : Type 0 where
+  pub sets : Sets old new id (with_bytes (peer_stream old id) (role_after known (peer_stream old id).role bytes))
+  pub given : received ≡ received_by (role_after known (peer_stream old id).role bytes)
+  pub front : (r : Role) (rest : List ℕ) → is_untold r ≡ false → role_after known (peer_stream old id).role bytes ≡ (r, rest) → TellsFirst known (peer_stream old id).role bytes r rest
 
 abbrev pub closing_code : Bool → Option ℕ
 closing_code critical = if critical then Some closed_critical_stream else None

@@ -2,7 +2,7 @@
 ghost use Rattle.std.specs.Prelude.{◌≡◌, ◌≢◌, ◌+◌, ◌<◌, ◌^◌, ℕ, length, IsSome, IfSome, IfNone, Some, None, is_some, is_none, IfOk, IfErr, OnOk, OnErr};
 ghost use Rattle.std.specs.List.{concat};
 ghost use Rattle.h3_connection.specs.Calls.{Sets, AllSame};
-ghost use Rattle.h3_connection.specs.StrictConnection.{knows_sessions};
+ghost use Rattle.h3_connection.specs.StrictConnection.{known_streams};
 ghost use Rattle.h3_connection.specs.State.{kept_at};
 ghost use Rattle.h3_connection.specs.Unidirectional.{is_closed};
 ghost use Rattle.h3_connection.specs.Unread.{held_of_role};
@@ -136,7 +136,7 @@ fn receive_there(
 ) -> Result<Received, Bytes>
     requires there { IsSome (kept_at streams.old.entries id) }
     requires fits { length (concat (peer_stream streams.old.entries id).unread) + length bytes < 2 ^ 64 }
-    ensures ok { IfOk result (λ received. Receives (knows_sessions own.now) streams.old.entries streams.new.entries id bytes received) }
+    ensures ok { IfOk result (λ received. Receives (known_streams own.now) streams.old.entries streams.new.entries id bytes received) }
     ensures err { IfErr result (λ back. (back ≡ bytes) × AllSame streams.old.entries streams.new.entries) }
 {
     let Some(stream) = streams.get_mut(&id.into_inner()) else {
@@ -162,7 +162,7 @@ pub(crate) fn receive(
     bytes: Bytes,
 ) -> Result<Received, Bytes>
     requires { length (concat (peer_stream streams.old.entries id).unread) + length bytes < 2 ^ 64 }
-    ensures ok { IfOk result (λ received. Receives (knows_sessions own.now) streams.old.entries streams.new.entries id bytes received) }
+    ensures ok { IfOk result (λ received. Receives (known_streams own.now) streams.old.entries streams.new.entries id bytes received) }
     ensures err { IfErr result (λ back. (back ≡ bytes) × AllSame streams.old.entries streams.new.entries) }
 {
     let Ok(is_new) = open(streams, alloc, id) else {

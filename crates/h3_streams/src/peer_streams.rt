@@ -3,7 +3,7 @@ ghost use Rattle.std.specs.Prelude.{◌≡◌, ◌+◌, ◌<◌, ◌^◌, ◌++�
 ghost use Rattle.std.specs.List.{concat};
 ghost use Rattle.h3_connection.specs.Calls.{AllSame};
 ghost use Rattle.h3_connection.specs.Keeping.{is_settled_peer};
-ghost use Rattle.h3_connection.specs.StrictConnection.{knows_sessions};
+ghost use Rattle.h3_connection.specs.StrictConnection.{known_streams};
 ghost use Rattle.h3_connection.specs.State.{kept_at};
 ghost use Rattle.h3_connection.specs.Unidirectional.{is_closed};
 ghost use Rattle.h3_connection.specs.Unread.{held_of_role};
@@ -53,7 +53,7 @@ fn receive_elsewhere(
 ) -> Result<Received, Bytes>
     requires absent { kept_at (plain_streams plain.old) id ≡ None }
     requires fits { length (concat (peer_stream kept.old.entries id).unread) + length bytes < 2 ^ 64 }
-    ensures ok { IfOk result (λ received. Receives (knows_sessions own.now) (plain_streams plain.old ++ kept.old.entries) (plain_streams plain.new ++ kept.new.entries) id bytes received) }
+    ensures ok { IfOk result (λ received. Receives (known_streams own.now) (plain_streams plain.old ++ kept.old.entries) (plain_streams plain.new ++ kept.new.entries) id bytes received) }
     ensures err { IfErr result (λ back. (back ≡ bytes) × AllSame (plain_streams plain.old ++ kept.old.entries) (plain_streams plain.new ++ kept.new.entries)) }
 {
     if map::has(kept, id) {
@@ -167,7 +167,7 @@ impl PeerStreams {
         bytes: Bytes,
     ) -> Result<Received, Bytes>
         requires { length (concat (peer_stream self.old id).unread) + length bytes < 2 ^ 64 }
-        ensures ok { IfOk result (λ received. Receives (knows_sessions own.now) self.old self.new id bytes received) }
+        ensures ok { IfOk result (λ received. Receives (known_streams own.now) self.old self.new id bytes received) }
         ensures err { IfErr result (λ back. (back ≡ bytes) × AllSame self.old self.new) }
     {
         match self.plain.role(id.into_inner()) {

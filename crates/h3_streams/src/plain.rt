@@ -1,7 +1,7 @@
 //! The peer's streams of which nothing is kept but their role and whether they ended, in two bytes each.
 ghost use Rattle.std.specs.Prelude.{◌≡◌, ◌≤◌, ◌+◌, ◌*◌, ℕ, true, false, [], length, max, ◌/◌, ◌%◌, Some, None, IsSome, IfSome, IfNone, unwrap_or, option_map, OnOk, OnErr, IfOk, IfErr};
 ghost use Rattle.h3_connection.specs.Calls.{Sets, AllSame};
-ghost use Rattle.h3_connection.specs.StrictConnection.{knows_sessions};
+ghost use Rattle.h3_connection.specs.StrictConnection.{known_streams};
 ghost use Rattle.h3_connection.specs.State.{kept_at};
 ghost use Rattle.h3_connection.specs.Unidirectional.{untold, is_closed};
 ghost use Rattle.h3_streams.specs.Placed.{closed_by, peer_stream, Receives};
@@ -271,7 +271,7 @@ impl PlainStreams {
         mut bytes: Bytes,
     ) -> Result<Received, Bytes>
         requires { kept_at (plain_streams self.old) id ≡ None }
-        ensures ok { IfOk result (λ received. Receives (knows_sessions own.now) (plain_streams self.old) (plain_streams self.new) id bytes received) }
+        ensures ok { IfOk result (λ received. Receives (known_streams own.now) (plain_streams self.old) (plain_streams self.new) id bytes received) }
         ensures err { IfErr result (λ back. (back ≡ bytes) × AllSame (plain_streams self.old) (plain_streams self.new)) }
     {
         let Some((role, passed)) = first_role(bytes.as_slice(), own) else {

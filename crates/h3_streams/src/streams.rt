@@ -81,7 +81,7 @@ impl ConnectionStreams {
             control_on: None,
             encoder_on: None,
             decoder_on: None,
-            peer: PeerControl::new(alloc, announced.most_updates()),
+            peer: PeerControl::new(alloc, announced.most_updates(), announced.most_others()),
             decoding: Decoding::new(
                 alloc,
                 announced.limits.table as usize,

@@ -20,7 +20,7 @@ use Rattle.h3_connection.specs.Listeners.{hearing_fault}
 use Rattle.h3_connection.specs.OwnIds.{control_id, decoder_id, encoder_id, is_own, other}
 use Rattle.h3_connection.specs.PeerReading.{Peer, read_peer, with_unread}
 use Rattle.h3_connection.specs.StreamSets.{stream_at}
-use Rattle.h3_connection.specs.StrictConnection.{kinds_of, knows_sessions}
+use Rattle.h3_connection.specs.StrictConnection.{kinds_of, known_streams}
 use Rattle.h3_connection.specs.Unidirectional.{Role, Unidirectional, role_after}
 use Rattle.h3_connection.specs.Unidirectional.Role.{Control, Decoder, Encoder, Untold}
 use Rattle.h3_connection.specs.Delivering.{with_unidirectional}
@@ -84,8 +84,8 @@ told_rest e id kind (suc c) count role units held bytes t h untold all =
     record {
       rest = bytes;
       all = all ∙ ap (λ n. take n (drop c units)) x ∙ ap (λ n. take (suc c + count - 1 - (suc c - 1)) (drop n units)) y;
-      is = ap (λ (z : Unidirectional). told_role e id z (role_after (knows_sessions e.announced) z.role bytes)) (peer_stream (suc c) role (stream_at e.unidirectional id) h ∙ ap with_role before)
-          ∙ ap (λ z. told_role e id (with_role role) z) (t.stays (knows_sessions e.announced) bytes)
+      is = ap (λ (z : Unidirectional). told_role e id z (role_after (known_streams e.announced) z.role bytes)) (peer_stream (suc c) role (stream_at e.unidirectional id) h ∙ ap with_role before)
+          ∙ ap (λ z. told_role e id (with_role role) z) (t.stays (known_streams e.announced) bytes)
           ∙ ap (λ z. told_as (with_unidirectional e id z) id role bytes) (t.keeps (with_role role) bytes)
           ∙ ap (λ q. told_as (with_unidirectional e id (with_role q)) id q bytes) (sym behind);
     }

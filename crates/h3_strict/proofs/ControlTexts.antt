@@ -18,7 +18,7 @@ use Rattle.h3_wire.specs.UnfinishedLaws.{front_of_frame}
 use Rattle.h3_wire.specs.declared.proto.frame.Frame.TheVariants as frame
 use Rattle.h3_connection.specs.Codes.{excessive_load, id_error}
 use Rattle.h3_connection.specs.Endpoint.{goaway_encoding}
-use Rattle.h3_connection.specs.PeerReading.{Peer, PeerFound, at_front, is_above, is_no_goaway, read_frame, read_within, unless_excessive, unless_fault, with_unread}
+use Rattle.h3_connection.specs.PeerReading.{Peer, PeerFound, at_front, having_frame, is_above, is_no_goaway, read_frame, read_within, unless_excessive, unless_fault, with_unread}
 use Rattle.h3_connection.specs.Lasts.{last_id}
 use Rattle.h3_connection.specs.declared.setup.Announced.{Announced}
 use Rattle.h3_headline.specs.FrontLaws.{long_front, short_front}
@@ -92,7 +92,7 @@ module _ (kinds : FrameKinds) (limit : ℕ) where
         | inr there ↦
             let longer = long_front p.unread more (goaway_encoding id) (flat_map goaway_encoding ids) e there in
             let rest = drop (length (goaway_encoding id)) p.unread in
-            let q = with_unread p rest in
+            let q = having_frame p (frame.Goaway id) p.unread rest in
             front_fits most side p (Whole (frame.Goaway id) rest) (ap (frame_by kinds) longer.front_is ∙ written_goaway kinds id rest small.0) tt fits
             (behind_fits (read_frame side q p.settings (frame.Goaway id)) (read_within kinds most limit side) (goaway_fits side q p.settings id)
             (λ none. goaways_fit most side (read_frame side q p.settings (frame.Goaway id)).0 ids more room small.1 (ap (λ l. l ++ more) (goaway_keeps side q p.settings id) ∙ longer.rest_is)))
@@ -119,8 +119,8 @@ module _ (kinds : FrameKinds) (limit : ℕ) where
         | inr there ↦
             let longer = long_front p.unread more (settings_frame_of a) (flat_map goaway_encoding ids) e there in
             let rest = drop (length (settings_frame_of a)) p.unread in
-            let q = with_unread p rest in
             let kept = with_meaning a.settings in
+            let q = having_frame p (frame.Settings kept) p.unread rest in
             front_fits most side p (Whole (frame.Settings kept) rest) (ap (frame_by kinds) longer.front_is ∙ written_settings kinds a.settings rest h.small ∙ ap (λ r. settings_frame r rest) h.received) tt fits
             (behind_fits (read_frame side q p.settings (frame.Settings kept)) (read_within kinds most limit side) (settings_fit side q p.settings kept)
             (λ none. goaways_fit most side (read_frame side q p.settings (frame.Settings kept)).0 ids more room small (ap (λ l. l ++ more) (settings_keep side q p.settings kept) ∙ longer.rest_is)))

@@ -21,10 +21,10 @@ use Rattle.h3_connection.specs.OwnIds.{control_id, decoder_id, encoder_id, is_ow
 use Rattle.h3_connection.specs.PeerReading.{Peer, PeerFound, read_peer, with_unread}
 use Rattle.h3_connection.specs.Shown.{has_outgoing, is_finished, is_reset, waiting}
 use Rattle.h3_connection.specs.StreamSets.{stream_at}
-use Rattle.h3_connection.specs.StrictConnection.{is_no_session, is_strict, kinds_of, knows_sessions}
+use Rattle.h3_connection.specs.StrictConnection.{is_no_session, is_strict, kinds_of, known_streams}
 use Rattle.h3_connection.specs.StrictConnectionLaws.{fault_as_found}
 use Rattle.h3_connection.specs.Unidirectional.{Role, is_critical, role_after}
-use Rattle.h3_connection.specs.Unidirectional.Role.{Control, Decoder, Encoder, Ignored, Push, Session, Untold}
+use Rattle.h3_connection.specs.Unidirectional.Role.{Control, Decoder, Encoder, Ignored, Push, Session, Untold, Other}
 use Rattle.h3_connection.specs.declared.arrival.Arrival.{Arrival}
 use Rattle.h3_connection.specs.declared.arrival.Arrival.TheVariants.{BytesCame, EndCame, ResetCame}
 use Rattle.h3_connection.specs.declared.event.Refusal.{Refusal}
@@ -109,6 +109,7 @@ heard_fits e id Decoder bytes h = second_fits (is_second e.decoder_on id) (loose
 heard_fits e id (Session n) bytes h = session_fits (is_no_session (loose e).announced n)
 heard_fits e id (Push n) bytes h = push_fits e.side
 heard_fits e id Ignored bytes h = refl
+heard_fits e id (Other kind) bytes h = refl
 
 -- an end or a reset is no frame
 critical_fits : (b : Bool) → is_excess false (if b then Some closed_critical_stream else None) ≡ false
@@ -134,8 +135,8 @@ told_typed e id kind role came count units t h =
     let bytes = take count (drop came (kind ∷ units)) in
     let next = role_by (came + count) role in
     let rest = behind_type came count units in
-    ap (λ o. told_role e id o (role_after (knows_sessions e.announced) o.role bytes)) (peer_stream came role (stream_at e.unidirectional id) h)
-    ∙ ap (λ x. told_role e id (with_role (role_by came role)) x) (role_then (knows_sessions e.announced) kind role came count units t)
+    ap (λ o. told_role e id o (role_after (known_streams e.announced) o.role bytes)) (peer_stream came role (stream_at e.unidirectional id) h)
+    ∙ ap (λ x. told_role e id (with_role (role_by came role)) x) (role_then (known_streams e.announced) kind role came count units t)
     ∙ ap (λ o. told_as (with_unidirectional e id o) id next rest) (with_role_then kind role (role_by came role) rest (came + count == 0) t)
 
 -- What holds of a reader and of a writer, which wrote that on its own streams.

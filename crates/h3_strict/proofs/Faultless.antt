@@ -15,8 +15,8 @@ use Rattle.h3_connection.specs.Sending as sender
 use Rattle.h3_connection.specs.Sending.{after_answer, if_too_many, pulled, pull_request, pulled_unidirectional, pull_peer, pull_at, pull_unless}
 use Rattle.h3_connection.specs.Shown.{has_outgoing, is_finished, is_reset, waiting}
 use Rattle.h3_connection.specs.StreamSets.{stream_at}
-use Rattle.h3_connection.specs.Unidirectional.{Unidirectional, Role, if_over, is_closed, may_be_session, pull_session, pull_unidirectional, raw}
-use Rattle.h3_connection.specs.Unidirectional.Role.{Untold, Control, Encoder, Decoder, Session, Push, Ignored}
+use Rattle.h3_connection.specs.Unidirectional.{Unidirectional, Role, if_over, is_closed, may_be_session, pull_session, pull_unidirectional, raw, raw_or_reset, pull_other}
+use Rattle.h3_connection.specs.Unidirectional.Role.{Untold, Control, Encoder, Decoder, Session, Push, Ignored, Other}
 use Rattle.h3_coding.specs.Varint.{varint_at}
 use Rattle.h3_connection.specs.declared.arrival.Arrival.TheVariants.{BytesCame, EndCame, ResetCame}
 use Rattle.h3_connection.specs.declared.event.Fault.TheVariants as fault
@@ -85,6 +85,14 @@ module _ (strict : Bool) where
   over_finds true o id = refl
   over_finds false o id = session_finds id o o.reset_code
 
+  left_finds : (o : Unidirectional) (code : Option ℕ) → tells_malformed strict (raw_or_reset o code).0 ≡ false
+  left_finds o (Some code) = refl
+  left_finds o None = raw_finds o o.unread
+
+  other_finds : (b : Bool) (o : Unidirectional) → tells_malformed strict (pull_other b o).0 ≡ false
+  other_finds true o = refl
+  other_finds false o = left_finds o o.reset_code
+
   role_finds : (o : Unidirectional) (role : Role) → tells_malformed strict (pull_unidirectional o role).0 ≡ false
   role_finds o (Untold front) = either_finds (is_closed o) _ _ refl (either_finds (may_be_session (varint_at front)) _ _ refl refl)
   role_finds o (Session id) = over_finds o.is_over o id
@@ -93,6 +101,7 @@ module _ (strict : Bool) where
   role_finds o Decoder = refl
   role_finds o (Push id) = refl
   role_finds o Ignored = refl
+  role_finds o (Other kind) = other_finds o.is_over o
 
   told_finds : (e : EndpointHistory) (id : ℕ) (x : Pull × Unidirectional) → tells_malformed strict x.0 ≡ false → tells_malformed strict (pulled_unidirectional e id x).0 ≡ false
   told_finds e id (a, o) h = h

@@ -11,9 +11,9 @@ use Rattle.h3_connection.specs.Endpoint.Kind.{OwnUnidirectional, PeerUnidirectio
 use Rattle.h3_connection.specs.Incoming.{Incoming}
 use Rattle.h3_connection.specs.Keeping.{arrival_refusal, arrives, arrives_behind, opened_as, opened_by, read_all, read_arrival, unkept, unless_faulty}
 use Rattle.h3_connection.specs.PartReading.{Goes, Hears, Holds, Listens, ReadsFrames, ReadsFront, ReadsOn, ReadsPart, ReadsWhole, Stops, held, held_as}
-use Rattle.h3_connection.specs.StrictConnection.{knows_sessions}
+use Rattle.h3_connection.specs.StrictConnection.{known_streams}
 use Rattle.h3_connection.specs.Unidirectional.{Role, role_after, with_bytes}
-use Rattle.h3_connection.specs.Unidirectional.Role.{Control, Decoder, Encoder, Ignored, Push, Session, Untold}
+use Rattle.h3_connection.specs.Unidirectional.Role.{Control, Decoder, Encoder, Ignored, Push, Session, Untold, Other}
 use Rattle.h3_strict.proofs.KeepsCounts.{KeepsAt, KeepsBut, SameCounts, SameStreams, arrival_keeps, if_learned_same, lost_by, opened_announced, opened_in, opened_out, same_counts, same_streams, streams_keep, taken_keeps}
 use Rattle.h3_strict.proofs.TunnelSends.{kept_at}
 use Rattle.h3_strict.specs.Tallies.{IsFine}
@@ -70,11 +70,12 @@ held_same e id (Untold front, bytes) = same_streams e
 held_same e id (Push push, bytes) = same_streams e
 held_same e id (Session session, bytes) = same_streams e
 held_same e id (Ignored, bytes) = same_streams e
+held_same e id (Other kind, bytes) = same_streams e
 
 holds_same : (e : EndpointHistory) (id : ℕ) (bytes : List ℕ) → SameStreams e (held e id bytes)
 holds_same e id bytes =
     let o = unidirectional_at e id in
-    let read_as = role_after (knows_sessions e.announced) o.role bytes in
+    let read_as = role_after (known_streams e.announced) o.role bytes in
     let k = held_same (with_unidirectional e id (with_bytes o read_as)) id read_as in
     record { incoming = k.incoming; outgoing = k.outgoing; announced = k.announced }
 

@@ -7,6 +7,8 @@ use Rattle.h3_field.specs.Field.{Field, section_size}
 use Rattle.h3_header.specs.Head.{Head, head_fields}
 use Rattle.h3_proto.specs.declared.stream.Side.{Side}
 use Rattle.h3_proto.specs.declared.stream.Side.TheVariants.{Client, Server}
+use Rattle.h3_connection.specs.Remembering.{settings_known, settings_or}
+use Rattle.h3_connection.specs.declared.setup.Announced.{Announced}
 use Rattle.h3_connection.specs.Announcing.{section_of}
 use Rattle.h3_connection.specs.Endpoint.{EndpointHistory}
 use Rattle.h3_connection.specs.OwnIds.{other}
@@ -49,12 +51,12 @@ use Rattle.h3_strict.specs.PlainEnds.{plain_ends, plain_setup}
 use Rattle.h3_strict.specs.ServerKnows.{AnswersKnowing, ServerKnows, ServerKnowsFrom, knows_behind}
 use Rattle.h3_strict.specs.Tallies.{JudgesStrictly}
 
--- Of the other side's settings a side knows those that were announced, or none.
+-- Of the other side's settings a side knows those that were announced, or none. It remembers none.
 abbrev KnownAs : Setup → Side → Option (List (ℕ × ℕ)) → Type 0
 KnownAs setup side settings = (there : Bool) × (settings ≡ (if there then Some (with_meaning (announced_at setup side).settings) else None))
 
 abbrev KnowsSettings : Setup → Ends → Type 0
-KnowsSettings setup ends = (side : Side) → KnownAs setup (other side) (end_at ends side).peer.settings
+KnowsSettings setup ends = (side : Side) → KnownAs setup (other side) (end_at ends side).peer.settings × ((end_at ends side).announced.remembered ≡ None)
 
 -- bytes, an end or a reset that is delivered
 abbrev is_delivery : Event → Bool
@@ -81,6 +83,10 @@ known_within setup side settings fields (true, is) known small =
       | inr less ↦ less
     ]
 
+-- where none are remembered those that came tell it
+came_small : (e : EndpointHistory) (fields : List Field) → e.announced.remembered ≡ None → is_too_large (settings_known e.announced e.peer.settings) fields ≡ false → is_too_large e.peer.settings fields ≡ false
+came_small e fields none small = sym (ap (λ r. is_too_large (settings_or r e.peer.settings) fields) none) ∙ small
+
 -- a call that was accepted was not refused
 was_accepted : (ends : Ends) (side : Side) (r : Option Refusal) (e f : EndpointHistory) → is_done (done ends side answer.Done (does r e f)).0 ≡ true → r ≡ None
 was_accepted ends side None e f h = refl
@@ -100,7 +106,7 @@ module _ (setup : Setup) (made : IsMadeSetup setup) where
   head_taken ends side id told head fields after knows false is early accepted =
       let e = end_at ends side in
       let rules = head_rules e id told head fields (was_accepted ends side (head_judged e id told head fields) e after accepted) in
-      taken_by (other side) fields (known_within setup (other side) e.peer.settings fields (knows side) is rules.small)
+      taken_by (other side) fields (known_within setup (other side) e.peer.settings fields (knows side).0 is (came_small e fields (knows side).1 rules.small))
 
   trailer_taken : (ends : Ends) (side : Side) (id : ℕ) (told : Option Malformation) (trailer : Head) (fields : List Field) (after : EndpointHistory) → KnowsSettings setup ends → (b : Bool) → is_none (end_at ends side).peer.settings ≡ b
       → (b ≡ true → Taken ends side (trailer_judged (end_at ends side) id told trailer fields) after fields) → Taken ends side (trailer_judged (end_at ends side) id told trailer fields) after fields
@@ -108,7 +114,7 @@ module _ (setup : Setup) (made : IsMadeSetup setup) where
   trailer_taken ends side id told trailer fields after knows false is early accepted =
       let e = end_at ends side in
       let rules = trailer_rules e id told trailer fields (was_accepted ends side (trailer_judged e id told trailer fields) e after accepted) in
-      taken_by (other side) fields (known_within setup (other side) e.peer.settings fields (knows side) is rules.small)
+      taken_by (other side) fields (known_within setup (other side) e.peer.settings fields (knows side).0 is (came_small e fields (knows side).1 rules.small))
 
   event_taken : (ends : Ends) (e : Event) → Sends setup ends e → (is_early ends e ≡ true → IsTaken setup e (answered ends e).0) → IsTaken setup e (answered ends e).0
   event_taken ends (event.Head side id head) sends early =
@@ -173,12 +179,12 @@ knows_more known ends (d ∷ past) e is h = (h.0, knows_more (λ id. knows_behin
 
 -- ends that stand in a world
 loose_knows : (setup : Setup) (w : World) (ends : Ends) → Stands (unlimited_setup setup) w (unlimited_ends ends) → KnowsSettings setup ends
-loose_knows setup w ends h Client = (are_settings_there (unlimited_setup setup) Server (party w Server).own.control_taken, h.at_client.control.settings)
-loose_knows setup w ends h Server = (are_settings_there (unlimited_setup setup) Client (party w Client).own.control_taken, h.at_server.control.settings)
+loose_knows setup w ends h Client = ((are_settings_there (unlimited_setup setup) Server (party w Server).own.control_taken, h.at_client.control.settings), ap (λ (a : Announced). a.remembered) h.at_client.announced ∙ h.at_client.remembered)
+loose_knows setup w ends h Server = ((are_settings_there (unlimited_setup setup) Client (party w Client).own.control_taken, h.at_server.control.settings), ap (λ (a : Announced). a.remembered) h.at_server.announced ∙ h.at_server.remembered)
 
 strict_knows : (setup : Setup) (w : World) (ends : Ends) → Stands (plain_setup (unlimited_setup setup)) w (plain_ends (unlimited_ends ends)) → KnowsSettings setup ends
-strict_knows setup w ends h Client = (are_settings_there (plain_setup (unlimited_setup setup)) Server (party w Server).own.control_taken, h.at_client.control.settings)
-strict_knows setup w ends h Server = (are_settings_there (plain_setup (unlimited_setup setup)) Client (party w Client).own.control_taken, h.at_server.control.settings)
+strict_knows setup w ends h Client = ((are_settings_there (plain_setup (unlimited_setup setup)) Server (party w Server).own.control_taken, h.at_client.control.settings), ap (λ (a : Announced). a.remembered) h.at_client.announced ∙ h.at_client.remembered)
+strict_knows setup w ends h Server = ((are_settings_there (plain_setup (unlimited_setup setup)) Client (party w Client).own.control_taken, h.at_server.control.settings), ap (λ (a : Announced). a.remembered) h.at_server.announced ∙ h.at_server.remembered)
 
 -- The law that two strict ends find no fault.
 abbrev pub FindNoFaultStrictly : Type 0

@@ -14,10 +14,10 @@ use Rattle.h3_connection.specs.Keeping.{arrives, arrives_behind, read_arrival}
 use Rattle.h3_connection.specs.Listeners.{heard_more, hearing_fault, listening_fault}
 use Rattle.h3_connection.specs.PeerReading.{PeerFound, read_peer}
 use Rattle.h3_connection.specs.StreamSets.{stream_at}
-use Rattle.h3_connection.specs.StrictConnection.{is_strict, kinds_of, knows_sessions}
+use Rattle.h3_connection.specs.StrictConnection.{is_strict, kinds_of, known_streams}
 use Rattle.h3_connection.specs.StrictConnection.{stream_fault as stream_error}
 use Rattle.h3_connection.specs.Unidirectional.{Role, Unidirectional, role_after, with_bytes}
-use Rattle.h3_connection.specs.Unidirectional.Role.{Control, Decoder, Encoder, Ignored, Push, Session, Untold}
+use Rattle.h3_connection.specs.Unidirectional.Role.{Control, Decoder, Encoder, Ignored, Push, Session, Untold, Other}
 use Rattle.h3_connection.specs.declared.arrival.Arrival.{Arrival}
 use Rattle.h3_connection.specs.declared.arrival.Arrival.TheVariants.{BytesCame, EndCame, ResetCame}
 use Rattle.h3_connection.specs.declared.event.Refusal.{Refusal}
@@ -62,7 +62,7 @@ abbrev pub told_role : EndpointHistory → ℕ → Unidirectional → Role × Li
 told_role e id o (role, bytes) = told_as (with_unidirectional e id (with_bytes o (role, bytes))) id role bytes
 
 abbrev pub told_bytes : EndpointHistory → ℕ → List ℕ → Kind → Found
-told_bytes e id bytes PeerUnidirectional = told_role e id (unidirectional_at e id) (role_after (knows_sessions e.announced) (unidirectional_at e id).role bytes)
+told_bytes e id bytes PeerUnidirectional = told_role e id (unidirectional_at e id) (role_after (known_streams e.announced) (unidirectional_at e id).role bytes)
 told_bytes e id bytes kind = bytes_at (loose e) id bytes kind
 
 abbrev pub told_arrival : EndpointHistory → Arrival → Found
@@ -204,6 +204,7 @@ heard_within e id Decoder bytes =
 heard_within e id (Session n) bytes = ReadsAlike refl
 heard_within e id (Push n) bytes = ReadsAlike refl
 heard_within e id Ignored bytes = ReadsAlike refl
+heard_within e id (Other kind) bytes = ReadsAlike refl
 
 unidirectional_within : (e : EndpointHistory) (id : ℕ) (o : Unidirectional) (x : Role × List ℕ) → ReadsWithin e.announced (read_unidirectional e id o x) (read_unidirectional (endless e) id o x) (told_role e id o x)
 unidirectional_within e id o (role, bytes) = heard_within (with_unidirectional e id (with_bytes o (role, bytes))) id role bytes
@@ -220,7 +221,7 @@ module _ (e : EndpointHistory) (id : ℕ) where
   bytes_within bytes Request = ReadsAlike (ap (λ f. let x : Found = (f, None) in x) (changes (kept (incoming_at e id) bytes)))
   bytes_within bytes ServerOpened = ReadsAlike refl
   bytes_within bytes OwnUnidirectional = ReadsAlike refl
-  bytes_within bytes PeerUnidirectional = unidirectional_within e id (unidirectional_at e id) (role_after (knows_sessions e.announced) (unidirectional_at e id).role bytes)
+  bytes_within bytes PeerUnidirectional = unidirectional_within e id (unidirectional_at e id) (role_after (known_streams e.announced) (unidirectional_at e id).role bytes)
 
   end_same : (k : Kind) → end_at (endless e) id k ≡ endless_found (end_at e id k)
   end_same Request = ap (λ f. let x : Found = (f, None) in x) (changes (with_end (incoming_at e id)))

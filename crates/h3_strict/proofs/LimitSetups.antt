@@ -22,6 +22,7 @@ made_unlimited a h =
       table = h.table;
       blocked = h.blocked;
       within = refl;
+      remembered = h.remembered;
     }
 
 sides_unlimited : (setup : Setup) → IsMadeSetup setup → (side : Side) → IsMade (announced_at (unlimited_setup setup) side)

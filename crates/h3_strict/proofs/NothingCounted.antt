@@ -26,9 +26,9 @@ use Rattle.h3_connection.specs.Sending as sender
 use Rattle.h3_connection.specs.Sending.{after_answer, appended, asked, counted, does, encoded, fields_cost, head_part, outgoing_at, pull_at, pull_peer, pull_request, pull_unless, sent_bytes}
 use Rattle.h3_connection.specs.Shown.{has_outgoing, is_finished, is_reset, waiting}
 use Rattle.h3_connection.specs.StreamSets.{Streams, set_stream, stream_at}
-use Rattle.h3_connection.specs.StrictConnection.{knows_sessions}
+use Rattle.h3_connection.specs.StrictConnection.{known_streams}
 use Rattle.h3_connection.specs.Unidirectional.{Role, Unidirectional, role_after}
-use Rattle.h3_connection.specs.Unidirectional.Role.{Control, Decoder, Encoder, Ignored, Push, Session, Untold}
+use Rattle.h3_connection.specs.Unidirectional.Role.{Control, Decoder, Encoder, Ignored, Push, Session, Untold, Other}
 use Rattle.h3_connection.specs.declared.arrival.Arrival.{Arrival}
 use Rattle.h3_connection.specs.declared.arrival.Arrival.TheVariants.{BytesCame, EndCame, ResetCame}
 use Rattle.h3_connection.specs.declared.event.Fault.TheVariants as fault
@@ -89,7 +89,7 @@ module _ (e : EndpointHistory) (id : ℕ) (h : CountsNothing e) where
   bytes_count bytes ServerOpened = h
   bytes_count bytes OwnUnidirectional = h
   bytes_count bytes PeerUnidirectional =
-      let same = unidirectional_same e id (unidirectional_at e id) (role_after (knows_sessions e.announced) (unidirectional_at e id).role bytes) in same_counts e (bytes_at e id bytes PeerUnidirectional).0 same.announced same.outgoing h
+      let same = unidirectional_same e id (unidirectional_at e id) (role_after (known_streams e.announced) (unidirectional_at e id).role bytes) in same_counts e (bytes_at e id bytes PeerUnidirectional).0 same.announced same.outgoing h
 
   end_counts : (k : Kind) → CountsNothing (delivering.end_at e id k).0
   end_counts Request = opened_counts e id h
@@ -135,11 +135,12 @@ held_counts e id (Untold front, bytes) h = h
 held_counts e id (Session n, bytes) h = h
 held_counts e id (Push n, bytes) h = h
 held_counts e id (Ignored, bytes) h = h
+held_counts e id (Other kind, bytes) h = h
 
 step_counts : {e new : EndpointHistory} {arrivals more : List Arrival} → ReadsOn e arrivals new more → CountsNothing e → CountsNothing new
 step_counts {e = e} {new = new} (ReadsWhole {a = a} is) h = subst (λ (x : Found). CountsNothing x.0) is (arrival_counts e a h)
 step_counts {e = e} {new = new} (ReadsFront front rest {id = id} is) h = subst (λ (x : Found). CountsNothing x.0) is (arrival_counts e (BytesCame id front) h)
-step_counts {e = e} (Holds {id = id} {bytes = bytes} kind reader) h = held_counts _ id (role_after (knows_sessions e.announced) (unidirectional_at e id).role bytes) h
+step_counts {e = e} (Holds {id = id} {bytes = bytes} kind reader) h = held_counts _ id (role_after (known_streams e.announced) (unidirectional_at e id).role bytes) h
 step_counts {e = e} (ReadsFrames {p = p} on may part) h =
     let f : EndpointHistory = record e { peer = p } in
     let same = if_learned_same e.peer.settings p.settings f in same_counts f (if_learned e.peer.settings p.settings f) same.announced same.outgoing h

@@ -16,10 +16,10 @@ use Rattle.h3_connection.specs.PartReading.ReadsPart.{Goes, Stops}
 use Rattle.h3_connection.specs.PeerReading.{Peer, PeerFound, with_unread}
 use Rattle.h3_connection.specs.Sending.{does}
 use Rattle.h3_connection.specs.StreamSets.{stream_at}
-use Rattle.h3_connection.specs.StrictConnection.{is_strict, kinds_of, knows_sessions}
+use Rattle.h3_connection.specs.StrictConnection.{is_strict, kinds_of, known_streams}
 use Rattle.h3_connection.specs.Delivering.{unidirectional_at, with_unidirectional}
 use Rattle.h3_connection.specs.Unidirectional.{Role, role_after, with_bytes}
-use Rattle.h3_connection.specs.Unidirectional.Role.{Control, Decoder, Encoder, Ignored, Push, Session, Untold}
+use Rattle.h3_connection.specs.Unidirectional.Role.{Control, Decoder, Encoder, Ignored, Push, Session, Untold, Other}
 use Rattle.h3_connection.specs.declared.arrival.Arrival.{Arrival}
 use Rattle.h3_connection.specs.declared.arrival.Arrival.TheVariants.{BytesCame}
 use Rattle.h3_connection.specs.declared.event.Refusal.{Refusal}
@@ -51,6 +51,7 @@ held_plain e id (Untold front, bytes) = refl
 held_plain e id (Session n, bytes) = refl
 held_plain e id (Push n, bytes) = refl
 held_plain e id (Ignored, bytes) = refl
+held_plain e id (Other kind, bytes) = refl
 
 hears_part : (most : ℕ) (old new : Decoding) → HearsPart most old new → HearsPart no_limit old new
 hears_part most old new h = by_limit (hears_alike most old.decoder h.front)
@@ -87,7 +88,7 @@ step_plain {e = e} {new = new} (ReadsFront front rest {id = id} is) =
     ReadsFront front rest (found_plain e.announced (read_arrival e (BytesCame id front)) (read_arrival (plainly e) (BytesCame id front)) new (arrival_plain e (BytesCame id front)) is)
 step_plain {e = e} (Holds {id = id} {bytes = bytes} {more = more} kind reader) =
     let o = unidirectional_at e id in
-    let read_as = role_after (knows_sessions e.announced) o.role bytes in
+    let read_as = role_after (known_streams e.announced) o.role bytes in
     subst (λ x. ReadsOn (plainly e) (BytesCame id bytes ∷ more) x (BytesCame id [] ∷ more)) (held_plain (with_unidirectional e id (with_bytes o read_as)) id read_as) (Holds {e = plainly e} kind reader)
 step_plain {e = e} (ReadsFrames {id = id} {p = p} {more = more} on may part) =
     subst (λ x. ReadsOn (plainly e) (BytesCame id [] ∷ more) x (BytesCame id [] ∷ early e p ++ more)) (learned_plain e.peer.settings p.settings (record e { peer = p }))

@@ -21,13 +21,13 @@ use Rattle.h3_connection.specs.ExcessiveInstructions.{listen_up_to}
 use Rattle.h3_connection.specs.Incoming.{Incoming}
 use Rattle.h3_connection.specs.Keeping.{read_arrival, unless_faulty, read_all, unkept, refused_behind, arrival_refusal, arrives_behind, arrives}
 use Rattle.h3_connection.specs.Listeners.{after_hearing, heard_more, hearing_fault, insertions_heard, listening_fault}
-use Rattle.h3_connection.specs.PeerReading.{Peer, PeerFound, with_unread, read_frame, unless_fault, at_front, read_within, read_peer}
+use Rattle.h3_connection.specs.PeerReading.{Peer, PeerFound, having_frame, with_unread, read_frame, unless_fault, at_front, read_within, read_peer}
 use Rattle.h3_connection.specs.PeerReadingLaws.{stay_within}
 use Rattle.h3_connection.specs.StreamSets.{Streams, stream_at}
-use Rattle.h3_connection.specs.StrictConnection.{is_strict, kinds_of, knows_sessions}
+use Rattle.h3_connection.specs.StrictConnection.{is_strict, kinds_of, known_streams}
 use Rattle.h3_connection.specs.StrictConnection.{stream_fault as stream_error}
 use Rattle.h3_connection.specs.Unidirectional.{Unidirectional, Role, role_after, with_bytes}
-use Rattle.h3_connection.specs.Unidirectional.Role.{Untold, Control, Encoder, Decoder, Session, Push, Ignored}
+use Rattle.h3_connection.specs.Unidirectional.Role.{Untold, Control, Encoder, Decoder, Session, Push, Ignored, Other}
 use Rattle.h3_connection.specs.declared.event.Refusal.{Refusal}
 use Rattle.h3_connection.specs.declared.event.Refusal.TheVariants as refusal
 use Rattle.h3_connection.specs.declared.event.StreamFault.TheVariants as stream_fault
@@ -163,7 +163,7 @@ behind_fault limit (q, Some code) go both h = ReadsSame refl
 behind_fault limit (q, None) go both h = h q
 
 front_plain : (limit : ℕ) (go both : Peer → PeerFound) (side : Side) (p : Peer) (bytes : List ℕ) (x : Front) → ((q : Peer) → PeerPlainly limit (go q) (both q)) → PeerPlainly limit (at_front go side p bytes x) (at_front both side p bytes x)
-front_plain limit go both side p bytes (Whole f rest) h = behind_fault limit (read_frame side (with_unread p rest) p.settings f) go both h
+front_plain limit go both side p bytes (Whole f rest) h = behind_fault limit (read_frame side (having_frame p f bytes rest) p.settings f) go both h
 front_plain limit go both side p bytes (Unknown kind rest) h = ReadsSame refl
 front_plain limit go both side p bytes (Refused e) h = ReadsSame refl
 front_plain limit go both side p bytes (Unfinished least) h = ReadsSame refl
@@ -238,6 +238,7 @@ heard_plain e id Decoder bytes =
 heard_plain e id (Session n) bytes = ReadsAlike refl
 heard_plain e id (Push n) bytes = ReadsAlike refl
 heard_plain e id Ignored bytes = ReadsAlike refl
+heard_plain e id (Other kind) bytes = ReadsAlike refl
 
 unidirectional_plain : (e : EndpointHistory) (id : ℕ) (o : Unidirectional) (x : Role × List ℕ) → ReadsPlainly e.announced (read_unidirectional e id o x) (read_unidirectional (plainly e) id o x)
 unidirectional_plain e id o (role, bytes) = heard_plain (with_unidirectional e id (with_bytes o (role, bytes))) id role bytes
@@ -262,7 +263,7 @@ module _ (e : EndpointHistory) (id : ℕ) where
   bytes_plain bytes Request = ReadsAlike (ap (λ f. let x : Found = (f, None) in x) (changes (λ i. kept i bytes) (λ i. refl)))
   bytes_plain bytes ServerOpened = ReadsAlike refl
   bytes_plain bytes OwnUnidirectional = ReadsAlike refl
-  bytes_plain bytes PeerUnidirectional = unidirectional_plain e id (unidirectional_at e id) (role_after (knows_sessions e.announced) (unidirectional_at e id).role bytes)
+  bytes_plain bytes PeerUnidirectional = unidirectional_plain e id (unidirectional_at e id) (role_after (known_streams e.announced) (unidirectional_at e id).role bytes)
 
   end_plain : (k : Kind) → end_at (plainly e) id k ≡ plain_found (end_at e id k)
   end_plain Request = ap (λ f. let x : Found = (f, None) in x) (changes with_end (λ i. refl))

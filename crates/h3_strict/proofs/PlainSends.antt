@@ -8,6 +8,7 @@ use Rattle.h3_messages.specs.OwnMessages.{violation_of_own_trailer}
 use Rattle.h3_messages.specs.declared.content.Content.{Content}
 use Rattle.h3_messages.specs.declared.content.Content.TheVariants.{Unsaid}
 use Rattle.h3_connection.specs.Lasts.{last_id}
+use Rattle.h3_connection.specs.Remembering.{settings_known}
 use Rattle.h3_connection.specs.OwnIds.{other}
 use Rattle.h3_connection.specs.Pulling.{is_for}
 use Rattle.h3_connection.specs.Delivering.{incoming_at, opened_at, given_up_by, give_up}
@@ -70,7 +71,7 @@ head_rules e going o head fields protocol broken = closed_or e.closed (first_of 
     unless_malformed protocol (
     (not (is_for (other e.side) head), refusal.WrongSide) ∷
     unless_malformed broken (
-    (is_too_large e.peer.settings fields, refusal.TooLarge (section_size fields)) ∷ [])))))
+    (is_too_large (settings_known e.announced e.peer.settings) fields, refusal.TooLarge (section_size fields)) ∷ [])))))
 
 abbrev body_rules : EndpointHistory → Option Outgoing → ℕ → Option Refusal
 body_rules e o size = closed_or e.closed (first_of (
@@ -85,7 +86,7 @@ trailer_rules e o head fields protocol broken = closed_or e.closed (first_of (
     unless_malformed protocol (
     (has_pseudo head, refusal.PseudoInTrailer) ∷
     unless_malformed (early_trailer (unwrap_or o nothing_sent).content) (unless_malformed broken (
-    (is_too_large e.peer.settings fields, refusal.TooLarge (section_size fields)) ∷ [])))))
+    (is_too_large (settings_known e.announced e.peer.settings) fields, refusal.TooLarge (section_size fields)) ∷ [])))))
 
 abbrev finish_rules : EndpointHistory → Option Outgoing → Option Refusal
 finish_rules e o = closed_or e.closed (first_of (
@@ -118,10 +119,10 @@ module _ (e : EndpointHistory) (id : ℕ) where
 
   -- the rule behind those of strict messages
   abbrev too_large : List Field → List (Bool × Refusal)
-  too_large fields = (is_too_large e.peer.settings fields, refusal.TooLarge (section_size fields)) ∷ []
+  too_large fields = (is_too_large (settings_known e.announced e.peer.settings) fields, refusal.TooLarge (section_size fields)) ∷ []
 
   accepts_or_large : (fields : List Field) → AcceptsOrLarge (first_of (too_large fields))
-  accepts_or_large fields = by_size (is_too_large e.peer.settings fields)
+  accepts_or_large fields = by_size (is_too_large (settings_known e.announced e.peer.settings) fields)
     where
       by_size : (b : Bool) → AcceptsOrLarge (first_of ((b, refusal.TooLarge (section_size fields)) ∷ []))
       by_size true = inr (section_size fields, refl)
@@ -338,7 +339,7 @@ module _ (e : EndpointHistory) (id : ℕ) (plain_messages : e.announced.choices.
 
   pub heads_same : (protocol : Option Malformation) (head : Head) (fields : List Field) → head_judged (plainly e) id protocol head fields ≡ head_judged e id protocol head fields
   heads_same protocol head fields =
-      let broken = violation_of_own_head e.side e.peer.settings (known_of (stream_at e.incoming id)) fields in
+      let broken = violation_of_own_head e.side (settings_known e.announced e.peer.settings) (known_of (stream_at e.incoming id)) fields in
       let none : broken_head_at e id fields ≡ None = ap (λ b. if b then option_map malformation_by broken else None) plain_messages in
       ap (λ g. head_rules e g (stream_at (plainly e).outgoing id) head fields protocol None) (going_plain e.announced e.side (last_id e.peer.goaways))
       ∙ ap (λ o. head_rules e (going_of e) o head fields protocol None) same_out

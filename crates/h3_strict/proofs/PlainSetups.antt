@@ -30,6 +30,7 @@ made_plainly a h =
       table = h.table;
       blocked = h.blocked;
       within = refl;
+      remembered = h.remembered;
     }
 
 sides_plainly : (setup : Setup) → IsMadeSetup setup → (side : Side) → IsMade (announced_at (plain_setup setup) side)

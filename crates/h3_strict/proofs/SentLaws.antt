@@ -10,6 +10,7 @@ use Rattle.h3_messages.specs.declared.content.Asked.TheVariants as asked
 use Rattle.h3_messages.specs.declared.content.Content.{Content}
 use Rattle.h3_proto.specs.declared.stream.Side.{Side}
 use Rattle.h3_connection.specs.Endpoint.{EndpointHistory}
+use Rattle.h3_connection.specs.Remembering.{settings_known}
 use Rattle.h3_connection.specs.Outgoing.{Outgoing, is_unsent, takes_body, takes_end, takes_head}
 use Rattle.h3_connection.specs.Outgoing as sent
 use Rattle.h3_connection.specs.OwnIds.{other}
@@ -45,11 +46,11 @@ pub record TakesHead (e : EndpointHistory) (id : ℕ) (head : Head) (fields : Li
   pub takes : takes_head (outgoing_at e id) ≡ true
   pub fits : is_for (other e.side) head ≡ true
   pub rule : broken_head_at e id fields ≡ None
-  pub small : is_too_large e.peer.settings fields ≡ false
+  pub small : is_too_large (settings_known e.announced e.peer.settings) fields ≡ false
 
 pub head_rules : (e : EndpointHistory) (id : ℕ) (told : Option Malformation) (head : Head) (fields : List Field) → head_judged e id told head fields ≡ None → TakesHead e id head fields
 head_rules e id protocol head fields done =
-    let large = (is_too_large e.peer.settings fields, refusal.TooLarge (section_size fields)) ∷ [] in
+    let large = (is_too_large (settings_known e.announced e.peer.settings) fields, refusal.TooLarge (section_size fields)) ∷ [] in
     let broken = broken_head_at e id fields in
     let wrong = (not (is_for (other e.side) head), refusal.WrongSide) ∷ unless_malformed broken large in
     let going = (sender_at e id).going in
@@ -60,7 +61,7 @@ head_rules e id protocol head fields done =
       takes = is_true (takes_head (outgoing_at e id)) (held (not (takes_head (outgoing_at e id))) refusal.OutOfOrder judged there);
       fits = is_true (is_for (other e.side) head) (held (not (is_for (other e.side) head)) refusal.WrongSide (unless_malformed broken large) placed);
       rule = not_malformed broken large (passed (not (is_for (other e.side) head)) refusal.WrongSide (unless_malformed broken large) placed);
-      small = held (is_too_large e.peer.settings fields) (refusal.TooLarge (section_size fields)) [] (not_early broken large (passed (not (is_for (other e.side) head)) refusal.WrongSide (unless_malformed broken large) placed));
+      small = held (is_too_large (settings_known e.announced e.peer.settings) fields) (refusal.TooLarge (section_size fields)) [] (not_early broken large (passed (not (is_for (other e.side) head)) refusal.WrongSide (unless_malformed broken large) placed));
     }
 
 -- a body
@@ -85,11 +86,11 @@ pub record TakesTrailer (e : EndpointHistory) (id : ℕ) (fields : List Field) :
   pub takes : takes_body (outgoing_at e id) ≡ true
   pub early : early_trailer (outgoing_at e id).content ≡ None
   pub rule : broken_trailer e.announced fields ≡ None
-  pub small : is_too_large e.peer.settings fields ≡ false
+  pub small : is_too_large (settings_known e.announced e.peer.settings) fields ≡ false
 
 pub trailer_rules : (e : EndpointHistory) (id : ℕ) (told : Option Malformation) (trailer : Head) (fields : List Field) → trailer_judged e id told trailer fields ≡ None → TakesTrailer e id fields
 trailer_rules e id protocol trailer fields done =
-    let large = (is_too_large e.peer.settings fields, refusal.TooLarge (section_size fields)) ∷ [] in
+    let large = (is_too_large (settings_known e.announced e.peer.settings) fields, refusal.TooLarge (section_size fields)) ∷ [] in
     let broken = broken_trailer e.announced fields in
     let early = early_trailer (outgoing_at e id).content in
     let pseudo = (has_pseudo trailer, refusal.PseudoInTrailer) ∷ unless_malformed early (unless_malformed broken large) in
@@ -100,7 +101,7 @@ trailer_rules e id protocol trailer fields done =
       takes = is_true (takes_body (outgoing_at e id)) (held (not (takes_body (outgoing_at e id))) refusal.OutOfOrder (unless_malformed protocol pseudo) there);
       early = not_malformed early (unless_malformed broken large) behind;
       rule = not_malformed broken large (not_early early (unless_malformed broken large) behind);
-      small = held (is_too_large e.peer.settings fields) (refusal.TooLarge (section_size fields)) [] (not_early broken large (not_early early (unless_malformed broken large) behind));
+      small = held (is_too_large (settings_known e.announced e.peer.settings) fields) (refusal.TooLarge (section_size fields)) [] (not_early broken large (not_early early (unless_malformed broken large) behind));
     }
 
 -- the end

@@ -7,6 +7,7 @@ use Rattle.h3_messages.specs.Content.{answered_by, is_interim_status}
 use Rattle.h3_messages.specs.declared.content.Content.{Content}
 use Rattle.h3_proto.specs.declared.stream.Side.{Side}
 use Rattle.h3_proto.specs.declared.stream.Side.TheVariants.{Client, Server}
+use Rattle.h3_connection.specs.Remembering.{settings_known, settings_or}
 use Rattle.h3_connection.specs.Announcing.{connects}
 use Rattle.h3_connection.specs.Endpoint.{EndpointHistory}
 use Rattle.h3_connection.specs.Incoming.{Incoming, nothing_came, goes_on, having_told}
@@ -50,17 +51,22 @@ pub plain_settings : (setup : Setup) (s : Side) → (announced_at (plain_setup s
 plain_settings setup Client = refl
 plain_settings setup Server = refl
 
+-- it remembers no settings of an earlier connection
+pub forgets_at : (setup : Setup) (w : World) (ends : Ends) (s : Side) → Stands (plain_setup setup) w (plain_ends ends) → (end_at ends s).announced.remembered ≡ None
+forgets_at setup w ends s h = ap (λ (a : Announced). a.remembered) (stands_at setup w ends s h).announced ∙ (stands_at setup w ends s h).remembered
+
 -- what an endpoint knows of extended CONNECT its peer announced
 pub connects_known : (announced : Announced) (settings : Option (List (ℕ × ℕ))) (there : Bool) → settings ≡ (if there then Some (with_meaning announced.settings) else None) → peer_connects settings ≡ true → connects announced ≡ true
 connects_known announced settings true is known =
     ap (λ o. not (unwrap_or o 0 == 0)) (sym (value_with_meaning 8 announced.settings refl)) ∙ sym (ap peer_connects is) ∙ known
 connects_known announced settings false is known = absurd (let never : false ≡ true = sym (ap peer_connects is) ∙ known in cc)
 
-pub knows_peer : (setup : Setup) (w : World) (ends : Ends) (s : Side) → Stands (plain_setup setup) w (plain_ends ends) → peer_connects (end_at ends s).peer.settings ≡ true → connects (announced_at setup (other s)) ≡ true
+pub knows_peer : (setup : Setup) (w : World) (ends : Ends) (s : Side) → Stands (plain_setup setup) w (plain_ends ends) → peer_connects (settings_known (end_at ends s).announced (end_at ends s).peer.settings) ≡ true → connects (announced_at setup (other s)) ≡ true
 knows_peer setup w ends s h known =
+    let e = end_at ends s in
     let there = are_settings_there (plain_setup setup) (other s) (party w (other s)).own.control_taken in
-    connects_known (announced_at setup (other s)) (end_at ends s).peer.settings there
-    ((stands_at setup w ends s h).control.settings ∙ ap (λ (l : List (ℕ × ℕ)). if there then Some (with_meaning l) else None) (plain_settings setup (other s))) known
+    connects_known (announced_at setup (other s)) (settings_known e.announced e.peer.settings) there
+    (ap (λ r. settings_or r e.peer.settings) (forgets_at setup w ends s h) ∙ (stands_at setup w ends s h).control.settings ∙ ap (λ (l : List (ℕ × ℕ)). if there then Some (with_meaning l) else None) (plain_settings setup (other s))) known
 
 -- what a sender has of an open stream
 pub sender_has : (setup : Setup) (w : World) (ends : Ends) (s : Side) (i : ℕ) → Stands (plain_setup setup) w (plain_ends ends) → is_open w s i ≡ true → plain_outgoing (outgoing_at (end_at ends s) i) ≡ outgoing_of (flow w s i)
@@ -84,7 +90,7 @@ pub head_unbroken : (setup : Setup) (w : World) (ends : Ends) (known : ℕ → B
 head_unbroken setup w ends known s i head fields h t strict takes =
     let e = end_at ends s in
     subst (λ d. broken_rule (other d) (announced_at setup (other s)) BeforeHead fields ≡ None) (side_of setup w ends s h)
-    (head_taken e.side e.announced (announced_at setup (other s)) e.peer.settings (known_of (stream_at e.incoming i)) fields (ap (λ (a : Announced). a.choices.strict_messages) (t.announced s) ∙ strict) (knows_peer setup w ends s h) takes.rule)
+    (head_taken e.side e.announced (announced_at setup (other s)) (settings_known e.announced e.peer.settings) (known_of (stream_at e.incoming i)) fields (ap (λ (a : Announced). a.choices.strict_messages) (t.announced s) ∙ strict) (knows_peer setup w ends s h) takes.rule)
 
 -- in front of a final head the parts are interim ones
 pub head_along : (setup : Setup) (w : World) (ends : Ends) (s : Side) (i : ℕ) (head : Head) (fields : List Field) (reader : Side) (awaited : Content) → Stands (plain_setup setup) w (plain_ends ends) → is_open w s i ≡ true → TakesHead (end_at ends s) i head fields

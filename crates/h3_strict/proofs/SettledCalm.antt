@@ -9,8 +9,8 @@ use Rattle.h3_connection.specs.Keeping.{is_settled_peer, is_settled_request, is_
 use Rattle.h3_connection.specs.Pulling.{Pulled, just, pull_stream}
 use Rattle.h3_connection.specs.Sending.{if_too_many, pull_at, pull_peer, pull_request, pulled, pulled_unidirectional}
 use Rattle.h3_connection.specs.StreamSets.{set_stream, stream_at}
-use Rattle.h3_connection.specs.Unidirectional.{Role, Unidirectional, if_over, pull_session, pull_unidirectional}
-use Rattle.h3_connection.specs.Unidirectional.Role.{Session}
+use Rattle.h3_connection.specs.Unidirectional.{Role, Unidirectional, if_over, pull_other, pull_session, pull_unidirectional, raw_or_reset}
+use Rattle.h3_connection.specs.Unidirectional.Role.{Other, Session}
 use Rattle.h3_connection.specs.declared.event.Fault.TheVariants as fault
 use Rattle.h3_connection.specs.declared.event.Item.TheVariants as item
 use Rattle.h3_connection.specs.declared.event.Pull.{Pull}
@@ -28,6 +28,11 @@ IsCalm x = is_connection_fault (answer.Pulled x.0) ≡ false
 abbrev over_or : Bool → Unidirectional → ℕ → Option ℕ → Pull × Unidirectional
 over_or true o session code = (pull.Item item.End, o)
 over_or false o session code = pull_session session o code
+
+-- the same of a stream of another type
+abbrev over_or_raw : Bool → Unidirectional → Option ℕ → Pull × Unidirectional
+over_or_raw true o code = (pull.Item item.End, o)
+over_or_raw false o code = raw_or_reset o code
 
 pub settled_calm : (e : EndpointHistory) (id : ℕ) (k : Kind) → heads_waiting e.decoding.decoder e.incoming ≤ e.announced.limits.blocked → settles_at e id k ≡ true → IsCalm (pull_at e id k)
 settled_calm e id Request few h = by_stream (stream_at e.incoming id) refl h
@@ -65,8 +70,18 @@ settled_calm e id PeerUnidirectional few h = by_stream (stream_at e.unidirection
     same o session true = refl
     same o session false = refl
 
+    by_raw : (o : Unidirectional) (b : Bool) (code : Option ℕ) → (b || is_some code) ≡ true → IsCalm (pulled_unidirectional e id (over_or_raw b o code))
+    by_raw o true code h = refl
+    by_raw o false (Some code) h = refl
+    by_raw o false None h = absurd (cc)
+
+    same_raw : (o : Unidirectional) (b : Bool) → over_or_raw b o o.reset_code ≡ pull_other b o
+    same_raw o true = refl
+    same_raw o false = refl
+
     by_role : (o : Unidirectional) (r : Role) → is_settled_session o r ≡ true → IsCalm (pulled_unidirectional e id (pull_unidirectional o r))
     by_role o (Session session) h = subst (λ x. IsCalm (pulled_unidirectional e id x)) (same o session o.is_over) (by_over o session o.is_over o.reset_code h)
+    by_role o (Other kind) h = subst (λ x. IsCalm (pulled_unidirectional e id x)) (same_raw o o.is_over) (by_raw o o.is_over o.reset_code h)
     by_role o r h = absurd (cc)
 
     by_stream : (o : Option Unidirectional) → is_settled_peer o ≡ true → IsCalm (pull_peer e id o)

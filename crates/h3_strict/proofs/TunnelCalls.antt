@@ -13,6 +13,7 @@ use Rattle.h3_messages.specs.declared.violation.Violation.{Violation}
 use Rattle.h3_proto.specs.declared.stream.Side.{Side}
 use Rattle.h3_proto.specs.declared.stream.Side.TheVariants.{Client, Server}
 use Rattle.h3_qpack.specs.Sizes.{last_value}
+use Rattle.h3_connection.specs.Remembering.{settings_known}
 use Rattle.h3_connection.specs.Delivering.{incoming_at}
 use Rattle.h3_connection.specs.Endpoint.{EndpointHistory}
 use Rattle.h3_connection.specs.Incoming.{Incoming, awaiting, awaits_head, is_before_head, nothing_came}
@@ -155,7 +156,7 @@ module _ (setup : Setup) (w : World) (ends : Ends) (i : ℕ) (head : Head) (fiel
       rule : broken_rule Client (announced_at setup Client) BeforeHead fields ≡ None
       rule =
           subst (λ d. broken_rule (other d) (announced_at setup Client) BeforeHead fields ≡ None) (sees.side_is Server)
-          (head_taken ends.server.side ends.server.announced (announced_at setup Client) ends.server.peer.settings (known_of (stream_at ends.server.incoming i)) fields (strict_end Server) (sees.connect Server) takes.rule)
+          (head_taken ends.server.side ends.server.announced (announced_at setup Client) (settings_known ends.server.announced ends.server.peer.settings) (known_of (stream_at ends.server.incoming i)) fields (strict_end Server) (sees.connect Server) takes.rule)
 
       one : last_value (codes ":status") fields ≡ Some (value_of (codes ":status") fields)
       one =

@@ -9,6 +9,7 @@ use Rattle.h3_proto.specs.declared.stream.Side.{Side}
 use Rattle.h3_proto.specs.declared.stream.Side.TheVariants.{Client, Server}
 use Rattle.h3_qpack.specs.DecoderState.{DecoderState}
 use Rattle.h3_wire.specs.ExcessiveFrames.{begins_section, is_excessive_by}
+use Rattle.h3_connection.specs.Remembering.{settings_known, settings_or}
 use Rattle.h3_connection.specs.Announcing.{connects, section_of}
 use Rattle.h3_connection.specs.Coming.{fields_behind, fields_next, fields_of_kind, fields_there}
 use Rattle.h3_connection.specs.Endpoint.{EndpointHistory, kind_of}
@@ -67,7 +68,7 @@ pub record Sees (setup : Setup) (w : World) (ends : Ends) : Type 0 where
   pub sound : IsSoundWorld (plain_setup setup) w
   pub readable : (side : Side) (id : ℕ) → AllByRecursion (IsReadableBy (takes_any (announced_at setup side)) side) (flow w (other side) id).sent
   pub parts : (side : Side) (id : ℕ) → is_open w side id ≡ true → (outgoing_at (end_at ends side) id).parts ≡ flat_map own_part (flow w side id).sent
-  pub connect : (side : Side) → peer_connects (end_at ends side).peer.settings ≡ true → connects (announced_at setup (other side)) ≡ true
+  pub connect : (side : Side) → peer_connects (settings_known (end_at ends side).announced (end_at ends side).peer.settings) ≡ true → connects (announced_at setup (other side)) ≡ true
   pub streams : (side : Side) (id : ℕ) (i : Incoming) → stream_at (end_at ends side).incoming id ≡ Some i → SeenStream setup w side id (end_at ends side).decoding.decoder i
   pub there : (side : Side) (id : ℕ) → is_open w side id ≡ true → (i : Incoming) × (stream_at (end_at ends side).incoming id ≡ Some i)
   pub unopened : is_open w Client ends.client.next_id ≡ false
@@ -236,11 +237,11 @@ module _ (laws : Laws) (setup : Setup) (made : IsMadeSetup (plain_setup setup)) 
       b.sent side id
       ∙ ap (λ (o : Outgoing). o.parts) (ap (λ o. unwrap_or o nothing_sent) ((at side).outgoing id ∙ ap (λ c. if c then Some (outgoing_of (flow w side id)) else None) opened))
 
-  connect_seen : (side : Side) → peer_connects (end_at ends side).peer.settings ≡ true → connects (announced_at setup (other side)) ≡ true
+  connect_seen : (side : Side) → peer_connects (settings_known (end_at ends side).announced (end_at ends side).peer.settings) ≡ true → connects (announced_at setup (other side)) ≡ true
   connect_seen side known =
       let there = are_settings_there (plain_setup setup) (other side) (party w (other side)).own.control_taken in
-      connects_known (announced_at setup (other side)) (end_at ends side).peer.settings there
-      (b.settings side ∙ (at side).control.settings ∙ ap (λ (l : List (ℕ × ℕ)). if there then Some (with_meaning l) else None) (plain_settings setup (other side))) known
+      connects_known (announced_at setup (other side)) (settings_known (end_at ends side).announced (end_at ends side).peer.settings) there
+      (ap (λ r. settings_or r (end_at ends side).peer.settings) (b.remembered side) ∙ b.settings side ∙ (at side).control.settings ∙ ap (λ (l : List (ℕ × ℕ)). if there then Some (with_meaning l) else None) (plain_settings setup (other side))) known
 
   unopened_seen : is_open w Client ends.client.next_id ≡ false
   unopened_seen =

@@ -24,6 +24,8 @@ pub record StandsBehind (setup : Setup) (w : World) (ends : Ends) : Type 0 where
   pub stands : Stands (plain_setup setup) w behind
   pub side_is : (side : Side) → (end_at ends side).side ≡ side
   pub closed : (side : Side) → (end_at ends side).closed ≡ None
+  -- neither remembers settings of an earlier connection
+  pub remembered : (side : Side) → (end_at ends side).announced.remembered ≡ None
   pub settings : (side : Side) → (end_at ends side).peer.settings ≡ (end_at behind side).peer.settings
   pub decoder : (side : Side) → (end_at ends side).decoding.decoder ≡ (end_at behind side).decoding.decoder
   pub next_id : ends.client.next_id ≡ behind.client.next_id

@@ -17,10 +17,14 @@ use Rattle.h3_wire.specs.declared.proto.frame.PayloadLen.{PayloadLen}
 use Rattle.h3_wire.specs.declared.proto.frame.Frame.{Frame}
 use Rattle.h3_wire.specs.declared.proto.frame.Frame.TheVariants as frame
 use Rattle.h3_connection.specs.Codes.{excessive_load, id_error}
-use Rattle.h3_connection.specs.PeerReading.{Peer, PeerFound, with_unread, is_no_element, read_max_push, read_priority, read_update, read_frame, at_front, unless_excessive, read_peer}
+use Rattle.h3_connection.specs.OtherSettings.{with_others}
+use Rattle.h3_connection.specs.OtherSettingsLaws.{others_more}
+use Rattle.h3_connection.specs.PeerReading.{Peer, PeerFound, having_frame, with_unread, is_no_element, read_max_push, read_priority, read_update, read_frame, at_front, unless_excessive, read_peer}
 use Rattle.h3_connection.specs.Updates.{Updates, with_update}
 use Rattle.h3_unidirectional.proofs.PeerLaws.{peer_frame, peer_fault, peer_less}
 use Rattle.h3_unidirectional.specs.Fronts.{ReadsFront}
+use Rattle.h3_unidirectional.specs.Judged.{TellsOthers, others_by}
+use Rattle.h3_unidirectional.proofs.OthersTold.{having_as, having_settings, tells_kept}
 use Rattle.h3_unidirectional.proofs.FrameFronts.{Precedes, followed_by, frame_front, unknown_front}
 use Rattle.h3_connection.specs.PeerReadingLaws.{frame_keeps, peer_step, step_excessive}
 use Rattle.h3_wire.specs.declared.frame.kinds.FrameKinds.{FrameKinds}
@@ -108,21 +112,28 @@ front_small kinds limit front rest more f same whole small =
     excessive_more kinds limit front more there ∙ sym (excessive_more kinds limit front rest there) ∙ small
 
 -- a frame is read
-pub frame_read : (kinds : FrameKinds) (limit : ℕ) (side : Side) (p new : Peer) (f : Frame PayloadLen) (rest : List ℕ) → is_excessive_by kinds limit (known_by kinds p.unread) ≡ false → frame_by kinds (known_by kinds p.unread) ≡ Whole f rest → read_frame side (with_unread p rest) p.settings f ≡ (new, None) → ReadsFront kinds limit side p new
+pub frame_read : (kinds : FrameKinds) (limit : ℕ) (side : Side) (p new : Peer) (f : Frame PayloadLen) (rest : List ℕ) → is_excessive_by kinds limit (known_by kinds p.unread) ≡ false → frame_by kinds (known_by kinds p.unread) ≡ Whole f rest → read_frame side (having_frame p f (known_by kinds p.unread) rest) p.settings f ≡ (new, None) → ReadsFront kinds limit side p new
 frame_read kinds limit side p new f rest small gives does =
     let u = unknown_front kinds p.unread in
     let w = frame_front kinds (known_by kinds p.unread) rest (subst (λ x. Precedes x rest) (sym gives) refl) in
     let whole_of : (more : List ℕ) → frame_by kinds (w.front ++ more) ≡ Whole f more = λ more. w.alike more ∙ ap (λ x. followed_by x more) gives in
-    let keeps : new.unread ≡ rest = ap (λ (x : PeerFound). x.0.unread) (sym does) ∙ frame_keeps side (with_unread p rest) p.settings f in
+    let had : Peer = having_frame p f (known_by kinds p.unread) rest in
+    let keeps : new.unread ≡ rest = ap (λ (x : PeerFound). x.0.unread) (sym does) ∙ frame_keeps side had p.settings f in
+    let alone_of : (more : List ℕ) → known_by kinds (w.front ++ more) ≡ w.front ++ more = λ more. known-other kinds (w.front ++ more) (subst IsKnown (sym (whole_of more)) tt) in
+    let front_whole : frame_by kinds w.front ≡ Whole f [] = ap (frame_by kinds) (sym (append-nil w.front)) ∙ whole_of [] in
+    let same_others : (more : List ℕ) → with_others p.settings f p.others (known_by kinds (w.front ++ more)) ≡ had.others = λ more.
+    ap (with_others p.settings f p.others) (alone_of more) ∙ others_more kinds p.settings f p.others w.front more [] front_whole
+    ∙ sym (ap (with_others p.settings f p.others) w.split ∙ others_more kinds p.settings f p.others w.front rest [] front_whole) in
     from_front kinds limit side p new (u.front ++ w.front)
     (u.split ∙ ap (λ l. u.front ++ l) (w.split ∙ ap (λ l. w.front ++ l) (sym keeps)) ∙ sym (append_assoc u.front w.front new.unread))
     (λ more.
     let whole = whole_of more in
-    let alone : known_by kinds (w.front ++ more) ≡ w.front ++ more = known-other kinds (w.front ++ more) (subst IsKnown (sym whole) tt) in
+    let alone : known_by kinds (w.front ++ more) ≡ w.front ++ more = alone_of more in
     let here : frame_by kinds (known_by kinds (w.front ++ more)) ≡ Whole f more = ap (frame_by kinds) alone ∙ whole in
     let short : is_excessive_by kinds limit (known_by kinds (w.front ++ more)) ≡ false =
     ap (is_excessive_by kinds limit) alone ∙ front_small kinds limit w.front rest more f (append-nil w.front) (whole_of []) (ap (is_excessive_by kinds limit) (sym w.split) ∙ small) in
-    let again : read_frame side (with_unread p more) p.settings f ≡ (with_unread new more, None) = frame_over side (with_unread p rest) p.settings f more ∙ ap (λ x. over x more) does in
+    let again : read_frame side (having_frame (with_unread p (w.front ++ more)) f (known_by kinds (w.front ++ more)) more) p.settings f ≡ (with_unread new more, None) =
+    ap (λ o. read_frame side (record p { unread = more; others = o }) p.settings f) (same_others more) ∙ frame_over side had p.settings f more ∙ ap (λ x. over x more) does in
     known_alike kinds limit side p ((u.front ++ w.front) ++ more) (w.front ++ more) (ap (known_by kinds) (append_assoc u.front w.front more) ∙ u.alike (w.front ++ more))
     ∙ peer_frame kinds limit side (with_unread p (w.front ++ more)) f more (with_unread new more, None) short here again)
 
@@ -135,17 +146,19 @@ same_kept side p goaways rest updates f x same kept does =
 
 -- a frame is read, and fewer bytes are left
 pub one_read : (kinds : FrameKinds) (limit : ℕ) (side : Side) (p new : Peer) (goaways rest : List ℕ) (updates : Updates) (f : Frame PayloadLen) → is_excessive_by kinds limit (known_by kinds p.unread) ≡ false → goaways ≡ p.goaways → updates ≡ p.updates
-    → frame_by kinds (known_by kinds p.unread) ≡ Whole f rest → read_frame side (record p { unread = rest; goaways = goaways; updates = updates }) p.settings f ≡ (new, None)
+    → frame_by kinds (known_by kinds p.unread) ≡ Whole f rest → read_frame side (record p { unread = rest; goaways = goaways; updates = updates }) p.settings f ≡ (new, None) → new.settings ≡ p.settings
     → ReadsFront kinds limit side p new × (length new.unread < length p.unread)
-one_read kinds limit side p new goaways rest updates f small same kept gives does =
-    let here = same_kept side p goaways rest updates f (new, None) same kept does in
+one_read kinds limit side p new goaways rest updates f small same kept gives does stays =
+    let here = having_as side p f (known_by kinds p.unread) rest (new, None) (same_kept side p goaways rest updates f (new, None) same kept does) (λ none. stays) in
     (frame_read kinds limit side p new f rest small gives here, peer_less kinds side p new f rest None gives here)
 
 -- a frame is a fault
 pub one_fault : (kinds : FrameKinds) (limit : ℕ) (side : Side) (p new : Peer) (goaways rest : List ℕ) (updates : Updates) (f : Frame PayloadLen) (code : ℕ) → is_excessive_by kinds limit (known_by kinds p.unread) ≡ false
     → goaways ≡ p.goaways → updates ≡ p.updates → frame_by kinds (known_by kinds p.unread) ≡ Whole f rest
     → read_frame side (record p { unread = rest; goaways = goaways; updates = updates }) p.settings f ≡ (new, Some code) → read_peer kinds limit side p ≡ (new, Some code)
-one_fault kinds limit side p new goaways rest updates f code small same kept gives does = peer_fault kinds limit side p new f rest code small gives (same_kept side p goaways rest updates f (new, Some code) same kept does)
+one_fault kinds limit side p new goaways rest updates f code small same kept gives does =
+    peer_fault kinds limit side p new f rest code small gives
+    (having_as side p f (known_by kinds p.unread) rest (new, Some code) (same_kept side p goaways rest updates f (new, Some code) same kept does) (λ none. absurd (cc)))
 
 -- a GOAWAY frame is read
 pub goaway_read : (kinds : FrameKinds) (limit : ℕ) (side : Side) (p : Peer) (goaways after rest : List ℕ) (updates : Updates) (id : ℕ) (f : Frame PayloadLen) → is_excessive_by kinds limit (known_by kinds p.unread) ≡ false
@@ -154,7 +167,7 @@ pub goaway_read : (kinds : FrameKinds) (limit : ℕ) (side : Side) (p : Peer) (g
     → ReadsFront kinds limit side p (record p { unread = rest; goaways = after; updates = updates }) × (length rest < length p.unread)
 goaway_read kinds limit side p goaways after rest updates id f small same kept more gives does =
     one_read kinds limit side p (record p { unread = rest; goaways = after; updates = updates }) goaways rest updates f small same kept gives
-    (subst (λ g. read_frame side (record p { unread = rest; goaways = goaways; updates = updates }) p.settings f ≡ (record p { unread = rest; goaways = g; updates = updates }, None)) (sym more) does)
+    (subst (λ g. read_frame side (record p { unread = rest; goaways = goaways; updates = updates }) p.settings f ≡ (record p { unread = rest; goaways = g; updates = updates }, None)) (sym more) does) refl
 
 -- a PRIORITY_UPDATE frame is read
 pub update_read : (kinds : FrameKinds) (limit : ℕ) (side : Side) (p : Peer) (goaways rest : List ℕ) (updates after : Updates) (id : ℕ) (priority : PriorityParameters) (f : Frame PayloadLen) → is_excessive_by kinds limit (known_by kinds p.unread) ≡ false
@@ -163,7 +176,23 @@ pub update_read : (kinds : FrameKinds) (limit : ℕ) (side : Side) (p : Peer) (g
     → ReadsFront kinds limit side p (record p { unread = rest; goaways = goaways; updates = after }) × (length rest < length p.unread)
 update_read kinds limit side p goaways rest updates after id priority f small same kept more gives does =
     one_read kinds limit side p (record p { unread = rest; goaways = goaways; updates = after }) goaways rest updates f small same kept gives
-    (subst (λ u. read_frame side (record p { unread = rest; goaways = goaways; updates = updates }) p.settings f ≡ (record p { unread = rest; goaways = goaways; updates = u }, None)) (sym more) does)
+    (subst (λ u. read_frame side (record p { unread = rest; goaways = goaways; updates = updates }) p.settings f ≡ (record p { unread = rest; goaways = goaways; updates = u }, None)) (sym more) does) refl
+
+-- a SETTINGS frame is read, with its settings of no meaning
+pub settings_read : (kinds : FrameKinds) (limit : ℕ) (side : Side) (p new : Peer) (goaways rest : List ℕ) (updates : Updates) (pairs : List (ℕ × ℕ)) (told : Option (List (ℕ × ℕ))) (f : Frame PayloadLen)
+    → is_excessive_by kinds limit (known_by kinds p.unread) ≡ false → goaways ≡ p.goaways → updates ≡ p.updates → frame_by kinds (known_by kinds p.unread) ≡ Whole f rest
+    → read_frame side (record p { unread = rest; goaways = goaways; updates = updates }) p.settings f ≡ (record p { unread = rest; goaways = goaways; updates = updates; settings = Some pairs }, None)
+    → TellsOthers kinds (record p { goaways = goaways; updates = updates }) told → new ≡ record p { unread = rest; goaways = goaways; updates = updates; settings = Some pairs; others = others_by told p.others }
+    → ReadsFront kinds limit side p new × (length new.unread < length p.unread)
+settings_read kinds limit side p new goaways rest updates pairs told f small same kept gives does tells is =
+    let came : Peer = record p { unread = rest; settings = Some pairs; others = others_by told p.others } in
+    let alone : read_frame side (with_unread p rest) p.settings f ≡ (record p { unread = rest; settings = Some pairs }, None) =
+    same_kept side p goaways rest updates f (record p { unread = rest; settings = Some pairs }, None) same kept
+    (does ∙ ap (λ g. (let x : PeerFound = (record p { unread = rest; goaways = g; updates = updates; settings = Some pairs }, None) in x)) same ∙ ap (λ u. (let x : PeerFound = (record p { unread = rest; updates = u; settings = Some pairs }, None) in x)) kept) in
+    let here : read_frame side (having_frame p f (known_by kinds p.unread) rest) p.settings f ≡ (came, None) = having_settings kinds side p f rest pairs told (tells_kept kinds p goaways updates told tells) alone in
+    let same_new : came ≡ new =
+    sym (is ∙ ap (λ g. record p { unread = rest; goaways = g; updates = updates; settings = Some pairs; others = others_by told p.others }) same ∙ ap (λ u. record p { unread = rest; updates = u; settings = Some pairs; others = others_by told p.others }) kept) in
+    subst (λ (n : Peer). ReadsFront kinds limit side p n × (length n.unread < length p.unread)) same_new (frame_read kinds limit side p came f rest small gives here, peer_less kinds side p came f rest None gives here)
 
 left_known : (kinds : FrameKinds) (e : FrameStreamError) (old new : List ℕ) → Gives kinds (Err e) old new → new ≡ known_by kinds old
 left_known kinds (stream.Proto e) old new h = h.0

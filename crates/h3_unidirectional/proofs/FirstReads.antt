@@ -106,15 +106,15 @@ module _ (kinds : FrameKinds) (side : Side) (own : Announced) (old : Peer) where
       ap (λ (x : PeerFound). x.0.settings) (on_from m front) ∙ settings_stay kinds limit side m s.0 s.1 ∙ sym s.1
 
   -- they came, and are refused
-  pub refused_first : (m k new : Peer) → ReadsFront kinds limit side old m → m ≡ record old { unread = m.unread; settings = m.settings } → is_some m.settings ≡ true → k ≡ kept_peer last m → settings_refused side own k.settings ≡ true
-      → new ≡ record k { unread = [] } → kept_found last (found_first side own old (read_peer kinds limit side old)) ≡ (new, Some settings_error)
+  pub refused_first : (m k new : Peer) → ReadsFront kinds limit side old m → m ≡ record old { unread = m.unread; settings = m.settings; others = m.others } → is_some m.settings ≡ true → k ≡ kept_peer last m → settings_refused side own k.settings ≡ true
+      → new ≡ record k { unread = []; others = old.others } → kept_found last (found_first side own old (read_peer kinds limit side old)) ≡ (new, Some settings_error)
   refused_first m k new front earlier some kept bad is =
       let came = same_settings m front some in
       let told : settings_refused side own (read_peer kinds limit side old).0.settings ≡ true = ap (settings_refused side own) (came ∙ sym (ap (λ (p : Peer). p.settings) kept)) ∙ bad in
       ap (λ b. kept_found last (found_by b (read_peer kinds limit side old))) told
       ∙ ap (λ o. kept_found last (settings_alone old o, Some settings_error)) came
       ∙ ap (λ (p : Peer). (let x : PeerFound = (p, Some settings_error) in x))
-      (sym (is ∙ ap (λ (p : Peer). record p { unread = [] }) (kept ∙ ap (kept_peer last) earlier)))
+      (sym (is ∙ ap (λ (p : Peer). record p { unread = []; others = old.others }) (kept ∙ ap (kept_peer last) earlier)))
 
   taken_settings : (m k : Peer) → ReadsFront kinds limit side old m → is_some m.settings ≡ true → k ≡ kept_peer last m → settings_refused side own k.settings ≡ false → settings_refused side own (read_peer kinds limit side old).0.settings ≡ false
   taken_settings m k front some kept good = ap (settings_refused side own) (same_settings m front some ∙ sym (ap (λ (p : Peer). p.settings) kept)) ∙ good

@@ -14,3 +14,5 @@ mod Behind
 mod PeerLaws
 mod UpdatePlaces
 mod UpdateTexts
+mod OthersTold
+mod BothStarts

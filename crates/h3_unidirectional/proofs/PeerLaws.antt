@@ -6,7 +6,7 @@ use Rattle.h3_wire.specs.Frames.{Refused, frame_by, Whole}
 use Rattle.h3_wire.specs.Known.{known_by}
 use Rattle.h3_wire.specs.declared.proto.frame.FrameError.{FrameError}
 use Rattle.h3_connection.specs.PeerReadingLaws.{step_within, frame_keeps}
-use Rattle.h3_connection.specs.PeerReading.{Peer, with_unread, at_front, read_peer, refused_code, PeerFound, read_frame, unless_fault}
+use Rattle.h3_connection.specs.PeerReading.{Peer, with_unread, having_frame, at_front, read_peer, refused_code, PeerFound, read_frame, unless_fault}
 use Rattle.h3_wire.specs.declared.proto.frame.PayloadLen.{PayloadLen}
 use Rattle.h3_wire.specs.declared.proto.frame.Frame.{Frame}
 use Rattle.h3_connection.specs.SkippingLaws.{rest_shorter}
@@ -20,20 +20,20 @@ peer_refused kinds limit side p left e small is h =
     step_within kinds limit side p small ∙ ap (λ l. at_front (read_peer kinds limit side) side p l (frame_by kinds l)) (sym is) ∙ ap (λ x. at_front (read_peer kinds limit side) side p left x) h
 
 pub peer_frame : (kinds : FrameKinds) (limit : ℕ) (side : Side) (p : Peer) (f : Frame PayloadLen) (rest : List ℕ) (x : PeerFound) → is_excessive_by kinds limit (known_by kinds p.unread) ≡ false → frame_by kinds (known_by kinds p.unread) ≡ Whole f rest
-    → read_frame side (with_unread p rest) p.settings f ≡ x → read_peer kinds limit side p ≡ unless_fault x (read_peer kinds limit side)
+    → read_frame side (having_frame p f (known_by kinds p.unread) rest) p.settings f ≡ x → read_peer kinds limit side p ≡ unless_fault x (read_peer kinds limit side)
 peer_frame kinds limit side p f rest x small h e =
     step_within kinds limit side p small ∙ ap (λ y. at_front (read_peer kinds limit side) side p (known_by kinds p.unread) y) h ∙ ap (λ y. unless_fault y (read_peer kinds limit side)) e
 
 -- a frame is a fault
 pub peer_fault : (kinds : FrameKinds) (limit : ℕ) (side : Side) (p new : Peer) (f : Frame PayloadLen) (rest : List ℕ) (code : ℕ) → is_excessive_by kinds limit (known_by kinds p.unread) ≡ false → frame_by kinds (known_by kinds p.unread) ≡ Whole f rest
-    → read_frame side (with_unread p rest) p.settings f ≡ (new, Some code) → read_peer kinds limit side p ≡ (new, Some code)
+    → read_frame side (having_frame p f (known_by kinds p.unread) rest) p.settings f ≡ (new, Some code) → read_peer kinds limit side p ≡ (new, Some code)
 peer_fault kinds limit side p new f rest code small h e = peer_frame kinds limit side p f rest (new, Some code) small h e
 
 -- fewer bytes are left then
-pub peer_less : (kinds : FrameKinds) (side : Side) (p new : Peer) (f : Frame PayloadLen) (rest : List ℕ) (fault : Option ℕ) → frame_by kinds (known_by kinds p.unread) ≡ Whole f rest → read_frame side (with_unread p rest) p.settings f ≡ (new, fault) → length new.unread < length p.unread
+pub peer_less : (kinds : FrameKinds) (side : Side) (p new : Peer) (f : Frame PayloadLen) (rest : List ℕ) (fault : Option ℕ) → frame_by kinds (known_by kinds p.unread) ≡ Whole f rest → read_frame side (having_frame p f (known_by kinds p.unread) rest) p.settings f ≡ (new, fault) → length new.unread < length p.unread
 peer_less kinds side p new f rest fault h e =
     let less = rest_shorter kinds p.unread rest f h in
-    let same : new.unread ≡ rest = ap (λ (x : PeerFound). x.0.unread) (sym e) ∙ frame_keeps side (with_unread p rest) p.settings f in
+    let same : new.unread ≡ rest = ap (λ (x : PeerFound). x.0.unread) (sym e) ∙ frame_keeps side (having_frame p f (known_by kinds p.unread) rest) p.settings f in
     omega (arith, less, ap length same)
 
 -- a frame is judged by whether the settings came

@@ -1,7 +1,10 @@
 -- What a frame of the peer's control stream does.
-use Rattle.std.specs.Prelude.{◌≡◌, ℕ, ◌<◌, true, [], ◌∷◌, ◌++◌, length, Some, None, is_some}
+use Rattle.std.specs.Prelude.{◌≡◌, ℕ, ◌<◌, true, List, [], ◌∷◌, ◌++◌, length, Option, Some, None, is_some, Vec}
+use Rattle.std.specs.declared.alloc.Global.{Global}
 use Rattle.h3_proto.specs.declared.stream.Side.{Side}
 use Rattle.h3_wire.specs.declared.frame.kinds.FrameKinds.{FrameKinds}
+use Rattle.h3_wire.specs.Known.{known_by}
+use Rattle.h3_connection.specs.OtherSettings.{OtherSettings, with_told}
 use Rattle.h3_connection.specs.PeerReading.{Peer, PeerFound, read_peer}
 use Rattle.h3_connection.specs.Updates.{with_update}
 use Rattle.h3_unidirectional.specs.Fronts.{ReadsFront}
@@ -10,9 +13,24 @@ use Rattle.h3_unidirectional.specs.declared.control.Judged.TheVariants.{Settings
 use Rattle.h3_unidirectional.specs.declared.control.Progress.{Progress}
 use Rattle.h3_unidirectional.specs.declared.control.Progress.TheVariants.{GoesOn, Ends}
 
+-- settings of no meaning that were read, if they were looked for
+abbrev pub items_of : Option (Vec (ℕ × ℕ) Global) → Option (List (ℕ × ℕ))
+items_of None = None
+items_of (Some kept) = Some kept.items
+
+-- they are kept then
+abbrev pub others_by : Option (List (ℕ × ℕ)) → OtherSettings → OtherSettings
+others_by None o = o
+others_by (Some kept) o = record o { kept = kept }
+
+-- They are looked for where the settings are due, and are those of the frame in front.
+abbrev pub TellsOthers : FrameKinds → Peer → Option (List (ℕ × ℕ)) → Type 0
+TellsOthers kinds p None = p.settings ≡ None → p.others ≡ with_told p.others (known_by kinds p.unread)
+TellsOthers kinds p (Some kept) = (p.settings ≡ None) × (record p.others { kept = kept } ≡ with_told p.others (known_by kinds p.unread))
+
 -- a frame of a stream whose settings are due: they came, and nothing else changes; or they did not
 abbrev pub KeepsEarlier : Peer → Peer → Progress → Type 0
-KeepsEarlier old new GoesOn = (new ≡ record old { unread = new.unread; settings = new.settings }) × (is_some new.settings ≡ true)
+KeepsEarlier old new GoesOn = (new ≡ record old { unread = new.unread; settings = new.settings; others = new.others }) × (is_some new.settings ≡ true)
 KeepsEarlier old new (Ends fault) = new.settings ≡ None
 
 abbrev pub done : Peer → Judged → PeerFound

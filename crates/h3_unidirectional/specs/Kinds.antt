@@ -1,8 +1,8 @@
 -- A unidirectional stream's role and the code of its reset by what is kept of it, and for whom what came is.
 use Rattle.std.specs.Prelude.{◌≡◌, ℕ, Bool, true, false, List, [], ◌++◌, Option, Some, None}
 use Rattle.h3_coding.specs.Varint.{varint_at}
-use Rattle.h3_connection.specs.Unidirectional.{Role, of_kind, role_after}
-use Rattle.h3_connection.specs.Unidirectional.Role.{Untold, Control, Encoder, Decoder, Session, Push, Ignored}
+use Rattle.h3_connection.specs.Unidirectional.{StreamKinds, Role, of_kind, role_after}
+use Rattle.h3_connection.specs.Unidirectional.Role.{Untold, Control, Encoder, Decoder, Session, Push, Ignored, Other}
 use Rattle.h3_unidirectional.specs.declared.plain.PlainRole.{PlainRole}
 use Rattle.h3_unidirectional.specs.declared.plain.PlainRole.TheVariants as plain_role
 use Rattle.h3_unidirectional.specs.declared.stream.Kind.{Kind}
@@ -18,6 +18,7 @@ role_of kind.Decoder front = Decoder
 role_of (kind.Session id) front = Session id
 role_of (kind.Push id) front = Push id
 role_of kind.Ignored front = Ignored
+role_of (kind.Other number) front = Other number
 
 -- the role that a type alone tells
 abbrev pub plain : PlainRole → Role
@@ -32,19 +33,19 @@ code_of true code = Some code
 code_of false _ = None
 
 -- what some bytes make of a stream, and the bytes behind that
-abbrev pub head_of : Bool → List ℕ → Role × List ℕ
-head_of sessions bytes = of_kind sessions bytes (varint_at bytes)
+abbrev pub head_of : StreamKinds → List ℕ → Role × List ℕ
+head_of known bytes = of_kind known bytes (varint_at bytes)
 
--- the first bytes do not tell it yet, whether sessions are known or not
+-- the first bytes do not tell it yet, whatever streams are known
 abbrev pub IsUnfinished : Kind → List ℕ → Type 0
-IsUnfinished kind.Untold front = (sessions : Bool) → head_of sessions front ≡ (Untold front, [])
+IsUnfinished kind.Untold front = (known : StreamKinds) → head_of known front ≡ (Untold front, [])
 IsUnfinished _ front = Unit {0}
 
 -- they tell this kind, and others are left, or it is not told yet
-abbrev pub Tells : Bool → List ℕ → List ℕ → Option Kind → Type 0
-Tells sessions bytes left None = (other : Bool) → head_of other bytes ≡ (Untold bytes, [])
-Tells sessions bytes left (Some kind.Untold) = ⊥
-Tells sessions bytes left (Some k) = head_of sessions bytes ≡ (role_of k [], left)
+abbrev pub Tells : StreamKinds → List ℕ → List ℕ → Option Kind → Type 0
+Tells known bytes left None = (other : StreamKinds) → head_of other bytes ≡ (Untold bytes, [])
+Tells known bytes left (Some kind.Untold) = ⊥
+Tells known bytes left (Some k) = head_of known bytes ≡ (role_of k [], left)
 
 -- the bytes that are for a role are for this reader
 abbrev pub received_by : Role × List ℕ → Received
@@ -64,7 +65,7 @@ is_untold (Untold front) = true
 is_untold _ = false
 
 -- What tells a role stands in front of the bytes that are for it.
-pub record TellsFirst (sessions : Bool) (before : Role) (bytes : List ℕ) (r : Role) (rest : List ℕ) : Type 0 where
+pub record TellsFirst (known : StreamKinds) (before : Role) (bytes : List ℕ) (r : Role) (rest : List ℕ) : Type 0 where
   pub front : List ℕ
   pub cut : bytes ≡ front ++ rest
-  pub tells : role_after sessions before front ≡ (r, [])
+  pub tells : role_after known before front ≡ (r, [])

@@ -12,3 +12,4 @@ pub mod PeerLaws
 pub mod WaitingLaws
 pub mod OwnTexts
 pub mod Told
+pub mod Starts

@@ -9,7 +9,7 @@ use Rattle.h3_connection.specs.OwnUpdates.{OwnUpdate, control_frames, goaway_enc
 use Rattle.h3_connection.specs.OwnUpdatesLaws.{goaway_last, update_last}
 use Rattle.h3_connection.specs.State.{OwnState, OwnStands, IsBehind, TakesWhatIsThere}
 use Rattle.h3_unidirectional.specs.declared.own.OwnStream.TheVariants.{Control, Encoder, Decoder}
-use Rattle.h3_wire.specs.StreamHeaders.{control_encoding}
+use Rattle.h3_connection.specs.OwnSettings.{control_start}
 use Rattle.h3_coding.specs.Encodings.{encoding}
 use Rattle.h3_field.specs.Instruction.{EncoderInstruction, encoder_bytes, DecoderInstruction, decoder_bytes}
 use Rattle.h3_connection.specs.Sending.{own_advanced}
@@ -88,7 +88,7 @@ frame_stands : (own : OwnState) (e : EndpointHistory) (goaways : List ℕ) (upda
     → OwnStands (record own { control = own.control ++ frame }) (record e { own = record e.own { goaways = goaways; updates = updates } })
 frame_stands own e goaways updates frame is h =
     let s = stands own e h in
-    let more = more_written e.own.control_taken (control_encoding e.announced.settings) (control_frames 0 e.own.goaways e.own.updates) (control_frames 0 goaways updates) frame is h.taken.control in
+    let more = more_written e.own.control_taken (control_start e.announced.settings e.own.further) (control_frames 0 e.own.goaways e.own.updates) (control_frames 0 goaways updates) frame is h.taken.control in
     own_stands (record own { control = own.control ++ frame }) (record e { own = record e.own { goaways = goaways; updates = updates } })
     (record { control = ap (λ l. l ++ frame) s.control ∙ sym more.0; encoder = s.encoder; decoder = s.decoder })
     (record { control = more.1; encoder = h.taken.encoder; decoder = h.taken.decoder })

@@ -1,7 +1,7 @@
 -- What waits on the own streams, as texts of a history.
 use Rattle.std.proofs.Common.{ℕ, ◌+◌, List, ◌++◌, flat_map, ◌≡◌, drop}
-use Rattle.h3_wire.specs.StreamHeaders.{control_encoding}
 use Rattle.h3_connection.specs.Endpoint.{EndpointHistory}
+use Rattle.h3_connection.specs.OwnSettings.{control_start}
 use Rattle.h3_connection.specs.OwnUpdates.{control_frames}
 use Rattle.h3_coding.specs.Encodings.{encoding}
 use Rattle.h3_field.specs.Instruction.{encoder_bytes, decoder_bytes}
@@ -9,7 +9,7 @@ use Rattle.h3_connection.specs.State.{OwnState}
 
 -- the texts of the own streams
 abbrev pub control_text : EndpointHistory → List ℕ
-control_text e = control_encoding e.announced.settings ++ control_frames 0 e.own.goaways e.own.updates
+control_text e = control_start e.announced.settings e.own.further ++ control_frames 0 e.own.goaways e.own.updates
 
 abbrev pub encoder_text : EndpointHistory → List ℕ
 encoder_text e = encoding 2 ++ flat_map encoder_bytes e.own.instructions

@@ -1,6 +1,6 @@
 -- The kind of a stream by its role (RFC 9114, section 6.2).
 use Rattle.h3_connection.specs.Unidirectional.{Role}
-use Rattle.h3_connection.specs.Unidirectional.Role.{Untold, Control, Encoder, Decoder, Session, Push, Ignored}
+use Rattle.h3_connection.specs.Unidirectional.Role.{Untold, Control, Encoder, Decoder, Session, Push, Ignored, Other}
 use Rattle.h3_unidirectional.specs.declared.stream.Kind.{Kind}
 use Rattle.h3_unidirectional.specs.declared.stream.Kind.TheVariants as kind
 
@@ -13,3 +13,4 @@ kind_in Decoder = kind.Decoder
 kind_in (Session id) = kind.Session id
 kind_in (Push id) = kind.Push id
 kind_in Ignored = kind.Ignored
+kind_in (Other number) = kind.Other number

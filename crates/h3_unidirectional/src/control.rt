@@ -1,5 +1,5 @@
 //! The peer's control stream (RFC 9114, section 6.2.1).
-ghost use Rattle.std.specs.Prelude.{◌≡◌, ◌+◌, ◌^◌, ◌<◌, ◌++◌, ℕ, List, length, false, remove, slice_get, Some, None, is_some, IfOk, IfErr, OnOk, OnErr, option_copied};
+ghost use Rattle.std.specs.Prelude.{◌≡◌, ◌+◌, ◌^◌, ◌<◌, ◌++◌, ℕ, List, [], length, false, remove, slice_get, Some, None, is_some, IfOk, IfErr, OnOk, OnErr, option_copied};
 ghost use Rattle.std.specs.List.{concat};
 ghost use Rattle.h3_proto.specs.declared.stream.Side.{Side};
 ghost use Rattle.h3_wire.specs.FirstFrames.{begins_other};
@@ -8,13 +8,15 @@ ghost use Rattle.h3_wire.specs.UnknownSize.{held_length};
 ghost use Rattle.h3_connection.specs.Codes.{settings_code, refusal_code};
 ghost use Rattle.h3_connection.specs.KeptGoaways.{keeps_last, kept_found, kept_peer};
 ghost use Rattle.h3_connection.specs.Lasts.{last_id};
+ghost use Rattle.h3_connection.specs.OtherSettings.{no_others, setting_in};
 ghost use Rattle.h3_connection.specs.PeerReading.{Peer, none_read, with_unread, is_no_goaway, read_goaway, read_max_push, read_update, read_frame, refused_code, read_peer};
 ghost use Rattle.h3_connection.specs.StreamSets.{stream_at};
 ghost use Rattle.h3_connection.specs.StrictConnection.{settings_refused};
 ghost use Rattle.h3_unidirectional.specs.Fronts.{KeepsOn, KeepsPart, ReadsFront, StopsReading, found_first};
-ghost use Rattle.h3_unidirectional.specs.Judged.{KeepsEarlier, done, ReadsOne};
+ghost use Rattle.h3_unidirectional.specs.Judged.{KeepsEarlier, TellsOthers, done, items_of, others_by, ReadsOne};
 
 use crate::limits::keeps_last;
+use crate::other_settings::OtherSettings;
 use crate::updates::WaitingUpdates;
 use bytes::Bytes;
 use h3_coding::varint::VarInt;
@@ -22,7 +24,7 @@ use h3_connection::setup::Announced;
 use h3_priority::priority::Priority;
 use h3_proto::config::Choices;
 use h3_proto::error::Code;
-use h3_proto::frame::{Settings, SettingsError};
+use h3_proto::frame::{SettingId, Settings, SettingsError};
 use h3_proto::push::PushId;
 use h3_proto::stream::{Side, StreamId};
 use h3_wire::frame::{FrameBuffer, FrameKinds, FrameProtocolError, FrameStreamError};
@@ -38,16 +40,20 @@ pub struct PeerControl {
     goaways: Vec<VarInt>,
     most_pushes: Option<PushId>,
     updates: WaitingUpdates,
+    others: OtherSettings,
 }
 
 impl Model for PeerControl {
+    ghost use Rattle.std.specs.Prelude.{◌≡◌, [], None};
     ghost use Rattle.std.specs.List.{concat};
     ghost use Rattle.h3_connection.specs.PeerReading.{Peer};
-    ghost use Rattle.h3_unidirectional.specs.Waits.{updates_in};
+    ghost use Rattle.h3_unidirectional.specs.Waits.{others_in, updates_in};
 
     ghost Value = { Peer };
 
-    ghost view = { λ p. record { unread = concat p.unread.pieces; settings = p.settings; goaways = p.goaways.items; most_pushes = p.most_pushes; updates = updates_in p.updates } };
+    ghost view = { λ p. record { unread = concat p.unread.pieces; settings = p.settings; goaways = p.goaways.items; most_pushes = p.most_pushes; updates = updates_in p.updates; others = others_in p.others } };
+
+    ghost invariant = { λ p. p.settings ≡ None → p.others.kept.items ≡ [] };
 }
 
 /// What a frame does.
@@ -131,9 +137,9 @@ fn judge_update(side: Side, update: &PriorityUpdate) -> Judged
 }
 
 impl PeerControl {
-    /// A stream of which nothing came. What updates of priorities say is kept of so many streams.
-    pub fn new(alloc: Global, most_updates: usize) -> PeerControl
-        ensures { result ≡ none_read most_updates }
+    /// A stream of which nothing came. What updates of priorities say is kept of so many streams, and so many settings of no meaning are.
+    pub fn new(alloc: Global, most_updates: usize, most_others: usize) -> PeerControl
+        ensures { result ≡ none_read most_updates most_others }
     {
         PeerControl {
             unread: FrameBuffer::new(alloc),
@@ -141,6 +147,7 @@ impl PeerControl {
             goaways: Vec::new(alloc),
             most_pushes: None,
             updates: WaitingUpdates::new(alloc, most_updates),
+            others: OtherSettings::new(alloc, most_others),
         }
     }
 
@@ -156,6 +163,17 @@ impl PeerControl {
         ensures { result ≡ is_some self.now.settings }
     {
         self.settings.is_some()
+    }
+
+    /// The value of a setting that came, also of one that has no meaning here and is kept.
+    pub fn setting(&self, id: SettingId) -> Option<u64>
+        ensures { result ≡ setting_in self.now.settings self.now.others id }
+    {
+        let settings = self.settings.as_ref()?;
+        match settings.get(id) {
+            Some(value) => Some(value),
+            None => self.others.get(id),
+        }
     }
 
     /// The ids of the GOAWAY frames that are kept, in order.
@@ -309,6 +327,35 @@ impl PeerControl {
         }
     }
 
+    // The settings of no meaning in the SETTINGS frame that comes first, if the settings have not come and such ones are kept.
+    #[tactic(auto, using(crate::proofs::OthersTold::none_due, crate::proofs::OthersTold::none_wanted))]
+    fn others_told(
+        &self,
+        alloc: Global,
+        kinds: FrameKinds,
+    ) -> Result<Option<Vec<(u64, u64)>>, AllocError>
+        ensures { IfOk result (λ told. TellsOthers kinds self.now (items_of told)) }
+    {
+        if self.settings.is_some() {
+            return Ok(None);
+        }
+        if self.others.most == 0 {
+            return Ok(None);
+        }
+        let kept = self.unread.other_settings(alloc, kinds, self.others.most)?;
+        Ok(Some(kept))
+    }
+
+    // The settings came, and beside them those of no meaning, if such ones are kept.
+    fn take_settings(&mut self, settings: Settings, told: Option<Vec<(u64, u64)>>)
+        ensures { self.new ≡ record self.old { settings = Some settings; others = others_by (items_of told) self.old.others } }
+    {
+        self.settings = Some(settings);
+        if let Some(kept) = told {
+            self.others.kept = kept;
+        }
+    }
+
     /// Reads the next frame, unless it says a length above `most`: then it frees what came. If an allocation fails, it skips only unknown
     /// frames.
     #[tactic(auto, using(crate::specs::PeerLaws::peer_waits, crate::proofs::ControlFronts::no_front, crate::proofs::ControlFronts::no_room, crate::proofs::ControlFronts::unknown_passed))]
@@ -334,11 +381,12 @@ impl PeerControl {
         }
         self.goaways.reserve(1)?;
         self.updates.reserve()?;
+        let told = self.others_told(alloc, kinds)?;
         match self.unread.next_frame(alloc, kinds) {
             Ok(None) => Ok(Progress::Ends(None)),
             Ok(Some(frame)) => match self.judge(side, frame) {
                 Judged::Settings(settings) => {
-                    self.settings = Some(settings);
+                    self.take_settings(settings, told);
                     Ok(Progress::GoesOn)
                 }
                 Judged::Goaway(id) => {
@@ -413,6 +461,21 @@ impl PeerControl {
         }
     }
 
+    /// How many settings of no meaning are kept at most. None is, while the settings have not come.
+    fn most_others(&self) -> usize
+        ensures { self.now.settings ≡ None → self.now.others ≡ no_others result }
+    {
+        self.others.most
+    }
+
+    /// What came is freed, and the settings of no meaning.
+    fn let_go(&mut self, alloc: Global, most_others: usize)
+        ensures { self.new ≡ record self.old { unread = []; others = no_others most_others } }
+    {
+        self.unread = FrameBuffer::new(alloc);
+        self.others = OtherSettings::new(alloc, most_others);
+    }
+
     /// The same while the settings have not come. If the endpoint does not take those that come, that is the fault, whatever follows them:
     /// what came after them is freed.
     pub fn read_first(
@@ -427,6 +490,7 @@ impl PeerControl {
         ensures refused { OnErr result (KeepsPart kinds (keeps_last own.now.choices) own.now.choices.unfinished_limit side self.old self.new) }
         ensures taken { OnErr result (settings_refused side own.now self.new.settings ≡ false) }
     {
+        let most_others = self.most_others();
         let progress = self.read_one(alloc, side, own.choices.unfinished_limit, kinds);
         self.keep_goaways(keeps_last(own.choices));
         match progress {
@@ -435,7 +499,7 @@ impl PeerControl {
             Err(e) => return Err(e),
         }
         if self.are_refused(side, own) {
-            self.unread = FrameBuffer::new(alloc);
+            self.let_go(alloc, most_others);
             return Ok(Some(Code::H3_SETTINGS_ERROR));
         }
         self.read(alloc, side, own.choices, kinds)

@@ -5,7 +5,9 @@
 pub mod control;
 pub mod decoding;
 pub mod encoding;
+mod further;
 mod limits;
+mod other_settings;
 pub mod own;
 pub mod plain;
 pub mod stream;

@@ -1,6 +1,6 @@
 //! Roles that the type of a stream alone tells (RFC 9114, section 6.2): of such a stream nothing is kept but its role.
 ghost use Rattle.std.specs.Prelude.{◌≡◌, ◌≤◌, ℕ, List, [], false, length, drop, IfSome};
-ghost use Rattle.h3_connection.specs.StrictConnection.{knows_sessions};
+ghost use Rattle.h3_connection.specs.StrictConnection.{known_streams};
 ghost use Rattle.h3_connection.specs.Unidirectional.{Role, is_critical, role_after};
 ghost use Rattle.h3_connection.specs.Unidirectional.Role.{Untold};
 ghost use Rattle.h3_unidirectional.specs.Kinds.{role_of, plain, is_untold, TellsFirst, received_by};
@@ -36,6 +36,7 @@ impl PlainRole {
             Kind::Untold => None,
             Kind::Session(_) => None,
             Kind::Push(_) => None,
+            Kind::Other(_) => None,
         }
     }
 
@@ -78,9 +79,9 @@ impl PlainRole {
 
 /// What the first bytes of a stream tell if its type alone tells its role: the role, and how many of them the type takes.
 pub fn first_role(bytes: &[u8], own: &Announced) -> Option<(PlainRole, usize)>
-    ensures told { IfSome result (λ first. role_after (knows_sessions own.now) (Untold []) bytes.now ≡ (plain first.0, drop first.1 bytes.now)) }
+    ensures told { IfSome result (λ first. role_after (known_streams own.now) (Untold []) bytes.now ≡ (plain first.0, drop first.1 bytes.now)) }
     ensures within { IfSome result (λ first. first.1 ≤ length bytes.now) }
-    ensures front { (r : Role) (rest : List ℕ) → is_untold r ≡ false → role_after (knows_sessions own.now) (Untold []) bytes.now ≡ (r, rest) → TellsFirst (knows_sessions own.now) (Untold []) bytes.now r rest }
+    ensures front { (r : Role) (rest : List ℕ) → is_untold r ≡ false → role_after (known_streams own.now) (Untold []) bytes.now ≡ (r, rest) → TellsFirst (known_streams own.now) (Untold []) bytes.now r rest }
 {
     let mut ahead = bytes;
     let Some(kind) = read_kind(&mut ahead, own) else {

@@ -3,9 +3,9 @@ ghost use Rattle.std.specs.Prelude.{◌≡◌, ◌+◌, ◌-◌, ◌<◌, ◌≤
 ghost use Rattle.std.specs.List.{concat};
 ghost use Rattle.h3_coding.specs.Varint.{varint_at};
 ghost use Rattle.h3_connection.specs.Keeping.{is_settled_session};
-ghost use Rattle.h3_connection.specs.StrictConnection.{knows_sessions};
-ghost use Rattle.h3_connection.specs.Unidirectional.{Role, untold, is_closed, is_critical, role_after, with_bytes, may_be_session, untold_pull, raw, if_over, pull_unidirectional};
-ghost use Rattle.h3_connection.specs.Unidirectional.Role.{Untold, Session};
+ghost use Rattle.h3_connection.specs.StrictConnection.{known_streams};
+ghost use Rattle.h3_connection.specs.Unidirectional.{Role, untold, is_closed, is_critical, role_after, with_bytes, may_be_session, untold_pull, raw, if_over, pull_other, pull_unidirectional};
+ghost use Rattle.h3_connection.specs.Unidirectional.Role.{Untold, Session, Other};
 ghost use Rattle.h3_unidirectional.specs.Kinds.{role_of, is_told_kind, is_untold, Tells, TellsFirst, received_by};
 ghost use Rattle.h3_unidirectional.specs.Told.{kind_in};
 
@@ -38,6 +38,8 @@ pub enum Kind {
     Push(u64),
     /// A type without a meaning.
     Ignored,
+    /// This type without a meaning, of a stream that is delivered.
+    Other(u64),
 }
 
 /// What came is for this reader.
@@ -63,7 +65,7 @@ pub struct UnidirectionalStream {
     kind: Kind,
     // the first bytes, while the type or the id is not whole
     front: Vec<u8>,
-    // what came of a session and was not pulled
+    // what came of a session, or of a stream of another type that is delivered, and was not pulled
     unread: BufList<Bytes>,
     // the code of a reset; apart from `is_reset`, and the flags side by side, since the first stream takes room for 15 (104 bytes each)
     reset_code: u64,
@@ -86,9 +88,10 @@ impl Model for UnidirectionalStream {
 
 // RFC 9114 6.2: type of a unidirectional stream
 /// Reads what a stream begins with: its type, and the id after it if it is a push stream (RFC 9114, section 4.6) or one of a
-/// WebTransport session. `None` if that is not whole. If sessions are not known theirs is a type without a meaning (RFC 9114, section 9).
+/// WebTransport session. `None` if that is not whole. If sessions are not known theirs is a type without a meaning (RFC 9114, section 9). A
+/// stream of such a type is ignored, or delivered if the caller asks for it.
 pub(crate) fn read_kind<B: Buf>(buf: &mut B, own: &Announced) -> Option<Kind>
-    ensures { Tells (knows_sessions own.now) (B.unread buf.old) (B.unread buf.new) result }
+    ensures { Tells (known_streams own.now) (B.unread buf.old) (B.unread buf.new) result }
 {
     let Ok(number) = buf.get_var() else {
         return None;
@@ -115,7 +118,12 @@ pub(crate) fn read_kind<B: Buf>(buf: &mut B, own: &Announced) -> Option<Kind>
             }
             Some(Kind::Session(session))
         }
-        _ => Some(Kind::Ignored),
+        _ => {
+            if own.hands_out(number) {
+                return Some(Kind::Other(number));
+            }
+            Some(Kind::Ignored)
+        }
     }
 }
 
@@ -174,16 +182,18 @@ impl UnidirectionalStream {
             Kind::Session(_) => false,
             Kind::Push(_) => false,
             Kind::Ignored => false,
+            Kind::Other(_) => false,
         }
     }
 
-    /// Whether what it answers to each further pull is settled: the session's end was pulled, or it was reset.
+    /// Whether what it answers to each further pull is settled: the end of a stream that is delivered was pulled, or it was reset.
     pub fn is_settled(&self) -> bool
         ensures { result ≡ is_settled_session self.now self.now.role }
     {
         let kind = self.kind;
         match kind {
             Kind::Session(_) => self.is_over || self.is_reset,
+            Kind::Other(_) => self.is_over || self.is_reset,
             Kind::Control => false,
             Kind::Encoder => false,
             Kind::Decoder => false,
@@ -193,7 +203,7 @@ impl UnidirectionalStream {
         }
     }
 
-    /// How many bytes of a session came and were not pulled.
+    /// How many bytes came that are delivered, and were not pulled.
     pub fn unread_len(&self) -> usize
         ensures { result ≡ length (concat self.now.unread) }
     {
@@ -231,6 +241,22 @@ impl UnidirectionalStream {
         Ok(())
     }
 
+    /// The same of a stream of another type that is delivered.
+    fn keep_other(&mut self, number: u64, mut bytes: Bytes, passed: usize) -> Result<(), Bytes>
+        requires inside { passed ≤ length bytes }
+        requires fits { length (concat self.old.unread) + length bytes < 2 ^ 64 }
+        ensures ok { OnOk result (self.new ≡ with_bytes self.old (Other number, drop passed bytes)) }
+        ensures err { IfErr result (λ back. (back ≡ bytes) × (self.new ≡ self.old)) }
+    {
+        if self.unread.reserve().is_err() {
+            return Err(bytes);
+        }
+        bytes.advance(passed);
+        self.unread.keep_reserved(bytes);
+        self.kind = Kind::Other(number);
+        Ok(())
+    }
+
     /// The role is known: the bytes after those that were passed are for it.
     fn take(&mut self, kind: Kind, mut bytes: Bytes, passed: usize) -> Result<Received, Bytes>
         requires told { is_told_kind kind ≡ true }
@@ -242,6 +268,10 @@ impl UnidirectionalStream {
         match kind {
             Kind::Session(session) => match self.keep(session, bytes, passed) {
                 Ok(()) => Ok(Received::Session(session.into_inner())),
+                Err(back) => Err(back),
+            },
+            Kind::Other(number) => match self.keep_other(number, bytes, passed) {
+                Ok(()) => Ok(Received::Nothing),
                 Err(back) => Err(back),
             },
             Kind::Control => {
@@ -275,7 +305,7 @@ impl UnidirectionalStream {
     fn tell(&mut self, own: &Announced, bytes: Bytes) -> Result<Received, Bytes>
         requires untold { is_untold self.old.role ≡ true }
         requires fits { length (concat self.old.unread) + length bytes < 2 ^ 64 }
-        ensures ok { IfOk result (λ received. (self.new ≡ with_bytes self.old (role_after (knows_sessions own.now) self.old.role bytes)) × (received ≡ received_by (role_after (knows_sessions own.now) self.old.role bytes))) }
+        ensures ok { IfOk result (λ received. (self.new ≡ with_bytes self.old (role_after (known_streams own.now) self.old.role bytes)) × (received ≡ received_by (role_after (known_streams own.now) self.old.role bytes))) }
         ensures err { IfErr result (λ back. (back ≡ bytes) × (self.new ≡ self.old)) }
     {
         let mut both = self.front.as_slice().chain(bytes.as_slice());
@@ -300,8 +330,8 @@ impl UnidirectionalStream {
     #[tactic(auto, using(crate::proofs::Heads::tells_first))]
     pub fn receive(&mut self, own: &Announced, bytes: Bytes) -> Result<Received, Bytes>
         requires { length (concat self.old.unread) + length bytes < 2 ^ 64 }
-        ensures front { (r : Role) (rest : List ℕ) → is_untold r ≡ false → role_after (knows_sessions own.now) self.old.role bytes ≡ (r, rest) → TellsFirst (knows_sessions own.now) self.old.role bytes r rest }
-        ensures ok { IfOk result (λ received. (self.new ≡ with_bytes self.old (role_after (knows_sessions own.now) self.old.role bytes)) × (received ≡ received_by (role_after (knows_sessions own.now) self.old.role bytes))) }
+        ensures front { (r : Role) (rest : List ℕ) → is_untold r ≡ false → role_after (known_streams own.now) self.old.role bytes ≡ (r, rest) → TellsFirst (known_streams own.now) self.old.role bytes r rest }
+        ensures ok { IfOk result (λ received. (self.new ≡ with_bytes self.old (role_after (known_streams own.now) self.old.role bytes)) × (received ≡ received_by (role_after (known_streams own.now) self.old.role bytes))) }
         ensures err { IfErr result (λ back. (back ≡ bytes) × (self.new ≡ self.old)) }
     {
         let kind = self.kind;
@@ -313,6 +343,7 @@ impl UnidirectionalStream {
             Kind::Session(session) => self.take(Kind::Session(session), bytes, 0),
             Kind::Push(id) => self.take(Kind::Push(id), bytes, 0),
             Kind::Ignored => self.take(Kind::Ignored, bytes, 0),
+            Kind::Other(number) => self.take(Kind::Other(number), bytes, 0),
         }
     }
 
@@ -360,7 +391,20 @@ impl UnidirectionalStream {
         self.pull_raw()
     }
 
-    /// What it gives next: of a session its id, the bytes that came in pieces, and its end; of any other stream no messages.
+    fn pull_other(&mut self) -> Pull
+        ensures { pull_other self.old.is_over self.old ≡ (result, self.new) }
+    {
+        if self.is_over {
+            return Pull::Item(Item::End);
+        }
+        if !self.is_reset {
+            return self.pull_raw();
+        }
+        Pull::Fault(Fault::Stream(StreamFault::Reset(self.reset_code)))
+    }
+
+    /// What it gives next: of a session its id, the bytes that came in pieces, and its end. A stream of another type that is delivered has its
+    /// bytes and its end; any other stream no messages.
     /// While its type, or the id of a session, is not whole and it may come, that is pending. This takes no memory.
     pub fn pull(&mut self) -> Pull
         ensures { pull_unidirectional self.old self.old.role ≡ (result, self.new) }
@@ -374,6 +418,7 @@ impl UnidirectionalStream {
             Kind::Decoder => Pull::NoMessages,
             Kind::Push(_) => Pull::NoMessages,
             Kind::Ignored => Pull::NoMessages,
+            Kind::Other(_) => self.pull_other(),
         }
     }
 }

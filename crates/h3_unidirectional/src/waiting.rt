@@ -27,7 +27,10 @@ impl Model for WaitingBytes {
 pub(crate) fn drop_front(bytes: &mut Vec<u8>, count: usize)
     ensures { bytes.new.items ≡ drop count bytes.old.items }
 {
-    let count = count.min(bytes.len());
+    if count >= bytes.len() {
+        bytes.clear();
+        return;
+    }
     bytes.drain(..count);
 }
 

@@ -30,7 +30,7 @@ none_kept kinds kind unknown = by_test (is_kept_whole kind) refl
         let t = tests kinds kind unknown in
         absurd (none_left kind e t.headers t.cancel t.settings t.promise t.goaway t.most t.http2)
 
-none_handed : (kinds : FrameKinds) (kind : ℕ) → is_known_type kinds kind ≡ false → ((kind == 0) || is_session kinds kind) ≡ false
+pub none_handed : (kinds : FrameKinds) (kind : ℕ) → is_known_type kinds kind ≡ false → ((kind == 0) || is_session kinds kind) ≡ false
 none_handed kinds kind unknown = let t = tests kinds kind unknown in rw (t.plain, t.session) refl
 
 -- While it is under way no frame is told as too long.

@@ -194,10 +194,10 @@ frame_unknown kind payload rest none other =
     some (suc n) e = omega arith
 
 -- **No frame in front of these is passed.** A head that is not whole,
-stays_none : (kinds : FrameKinds) (bytes : List ℕ) → varint_at bytes ≡ None → known_by kinds bytes ≡ bytes
+pub stays_none : (kinds : FrameKinds) (bytes : List ℕ) → varint_at bytes ≡ None → known_by kinds bytes ≡ bytes
 stays_none kinds bytes e = known-other kinds bytes (subst IsKnown (sym (at_no_kind kinds bytes e)) tt)
 
-stays_begun : (kinds : FrameKinds) (kind : ℕ) (bytes mid : List ℕ) → varint_at bytes ≡ Some (kind, mid) → varint_at mid ≡ None → known_by kinds bytes ≡ bytes
+pub stays_begun : (kinds : FrameKinds) (kind : ℕ) (bytes mid : List ℕ) → varint_at bytes ≡ Some (kind, mid) → varint_at mid ≡ None → known_by kinds bytes ≡ bytes
 stays_begun kinds kind bytes mid e k = known-other kinds bytes (subst IsKnown (sym (at_no_number kinds kind bytes mid e k)) tt)
 
 -- one of a frame whose payload is kept, an update among them, or is handed out as it comes,
@@ -218,7 +218,7 @@ unknown_head kinds size kind number behind none other update =
     let parts = or_parts (kind == 0) (is_session kinds kind) other in
     rw (parts.1, parts.0, update, frame_unknown kind (take number behind) (drop number behind) none parts.0) refl
 
-stays_unknown : (kinds : FrameKinds) (kind number : ℕ) (bytes mid behind : List ℕ) → is_kept_whole kind ≡ false → ((kind == 0) || is_session kinds kind) ≡ false → is_update kinds kind ≡ false → varint_at bytes ≡ Some (kind, mid) → varint_at mid ≡ Some (number, behind)
+pub stays_unknown : (kinds : FrameKinds) (kind number : ℕ) (bytes mid behind : List ℕ) → is_kept_whole kind ≡ false → ((kind == 0) || is_session kinds kind) ≡ false → is_update kinds kind ≡ false → varint_at bytes ≡ Some (kind, mid) → varint_at mid ≡ Some (number, behind)
     → length behind < number → known_by kinds bytes ≡ bytes
 stays_unknown kinds kind number bytes mid behind none other update e k short =
     let front = at_head kinds kind number bytes mid behind e k ∙ unknown_head kinds (length bytes) kind number behind none other update in

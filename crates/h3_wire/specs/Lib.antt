@@ -39,4 +39,6 @@ pub mod Codes
 pub mod ExcessiveFrames
 pub mod FirstFrames
 pub mod FrameLeft
+pub mod OtherSettings
+pub mod OtherSettingsLaws
 pub mod ExcessiveLaws

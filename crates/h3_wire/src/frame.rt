@@ -29,6 +29,7 @@ mod first;
 mod frame_left;
 mod kinds;
 mod let_go;
+mod other_settings;
 mod payload_left;
 mod sparing;
 

@@ -58,4 +58,5 @@ is_made config limits grease a small e =
       table = subst (λ (l : Limits). l.table < 2 ^ 30) (sym same) (not_above (2 ^ 30) limits.table is.table);
       blocked = subst (λ (l : Limits). l.blocked < 2 ^ 16) (sym same) (omega (arith, few));
       within = is.within;
+      remembered = ap (λ (x : Announced). x.remembered) is.announced;
     }

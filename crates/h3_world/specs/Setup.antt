@@ -1,5 +1,5 @@
 -- What a client and a server announce (RFC 9114, section 7.2.4, and RFC 9204, section 5).
-use Rattle.std.specs.Prelude.{◌≡◌, ℕ, ◌<◌, ◌^◌, Bool, false, not, ◌&&◌, ◌||◌, if◌then◌else◌, [], ◌∷◌, ◌++◌, Result, Ok, Err}
+use Rattle.std.specs.Prelude.{◌≡◌, ℕ, ◌<◌, ◌^◌, Bool, false, not, ◌&&◌, ◌||◌, if◌then◌else◌, [], ◌∷◌, ◌++◌, None, Result, Ok, Err}
 use Rattle.h3_proto.specs.declared.config.Settings.{Settings}
 use Rattle.h3_proto.specs.Config.{grease_pairs, is_limit, own_pairs}
 use Rattle.h3_proto.specs.declared.stream.Side.{Side}
@@ -78,6 +78,8 @@ pub record IsMade (a : Announced) : Type 0 where
   pub table : a.limits.table < 2 ^ 30
   pub blocked : a.limits.blocked < 2 ^ 16
   pub within : is_below_announced a ≡ false
+  -- it remembers no settings of an earlier connection
+  pub remembered : a.remembered ≡ None
 
 abbrev pub refuses_sessions : Announced → Settings → Settings → Bool
 refuses_sessions a own peer = a.choices.extensions.strict_connection && own.enable_webtransport && peer.enable_webtransport && not peer.enable_datagram

@@ -1,5 +1,5 @@
 -- What the worked schedules are made of.
-use Rattle.std.specs.Prelude.{ℕ, ◌-◌, ◌^◌, List, [], ◌∷◌, codes, Some}
+use Rattle.std.specs.Prelude.{ℕ, ◌-◌, ◌^◌, List, [], ◌∷◌, codes, Some, None}
 use Rattle.http_header.specs.FieldValue.{plain_value}
 use Rattle.http_header.specs.HeaderMap.{append}
 use Rattle.h3_header.specs.Head.{Head as Fields, trailer_head, response_head}
@@ -22,6 +22,7 @@ plain section table blocked =
       settings = (6, section) ∷ (8, 0) ∷ (0x2b603742, 0) ∷ (0x33, 0) ∷ (0x2b603743, 0) ∷ (1, table) ∷ (7, blocked) ∷ [];
       limits = record { table = table; blocked = blocked };
       choices = no_choices;
+      remembered = None;
     }
 
 abbrev pub between : Announced → Announced → Setup

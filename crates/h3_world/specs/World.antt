@@ -28,7 +28,7 @@ pub record World : Type 0 where
 abbrev pub silent : Announced → Party
 silent announced =
     record {
-      own = record { goaways = []; updates = []; control_taken = 0; instructions = []; encoder_taken = 0; replies = []; decoder_taken = 0 };
+      own = record { further = []; goaways = []; updates = []; control_taken = 0; instructions = []; encoder_taken = 0; replies = []; decoder_taken = 0 };
       encoder = first_encoder announced;
     }
 

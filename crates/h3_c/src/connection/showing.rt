@@ -90,10 +90,7 @@ impl Connection {
     pub(crate) fn peer_setting(&self, setting: u64, value: &mut u64) -> Told
         ensures { ShowsSetting self.now setting result value.old value.new }
     {
-        let Some(settings) = self.endpoint.peer_settings() else {
-            return NONE;
-        };
-        let Some(found) = settings.get(SettingId(setting)) else {
+        let Some(found) = self.endpoint.peer_setting(SettingId(setting)) else {
             return NONE;
         };
         *value = found;

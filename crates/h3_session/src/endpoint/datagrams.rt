@@ -1,5 +1,6 @@
 //! HTTP Datagrams (RFC 9297, section 2): what stands in front of the payload of one that is sent, and which stream one is for that came.
 ghost use Rattle.std.specs.Prelude.{◌≡◌, ◌&&◌, ◌%◌, IfNone, IfSome, option_map};
+ghost use Rattle.h3_connection.specs.Remembering.{settings_known};
 ghost use Rattle.h3_connection.specs.State.{kept_at};
 ghost use Rattle.h3_outgoing.specs.Sent.{is_open};
 ghost use Rattle.h3_session.specs.Datagrams.{announces, datagram_at, datagram_refused, if_known, is_late, is_off, peer_announces, ReadsDatagram, ShowsDatagramHead};
@@ -110,12 +111,12 @@ impl Endpoint {
 
     // Whether both sides announced datagrams.
     fn sends_datagrams(&self) -> bool
-        ensures { result ≡ (announces self.now.announced.settings && peer_announces self.now.peer.settings) }
+        ensures { result ≡ (announces self.now.announced.settings && peer_announces (settings_known self.now.announced self.now.peer.settings)) }
     {
         if !announces(&self.announced.settings) {
             return false;
         }
-        match self.streams.peer.settings() {
+        match self.announced.settings_known(self.streams.peer.settings()) {
             Some(settings) => announces(settings),
             None => false,
         }

@@ -4,6 +4,7 @@ ghost use Rattle.h3_field.specs.Field.{Field, section_size};
 ghost use Rattle.h3_qpack.specs.EncoderHistory.{EncoderHistory};
 ghost use Rattle.h3_qpack.specs.EncoderState.{encoder_state};
 ghost use Rattle.h3_streams.specs.Placed.{StreamsState};
+ghost use Rattle.h3_connection.specs.Remembering.{settings_known};
 ghost use Rattle.h3_connection.specs.Answers.{call_refused};
 ghost use Rattle.h3_connection.specs.Calls.{AllSame};
 ghost use Rattle.h3_connection.specs.Endpoint.{EndpointHistory};
@@ -146,7 +147,7 @@ impl Endpoint {
         place: SendPlace,
         known: Option<SentRead>,
     ) -> Result<(), Refusal>
-        requires { IfSome known (IsReadOf self.old.side self.old.peer.settings fields.now) }
+        requires { IfSome known (IsReadOf self.old.side (settings_known self.old.announced self.old.peer.settings) fields.now) }
         ensures { place ≢ TrailerSent → SendsFields (asking room fields.now) self.old self.new room fields.now place (call_refused result) }
     {
         let id = room.id();
@@ -218,7 +219,7 @@ impl Endpoint {
         place: SendPlace,
         known: Option<SentRead>,
     ) -> Result<(), Refusal>
-        requires { IfSome known (IsReadOf self.now.side self.now.peer.settings fields.now) }
+        requires { IfSome known (IsReadOf self.now.side (settings_known self.now.announced self.now.peer.settings) fields.now) }
         ensures fits { OnOk result (refused_behind self.now id place fields.now ≡ None) }
         ensures kept { OnOk result (broken_behind place self.now id fields.now ≡ None) }
         ensures unbroken { IfErr result (λ refusal. refusal ≡ Refusal.OutOfMemory → broken_behind place self.now id fields.now ≡ None) }
@@ -238,7 +239,7 @@ impl Endpoint {
     #[tactic(auto, using(crate::proofs::Costs::cost_is, crate::proofs::Costs::many_fields))]
     fn judge_size(&self, fields: &[HeaderField]) -> Result<u64, Refusal>
         ensures ok { IfOk result (λ sum. IsJudged self.now fields.now sum) }
-        ensures err { IfErr result (λ refusal. refusal ≢ Refusal.OutOfMemory → size_refused self.now.peer.settings fields.now ≡ Some refusal) }
+        ensures err { IfErr result (λ refusal. refusal ≢ Refusal.OutOfMemory → size_refused (settings_known self.now.announced self.now.peer.settings) fields.now ≡ Some refusal) }
         ensures memory { IfErr result (λ refusal. refusal ≡ Refusal.OutOfMemory → 2 ^ 56 ≤ self.now.sent + fields_cost fields.now + 64) }
     {
         let Some(size) = size_of(fields) else {
@@ -254,11 +255,11 @@ impl Endpoint {
     }
 
     // RFC 9114 4.2.2: size of a section, sent
-    // Whether fields of this size are more than the peer's settings allow. Before these came every size is allowed.
+    // Whether fields of this size are more than the peer's settings allow. Before these came, and if none are remembered, every size is allowed.
     fn is_too_large(&self, size: u64) -> bool
-        ensures { (fields : List Field) → size ≡ section_size fields → result ≡ is_too_large self.now.peer.settings fields }
+        ensures { (fields : List Field) → size ≡ section_size fields → result ≡ is_too_large (settings_known self.now.announced self.now.peer.settings) fields }
     {
-        match self.streams.peer.settings() {
+        match self.announced.settings_known(self.streams.peer.settings()) {
             Some(settings) => {
                 let most = settings
                     .get(SettingId::MAX_HEADER_LIST_SIZE)

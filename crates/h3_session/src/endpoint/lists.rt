@@ -2,6 +2,7 @@
 ghost use Rattle.std.specs.Prelude.{◌≡◌, ◌≢◌, ◌<◌, ◌≤◌, true, false, None, Some, IfOk, IfErr, IfSome, OnOk, length, if◌then◌else◌};
 ghost use Rattle.h3_header.specs.Head.{Head};
 ghost use Rattle.h3_header.specs.HeadRead.{IsHead, head_by};
+ghost use Rattle.h3_connection.specs.Remembering.{settings_known};
 ghost use Rattle.h3_connection.specs.Answers.{call_refused};
 ghost use Rattle.h3_connection.specs.Pulling.{is_interim};
 ghost use Rattle.h3_connection.specs.State.{kept_at};
@@ -98,7 +99,7 @@ impl Endpoint {
     // for strict messages the walk that tells it tells also what the rules make of it.
     fn judge_head(&self, fields: &[HeaderField]) -> Result<(SendPlace, Option<SentRead>), Refusal>
         ensures ok { IfOk result (λ judged. IsHeadAt self.now.side (head_by self.now.announced.choices.extensions.any_protocol fields.now) judged.0) }
-        ensures read { IfOk result (λ judged. IfSome judged.1 (IsReadOf self.now.side self.now.peer.settings fields.now)) }
+        ensures read { IfOk result (λ judged. IfSome judged.1 (IsReadOf self.now.side (settings_known self.now.announced self.now.peer.settings) fields.now)) }
         ensures err { IfErr result (λ e. e ≢ refusal.OutOfMemory → head_list_refusal self.now.side (head_by self.now.announced.choices.extensions.any_protocol fields.now) ≡ Some e) }
         ensures memory { IfErr result (λ e. e ≡ refusal.OutOfMemory → 24576 < length fields.now) }
     {
@@ -116,7 +117,7 @@ impl Endpoint {
     fn judge_once(&self, fields: &[HeaderField]) -> Result<(SendPlace, Option<SentRead>), Refusal>
         requires { length fields.now ≤ 24576 }
         ensures ok { IfOk result (λ judged. IsHeadAt self.now.side (head_by self.now.announced.choices.extensions.any_protocol fields.now) judged.0) }
-        ensures read { IfOk result (λ judged. IfSome judged.1 (IsReadOf self.now.side self.now.peer.settings fields.now)) }
+        ensures read { IfOk result (λ judged. IfSome judged.1 (IsReadOf self.now.side (settings_known self.now.announced self.now.peer.settings) fields.now)) }
         ensures err { IfErr result (λ e. e ≢ refusal.OutOfMemory → head_list_refusal self.now.side (head_by self.now.announced.choices.extensions.any_protocol fields.now) ≡ Some e) }
         ensures memory { IfErr result (λ e. e ≡ refusal.OutOfMemory → 24576 < length fields.now) }
     {
@@ -168,7 +169,7 @@ impl Endpoint {
         read: Option<SentRead>,
     ) -> Result<(), Refusal>
         requires open { self.old.closed ≡ None }
-        requires read { IfSome read (IsReadOf self.old.side self.old.peer.settings fields.now) }
+        requires read { IfSome read (IsReadOf self.old.side (settings_known self.old.announced self.old.peer.settings) fields.now) }
         ensures sends { (head : Head) → own_head_refused self.old.announced self.old.side head ≡ None → place ≡ (if is_interim head.status then SendPlace.NothingSent else SendPlace.HeadSent) → SendsJudgedHead self.old self.new id head fields.now result }
         ensures names { (head : Head) → head_by self.old.announced.choices.extensions.any_protocol fields.now ≡ IsHead head → place ≢ SendPlace.TrailerSent → NamesField (call_refused result) self.old.announced.choices fields.now }
     {
@@ -203,7 +204,7 @@ impl Endpoint {
         place: SendPlace,
         known: Option<SentRead>,
     ) -> Refusal
-        requires { IfSome known (IsReadOf self.now.side self.now.peer.settings fields.now) }
+        requires { IfSome known (IsReadOf self.now.side (settings_known self.now.announced self.now.peer.settings) fields.now) }
         ensures { IsJudgedOr self.now id place fields.now refusal result }
     {
         if refusal != Refusal::OutOfMemory {

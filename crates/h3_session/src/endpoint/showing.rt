@@ -1,7 +1,7 @@
 //! What can be read of an endpoint.
 ghost use Rattle.std.specs.Prelude.{◌≡◌, option_copied};
 ghost use Rattle.h3_connection.specs.OwnIds.{is_own};
-ghost use Rattle.h3_connection.specs.ReadingContracts.{ShowsOutgoing, ShowsFinished, ShowsReset, ShowsSettings, ShowsGoaways, ShowsSizes, ShowsHeads, HeadsAreBounded, ShowsSent, ShowsTries, TriesAreBounded, ShowsLimits};
+ghost use Rattle.h3_connection.specs.ReadingContracts.{ShowsOutgoing, ShowsFinished, ShowsReset, ShowsSettings, ShowsPeerSetting, ShowsGoaways, ShowsSizes, ShowsHeads, HeadsAreBounded, ShowsSent, ShowsTries, TriesAreBounded, ShowsLimits};
 ghost use Rattle.h3_session.specs.Frames.{LendsFrames};
 
 use super::Endpoint;
@@ -44,6 +44,13 @@ impl Endpoint {
         ensures { ShowsSettings self.now (option_copied result) }
     {
         self.streams.peer.settings()
+    }
+
+    /// The value of a setting that the peer announced. One without a meaning here is kept if `Config::with_other_settings` asks for it.
+    pub fn peer_setting(&self, id: SettingId) -> Option<u64>
+        ensures { ShowsPeerSetting self.now id result }
+    {
+        self.streams.peer.setting(id)
     }
 
     /// The ids of the peer's GOAWAY frames, in order. If `kept_ids` of the choices limits the ids that are kept, it is the last one alone.

@@ -2,6 +2,7 @@
 //! them the list breaks, as a strict peer would judge it and by the rules of its sender, and what it says of content.
 ghost use Rattle.std.specs.Prelude.{◌≡◌, ◌≢◌, ◌&&◌, List, None, Some, IfOk, IfErr, IfSome, OnOk};
 ghost use Rattle.h3_field.specs.Field.{Field};
+ghost use Rattle.h3_connection.specs.Remembering.{settings_known};
 ghost use Rattle.h3_connection.specs.State.{kept_at};
 ghost use Rattle.h3_connection.specs.StrictSending.{peer_connects, violation_of_own_head};
 ghost use Rattle.h3_connection.specs.declared.place.SendPlace.TheVariants.{TrailerSent};
@@ -50,7 +51,7 @@ impl Endpoint {
         place: SendPlace,
         known: Option<SentRead>,
     ) -> Result<Said, Malformation>
-        requires { IfSome known (IsReadOf self.now.side self.now.peer.settings fields.now) }
+        requires { IfSome known (IsReadOf self.now.side (settings_known self.now.announced self.now.peer.settings) fields.now) }
         ensures kept { OnOk result (broken_behind place self.now id fields.now ≡ None) }
         ensures broken { IfErr result (λ why. broken_behind place self.now id fields.now ≡ Some why) }
         ensures said { IfOk result (λ said. place ≢ TrailerSent → IsSaid self.now.side self.now.announced fields.now said) }
@@ -74,7 +75,7 @@ impl Endpoint {
         place: SendPlace,
         known: Option<SentRead>,
     ) -> SentRead
-        requires { IfSome known (IsReadOf self.now.side self.now.peer.settings fields.now) }
+        requires { IfSome known (IsReadOf self.now.side (settings_known self.now.announced self.now.peer.settings) fields.now) }
         ensures violation { result.violation ≡ violation_behind place self.now id fields.now }
         ensures said { place ≢ TrailerSent → IsSaidBy self.now.side fields.now result.said }
     {
@@ -93,7 +94,7 @@ impl Endpoint {
     // What a walk told, and the rule that a server's answer breaks by what was asked on its stream (RFC 9110, section 8.6). The stream is
     // looked up only for an answer that may break it.
     fn as_answer(&self, id: StreamId, read: SentRead) -> SentRead
-        ensures violation { (fields : List Field) → IsReadOf self.now.side self.now.peer.settings fields read → result.violation ≡ violation_of_own_head self.now.side self.now.peer.settings (known_in (kept_at self.now.requests id)) fields }
+        ensures violation { (fields : List Field) → IsReadOf self.now.side (settings_known self.now.announced self.now.peer.settings) fields read → result.violation ≡ violation_of_own_head self.now.side (settings_known self.now.announced self.now.peer.settings) (known_in (kept_at self.now.requests id)) fields }
         ensures said { result.said ≡ read.said }
     {
         let is_broken = self.is_wrong_answer(id, read.said);
@@ -113,7 +114,7 @@ impl Endpoint {
     // That of a header section of the request that a client sends, or of the response that a server sends.
     #[inline(never)]
     fn read_head(&self, fields: &Fields<'_>) -> SentRead
-        ensures violation { result.violation ≡ violation_of_own_list self.now.side self.now.peer.settings fields.now }
+        ensures violation { result.violation ≡ violation_of_own_list self.now.side (settings_known self.now.announced self.now.peer.settings) fields.now }
         ensures said { IsSaidBy self.now.side fields.now result.said }
     {
         let mut seen = Seen::new();
@@ -124,7 +125,7 @@ impl Endpoint {
     // The same of one over which the walk was made.
     #[inline(always)]
     pub(super) fn read_survey(&self, survey: &Survey<'_>) -> SentRead
-        ensures violation { result.violation ≡ violation_of_own_list self.now.side self.now.peer.settings survey.now.fields.now }
+        ensures violation { result.violation ≡ violation_of_own_list self.now.side (settings_known self.now.announced self.now.peer.settings) survey.now.fields.now }
         ensures said { IsSaidBy self.now.side survey.now.fields.now result.said }
     {
         match self.side {
@@ -145,11 +146,11 @@ impl Endpoint {
         }
     }
 
-    // Whether the peer takes requests of extended CONNECT, as far as its settings came.
+    // Whether the peer takes requests of extended CONNECT, as far as its settings came or are remembered.
     fn peer_connects(&self) -> bool
-        ensures { result ≡ peer_connects self.now.peer.settings }
+        ensures { result ≡ peer_connects (settings_known self.now.announced self.now.peer.settings) }
     {
-        match self.streams.peer.settings() {
+        match self.announced.settings_known(self.streams.peer.settings()) {
             Some(settings) => {
                 settings
                     .get(SettingId::ENABLE_CONNECT_PROTOCOL)

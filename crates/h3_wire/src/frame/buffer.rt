@@ -7,6 +7,7 @@ ghost use Rattle.h3_wire.specs.FirstFrames.{begins_other};
 ghost use Rattle.h3_wire.specs.FrameLeft.{left_of_frame};
 ghost use Rattle.h3_wire.specs.Known.{Gives, known_by};
 ghost use Rattle.h3_wire.specs.MessageFrames.{any_frame};
+ghost use Rattle.h3_wire.specs.OtherSettings.{others_at};
 ghost use Rattle.h3_wire.specs.Pieces.{chunk_of, ending, first_of, with_piece};
 ghost use Rattle.h3_wire.specs.Tries.{Counts};
 ghost use Rattle.h3_wire.specs.UnknownSize.{held_length, suits};
@@ -174,8 +175,7 @@ impl FrameBuffer {
         self.unread.suits(kinds)
     }
 
-    /// Whether the first piece begins with the type and length of a frame whose type has a meaning, whichever kinds are known. Then `spare`
-    /// frees nothing.
+    /// Whether the first byte is the type of a frame that has a meaning, whichever kinds are known. Then `spare` frees nothing.
     pub fn begins_known(&self) -> bool {
         self.unread.begins_known()
     }
@@ -221,6 +221,19 @@ impl FrameBuffer {
         ensures { result ≡ left_of_frame (concat self.now.pieces) }
     {
         self.unread.frame_left()
+    }
+
+    /// Of the settings in the SETTINGS frame that comes first those that have no meaning here (RFC 9114, section 7.2.4), `most` at most. There are
+    /// none if another frame comes first that is no whole unknown one, or if not all of it came. Nothing is taken.
+    pub fn other_settings(
+        &self,
+        alloc: Global,
+        kinds: FrameKinds,
+        most: usize,
+    ) -> Result<Vec<(u64, u64)>, AllocError>
+        ensures { IfOk result (λ kept. kept.items ≡ others_at most (known_by kinds (concat self.now.pieces))) }
+    {
+        self.unread.other_settings(alloc, kinds, most)
     }
 
     /// The first piece's first bytes, `max` or all of it, when no frame is under way at the front. Nothing is copied. An `Err` changes

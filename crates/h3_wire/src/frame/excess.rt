@@ -7,6 +7,7 @@ ghost use Rattle.h3_proto.specs.Config.{is_limit};
 ghost use Rattle.h3_coding.specs.Varint.{varint_at};
 ghost use Rattle.h3_wire.specs.ExcessiveFrames.{begins_section, head_said, is_excessive_by, is_kept_whole};
 ghost use Rattle.h3_wire.specs.Known.{known_by};
+ghost use Rattle.h3_wire.specs.OtherSettings.{payload_behind, payload_of_settings};
 ghost use Rattle.h3_wire.specs.Place.{left_at};
 
 use super::kinds::FrameKinds;
@@ -82,9 +83,11 @@ fn first_head(src: &BufList<Bytes>, passed: usize, kinds: FrameKinds) -> Option<
     }
 }
 
-// What the frame under the cursor says, as far as its type and length came. A frame that is unknown and whole says nothing, and is passed.
-fn look(cursor: &mut Cursor<'_, Bytes>, kinds: FrameKinds) -> Option<Option<(u64, u64)>>
+// What the frame under the cursor says, as far as its type and length came: the cursor stands after these then. A frame that is unknown and
+// whole says nothing, and is passed.
+pub(super) fn look(cursor: &mut Cursor<'_, Bytes>, kinds: FrameKinds) -> Option<Option<(u64, u64)>>
     ensures some { IfSome result (λ h. h ≡ head_said (varint_at (known_by kinds (left_at cursor.old)))) }
+    ensures behind { IfSome result (λ h. payload_of_settings (varint_at (known_by kinds (left_at cursor.old))) ≡ payload_behind h (left_at cursor.new)) }
     ensures same { IsNone result → known_by kinds (left_at cursor.new) ≡ known_by kinds (left_at cursor.old) }
     ensures less { IsNone result → length (left_at cursor.new) < length (left_at cursor.old) }
 {

@@ -10,6 +10,7 @@ ghost use Rattle.h3_wire.specs.FirstFrames.{begins_other};
 ghost use Rattle.h3_wire.specs.FrameLeft.{left_of_frame};
 ghost use Rattle.h3_wire.specs.Known.{Gives, known_by};
 ghost use Rattle.h3_wire.specs.MessageFrames.{any_frame};
+ghost use Rattle.h3_wire.specs.OtherSettings.{others_at};
 ghost use Rattle.h3_wire.specs.Pieces.{IsRest, chunk_of, ending, first_of, with_piece};
 ghost use Rattle.h3_wire.specs.Tries.{Counts, Expects};
 ghost use Rattle.h3_wire.specs.UnknownSize.{AreLetGo, IsPassing, IsSpared, choices_for, is_known_type, is_longer, is_under_way, let_go_by, no_kinds, suits, unknown_size};
@@ -18,9 +19,9 @@ use super::decoder::{FrameDecoder, MessageFrame};
 use super::errors::FrameStreamError;
 use super::kinds::FrameKinds;
 use super::let_go::LetGo;
-use super::{excess, first, frame_left};
+use super::{excess, first, frame_left, other_settings};
 use crate::buf::BufList;
-use crate::proto::frame::{Frame, FrameHead, PayloadLen, is_update_type};
+use crate::proto::frame::{Frame, PayloadLen, is_update_type};
 use bytes::{Buf, Bytes};
 use h3_coding::coding::BufExt;
 use std::alloc::{AllocError, Global};
@@ -125,10 +126,10 @@ impl FrameBytes {
         !(self.known_to.sessions && kinds.sessions) && !(self.known_to.updates && kinds.updates)
     }
 
-    /// Whether the first piece begins with the type and length of a frame whose type has a meaning, whichever kinds are known.
+    /// Whether the first byte is the type of a frame that has a meaning, whichever kinds are known.
     pub(super) fn begins_known(&self) -> bool {
-        match FrameHead::at_front(self.kept.first_bytes()) {
-            Some(head) => is_known_type(head.kind, FrameKinds::NONE),
+        match self.kept.first_bytes().first() {
+            Some(kind) => *kind < 64 && is_known_type(*kind as u64, FrameKinds::NONE),
             None => false,
         }
     }
@@ -254,6 +255,25 @@ impl FrameBytes {
         excess::is_excessive_behind(&self.kept, self.passing - self.gone, most, kinds)
     }
 
+    /// Of the settings that come first those that have no meaning, `most` at most: none if another frame comes first, or not all of them came.
+    /// Nothing is taken.
+    pub(super) fn other_settings(
+        &self,
+        alloc: Global,
+        kinds: FrameKinds,
+        most: usize,
+    ) -> Result<Vec<(u64, u64)>, AllocError>
+        ensures { IfOk result (λ kept. kept.items ≡ others_at most (known_by kinds (concat self.now.pieces))) }
+    {
+        if self.len() < self.passing {
+            return Ok(Vec::new(alloc));
+        }
+        if !self.suits(kinds) {
+            return Ok(Vec::new(alloc));
+        }
+        other_settings::other_settings(alloc, &self.kept, self.passing - self.gone, kinds, most)
+    }
+
     /// The same, if the type and length in the first piece tell it, whichever kinds are known.
     pub(super) fn is_first_excessive(&self, most: u64) -> Option<bool>
         requires { is_limit most ≡ true }
@@ -358,8 +378,9 @@ fn is_longer(len: usize, size: Option<usize>) -> bool
 pub(super) fn unknown_size(pieces: &BufList<Bytes>, kinds: FrameKinds) -> Option<usize>
     ensures { result ≡ unknown_size kinds (concat pieces.now.pieces) }
 {
-    if let Some(head) = FrameHead::at_front(pieces.first_bytes()) {
-        if is_known_type(head.kind, kinds) {
+    // (a type of one byte, which all known ones but those of PRIORITY_UPDATE are written as)
+    if let Some(kind) = pieces.first_bytes().first() {
+        if *kind < 64 && is_known_type(*kind as u64, kinds) {
             return None;
         }
     }

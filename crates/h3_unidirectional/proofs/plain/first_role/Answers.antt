@@ -1,10 +1,10 @@
 use Rattle.std.proofs.Common.{◌-◌, length, drop, ap, sym, ◌∙◌}
-use Rattle.h3_connection.specs.StrictConnection.{knows_sessions}
+use Rattle.h3_connection.specs.StrictConnection.{known_streams}
 use Rattle.h3_unidirectional.proofs.Heads.{first_told, first_front}
 use Rattle.h3_unidirectional.proofs.plain.first_role.Goals as goal
 
 pub returns-in_default-of-clause-front : goal.returns-in_default-of-clause-front
-returns-in_default-of-clause-front c = first_front (knows_sessions c.args.own.now) c.args.bytes.now
+returns-in_default-of-clause-front c = first_front (known_streams c.args.own.now) c.args.bytes.now
 
 pub overflow_sub-result : goal.overflow_sub-result
 overflow_sub-result c = (first_told _ c.args.bytes.now c.read_kind.new.buf.now c.in-Some.kind c.in-Some.ensures).0
@@ -16,4 +16,4 @@ returns-clause-told c =
     (first_told _ bytes left c.in-Some.kind c.in-Some.ensures).1 ∙ ap (λ r. (r, drop (length bytes - length left) bytes)) (sym c.in-Some-of.ensures)
 
 pub returns-clause-front : goal.returns-clause-front
-returns-clause-front c = first_front (knows_sessions c.args.own.now) c.args.bytes.now
+returns-clause-front c = first_front (known_streams c.args.own.now) c.args.bytes.now

@@ -1,4 +1,5 @@
 use Rattle.std.proofs.Common.{ap, ◌∙◌}
+use Rattle.h3_connection.specs.Remembering.{settings_known}
 use Rattle.h3_connection.specs.State.{kept_at}
 use Rattle.h3_messages.specs.OwnMessages.{or_broken}
 use Rattle.h3_messages.specs.declared.violation.Violation.TheVariants.{ContentLength}
@@ -8,5 +9,5 @@ use Rattle.h3_session.proofs.endpoint.Endpoint.as_answer.Goals as goal
 
 pub returns-clause-violation : goal.returns-clause-violation
 returns-clause-violation c = λ fields read.
-    answer_breaks c.args.self.now.peer.settings (known_in (kept_at c.args.self.now.requests c.args.id)) fields c.args.self.now.side c.args.read _
+    answer_breaks (settings_known c.args.self.now.announced c.args.self.now.peer.settings) (known_in (kept_at c.args.self.now.requests c.args.id)) fields c.args.self.now.side c.args.read _
     (c.or_broken.ensures ∙ ap (λ b. or_broken c.args.read.violation b ContentLength) c.is_wrong_answer-is_broken.ensures) read

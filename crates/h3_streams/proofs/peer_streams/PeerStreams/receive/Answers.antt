@@ -1,6 +1,6 @@
 use Rattle.std.proofs.Common.{sym, ◌++◌}
 use Rattle.h3_streams.specs.Plain.{plain_streams}
-use Rattle.h3_connection.specs.StrictConnection.{knows_sessions}
+use Rattle.h3_connection.specs.StrictConnection.{known_streams}
 use Rattle.h3_streams.proofs.Joined.{plain_there, receives_plain, stream_second}
 use Rattle.h3_streams.proofs.peer_streams.PeerStreams.receive.Goals as goal
 
@@ -14,4 +14,4 @@ returns-in-Some-clause-ok c =
     let there = rw c.into_inner.ensures.value at c.in-Some.ensures.some in
     let first = plain_streams c.self.inside.plain in
     let second = c.self.inside.kept.entries in
-    rw (sym c.self.view_is) (receives_plain (knows_sessions c.args.own.now) (first ++ second) c.args.id c.in-Some.role c.args.bytes c.received.result (plain_there first second c.args.id c.in-Some.role there) c.received.ensures)
+    rw (sym c.self.view_is) (receives_plain (known_streams c.args.own.now) (first ++ second) c.args.id c.in-Some.role c.args.bytes c.received.result (plain_there first second c.args.id c.in-Some.role there) c.received.ensures)

@@ -1,8 +1,5 @@
-use Rattle.std.proofs.Common.{ap, sym, ◌∙◌}
-use Rattle.std.specs.List.{concat}
-use Rattle.h3_wire.specs.UnreadFrames.{UnreadFrames}
+use Rattle.std.proofs.Common.{[], ap, sym, ◌∙◌}
 use Rattle.h3_connection.specs.KeptGoaways.{kept_peer}
-use Rattle.h3_connection.specs.PeerReading.{Peer}
 use Rattle.h3_unidirectional.proofs.FirstReads.{err_after, err_taken, first_part, ok_after, refused_first}
 use Rattle.h3_unidirectional.proofs.control.PeerControl.read_first.Goals as goal
 
@@ -17,8 +14,7 @@ returns-then-are_refused-clause-ok c =
     let first = rw c.in-Ok-GoesOn.field-0-is at kept in
     refused_first c.args.kinds c.args.side c.args.own.now c.args.self.now _ _ _ one.0 first.0 first.1 (c.keep_goaways.ensures ∙ ap (λ last. kept_peer last c.read_one-progress.new.self) c.keeps_last.ensures)
     (sym c.are_refused.ensures ∙ c.if-are_refused.true)
-    (ap (λ (p : Peer). record p { unread = concat c.new.result.pieces }) c.self.view_is
-    ∙ ap (λ l. record c.keep_goaways.new.self { unread = l }) (ap (λ (u : UnreadFrames). concat u.pieces) c.new.ensures))
+    (c.let_go.ensures ∙ ap (λ o. record c.keep_goaways.new.self { unread = []; others = o }) (sym (c.most_others-most_others.ensures c.requires)))
 
 pub returns-clause-ok : goal.returns-clause-ok
 returns-clause-ok c =

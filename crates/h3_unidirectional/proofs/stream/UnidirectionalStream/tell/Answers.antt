@@ -1,5 +1,5 @@
 use Rattle.std.proofs.Common.{◌≡◌, ◌+◌, ◌++◌, ◌≤◌, length, [], arith, rules, ap, sym, subst, refl}
-use Rattle.h3_connection.specs.StrictConnection.{knows_sessions}
+use Rattle.h3_connection.specs.StrictConnection.{known_streams}
 use Rattle.h3_unidirectional.specs.Kinds.{IsUnfinished}
 use Rattle.h3_unidirectional.proofs.Heads.{told_of_both, untold_of_both}
 use Rattle.h3_unidirectional.proofs.stream.UnidirectionalStream.tell.Goals as goal
@@ -34,7 +34,7 @@ invariant_of-self-else-is_err c =
     let fits : length before + length c.args.bytes ≤ c.chain-both.result.limit = omega (arith, c.as_slice.ensures.len, c.as_slice.type_inv, ap length c.as_slice-2.ensures, c.as_slice-2.type_inv, c.chain-both.ensures.limit) in
     let here = rw (sym c.self.view_is) at c.requires.untold in
     let held : c.extend_from_slice.new.self.items ≡ before ++ c.args.bytes = search rules in
-    let t = untold_of_both (knows_sessions c.args.own.now) _ before c.args.bytes [] _ _ _ first second fits here c.in-None.ensures in
+    let t = untold_of_both (known_streams c.args.own.now) _ before c.args.bytes [] _ _ _ first second fits here c.in-None.ensures in
     subst (IsUnfinished c.self.inside.kind) (sym held) t.0
 
 -- they do not tell it yet
@@ -46,7 +46,7 @@ invariant_of-self-else-is_err-2 c =
     let fits : length before + length c.args.bytes ≤ c.chain-both.result.limit = omega (arith, c.as_slice.ensures.len, c.as_slice.type_inv, ap length c.as_slice-2.ensures, c.as_slice-2.type_inv, c.chain-both.ensures.limit) in
     let here = rw (sym c.self.view_is) at c.requires.untold in
     let held : c.extend_from_slice.new.self.items ≡ before ++ c.args.bytes = search rules in
-    let t = untold_of_both (knows_sessions c.args.own.now) _ before c.args.bytes [] _ _ _ first second fits here c.in-None.ensures in
+    let t = untold_of_both (known_streams c.args.own.now) _ before c.args.bytes [] _ _ _ first second fits here c.in-None.ensures in
     subst (IsUnfinished c.self.inside.kind) (sym held) t.0
 
 pub returns-else-is_err-clause-ok : goal.returns-else-is_err-clause-ok
@@ -57,5 +57,5 @@ returns-else-is_err-clause-ok c =
     let fits : length before + length c.args.bytes ≤ c.chain-both.result.limit = omega (arith, c.as_slice.ensures.len, c.as_slice.type_inv, ap length c.as_slice-2.ensures, c.as_slice-2.type_inv, c.chain-both.ensures.limit) in
     let here = rw (sym c.self.view_is) at c.requires.untold in
     let held : c.extend_from_slice.new.self.items ≡ before ++ c.args.bytes = search rules in
-    let t = untold_of_both (knows_sessions c.args.own.now) _ before c.args.bytes [] _ _ _ first second fits here c.in-None.ensures in
+    let t = untold_of_both (known_streams c.args.own.now) _ before c.args.bytes [] _ _ _ first second fits here c.in-None.ensures in
     search (rules, held, t.1)
