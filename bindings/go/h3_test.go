@@ -212,7 +212,7 @@ func TestStreams(t *testing.T) {
 	}
 	_, ok := server.StreamKind(0)
 	is(t, ok, false)
-	// a GOAWAY of four bytes, of which one came (RFC 9114, section 7.2.6)
+	// one byte of four of a GOAWAY frame's payload arrives (RFC 9114, section 7.2.6)
 	is(t, server.Deliver(2, []byte{7, 4, 0x80}), nil)
 	is(t, []any{server.FrameLeft(2), server.FrameLeft(14)}, []any{uint64(3), uint64(0)})
 }

@@ -22,25 +22,7 @@ static uint64_t unread(uint64_t id) {
   return h3_stream(&server, id, &state) == H3_OK ? state.unread : UINT64_MAX;
 }
 
-static uint32_t deliver(uint64_t id, const char *bytes, size_t count) { return h3_deliver(&server, id, bytes, count, NULL); }
-
-static h3_item pull(uint64_t id) {
-  h3_item item = {0};
-  HOLDS(h3_pull(&server, id, &item) == H3_OK);
-  return item;
-}
-
-static void make(void) {
-  h3_config config;
-  h3_config_default(&config);
-  config.unfinished_limit = UINT64_MAX; /* so that frames of any length may begin */
-  config.server = 1;
-  config.webtransport = config.datagram = 1; /* so that sessions are known */
-  config.table = 220;
-  config.blocked = 2;
-  config.strict = 0; /* the head of these rows has no :path */
-  HOLDS(h3_new(&server, &config, NULL) == H3_OK);
-}
+#include "server.h"
 
 /* a head of :method GET, :scheme https, :authority "a", and the front of a body of five bytes */
 static void of_a_request(void) {

@@ -134,7 +134,7 @@ class Exchange(unittest.TestCase):
         # the types 0, 0x21 (RFC 9114, sections 6.2.1 and 6.2.3), and half a type
         for id, data in (2, b"\x00"), (14, b"\x21"), (18, b"\x40"):
             server.deliver(id, data)
-        # a SETTINGS frame of six bytes, of which one came (RFC 9114, section 7.2.4)
+        # one byte of six of a SETTINGS frame's payload arrives (RFC 9114, section 7.2.4)
         server.deliver(2, b"\x04\x06\x08")
         self.assertEqual((server.frame_left(2), server.frame_left(14)), (5, 0))
         types = [server.stream_kind(id) for id in (2, 14, 18, 22, 0, 3)]

@@ -207,7 +207,7 @@ fn requests_are_opened_by_their_ids_and_closed() {
     // 0x21 is reserved (RFC 9114, section 6.2.3), and 0x40 is the first byte of a type of two
     server.deliver(14, b"\x21").unwrap();
     server.deliver(18, b"\x40").unwrap();
-    // a GOAWAY of four bytes, of which one came (RFC 9114, section 7.2.6)
+    // one byte of four of a GOAWAY frame's payload arrives (RFC 9114, section 7.2.6)
     server.deliver(2, b"\x07\x04\x80").unwrap();
     assert_eq!((server.frame_left(2), server.frame_left(14), server.frame_left(1 << 62)), (Ok(3), Ok(0), Err(Error::Argument)));
     let types: Vec<Option<StreamType>> = [2, 6, 14, 18, 0, 3].into_iter().map(|id| server.stream_kind(id)).collect();
