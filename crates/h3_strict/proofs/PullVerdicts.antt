@@ -232,6 +232,15 @@ module _ (e : EndpointHistory) (id : ℕ) where
   of_read : (f : EndpointHistory) → settles e id ≡ false → read_all e.kept (unkept e) ≡ (f, None) → pulls e id ≡ pull_at f id (kind_of f.side id) → pulls (plainly e) id ≡ pull_at (plainly f) id (kind_of f.side id) → PullPlainly e id
   of_read f unsettled reads one two = of (subst (λ x. AtVerdict f id x (pulls (plainly e) id)) (sym one) (subst (AtVerdict f id (pull_at f id (kind_of f.side id))) (sym two) (at_kind f id (kind_of f.side id))))
     where
+      -- an end that counts nothing counts nothing once it has read what it keeps
+      is_loose_behind : (own : Announced) → CountsNothing own e → TakesAnyLength own → is_loose f id ≡ true
+      is_loose_behind own counts any =
+          let behind : CountsNothing own f = subst (λ (x : Found). CountsNothing own x.0) reads (all_count own e.kept (unkept e) counts) in
+          ap (λ (a : Announced). not a.choices.strict_messages && (not (is_limit a.choices.unfinished_limit) && is_unsaid (incoming_at f id).content)) behind.0
+          ∙ ap (λ s. not s && (not (is_limit own.choices.unfinished_limit) && is_unsaid (incoming_at f id).content)) behind.1
+          ∙ ap (λ l. not l && is_unsaid (incoming_at f id).content) any
+          ∙ ap is_unsaid (at_come f.incoming id behind.3)
+
       of : AtVerdict f id (pulls e id) (pulls (plainly e) id) → PullPlainly e id
       of (AlikeAt alike) = PullAlike alike
       of (FaultsAt faults) = PullFaults faults
@@ -244,15 +253,6 @@ module _ (e : EndpointHistory) (id : ℕ) where
             gives = gives;
             judges = λ own counts any. judges (is_loose_behind own counts any);
           })
-
-      -- an end that counts nothing counts nothing once it has read what it keeps
-      is_loose_behind : (own : Announced) → CountsNothing own e → TakesAnyLength own → is_loose f id ≡ true
-      is_loose_behind own counts any =
-          let behind : CountsNothing own f = subst (λ (x : Found). CountsNothing own x.0) reads (all_count own e.kept (unkept e) counts) in
-          ap (λ (a : Announced). not a.choices.strict_messages && (not (is_limit a.choices.unfinished_limit) && is_unsaid (incoming_at f id).content)) behind.0
-          ∙ ap (λ s. not s && (not (is_limit own.choices.unfinished_limit) && is_unsaid (incoming_at f id).content)) behind.1
-          ∙ ap (λ l. not l && is_unsaid (incoming_at f id).content) any
-          ∙ ap is_unsaid (at_come f.incoming id behind.3)
 
   abbrev Behind : List Arrival → Pull × EndpointHistory
   Behind l = pulls_behind l e id
