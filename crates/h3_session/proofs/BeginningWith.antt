@@ -26,7 +26,7 @@ own_with Server announced own further h =
     record { control = sym (append-nil (control_start announced.settings further)); encoder = h.encoder; decoder = h.decoder; taken = taken_with Server announced own further h }
 
 -- where they begin with what was announced, and these
-pub begun_with : (s : EndpointState) (own : OwnState) (side : Side) (announced : Announced) (further : List (ℕ × ℕ)) → own ≡ record s.own { control = control_start s.announced.settings further } → StandsFor s (new_endpoint side announced)
+begun_with : (s : EndpointState) (own : OwnState) (side : Side) (announced : Announced) (further : List (ℕ × ℕ)) → own ≡ record s.own { control = control_start s.announced.settings further } → StandsFor s (new_endpoint side announced)
     → StandsFor (record s { own = own }) (new_endpoint_with side announced further)
 begun_with s own side announced further is h =
     record {
