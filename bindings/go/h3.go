@@ -38,7 +38,7 @@ type FurtherSetting struct {
 	ID, Value uint64
 }
 
-// settings is where an array of them begins, nil of none.
+// settings is the beginning of an array of them, and nil if there are none.
 func settings(further []FurtherSetting) *C.h3_setting {
 	if len(further) == 0 {
 		return nil
