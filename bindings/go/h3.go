@@ -38,7 +38,7 @@ type FurtherSetting struct {
 	ID, Value uint64
 }
 
-// settings is where an array of them begins, nil of none.
+// settings lays them out as C does, and returns a pointer to the first one: nil if there is none.
 func settings(further []FurtherSetting) *C.h3_setting {
 	if len(further) == 0 {
 		return nil
