@@ -38,7 +38,7 @@ type FurtherSetting struct {
 	ID, Value uint64
 }
 
-// settings lays them out as C does, and returns a pointer to the first one: nil if there is none.
+// settings is the beginning of an array of them, and nil if there are none.
 func settings(further []FurtherSetting) *C.h3_setting {
 	if len(further) == 0 {
 		return nil
