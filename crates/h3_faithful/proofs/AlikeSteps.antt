@@ -28,7 +28,7 @@ use Rattle.h3_world.specs.Headline.{is_connection_fault, is_out_of_memory}
 use Rattle.h3_world.specs.Lists.{listed_pull}
 use Rattle.h3_world.specs.Pulling.{settled}
 use Rattle.h3_world.specs.Refused.{with_insertions}
-use Rattle.h3_world.specs.Sendable.{IsSendable}
+use Rattle.h3_world.specs.Sendable.{IsSendableBy}
 use Rattle.h3_world.specs.Setup.{IsMadeSetup, Setup}
 use Rattle.h3_world.specs.Step.{Step}
 use Rattle.h3_world.specs.World.{World}
@@ -192,7 +192,7 @@ module _ (laws : AlikeLaws) (setup : Setup) (made : IsMadeSetup setup) (P : Worl
     lacks_stays (event.PullFields side id) (answer.Listed (list.Fault fault.Memory)) l = lost_stays side id l
     lacks_stays e a l = absurd l
 
-    refused_step : (e : Event) (a : Answer) → IsSendable setup e → is_out_of_memory a ≡ true → EndsStep ends e a new → GoesOn setup P new
+    refused_step : (e : Event) (a : Answer) → IsSendableBy true e → is_out_of_memory a ≡ true → EndsStep ends e a new → GoesOn setup P new
     refused_step e a sendable told step = record {
       after = on.after;
       standing = record {
@@ -210,7 +210,7 @@ module _ (laws : AlikeLaws) (setup : Setup) (made : IsMadeSetup setup) (P : Worl
         left = lacks_stays e a (subst (λ b. AnswerOf b ends e a new) told step)
 
   -- Where none was.
-  module _ (e : Event) (sendable : IsSendable setup e) (told : is_out_of_memory (answered ends e).0 ≡ false) where
+  module _ (e : Event) (sendable : IsSendableBy true e) (told : is_out_of_memory (answered ends e).0 ≡ false) where
     calm : is_connection_fault (answered ends e).0 ≡ false
     calm = faultless laws setup made P holds k ends s e sendable
 
@@ -319,18 +319,18 @@ module _ (laws : AlikeLaws) (setup : Setup) (made : IsMadeSetup setup) (P : Worl
               by_case (GivesMessageUp p) = goes_so (steps on.after.world (inr (gives on.after p).1))
 
   -- a send
-  sends_on : (e : Event) (sendable : IsSendable setup e) (told : is_out_of_memory (answered ends e).0 ≡ false)
+  sends_on : (e : Event) (sendable : IsSendableBy true e) (told : is_out_of_memory (answered ends e).0 ≡ false)
       → ((v : KeepingWorld) → Answers (plain_setup setup) k e (answered ends e).0 v → WorldStep setup k.world e (answered ends e).0 v.world) → KeepsNone ends e → judges ends e ≡ false
       → ((v : KeepingWorld) → PullsOn setup k e (answered ends e).0 v → ⊥) → GoesOn setup P (answered ends e).1
   sends_on e sendable told from none unjudged no_pull = goes e sendable told (λ v step. from v (subst (λ b. StepOf b ps k e (answered ends e).0 v) told step)) none (λ strict. unjudged) no_pull
 
   -- one that neither sends nor pulls
-  quietly_on : (e : Event) (sendable : IsSendable setup e) (told : is_out_of_memory (answered ends e).0 ≡ false) → ((v : World) → KeepsParts k.world v → WorldStep setup k.world e (answered ends e).0 v) → KeepsNone ends e
+  quietly_on : (e : Event) (sendable : IsSendableBy true e) (told : is_out_of_memory (answered ends e).0 ≡ false) → ((v : World) → KeepsParts k.world v → WorldStep setup k.world e (answered ends e).0 v) → KeepsNone ends e
       → (is_strict_send setup e ≡ true → ⊥) → ((v : KeepingWorld) → PullsOn setup k e (answered ends e).0 v → ⊥) → is_quiet e ≡ true → GoesOn setup P (answered ends e).1
   quietly_on e sendable told from none unsent no_pull is =
       goes e sendable told (λ v step. from v.world (laws.parts.quiet ps k v e (answered ends e).0 (sound_so laws setup made P holds k ends s) is step)) none (λ strict. absurd (unsent strict)) no_pull
 
-  answered_step : (e : Event) → IsSendable setup e → is_out_of_memory (answered ends e).0 ≡ false → GoesOn setup P (answered ends e).1
+  answered_step : (e : Event) → IsSendableBy true e → is_out_of_memory (answered ends e).0 ≡ false → GoesOn setup P (answered ends e).1
   answered_step (event.Head side id head) sendable told = sends_on (event.Head side id head) sendable told (λ v step. step.0) tt refl (λ v p. absurd p)
   answered_step (event.Fields side id fields) sendable told = sends_on (event.Fields side id fields) sendable told (λ v step. step.0) tt refl (λ v p. absurd p)
   answered_step (event.Body side id bytes) sendable told = sends_on (event.Body side id bytes) sendable told (λ v step. step.0) tt refl (λ v p. absurd p)
@@ -358,7 +358,7 @@ module _ (laws : AlikeLaws) (setup : Setup) (made : IsMadeSetup setup) (P : Worl
       (λ v step. step) (λ v step. step) (λ v m. (m.unsettled, record { why = m.why; told = m.told; unsettled = m.unsettled; gives = m.given_up })) (keeps_none laws setup made P holds k ends s side) (λ strict. absurd (cc))
 
   -- **One event.**
-  pub goes_on : (new : Ends) (e : Event) (a : Answer) → IsSendable setup e → EndsStep ends e a new → GoesOn setup P new
+  pub goes_on : (new : Ends) (e : Event) (a : Answer) → IsSendableBy true e → EndsStep ends e a new → GoesOn setup P new
   goes_on new e a sendable step = by_memory (is_out_of_memory a) refl step
     where
       by_memory : (b : Bool) → is_out_of_memory a ≡ b → AnswerOf b ends e a new → GoesOn setup P new

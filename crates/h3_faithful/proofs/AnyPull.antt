@@ -24,7 +24,7 @@ use Rattle.h3_world.specs.Items.{handed_out}
 use Rattle.h3_world.specs.Lists.{listed_pull, pull_of}
 use Rattle.h3_world.specs.Order.{is_over}
 use Rattle.h3_world.specs.Pulling.{PausesExactly, PullsNext, settled}
-use Rattle.h3_world.specs.Sendable.{IsSendable}
+use Rattle.h3_world.specs.Sendable.{IsSendable, IsSendableBy}
 use Rattle.h3_world.specs.Sending.{given_up}
 use Rattle.h3_world.specs.Setup.{IsMadeSetup, IsPlain, JudgesPlainly, Setup, announced_at}
 use Rattle.h3_world.specs.Step.{IsExact}
@@ -153,7 +153,7 @@ module _ (laws : StepLaws) (moves : MemoryMoves) (setup : Setup) (made : IsMadeS
   sound = sound_of ps k pe h
 
   -- A step of the same ends that judge plainly.
-  pub plain_step : (e : Event) (a : Answer) (new : Ends) → IsSendable setup e → EndsStep pe e a new → StepsSo ps k e a new
+  pub plain_step : (e : Event) (a : Answer) (new : Ends) → IsSendableBy true e → EndsStep pe e a new → StepsSo ps k e a new
   plain_step e a new sendable step =
       let on = laws.steps_on ps e (laws.made setup made) (laws.judges setup) k pe new a sendable h step in
       record { after = on.new; happens = laws.happens ps k on.new e a sendable sound on.step on.exact; stands = on.stands }
@@ -286,7 +286,7 @@ module _ (laws : StepLaws) (moves : MemoryMoves) (setup : Setup) (made : IsMadeS
         ∙ ap (λ z. let x : Answer × Ends = (answer.Listed (listed_pull (fields_behind z.kept z id) (pulls z id).0), with_end pe side (pulls z id).1) in x) (at_end ends side)
 
     -- what is answered alike is so of the ends that judge plainly
-    plain_pull : (x : Event) (a : Answer) → answered ends x ≡ (a, with_end ends side (pulls e id).1) → answered pe x ≡ (a, with_end pe side (plainly (pulls e id).1)) → IsSendable setup x → is_out_of_memory (answered ends x).0 ≡ false
+    plain_pull : (x : Event) (a : Answer) → answered ends x ≡ (a, with_end ends side (pulls e id).1) → answered pe x ≡ (a, with_end pe side (plainly (pulls e id).1)) → IsSendableBy true x → is_out_of_memory (answered ends x).0 ≡ false
         → StepsTo setup k x (answered ends x).0 (answered ends x).1
     plain_pull x a real plain sendable told =
         let same : (answered ends x).0 ≡ (answered pe x).0 = ap (λ z. z.0) real ∙ sym (ap (λ z. z.0) plain) in

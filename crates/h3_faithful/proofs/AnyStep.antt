@@ -5,7 +5,7 @@ use Rattle.h3_proto.specs.declared.stream.Side.{Side}
 use Rattle.h3_connection.specs.declared.event.Refusal.TheVariants as refusal
 use Rattle.h3_world.specs.Ends.{Ends, answered}
 use Rattle.h3_world.specs.Headline.{is_connection_fault, is_out_of_memory}
-use Rattle.h3_world.specs.Sendable.{IsSendable}
+use Rattle.h3_world.specs.Sendable.{IsSendableBy}
 use Rattle.h3_world.specs.Setup.{IsMadeSetup, Setup}
 use Rattle.h3_world.specs.declared.event.Answer.{Answer}
 use Rattle.h3_world.specs.declared.event.Answer.TheVariants as answer
@@ -51,14 +51,14 @@ module _ (laws : StepLaws) (moves : MemoryMoves) (setup : Setup) (made : IsMadeS
   judged_faults (event.DeliverReset writer id) none none_listed j = excess_faults _ (answered ends (event.DeliverReset writer id)).0 (first_of _ _ j)
   judged_faults e none none_listed j = absurd (cc)
 
-  answered_alike : (e : Event) → IsSendable setup e → is_out_of_memory (answered ends e).0 ≡ false → answered pe e ≡ ((answered ends e).0, plain_ends (answered ends e).1) → StepsTo setup k e (answered ends e).0 (answered ends e).1
+  answered_alike : (e : Event) → IsSendableBy true e → is_out_of_memory (answered ends e).0 ≡ false → answered pe e ≡ ((answered ends e).0, plain_ends (answered ends e).1) → StepsTo setup k e (answered ends e).0 (answered ends e).1
   answered_alike e sendable told same =
       let step : EndsStep pe e (answered ends e).0 (plain_ends (answered ends e).1) =
       subst (λ b. AnswerOf b pe e (answered ends e).0 (plain_ends (answered ends e).1)) (sym told) (sym (ap (λ z. z.0) same), sym (ap (λ z. z.1) same)) in
       let on = plain_step laws moves setup made k ends h e (answered ends e).0 (plain_ends (answered ends e).1) sendable step in
       record { after = on.after; happens = AsPlainly told on.happens; stands = on.stands }
 
-  other_event : (e : Event) → ((side : Side) (id : ℕ) → e ≡ event.Pull side id → ⊥) → ((side : Side) (id : ℕ) → e ≡ event.PullFields side id → ⊥) → IsSendable setup e → RefusesPlainly setup ends e
+  other_event : (e : Event) → ((side : Side) (id : ℕ) → e ≡ event.Pull side id → ⊥) → ((side : Side) (id : ℕ) → e ≡ event.PullFields side id → ⊥) → IsSendableBy true e → RefusesPlainly setup ends e
       → is_out_of_memory (answered ends e).0 ≡ false → is_connection_fault (answered ends e).0 ≡ false → StepsTo setup k e (answered ends e).0 (answered ends e).1
   other_event e none none_listed sendable plainly told faultless = by_step (laws.plainly ends e)
     where
@@ -71,13 +71,13 @@ module _ (laws : StepLaws) (moves : MemoryMoves) (setup : Setup) (made : IsMadeS
       by_step (Judges judged few) = absurd (let never : true ≡ false = sym (judged_faults e none none_listed judged) ∙ faultless in cc)
       by_step (Alike unrefused same) = answered_alike e sendable told same
 
-  answered_event : (e : Event) → PlainSidesCount setup ends → IsSendable setup e → RefusesPlainly setup ends e → is_out_of_memory (answered ends e).0 ≡ false → is_connection_fault (answered ends e).0 ≡ false → StepsTo setup k e (answered ends e).0 (answered ends e).1
+  answered_event : (e : Event) → PlainSidesCount setup ends → IsSendableBy true e → RefusesPlainly setup ends e → is_out_of_memory (answered ends e).0 ≡ false → is_connection_fault (answered ends e).0 ≡ false → StepsTo setup k e (answered ends e).0 (answered ends e).1
   answered_event (event.Pull side id) counts sendable plainly told faultless = any_pull laws moves setup made k ends h side id counts told faultless
   answered_event (event.PullFields side id) counts sendable plainly told faultless = any_list laws moves setup made k ends h side id counts told faultless
   answered_event e counts sendable plainly told faultless = other_event e (λ side id same. absurd (cc)) (λ side id same. absurd (cc)) sendable plainly told faultless
 
   -- **Any event.**
-  pub any_step : (new : Ends) (e : Event) (a : Answer) → PlainSidesCount setup ends → IsSendable setup e → RefusesPlainly setup ends e → EndsStep ends e a new → is_connection_fault a ≡ false → StepsTo setup k e a new
+  pub any_step : (new : Ends) (e : Event) (a : Answer) → PlainSidesCount setup ends → IsSendableBy true e → RefusesPlainly setup ends e → EndsStep ends e a new → is_connection_fault a ≡ false → StepsTo setup k e a new
   any_step new e a counts sendable plainly step faultless = by_memory (is_out_of_memory a) refl step
     where
       by_memory : (b : Bool) → is_out_of_memory a ≡ b → AnswerOf b ends e a new → StepsTo setup k e a new

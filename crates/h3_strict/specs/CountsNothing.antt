@@ -26,6 +26,10 @@ abbrev pub CountsNothing : Announced → EndpointHistory → Type 0
 CountsNothing own e =
     (e.announced ≡ own) × (own.choices.strict_messages ≡ false) × AllByRecursion is_uncounted e.outgoing × AllByRecursion comes_uncounted e.incoming
 
+-- It announced so much, and where that asks for no strict messages it counts nothing.
+abbrev pub KeepsTo : Announced → EndpointHistory → Type 0
+KeepsTo own e = (e.announced ≡ own) × (own.choices.strict_messages ≡ false → CountsNothing own e)
+
 -- It refuses each send as where it judges plainly, but for what it does not read itself.
 pub record RefusesAlike (e : EndpointHistory) : Type 0 where
   pub head : (id : ℕ) (head : Head) → SameUnless (broken_protocol e.announced head) (send_head e id head).0 (send_head (plainly e) id head).0
