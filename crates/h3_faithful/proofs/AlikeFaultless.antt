@@ -55,7 +55,7 @@ use Rattle.h3_faithful.proofs.BehindBoth.{offered_behind, stands_behind}
 use Rattle.h3_faithful.proofs.CaughtUpEnds.{CaughtUp, KeptLaws, catches_up}
 use Rattle.h3_faithful.proofs.PlainMemory.{at_end}
 use Rattle.h3_faithful.proofs.PullsNext.{judged_next, pulls_next, pulls_settled}
-use Rattle.h3_faithful.proofs.Quiet.{QuietSides}
+use Rattle.h3_faithful.proofs.PlainMemory.{QuietSides}
 use Rattle.h3_faithful.proofs.Runs.{RunLaws, malformed_faultless, memory_faultless}
 
 -- `ends_stay_bounded` of `h3_strict`, and `tries_and_waiting_streams_are_bounded` of `h3_connection`

@@ -19,7 +19,7 @@ use Rattle.h3_connection.specs.Sending.{if_too_many, pull_at, pull_request, pull
 use Rattle.h3_connection.specs.StreamSetLaws.{set-here, set-set}
 use Rattle.h3_connection.specs.StreamSets.{set_stream, stream_at}
 use Rattle.h3_connection.specs.declared.arrival.Arrival.{Arrival}
-use Rattle.h3_connection.specs.declared.event.Fault.TheVariants.{Stream}
+use Rattle.h3_connection.specs.declared.event.Fault.TheVariants.{Connection, Stream}
 use Rattle.h3_connection.specs.declared.event.Item.TheVariants as item
 use Rattle.h3_connection.specs.declared.event.Malformation.{Malformation}
 use Rattle.h3_connection.specs.declared.event.Pull.{Pull}
@@ -33,7 +33,7 @@ use Rattle.h3_world.specs.declared.event.Answer.TheVariants as answer
 use Rattle.h3_headline.specs.GivenUp.{IsGone, giving_up}
 use Rattle.h3_strict.specs.CountsNothing.{CountsNothing}
 use Rattle.h3_strict.specs.Plainly.{plain, plain_incoming, plainly}
-use Rattle.h3_strict.specs.PullPlainly.{GivesUpAs, IsUnread, LeavesGone, LeftAtOnce, LeftBehind, OtherFaults, PullAlike, PullFaults, PullGone, PullPlainly, tells_fault}
+use Rattle.h3_strict.specs.PullPlainly.{GivesUpAs, IsUnread, LeavesGone, LeftAtOnce, LeftBehind, OtherFaults, PullAlike, PullFaults, PullGone, PullPlainly, shows_header, tells_fault}
 use Rattle.h3_strict.proofs.NothingCounted.{all_count, at_come}
 use Rattle.h3_strict.proofs.PlainCalls.{plain_result}
 use Rattle.h3_strict.proofs.PlainParts.{found_plain}
@@ -86,7 +86,7 @@ data AtVerdict (f : EndpointHistory) (id : ℕ) (next : Option (List Field)) (a 
   AlikeAt : b ≡ plain_result a → AtVerdict f id next a b
   FaultsAt : is_connection_fault (answer.Pulled a.0) ≡ true → AtVerdict f id next a b
   -- an end that asks for no strict messages, has no limit and counts no content of it does so only if it does not read the list
-  GoneAt : (why : Malformation) → GivesUpAs a b (plainly f) id why → (is_loose f id ≡ true → IsUnread f.announced next why) → AtVerdict f id next a b
+  GoneAt : (why : Malformation) → GivesUpAs a b (plainly f) id why → (is_loose f id ≡ true → IsUnread f.announced next why × (shows_header b.0 ≡ true)) → AtVerdict f id next a b
 
 module _ (f : EndpointHistory) (id : ℕ) where
   module _ (i : Incoming) (here : stream_at f.incoming id ≡ Some i) where
@@ -141,7 +141,7 @@ module _ (f : EndpointHistory) (id : ℕ) where
     alike : q ≡ plain_pulled p → AtVerdict f id next a b
     alike same = AlikeAt (ap (λ x. pulled (plainly f) id (within_limit (plainly f) id x)) same ∙ ap (pulled (plainly f) id) (limit_plain f id p) ∙ given_plain f id (within_limit f id p))
 
-    told : (is_loose f id ≡ true → (why : Malformation) → p.answer ≡ pull.Fault (Stream (Malformed why)) → IsUnread f.announced next why) → Verdict id (marks_of i) p q → AtVerdict f id next a b
+    told : (is_loose f id ≡ true → (why : Malformation) → p.answer ≡ pull.Fault (Stream (Malformed why)) → IsUnread f.announced next why × (shows_header b.0 ≡ true)) → Verdict id (marks_of i) p q → AtVerdict f id next a b
     told judges (IsSame same) = alike same
     told judges (EndsAll code ends_so) = by_many (many p) refl
       where
@@ -240,10 +240,20 @@ module _ (f : EndpointHistory) (id : ℕ) where
         same_why : (u : Malformation) (why : Malformation) → ◌≡◌ {A = Pull} (pull.Fault (Stream (Malformed u))) (pull.Fault (Stream (Malformed why))) → u ≡ why
         same_why u why is = cc
 
-        by_reading : (q ≡ plain_pulled p) ⊎ FindsUnread f.announced next p → AtVerdict f id next a b
+        -- what is shown is shown where not too many wait, and else a fault is
+        shown_then : (c : Bool) (x : Pull) → q.answer ≡ x → shows_header x ≡ true → shows_header (pulled (plainly f) id (if_too_many c q)).0 ≡ true
+        shown_then true x is shown = refl
+        shown_then false (pull.Item (item.Interim head)) is shown = ap (λ y. shows_header (pulled (plainly f) id (record q { answer = y })).0) is
+        shown_then false (pull.Item (item.Head head)) is shown = ap (λ y. shows_header (pulled (plainly f) id (record q { answer = y })).0) is
+        shown_then false (pull.Item (item.Trailer head)) is shown = ap (λ y. shows_header (pulled (plainly f) id (record q { answer = y })).0) is
+        shown_then false (pull.Fault (Connection code)) is shown = ap (λ y. shows_header (pulled (plainly f) id (record q { answer = y })).0) is
+        shown_then false (pull.Fault (Stream why)) is shown = ap (λ y. shows_header (pulled (plainly f) id (record q { answer = y })).0) is
+        shown_then false x is shown = absurd (cc)
+
+        by_reading : (q ≡ plain_pulled p) ⊎ FindsUnread f.announced next p q → AtVerdict f id next a b
         by_reading (inl same) = alike same
         by_reading (inr u) =
-            told (λ loose why is. subst (IsUnread f.announced next) (same_why u.why why (sym u.told ∙ is)) u.unread) (pull_told f.side f.announced id f.decoding.decoder i)
+            told (λ loose why is. (subst (IsUnread f.announced next) (same_why u.why why (sym u.told ∙ is)) u.unread, shown_then other_many q.answer refl u.shown)) (pull_told f.side f.announced id f.decoding.decoder i)
 
   at_request : (o : Option Incoming) → stream_at f.incoming id ≡ o → AtVerdict f id (fields_there f.announced f.decoding.decoder o) (pull_request f id o) (pull_request (plainly f) id (option_map plain_incoming o))
   at_request None here = AlikeAt refl
@@ -291,8 +301,11 @@ module _ (e : EndpointHistory) (id : ℕ) where
             unsettled = unsettled;
             reads = found_plain (unkept e).announced (read_all e.kept (unkept e)) (read_all e.kept (unkept (plainly e))) f (all_plain e.kept (unkept e)) reads;
             gives = gives;
-            judges = λ own counts any. subst (λ (a : Announced). IsUnread a (fields_behind (plainly e).kept (plainly e) id) why) (counts_behind own counts).0
-                (subst (λ o. IsUnread f.announced o why) (sym lists) (judges (is_loose_behind own counts any)));
+            judges = λ own counts any.
+                let found = judges (is_loose_behind own counts any) in (
+                  subst (λ (a : Announced). IsUnread a (fields_behind (plainly e).kept (plainly e) id) why) (counts_behind own counts).0 (subst (λ o. IsUnread f.announced o why) (sym lists) found.0),
+                  found.1,
+                );
           })
 
   abbrev Behind : List Arrival → Pull × EndpointHistory

@@ -40,7 +40,7 @@ use Rattle.h3_world.specs.Lists.{unread_by}
 use Rattle.h3_world.specs.Setup.{TakesAnyLength}
 use Rattle.h3_strict.specs.NarrowLaws.{reads_less}
 use Rattle.h3_strict.specs.Plainly.{plain, plain_incoming}
-use Rattle.h3_strict.specs.PullPlainly.{IsUnread}
+use Rattle.h3_strict.specs.PullPlainly.{IsUnread, shows_header}
 use Rattle.h3_strict.proofs.PlainPulls.{plain_pulled}
 
 -- the receiver, and what its end announces, where neither counts nor asks
@@ -51,15 +51,17 @@ abbrev loosely : Announced → Announced
 loosely own = record own { choices = record own.choices { strict_messages = false } }
 
 -- it finds this section malformed, which the end does not read
-pub record FindsUnread (own : Announced) (next : Option (List Field)) (p : Pulled) : Type 0 where
+pub record FindsUnread (own : Announced) (next : Option (List Field)) (p q : Pulled) : Type 0 where
   pub why : Malformation
   pub unread : IsUnread own next why
   pub told : p.answer ≡ pull.Fault (Stream (Malformed why))
+  -- the other one judges the section
+  pub shown : shows_header q.answer ≡ true
 
 -- No content is counted after it, and with this it is answered as plainly, or so.
 record Alike (any : Type 0) (own : Announced) (next : Option (List Field)) (p q : Pulled) : Type 0 where
   none : p.incoming.content ≡ Unsaid
-  same : any → (q ≡ plain_pulled p) ⊎ FindsUnread own next p
+  same : any → (q ≡ plain_pulled p) ⊎ FindsUnread own next p q
 
 module _ {any : Type 0} {own : Announced} {next : Option (List Field)} where
   either : (b : Bool) (x y v w : Pulled) → Alike any own next x v → Alike any own next y w → Alike any own next (if b then x else y) (if b then v else w)
@@ -96,6 +98,28 @@ module _ {any : Type 0} {own : Announced} {next : Option (List Field)} where
   read side id i replies (IsNone why) = record { none = refl; same = λ a. inl refl }
   read side id i replies (IsHead h) = section side id i replies i.place h
 
+-- a section that is judged gives a header or a fault
+shown : (side : Side) (id : ℕ) (i : Incoming) (replies : List DecoderInstruction) (h : HeadRead) → shows_header (judged side id (plain_incoming i) replies None h).answer ≡ true
+shown side id i replies (IsNone why) = refl
+shown side id i replies (IsHead h) = by_place i.place
+  where
+    by_head : (b c : Bool) → shows_header (if b then malformed id malformation.WrongSide (plain_incoming i) replies else (
+        if c then record { answer = pull.Item (item.Interim h); incoming = plain_incoming i; replies = replies } else
+        record { answer = pull.Item (item.Head h); incoming = record (plain_incoming i) { place = InBody }; replies = replies })).answer ≡ true
+    by_head true c = refl
+    by_head false true = refl
+    by_head false false = refl
+
+    by_trailer : (b : Bool) → shows_header (if b then malformed id malformation.PseudoInTrailer (plain_incoming i) replies else record { answer = pull.Item (item.Trailer h); incoming = record (plain_incoming i) { place = AfterTrailer }; replies = replies }).answer ≡ true
+    by_trailer true = refl
+    by_trailer false = refl
+
+    by_place : (place : Place) → shows_header (head_or_trailer side id (plain_incoming i) replies None place h).answer ≡ true
+    by_place BeforeHead = by_head (not (is_for side h)) (is_client side && is_interim h.status)
+    by_place InBody = by_trailer (has_pseudo h)
+    by_place AfterTrailer = by_trailer (has_pseudo h)
+    by_place InSession = by_trailer (has_pseudo h)
+
 module _ (side : Side) (own : Announced) (id : ℕ) (r : DecoderState) where
   abbrev Same : Option (List Field) → Pulled → Pulled → Type 0
   Same next p q = Alike (TakesAnyLength own) own next p q
@@ -111,7 +135,7 @@ module _ (side : Side) (own : Announced) (id : ℕ) (r : DecoderState) where
       by_read (inl same) = subst Told (sym same) (read side id i replies (head_by true fields))
       by_read (inr value) =
           subst Told (sym value.0)
-          (record { none = refl; same = λ a. inr (record { why = malformation.Value; unread = (fields, refl, ap unread_by value.0); told = refl }) })
+          (record { none = refl; same = λ a. inr (record { why = malformation.Value; unread = (fields, refl, ap unread_by value.0); told = refl; shown = shown side id i replies (head_by true fields) }) })
 
   decoded_alike : (i : Incoming) (d : DecodedSection) → Same (decoded_fields d) (decoded side (loosely own) id r (uncounted i) d) (decoded side (plain own) id r (plain_incoming i) d)
   decoded_alike i (Fields fields count) = fields_alike (past_section i) (acknowledgment id count) fields
@@ -197,5 +221,5 @@ module _ (side : Side) (own : Announced) (id : ℕ) (r : DecoderState) where
   pull_uncounted i loose none = (alike i loose none).none
 
   pub pull_same : (i : Incoming) → own.choices.strict_messages ≡ false → TakesAnyLength own → i.content ≡ Unsaid
-      → (pull_stream side (plain own) id r (plain_incoming i) ≡ plain_pulled (pull_stream side own id r i)) ⊎ FindsUnread own (fields_next own r i) (pull_stream side own id r i)
+      → (pull_stream side (plain own) id r (plain_incoming i) ≡ plain_pulled (pull_stream side own id r i)) ⊎ FindsUnread own (fields_next own r i) (pull_stream side own id r i) (pull_stream side (plain own) id r (plain_incoming i))
   pull_same i loose any none = (alike i loose none).same any

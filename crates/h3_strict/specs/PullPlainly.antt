@@ -8,6 +8,7 @@ use Rattle.h3_connection.specs.Keeping.{pulls, read_all, settles, unkept}
 use Rattle.h3_connection.specs.StreamSets.{stream_at}
 use Rattle.h3_connection.specs.declared.event.Fault.TheVariants.{Connection, Stream}
 use Rattle.h3_connection.specs.declared.event.Item.{Item}
+use Rattle.h3_connection.specs.declared.event.Item.TheVariants as item
 use Rattle.h3_connection.specs.declared.event.Malformation.{Malformation}
 use Rattle.h3_connection.specs.declared.event.Pull.{Pull}
 use Rattle.h3_connection.specs.declared.event.Pull.TheVariants as pull
@@ -26,6 +27,13 @@ abbrev pub tells_fault : Pull → Bool
 tells_fault (pull.Fault (Connection code)) = true
 tells_fault (pull.Fault (Stream fault)) = true
 tells_fault _ = false
+
+-- or a header
+abbrev pub shows_header : Pull → Bool
+shows_header (pull.Item (item.Interim head)) = true
+shows_header (pull.Item (item.Head head)) = true
+shows_header (pull.Item (item.Trailer head)) = true
+shows_header p = tells_fault p
 
 -- the list is there, and reads as no header by the protocols that the end takes
 abbrev pub IsUnread : Announced → Option (List Field) → Malformation → Type 0
@@ -54,8 +62,8 @@ pub record GivesStreamUp (e : EndpointHistory) (id : ℕ) : Type 0 where
   pub unsettled : settles e id ≡ false
   pub reads : read_all (plainly e).kept (unkept (plainly e)) ≡ (plainly next, None)
   pub gives : GivesUpAs (pulls e id) (pulls (plainly e) id) (plainly next) id why
-  -- an end that counts nothing and has no limit does so only where it does not read the section that is next
-  pub judges : (own : Announced) → CountsNothing own e → TakesAnyLength own → IsUnread own (fields_behind (plainly e).kept (plainly e) id) why
+  -- an end that counts nothing and has no limit does so only where it does not read the section that is next, and the other end judges that
+  pub judges : (own : Announced) → CountsNothing own e → TakesAnyLength own → IsUnread own (fields_behind (plainly e).kept (plainly e) id) why × (shows_header (pulls (plainly e) id).0 ≡ true)
 
 -- It is answered alike, or by a fault of the connection, or so.
 pub data PullPlainly (e : EndpointHistory) (id : ℕ) : Type 0 where
