@@ -37,8 +37,7 @@ use Rattle.h3_strict.specs.AdvanceLaws.{advances, advances_then, front_more, kee
 use Rattle.h3_strict.specs.GivingUpLaws.{alive_before, gives_up_advances, none_if, not_both, nothing_yet, quiet_on, quiet_step, refusal_advances, refused_advances, told_nothing, unused_accounts}
 use Rattle.h3_strict.specs.PlainEnds.{plain_setup}
 use Rattle.h3_faithful.specs.Faithful.{HandsOut}
-use Rattle.h3_faithful.specs.Sends.{unread}
-use Rattle.h3_faithful.specs.Steps.{AsPlainly, GivesMessageUp, HappensAnywhere, IsRefusedUnread, LacksMemory, MayLack, PullsMalformed, PullsOn, RefusesMalformed, RefusesOwn}
+use Rattle.h3_faithful.specs.Steps.{AsPlainly, GivesMessageUp, HappensAnywhere, IsRefusedUnread, LacksMemory, MayLack, PullsMalformed, PullsOn, RefusesMalformed, RefusesOwn, unread}
 use Rattle.h3_faithful.proofs.SoundSteps.{SoundLaws, sound_step}
 
 -- `each_step_moves_messages` of `h3_memory`, and its laws of sound worlds

@@ -52,8 +52,7 @@ use Rattle.h3_strict.specs.PlainEnds.{Alike, AreBounded, Judges, RefusesMalforme
 use Rattle.h3_strict.specs.Plainly.{plainly}
 use Rattle.h3_strict.specs.StandsBehind.{StandsBehind}
 use Rattle.h3_strict.specs.WorldSteps.{KeepsNone, WorldStep}
-use Rattle.h3_faithful.specs.Sends.{unread}
-use Rattle.h3_faithful.specs.Steps.{AsPlainly, GivesMessageUp, HappensAnywhere, IsRefusedUnread, LacksMemory, MayLack, PullsOn, RefusesMalformed, RefusesOwn, RefusesUnread, is_send, is_strict_send}
+use Rattle.h3_faithful.specs.Steps.{AsPlainly, GivesMessageUp, HappensAnywhere, IsRefusedUnread, LacksMemory, MayLack, PullsOn, RefusesMalformed, RefusesOwn, RefusesUnread, is_send, is_strict_send, unread}
 use Rattle.h3_faithful.proofs.AlikeFaultless.{AlikeLaws, Standing, before, behind_then, bounded_at, caught, faultless, keeps_none, open_then, sound_so, stays_then}
 use Rattle.h3_faithful.proofs.AnyPull.{StepsSo, StepsTo, end_set, listed_is, plain_step, pulled_is, set_twice, unsettled_before}
 use Rattle.h3_faithful.proofs.AnyStep.{any_step}

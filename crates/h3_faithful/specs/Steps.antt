@@ -3,6 +3,7 @@
 use Rattle.std.specs.Prelude.{◌≡◌, ℕ, ◌<◌, Bool, true, false, ◌∷◌, List, [], length, Option, Some, None, drop, take}
 use Rattle.h3_proto.specs.declared.stream.Side.{Side}
 use Rattle.h3_connection.specs.OwnIds.{other}
+use Rattle.h3_connection.specs.StrictSending.{broken_protocol}
 use Rattle.h3_connection.specs.declared.event.Fault.TheVariants.{Stream}
 use Rattle.h3_connection.specs.declared.event.Malformation.{Malformation}
 use Rattle.h3_connection.specs.declared.event.Pull.{Pull}
@@ -30,7 +31,6 @@ use Rattle.h3_memory.specs.MemoryStep.{HappensWithMemory}
 use Rattle.h3_strict.specs.GivesUp.{GivesUp}
 use Rattle.h3_strict.specs.PlainEnds.{is_malformed_refusal, plain_ends, plain_setup}
 use Rattle.h3_faithful.specs.Faithful.{asks_for_strict, is_without_fault}
-use Rattle.h3_faithful.specs.Sends.{unread}
 
 -- The side that sends asks for strict messages.
 abbrev pub is_strict_send : Setup → Event → Bool
@@ -41,6 +41,14 @@ is_strict_send setup (event.Trailer side id trailer) = asks_for_strict setup sid
 is_strict_send setup (event.TrailerFields side id fields) = asks_for_strict setup side
 is_strict_send setup (event.Finish side id) = asks_for_strict setup side
 is_strict_send setup _ = false
+
+-- What the side would not read itself of what it is to send: a protocol that it does not take (RFC 8441, section 4), or a bad part of a list.
+abbrev pub unread : Setup → Event → Option Malformation
+unread setup (event.Head side id head) = broken_protocol (announced_at setup side) head
+unread setup (event.Fields side id fields) = unreadable (takes_any (announced_at setup side)) fields
+unread setup (event.Trailer side id trailer) = broken_protocol (announced_at setup side) trailer
+unread setup (event.TrailerFields side id fields) = unreadable (takes_any (announced_at setup side)) fields
+unread setup _ = None
 
 -- A list tells that memory is wanting only above so many fields.
 abbrev pub MayLack : Event → Type 0
