@@ -40,6 +40,7 @@ use Rattle.h3_world.specs.declared.event.Event.TheVariants as event
 use Rattle.h3_world.specs.declared.lists.ListPull.TheVariants as list
 use Rattle.h3_headline.specs.Contents.{KeepsParts}
 use Rattle.h3_headline.specs.KeepsPartsLaws.{keeps_with_party}
+use Rattle.h3_memory.specs.Keeping.{StandsKeeping}
 use Rattle.h3_memory.specs.Kept.{KeepingWorld, caught_up, is_settled}
 use Rattle.h3_memory.specs.MemoryStep as memory
 use Rattle.h3_memory.specs.MemoryStep.{Answers, StepOf, StepWithMemory}

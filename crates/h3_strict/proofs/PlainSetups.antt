@@ -1,5 +1,5 @@
 -- New endpoints, and setups, without strict messages.
-use Rattle.std.proofs.Common.{◌≡◌, false, refl}
+use Rattle.std.proofs.Common.{◌≡◌, false, true, refl}
 use Rattle.h3_proto.specs.declared.stream.Side.{Side}
 use Rattle.h3_proto.specs.declared.stream.Side.TheVariants.{Client, Server}
 use Rattle.h3_connection.specs.Endpoint.{new_endpoint}
