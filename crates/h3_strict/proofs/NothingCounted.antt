@@ -23,7 +23,7 @@ use Rattle.h3_connection.specs.PartReading.ReadsOn.{Hears, Holds, Listens, Reads
 use Rattle.h3_connection.specs.PartReading.ReadsPart.{Goes, Stops}
 use Rattle.h3_connection.specs.Sending as sender
 use Rattle.h3_connection.specs.Pulling.{Pulled, pull_stream}
-use Rattle.h3_connection.specs.Sending.{after_answer, appended, asked, counted, does, encoded, fields_cost, head_part, if_too_many, outgoing_at, pull_at, pull_peer, pull_request, pull_unless, sent_bytes, within_limit}
+use Rattle.h3_connection.specs.Sending.{after_answer, appended, asked, counted, does, encoded, fields_cost, if_too_many, outgoing_at, pull_at, pull_peer, pull_request, pull_unless, sent_bytes, within_limit}
 use Rattle.h3_connection.specs.Shown.{has_outgoing, is_finished, is_reset, waiting}
 use Rattle.h3_connection.specs.StreamSets.{Streams, set_stream, stream_at}
 use Rattle.h3_connection.specs.StrictConnection.{known_streams}
