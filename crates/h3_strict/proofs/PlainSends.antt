@@ -303,7 +303,7 @@ module _ (e : EndpointHistory) (id : ℕ) where
   goaways_alike = Agrees (inl refl)
 
   pub goaways_plainly : CallsPlainly e (goaway e id) (goaway (plainly e) id)
-  goaways_plainly = does_plainly (goaway_refusal e id) (goaway_refusal (plainly e) id) e _ _ (Agrees (inl refl)) refl
+  goaways_plainly = does_plainly (goaway_refusal e id) (goaway_refusal (plainly e) id) e _ _ goaways_alike refl
 
   -- a stream is given up
   gives_up_by : (i : Incoming) (fault : StreamFault) (first : Option StreamFault) → given_up_by (plain_incoming i) fault first ≡ plain_incoming (given_up_by i fault first)
@@ -363,7 +363,13 @@ module _ (e : EndpointHistory) (id : ℕ) (plain_messages : e.announced.choices.
   head_rules_same : (o : Option Outgoing) (own all : Option Malformation) → (own ≡ None → all ≡ None) → (head : Head) (fields : List Field)
       → SameUnless own (head_rules e (going_of e) o head fields own None) (head_rules e (going_of e) o head fields all None)
   head_rules_same o own all narrows head fields =
-      same_open e.closed _ _ (same_behind (not (is_some o)) refusal.NotOpen _ _ (same_behind (not (takes_head (unwrap_or o nothing_sent))) refusal.OutOfOrder _ _ (going_same (going_of e) _ _ (same_own own all _ narrows))))
+      let large : List (Bool × Refusal) = (is_too_large (settings_known e.announced e.peer.settings) fields, refusal.TooLarge (section_size fields)) ∷ [] in
+      let later : List (Bool × Refusal) = (not (is_for (other e.side) head), refusal.WrongSide) ∷ large in
+      let one : List (Bool × Refusal) = unless_going (going_of e) (unless_malformed own later) in
+      let two : List (Bool × Refusal) = unless_going (going_of e) (unless_malformed all later) in
+      let order : Bool × Refusal = (not (takes_head (unwrap_or o nothing_sent)), refusal.OutOfOrder) in
+      same_open e.closed _ _ (same_behind (not (is_some o)) refusal.NotOpen (order ∷ one) (order ∷ two)
+      (same_behind (not (takes_head (unwrap_or o nothing_sent))) refusal.OutOfOrder one two (going_same (going_of e) (unless_malformed own later) (unless_malformed all later) (same_own own all later narrows))))
 
   heads_same : (own all : Option Malformation) → (own ≡ None → all ≡ None) → (head : Head) (fields : List Field) → SameUnless own (head_judged e id own head fields) (head_judged (plainly e) id all head fields)
   heads_same own all narrows head fields =
@@ -377,7 +383,11 @@ module _ (e : EndpointHistory) (id : ℕ) (plain_messages : e.announced.choices.
   trailer_rules_same : (o : Option Outgoing) (own all : Option Malformation) → (own ≡ None → all ≡ None) → (head : Head) (fields : List Field)
       → SameUnless own (trailer_rules e o head fields own None) (trailer_rules e o head fields all None)
   trailer_rules_same o own all narrows head fields =
-      same_open e.closed _ _ (same_behind (not (is_some o)) refusal.NotOpen _ _ (same_behind (not (takes_body (unwrap_or o nothing_sent))) refusal.OutOfOrder _ _ (same_own own all _ narrows)))
+      let large : List (Bool × Refusal) = (is_too_large (settings_known e.announced e.peer.settings) fields, refusal.TooLarge (section_size fields)) ∷ [] in
+      let later : List (Bool × Refusal) = (has_pseudo head, refusal.PseudoInTrailer) ∷ unless_malformed (early_trailer (unwrap_or o nothing_sent).content) large in
+      let order : Bool × Refusal = (not (takes_body (unwrap_or o nothing_sent)), refusal.OutOfOrder) in
+      same_open e.closed _ _ (same_behind (not (is_some o)) refusal.NotOpen (order ∷ unless_malformed own later) (order ∷ unless_malformed all later)
+      (same_behind (not (takes_body (unwrap_or o nothing_sent))) refusal.OutOfOrder (unless_malformed own later) (unless_malformed all later) (same_own own all later narrows)))
 
   trailers_same : (own all : Option Malformation) → (own ≡ None → all ≡ None) → (head : Head) (fields : List Field) → SameUnless own (trailer_judged e id own head fields) (trailer_judged (plainly e) id all head fields)
   trailers_same own all narrows head fields =
@@ -417,5 +427,5 @@ opens_alike e = Agrees (inl refl)
 
 pub opens_plainly : (e : EndpointHistory) → CallsPlainly e (open_request e) (open_request (plainly e))
 opens_plainly e =
-    does_plainly (open_refusal e) (open_refusal (plainly e)) e _ _ (Agrees (inl refl))
+    does_plainly (open_refusal e) (open_refusal (plainly e)) e _ _ (opens_alike e)
     (ap (λ (f : EndpointHistory). record f { next_id = e.next_id + 4 }) (opens_as e e.next_id None))

@@ -45,7 +45,7 @@ later_less (Some why) x y h = inl refl
 
 list_less : (h : Head) (fields : List Field) → (read_from false h fields ≡ read_from true h fields) ⊎ (read_from false h fields ≡ IsNone Value)
 list_less h [] = inl refl
-list_less h (f ∷ fields) = by_first (field_less (kind_of f.name) h f)
+list_less h (f ∷ fields) = by_first (list_less (with_field h f) fields) (field_less (kind_of f.name) h f)
   where
     named : HeadRead
     named = read_from false (with_field h f) fields
@@ -53,12 +53,12 @@ list_less h (f ∷ fields) = by_first (field_less (kind_of f.name) h f)
     any : HeadRead
     any = read_from true (with_field h f) fields
 
-    by_first : (refusal_at false (kind_of f.name) h f ≡ refusal_at true (kind_of f.name) h f) ⊎ (refusal_at false (kind_of f.name) h f ≡ Some Value)
+    by_first : (named ≡ any) ⊎ (named ≡ IsNone Value) → (refusal_at false (kind_of f.name) h f ≡ refusal_at true (kind_of f.name) h f) ⊎ (refusal_at false (kind_of f.name) h f ≡ Some Value)
         → (unless_refused (refusal_at false (kind_of f.name) h f) named ≡ unless_refused (refusal_at true (kind_of f.name) h f) any) ⊎ (unless_refused (refusal_at false (kind_of f.name) h f) named ≡ IsNone Value)
-    by_first (inr refused) = inr (ap (λ o. unless_refused o named) refused)
-    by_first (inl same) =
+    by_first later (inr refused) = inr (ap (λ o. unless_refused o named) refused)
+    by_first later (inl same) =
         subst (λ o. (unless_refused o named ≡ unless_refused (refusal_at true (kind_of f.name) h f) any) ⊎ (unless_refused o named ≡ IsNone Value)) (sym same)
-        (later_less (refusal_at true (kind_of f.name) h f) named any (list_less (with_field h f) fields))
+        (later_less (refusal_at true (kind_of f.name) h f) named any later)
 
 -- **It is the same, or malformed by a value where the two names alone are taken.**
 pub reads_less : (any : Bool) (fields : List Field) → (head_by any fields ≡ head_by true fields) ⊎ ((head_by any fields ≡ IsNone Value) × (any ≡ false))
