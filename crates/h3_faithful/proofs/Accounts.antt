@@ -147,7 +147,7 @@ module _ (laws : MemoryMoves) (setup : Setup) where
   step_advances k new e a writer id sound (AsPlainly told h) = memory_advances k new e a writer id sound h.step
   step_advances k new e a writer id sound (LacksMemory told h) = memory_advances k new e a writer id sound h.step
   step_advances k new e a writer id sound (RefusesMalformed strict told is) = subst (λ v. AdvancesBy ps k.world e writer id a v.world) (sym is) (refused_advances ps k.world e a writer id told)
-  step_advances k new e a writer id sound (RefusesOwn unread is) = subst (λ v. AdvancesBy ps k.world e writer id a v.world) (sym is) (unread_advances k.world e a writer id (MayLack e) (unread setup e) unread)
+  step_advances k new e a writer id sound (RefusesOwn own is) = subst (λ v. AdvancesBy ps k.world e writer id a v.world) (sym is) (unread_advances k.world e a writer id (MayLack e) (unread setup e) own)
   step_advances k new e a writer id sound (GivesMessageUp pulls) = pulls_on k new e a writer id sound pulls
 
   run_told : (k new : KeepingWorld) (events : List Event) (answers : List Answer) (writer : Side) (id : ℕ) → AllByRecursion (IsSendableBy true) events → IsSoundKeeping ps k → Run (HappensAnywhere setup) k events answers new → Told setup k new events answers writer id

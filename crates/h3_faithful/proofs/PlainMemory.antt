@@ -146,7 +146,7 @@ module _ (does : (e : EndpointHistory) → DoesPlainly e) (setup : Setup) (ends 
   list_plainly : (side : Side) (id : ℕ) (fields : List Field) (unread : Option Malformation) (p q : Option Refusal) → RulesPlainly unread p q → CutsList p ends side id fields new
       → CutsList q ps side id fields after_all ⊎ ((24576 < length fields) × Unread unread)
   list_plainly side id fields unread p q (Agrees (inl same)) h = inl (subst (λ o. CutsList o ps side id fields after_all) (sym same) (list_same side id fields p h))
-  list_plainly side id fields unread p q (Agrees (inr own)) h = let cut = subst (λ o. CutsList o ends side id fields new) own.2 h in inr (cut.0, own.0, own.1, cut.1)
+  list_plainly side id fields unread p q (Agrees (inr own)) h = let cut = subst (λ o. CutsList o ends side id fields new) own.2 h in inr (cut.0, (own.0, own.1, cut.1))
   list_plainly side id fields unread p q (Breaks why broken (inl none)) h =
       inl (subst (λ o. CutsList o ps side id fields after_all) (sym none) (uncut side id fields (subst (λ o. CutsList o ends side id fields new) broken h).1))
   list_plainly side id fields unread p q (Breaks why broken (inr large)) h =
@@ -231,7 +231,7 @@ module _ (does : (e : EndpointHistory) → DoesPlainly e) (setup : Setup) (ends 
       by_case : CutsList (send_fields (end_at ps side) id fields).0 ps side id fields after_all ⊎ ((24576 < length fields) × Unread (unreadable (takes_any (announced_at setup side)) fields))
           → LacksMemory ps (event.Fields side id fields) (answer.Refused refusal.OutOfMemory) after_all ⊎ (RefusesUnread setup (event.Fields side id fields) (answer.Refused refusal.OutOfMemory) × (new ≡ ends))
       by_case (inl cut) = inl cut
-      by_case (inr own) = inr (lacks_unread (24576 < length fields) (unreadable (takes_any (announced_at setup side)) fields) own.1 own.2 own.0, own.3)
+      by_case (inr own) = inr (lacks_unread (24576 < length fields) (unreadable (takes_any (announced_at setup side)) fields) own.1.0 own.1.1 own.0, own.1.2)
   lacks_plainly (event.Body side id bytes) (answer.Refused refusal.OutOfMemory) h = inl (ap plain_ends h)
   lacks_plainly (event.Trailer side id trailer) (answer.Refused refusal.OutOfMemory) h =
       by_case (section_plainly side id (head_fields trailer) (broken_protocol (announced_at setup side) trailer) (sender.send_trailer (end_at ends side) id trailer).0 (sender.send_trailer (end_at ps side) id trailer).0
@@ -248,7 +248,7 @@ module _ (does : (e : EndpointHistory) → DoesPlainly e) (setup : Setup) (ends 
       by_case : CutsList (send_trailer_fields (end_at ps side) id fields).0 ps side id fields after_all ⊎ ((24576 < length fields) × Unread (unreadable (takes_any (announced_at setup side)) fields))
           → LacksMemory ps (event.TrailerFields side id fields) (answer.Refused refusal.OutOfMemory) after_all ⊎ (RefusesUnread setup (event.TrailerFields side id fields) (answer.Refused refusal.OutOfMemory) × (new ≡ ends))
       by_case (inl cut) = inl cut
-      by_case (inr own) = inr (lacks_unread (24576 < length fields) (unreadable (takes_any (announced_at setup side)) fields) own.1 own.2 own.0, own.3)
+      by_case (inr own) = inr (lacks_unread (24576 < length fields) (unreadable (takes_any (announced_at setup side)) fields) own.1.0 own.1.1 own.0, own.1.2)
   lacks_plainly (event.Cancel side id) (answer.Refused refusal.OutOfMemory) h = inl (refused_none side (λ e. (sender.cancel e id).0) ((does (end_at ends side)).cancels id) h.0, ap plain_ends h.1)
   lacks_plainly (event.Goaway side id) (answer.Refused refusal.OutOfMemory) h = inl (refused_none side (λ e. (sender.goaway e id).0) ((does (end_at ends side)).goes_away id) h.0, ap plain_ends h.1)
   lacks_plainly (event.Deliver writer id count) (answer.Refused refusal.OutOfMemory) h = inl (ap plain_ends h)
