@@ -20,12 +20,10 @@ use Rattle.h3_world.specs.declared.event.Event.{Event}
 use Rattle.h3_world.specs.declared.event.Event.TheVariants as event
 use Rattle.h3_strict.specs.Plainly.{plain}
 
-abbrev refused_unless : Bool → Option HeadRefusal
-refused_unless taken = if not taken then Some Value else None
-
 -- the value of a `:protocol`
-protocol_less : (named any : Bool) → (named ≡ true → any ≡ true) → (refused_unless named ≡ refused_unless any) ⊎ (refused_unless named ≡ Some Value)
-protocol_less true any h = inl (sym (ap refused_unless (h refl)))
+protocol_less : (named any : Bool) → (named ≡ true → any ≡ true)
+    → ((if not named then Some Value else None) ≡ (if not any then Some Value else None)) ⊎ ((if not named then Some Value else None) ≡ Some Value)
+protocol_less true any h = inl (sym (ap (λ (taken : Bool). if not taken then Some Value else None) (h refl)))
 protocol_less false any h = inr refl
 
 -- one field
