@@ -20,7 +20,6 @@ use Rattle.h3_connection.specs.declared.event.Item.TheVariants as item
 use Rattle.h3_connection.specs.declared.event.Malformation.{Malformation}
 use Rattle.h3_connection.specs.declared.event.Pull.{Pull}
 use Rattle.h3_connection.specs.declared.event.Pull.TheVariants as pull
-use Rattle.h3_connection.specs.declared.event.Refusal.TheVariants as refusal
 use Rattle.h3_connection.specs.declared.event.StreamFault.{StreamFault}
 use Rattle.h3_connection.specs.declared.event.StreamFault.TheVariants.{Malformed}
 use Rattle.h3_connection.specs.declared.setup.Announced.{Announced}
@@ -116,14 +115,6 @@ kept_world k Server v = refl
 kept_twice : (k : KeepingWorld) (side : Side) (v w : World) → with_kept (with_kept k side v []) side w [] ≡ with_kept k side w []
 kept_twice k Client v w = refl
 kept_twice k Server v w = refl
-
--- a fault of the connection is none of memory
-no_memory : (x : Answer) → is_connection_fault x ≡ true → is_out_of_memory x ≡ false
-no_memory (answer.Pulled (pull.Fault (Connection code))) t = refl
-no_memory (answer.Listed (list.Fault (Connection code))) t = refl
-no_memory (answer.Refused (refusal.Closed code)) t = refl
-no_memory (answer.Refused (refusal.Connection code)) t = refl
-no_memory x t = absurd (cc)
 
 listed_faults : (fields : Option (List Field)) (p : Pull) → is_connection_fault (answer.Pulled p) ≡ true → is_connection_fault (answer.Listed (listed_pull fields p)) ≡ true
 listed_faults fields (pull.Fault (Connection code)) t = refl

@@ -1,6 +1,6 @@
 -- What a list reads as where the two names of a protocol alone are taken, beside what it reads as where any is.
 use Rattle.std.proofs.Common.{◌≡◌, ◌⊎◌, inl, inr, ℕ, Bool, true, false, List, [], ◌∷◌, if◌then◌else◌, Option, Some, None, refl, ap, sym, subst}
-use Rattle.std.specs.Prelude.{not, is_some}
+use Rattle.std.specs.Prelude.{not}
 use Rattle.std.specs.List.{AllByRecursion}
 use Rattle.h3_field.specs.Field.{Field}
 use Rattle.h3_header.specs.Head.{Head, trailer_head}
@@ -69,21 +69,13 @@ reads_less false fields = by_list (list_less (trailer_head []) fields)
     by_list (inl same) = inl same
     by_list (inr none) = inr (none, refl)
 
--- So what an endpoint reads is read where any protocol is taken,
+-- So what an endpoint reads is read where any protocol is taken.
 pub list_narrows : (any : Bool) (fields : List Field) → unreadable any fields ≡ None → unreadable true fields ≡ None
 list_narrows any fields none = by_read (reads_less any fields)
   where
     by_read : (head_by any fields ≡ head_by true fields) ⊎ ((head_by any fields ≡ IsNone Value) × (any ≡ false)) → unreadable true fields ≡ None
     by_read (inl same) = subst (λ x. unread_by x ≡ None) same none
     by_read (inr value) = absurd (let never : Some malformation.Value ≡ None = subst (λ x. unread_by x ≡ None) value.0 none in cc)
-
--- and what is not read there is not read by an endpoint.
-pub unread_narrows : (any : Bool) (fields : List Field) (why : Malformation) → unreadable true fields ≡ Some why → is_some (unreadable any fields) ≡ true
-unread_narrows any fields why is = by_read (reads_less any fields)
-  where
-    by_read : (head_by any fields ≡ head_by true fields) ⊎ ((head_by any fields ≡ IsNone Value) × (any ≡ false)) → is_some (unreadable any fields) ≡ true
-    by_read (inl same) = subst (λ x. is_some (unread_by x) ≡ true) (sym same) (ap is_some is)
-    by_read (inr value) = ap (λ x. is_some (unread_by x)) value.0
 
 -- So it is of a header.
 takes_wide : (any : Bool) (protocol : Option (List ℕ)) → takes_protocol any protocol ≡ true → takes_protocol true protocol ≡ true
