@@ -19,7 +19,7 @@ use Rattle.h3_connection.specs.ReceivingContracts.{IsTaken}
 use Rattle.h3_connection.specs.Sections.{with_insertions}
 use Rattle.h3_connection.specs.Sending as sender
 use Rattle.h3_connection.specs.Shown.{has_outgoing, is_finished, is_reset, waiting}
-use Rattle.h3_connection.specs.StrictConnection.{kinds_of, knows_sessions}
+use Rattle.h3_connection.specs.StrictConnection.{kinds_of, known_streams}
 use Rattle.h3_connection.specs.Unidirectional.{role_after, with_bytes}
 use Rattle.h3_connection.specs.declared.arrival.Arrival.{Arrival}
 use Rattle.h3_connection.specs.declared.arrival.Arrival.TheVariants.{BytesCame, EndCame, ResetCame}
@@ -81,7 +81,7 @@ on_ordered e {y = y} (ReadsFront front rest {id = id} is) =
     let f = found_ordered e (BytesCame id front) y is in record { new = f.new; on = ReadsFront front rest f.read; is = f.is }
 on_ordered e (Holds {id = id} {bytes = bytes} {more = more} kind reader) =
     let o = unidirectional_at e id in
-    let read = role_after (knows_sessions e.announced) o.role bytes in
+    let read = role_after (known_streams e.announced) o.role bytes in
     record { new = held e id bytes; on = Holds kind reader; is = held_as_unordered (with_unidirectional e id (with_bytes o read)) id read }
 on_ordered e (ReadsFrames {id = id} {p = p} {more = more} on may part) =
     let q = part_ordered (kinds_of e.announced) (limit_of e) e.side e.peer p part in
