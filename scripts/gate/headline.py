@@ -26,7 +26,7 @@ PARTS = (
     ("## How a list of fields is read", (f"{OF_LISTS}.as_flagged", f"{OF_LISTS}.pull_of")),
     ("## All that it rests on", ("Faithful", "AreSmall")),
     ("## Which lists are malformed", (f"{OF_LISTS}.unreadable", f"{OF_LISTS}.list_of")),
-    ("## What is answered", ("Run", "Happens", "empty_world", "JudgesPlainly")),
+    ("## What is answered", ("Run", "Happens", "empty_world", "ArePlain")),
     ("## The endpoints that are returned", ("RunsInWorld",)),
     ("## What each call leaves", ("RunsByCalls", "new_ends")),
     ("## One world", None),

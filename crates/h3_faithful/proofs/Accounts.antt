@@ -1,10 +1,11 @@
 -- What any two sides sent and were handed, behind a run of the world of both.
 use Rattle.std.proofs.Common.{◌≡◌, ℕ, Bool, true, false, List, [], ◌∷◌, refl, ap, sym, ◌∙◌, subst}
-use Rattle.std.specs.Prelude.{◌||◌, is_some}
+use Rattle.std.specs.Prelude.{◌||◌, Option, Some, None, is_some}
 use Rattle.std.specs.List.{AllByRecursion}
 use Rattle.h3_proto.specs.declared.stream.Side.{Side}
 use Rattle.h3_proto.specs.declared.stream.Side.TheVariants.{Client, Server}
 use Rattle.h3_connection.specs.OwnIds.{other}
+use Rattle.h3_connection.specs.declared.event.Malformation.{Malformation}
 use Rattle.h3_connection.specs.declared.event.Pull.{Pull}
 use Rattle.h3_connection.specs.declared.event.Pull.TheVariants as pull
 use Rattle.h3_world.specs.Flow.{Flow}
@@ -12,7 +13,7 @@ use Rattle.h3_world.specs.Headline.{is_out_of_memory}
 use Rattle.h3_world.specs.Lists.{pull_of}
 use Rattle.h3_world.specs.Order.{is_over}
 use Rattle.h3_world.specs.Run.{Run}
-use Rattle.h3_world.specs.Sendable.{IsSendable}
+use Rattle.h3_world.specs.Sendable.{IsSendableBy}
 use Rattle.h3_world.specs.Sound.{IsSoundWorld}
 use Rattle.h3_world.specs.Streams.{flow}
 use Rattle.h3_world.specs.World.{World, empty_world}
@@ -33,10 +34,10 @@ use Rattle.h3_memory.specs.MemoryStep.{Answers, Pulls, StepOf, StepWithMemory}
 use Rattle.h3_memory.specs.SoundKeeping.{IsSoundKeeping}
 use Rattle.h3_strict.specs.Accounts.{Accounts, Advances, AdvancesBy, AnswersNothing, KeepsOn, Quiet}
 use Rattle.h3_strict.specs.AdvanceLaws.{advances, advances_then, front_more, keeps, quiet_none, says}
-use Rattle.h3_strict.specs.GivingUpLaws.{alive_before, gives_up_advances, none_if, not_both, nothing_yet, quiet_on, quiet_step, refused_advances, told_nothing, unused_accounts}
+use Rattle.h3_strict.specs.GivingUpLaws.{alive_before, gives_up_advances, none_if, not_both, nothing_yet, quiet_on, quiet_step, refusal_advances, refused_advances, told_nothing, unused_accounts}
 use Rattle.h3_strict.specs.PlainEnds.{plain_setup}
 use Rattle.h3_faithful.specs.Faithful.{HandsOut}
-use Rattle.h3_faithful.specs.Steps.{AsPlainly, GivesMessageUp, HappensAnywhere, LacksMemory, PullsMalformed, PullsOn, RefusesMalformed}
+use Rattle.h3_faithful.specs.Steps.{AsPlainly, GivesMessageUp, HappensAnywhere, IsRefusedUnread, LacksMemory, MayLack, PullsMalformed, PullsOn, RefusesMalformed, RefusesOwn, unread}
 use Rattle.h3_faithful.proofs.SoundSteps.{SoundLaws, sound_step}
 
 -- `each_step_moves_messages` of `h3_memory`, and its laws of sound worlds
@@ -136,13 +137,20 @@ module _ (laws : MemoryMoves) (setup : Setup) where
       (not_both (is_on (other writer) id side i) (is_end_of (answer.Listed l)) none.1) (given_up_on k new side i (pull_of l) writer id sound m)
   pulls_on k new e a writer id sound m = absurd m
 
+  -- what a side does not read itself
+  unread_advances : (w : World) (e : Event) (a : Answer) (writer : Side) (id : ℕ) (lacks : Type 0) (why : Option Malformation) → IsRefusedUnread lacks why a → AdvancesBy ps w e writer id a w
+  unread_advances w e (answer.Refused r) writer id lacks why h = refusal_advances ps w e r writer id
+  unread_advances w e a writer id lacks (Some why) h = absurd h
+  unread_advances w e a writer id lacks None h = absurd h
+
   step_advances : (k new : KeepingWorld) (e : Event) (a : Answer) (writer : Side) (id : ℕ) → IsSoundKeeping ps k → HappensAnywhere setup k e a new → AdvancesBy ps k.world e writer id a new.world
   step_advances k new e a writer id sound (AsPlainly told h) = memory_advances k new e a writer id sound h.step
   step_advances k new e a writer id sound (LacksMemory told h) = memory_advances k new e a writer id sound h.step
   step_advances k new e a writer id sound (RefusesMalformed strict told is) = subst (λ v. AdvancesBy ps k.world e writer id a v.world) (sym is) (refused_advances ps k.world e a writer id told)
+  step_advances k new e a writer id sound (RefusesOwn own is) = subst (λ v. AdvancesBy ps k.world e writer id a v.world) (sym is) (unread_advances k.world e a writer id (MayLack e) (unread setup e) own)
   step_advances k new e a writer id sound (GivesMessageUp pulls) = pulls_on k new e a writer id sound pulls
 
-  run_told : (k new : KeepingWorld) (events : List Event) (answers : List Answer) (writer : Side) (id : ℕ) → AllByRecursion (IsSendable setup) events → IsSoundKeeping ps k → Run (HappensAnywhere setup) k events answers new → Told setup k new events answers writer id
+  run_told : (k new : KeepingWorld) (events : List Event) (answers : List Answer) (writer : Side) (id : ℕ) → AllByRecursion (IsSendableBy true) events → IsSoundKeeping ps k → Run (HappensAnywhere setup) k events answers new → Told setup k new events answers writer id
   run_told k new [] [] writer id sendable sound run = subst (λ v. Told setup k v [] [] writer id) (sym run) (record { sound = sound; advances = keeps (reader_of ps writer) (flow k.world writer id) })
   run_told k new (e ∷ es) (a ∷ later) writer id sendable sound run =
       let mid = run.0 in
@@ -155,7 +163,7 @@ module _ (laws : MemoryMoves) (setup : Setup) where
   run_told k new [] (a ∷ later) writer id sendable sound run = absurd run
   run_told k new (e ∷ es) [] writer id sendable sound run = absurd run
 
-  module _ (events : List Event) (answers : List Answer) (k : KeepingWorld) (sendable : AllByRecursion (IsSendable setup) events) (run : RunsSo setup events answers k) where
+  module _ (events : List Event) (answers : List Answer) (k : KeepingWorld) (sendable : AllByRecursion (IsSendableBy true) events) (run : RunsSo setup events answers k) where
     told_at : (writer : Side) (id : ℕ) → Told setup (nothing_kept (empty_world ps)) k events answers writer id
     told_at writer id = run_told (nothing_kept (empty_world ps)) k events answers writer id sendable (laws.begins ps) run
 
@@ -204,7 +212,7 @@ module _ (setup : Setup) (events : List Event) (answers : List Answer) (k : Keep
       let all = is_complete (plain_setup setup) k.world events answers Client id (record { carried = c; sound = sound }) ended in
       (all.all, all.has_finished)
 
-pub hands_out : MemoryMoves → (setup : Setup) (events : List Event) (answers : List Answer) (k : KeepingWorld) → AllByRecursion (IsSendable setup) events → RunsSo setup events answers k → HandsOut setup events answers
+pub hands_out : MemoryMoves → (setup : Setup) (events : List Event) (answers : List Answer) (k : KeepingWorld) → AllByRecursion (IsSendableBy true) events → RunsSo setup events answers k → HandsOut setup events answers
 hands_out laws setup events answers k sendable run =
     let a = accounts laws setup events answers k sendable run in
     let sound = sound_after laws setup events answers k sendable run in

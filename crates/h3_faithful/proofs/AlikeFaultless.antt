@@ -29,7 +29,7 @@ use Rattle.h3_world.specs.Delivering.{reset_code}
 use Rattle.h3_world.specs.Ends.{Ends, answered, done, end_at, new_ends, was_offered, with_end}
 use Rattle.h3_world.specs.Headline.{is_connection_fault, is_out_of_memory}
 use Rattle.h3_world.specs.Lists.{listed_pull, pull_of}
-use Rattle.h3_world.specs.Sendable.{IsSendable}
+use Rattle.h3_world.specs.Sendable.{IsSendableBy}
 use Rattle.h3_world.specs.Setup.{IsMadeSetup, Setup, announced_at}
 use Rattle.h3_world.specs.Streams.{has_outgoing}
 use Rattle.h3_world.specs.World.{World}
@@ -55,7 +55,7 @@ use Rattle.h3_faithful.proofs.BehindBoth.{offered_behind, stands_behind}
 use Rattle.h3_faithful.proofs.CaughtUpEnds.{CaughtUp, KeptLaws, catches_up}
 use Rattle.h3_faithful.proofs.PlainMemory.{at_end}
 use Rattle.h3_faithful.proofs.PullsNext.{judged_next, pulls_next, pulls_settled}
-use Rattle.h3_faithful.proofs.Quiet.{QuietSides}
+use Rattle.h3_faithful.proofs.PlainMemory.{QuietSides}
 use Rattle.h3_faithful.proofs.Runs.{RunLaws, malformed_faultless, memory_faultless}
 
 -- `ends_stay_bounded` of `h3_strict`, and `tries_and_waiting_streams_are_bounded` of `h3_connection`
@@ -212,7 +212,7 @@ module _ (laws : AlikeLaws) (setup : Setup) (made : IsMadeSetup setup) (P : Worl
             (laws.kept.reads setup caught.after.world side caught.next (read_arrival (plainly caught.next) a).0 a made follows (ap (λ c. let y : Found = ((read_arrival (plainly caught.next) a).0, c) in y) plain_next)).0
 
   -- the same ends that judge plainly
-  plain_calm : (e : Event) → IsSendable setup e → is_connection_fault (answered (plain_ends ends) e).0 ≡ false
+  plain_calm : (e : Event) → IsSendableBy true e → is_connection_fault (answered (plain_ends ends) e).0 ≡ false
   plain_calm e sendable = by_memory (is_out_of_memory (answered pe e).0) refl
     where
       by_memory : (b : Bool) → is_out_of_memory (answered (plain_ends ends) e).0 ≡ b → is_connection_fault (answered (plain_ends ends) e).0 ≡ false
@@ -332,7 +332,7 @@ module _ (laws : AlikeLaws) (setup : Setup) (made : IsMadeSetup setup) (P : Worl
   judged_calm e judged finds = absurd (cc)
 
   -- **Any event.**
-  pub faultless : (e : Event) → IsSendable setup e → is_connection_fault (answered ends e).0 ≡ false
+  pub faultless : (e : Event) → IsSendableBy true e → is_connection_fault (answered ends e).0 ≡ false
   faultless e sendable = by_step (laws.runs.steps.plainly ends e)
     where
       by_step : StepsPlainly ends e → is_connection_fault (answered ends e).0 ≡ false

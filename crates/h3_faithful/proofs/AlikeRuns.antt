@@ -6,7 +6,7 @@ use Rattle.h3_proto.specs.declared.stream.Side.{Side}
 use Rattle.h3_proto.specs.declared.stream.Side.TheVariants.{Client, Server}
 use Rattle.h3_world.specs.Ends.{Ends, new_ends}
 use Rattle.h3_world.specs.Headline.{is_connection_fault, is_out_of_memory}
-use Rattle.h3_world.specs.Sendable.{IsSendable}
+use Rattle.h3_world.specs.Sendable.{IsSendableBy}
 use Rattle.h3_world.specs.Setup.{IsMadeSetup, Setup, announced_at}
 use Rattle.h3_world.specs.World.{World}
 use Rattle.h3_world.specs.declared.event.Answer.{Answer}
@@ -31,14 +31,14 @@ both_ask setup b alike is Client = is
 both_ask setup b alike is Server = sym alike ∙ is
 
 module _ (laws : AlikeLaws) (setup : Setup) (made : IsMadeSetup setup) (P : World → Ends → Type 0) (holds : HoldsBehind setup P) where
-  step_calm : (k : KeepingWorld) (ends new : Ends) (e : Event) (a : Answer) → Standing setup P k ends → IsSendable setup e → EndsStep ends e a new → is_connection_fault a ≡ false
+  step_calm : (k : KeepingWorld) (ends new : Ends) (e : Event) (a : Answer) → Standing setup P k ends → IsSendableBy true e → EndsStep ends e a new → is_connection_fault a ≡ false
   step_calm k ends new e a s sendable step = by_memory (is_out_of_memory a) refl step
     where
       by_memory : (b : Bool) → is_out_of_memory a ≡ b → AnswerOf b ends e a new → is_connection_fault a ≡ false
       by_memory true told lacks = memory_faultless a told
       by_memory false told is = ap is_connection_fault is.0 ∙ faultless laws setup made P holds k ends s e sendable
 
-  from : (events : List Event) (answers : List Answer) (k : KeepingWorld) (ends last : Ends) → Standing setup P k ends → AllByRecursion (IsSendable setup) events → EndsRun ends events answers last → list_any is_connection_fault answers ≡ false
+  from : (events : List Event) (answers : List Answer) (k : KeepingWorld) (ends last : Ends) → Standing setup P k ends → AllByRecursion (IsSendableBy true) events → EndsRun ends events answers last → list_any is_connection_fault answers ≡ false
   from [] [] k ends last s sendable run = refl
   from (e ∷ events) (a ∷ answers) k ends last s sendable run =
       let on = goes_on laws setup made P holds k ends s run.0 e a sendable.0 run.1 in
@@ -46,13 +46,13 @@ module _ (laws : AlikeLaws) (setup : Setup) (made : IsMadeSetup setup) (P : Worl
   from [] (a ∷ answers) k ends last s sendable run = absurd run
   from (e ∷ events) [] k ends last s sendable run = absurd run
 
-  from_new : (events : List Event) (answers : List Answer) (last : Ends) → AllByRecursion (IsSendable setup) events → EndsRun (new_ends setup) events answers last → list_any is_connection_fault answers ≡ false
+  from_new : (events : List Event) (answers : List Answer) (last : Ends) → AllByRecursion (IsSendableBy true) events → EndsRun (new_ends setup) events answers last → list_any is_connection_fault answers ≡ false
   from_new events answers last sendable run =
       from events answers (first laws.runs setup made) (new_ends setup) last
       (record { stands = new_stand laws.runs setup made; stays = holds.first; bounded = laws.bounds.made setup; quiet = new_quiet laws.runs.quiet setup }) sendable run
 
 -- **No fault of the connection.**
-pub no_fault_alike : AlikeLaws → (setup : Setup) (events : List Event) (answers : List Answer) (ends : Ends) → IsMadeSetup setup → AllByRecursion (IsSendable setup) events → EndsRun (new_ends setup) events answers ends → JudgeAlike setup
+pub no_fault_alike : AlikeLaws → (setup : Setup) (events : List Event) (answers : List Answer) (ends : Ends) → IsMadeSetup setup → AllByRecursion (IsSendableBy true) events → EndsRun (new_ends setup) events answers ends → JudgeAlike setup
     → list_any is_connection_fault answers ≡ false
 no_fault_alike laws setup events answers ends made sendable run alike = by_choice setup.client.choices.strict_messages refl
   where

@@ -18,6 +18,7 @@ use Rattle.h3_connection.specs.StreamSets.{stream_at}
 use Rattle.h3_connection.specs.declared.arrival.Arrival.{Arrival}
 use Rattle.h3_connection.specs.declared.arrival.Arrival.TheVariants.{EndCame, ResetCame}
 use Rattle.h3_connection.specs.declared.event.Fault.TheVariants as fault
+use Rattle.h3_connection.specs.declared.event.Malformation.{Malformation}
 use Rattle.h3_connection.specs.declared.event.Pull.{Pull}
 use Rattle.h3_connection.specs.declared.event.Pull.TheVariants as pull
 use Rattle.h3_connection.specs.declared.event.Refusal.{Refusal}
@@ -28,7 +29,7 @@ use Rattle.h3_world.specs.Headline.{is_connection_fault, is_out_of_memory}
 use Rattle.h3_world.specs.Lists.{listed_pull}
 use Rattle.h3_world.specs.Pulling.{settled}
 use Rattle.h3_world.specs.Refused.{with_insertions}
-use Rattle.h3_world.specs.Sendable.{IsSendable}
+use Rattle.h3_world.specs.Sendable.{IsSendableBy}
 use Rattle.h3_world.specs.Setup.{IsMadeSetup, Setup}
 use Rattle.h3_world.specs.Step.{Step}
 use Rattle.h3_world.specs.World.{World}
@@ -39,6 +40,7 @@ use Rattle.h3_world.specs.declared.event.Event.TheVariants as event
 use Rattle.h3_world.specs.declared.lists.ListPull.TheVariants as list
 use Rattle.h3_headline.specs.Contents.{KeepsParts}
 use Rattle.h3_headline.specs.KeepsPartsLaws.{keeps_with_party}
+use Rattle.h3_memory.specs.Keeping.{StandsKeeping}
 use Rattle.h3_memory.specs.Kept.{KeepingWorld, caught_up, is_settled}
 use Rattle.h3_memory.specs.MemoryStep as memory
 use Rattle.h3_memory.specs.MemoryStep.{Answers, StepOf, StepWithMemory}
@@ -51,15 +53,15 @@ use Rattle.h3_strict.specs.PlainEnds.{Alike, AreBounded, Judges, RefusesMalforme
 use Rattle.h3_strict.specs.Plainly.{plainly}
 use Rattle.h3_strict.specs.StandsBehind.{StandsBehind}
 use Rattle.h3_strict.specs.WorldSteps.{KeepsNone, WorldStep}
-use Rattle.h3_faithful.specs.Steps.{AsPlainly, GivesMessageUp, HappensAnywhere, LacksMemory, PullsOn, RefusesMalformed, is_strict_send}
+use Rattle.h3_faithful.specs.Steps.{AsPlainly, GivesMessageUp, HappensAnywhere, IsRefusedUnread, LacksMemory, MayLack, PullsOn, RefusesMalformed, RefusesOwn, RefusesUnread, is_send, is_strict_send, unread}
 use Rattle.h3_faithful.proofs.AlikeFaultless.{AlikeLaws, Standing, before, behind_then, bounded_at, caught, faultless, keeps_none, open_then, sound_so, stays_then}
 use Rattle.h3_faithful.proofs.AnyPull.{StepsSo, StepsTo, end_set, listed_is, plain_step, pulled_is, set_twice, unsettled_before}
 use Rattle.h3_faithful.proofs.AnyStep.{any_step}
 use Rattle.h3_faithful.proofs.BehindBoth.{stands_behind}
 use Rattle.h3_faithful.proofs.CaughtUpEnds.{CaughtUp}
-use Rattle.h3_faithful.proofs.PlainMemory.{at_end, memory_plainly}
+use Rattle.h3_faithful.proofs.PlainMemory.{LacksPlainly, QuietSides, at_end, memory_plainly}
 use Rattle.h3_faithful.proofs.PullsNext.{list_next, pull_next, pulls_settled}
-use Rattle.h3_faithful.proofs.Quiet.{plain_sides_count, quiet_step, refuses_plainly}
+use Rattle.h3_faithful.proofs.Quiet.{quiet_step, refuses_plainly}
 
 -- Where both ends stand after an event.
 pub record GoesOn (setup : Setup) (P : World → Ends → Type 0) (new : Ends) : Type 0 where
@@ -87,6 +89,30 @@ other_end ends Server x = refl
 -- the same parts, the other way
 back : (w v : World) → KeepsParts w v → KeepsParts v w
 back w v parts = λ writer id. let p = parts writer id in record { sent = sym p.sent; parts_out = sym p.parts_out; body_out = sym p.body_out }
+
+-- what is refused so is a send
+strict_sends : (setup : Setup) (e : Event) → is_strict_send setup e ≡ true → is_send e ≡ true
+strict_sends setup (event.Head side id head) h = refl
+strict_sends setup (event.Fields side id fields) h = refl
+strict_sends setup (event.Body side id bytes) h = refl
+strict_sends setup (event.Trailer side id trailer) h = refl
+strict_sends setup (event.TrailerFields side id fields) h = refl
+strict_sends setup (event.Finish side id) h = refl
+strict_sends setup e h = absurd (cc)
+
+unread_sends : (setup : Setup) (e : Event) (a : Answer) → RefusesUnread setup e a → is_send e ≡ true
+unread_sends setup (event.Head side id head) a h = refl
+unread_sends setup (event.Fields side id fields) a h = refl
+unread_sends setup (event.Trailer side id trailer) a h = refl
+unread_sends setup (event.TrailerFields side id fields) a h = refl
+unread_sends setup e a h = absurd h
+
+-- where memory is not wanting it is malformed
+unread_malformed : (a : Answer) (lacks : Type 0) (own : Option Malformation) → is_out_of_memory a ≡ false → IsRefusedUnread lacks own a → is_malformed_refusal a ≡ true
+unread_malformed (answer.Refused (refusal.Malformed why)) lacks (Some told) none h = refl
+unread_malformed (answer.Refused refusal.OutOfMemory) lacks (Some told) none h = absurd (cc)
+unread_malformed a lacks (Some told) none h = absurd h
+unread_malformed a lacks None none h = absurd h
 
 module _ (laws : AlikeLaws) (setup : Setup) (made : IsMadeSetup setup) (P : World → Ends → Type 0) (holds : HoldsBehind setup P) (k : KeepingWorld) (ends : Ends) (s : Standing setup P k ends) where
   abbrev ps : Setup
@@ -192,25 +218,35 @@ module _ (laws : AlikeLaws) (setup : Setup) (made : IsMadeSetup setup) (P : Worl
     lacks_stays (event.PullFields side id) (answer.Listed (list.Fault fault.Memory)) l = lost_stays side id l
     lacks_stays e a l = absurd l
 
-    refused_step : (e : Event) (a : Answer) → IsSendable setup e → is_out_of_memory a ≡ true → EndsStep ends e a new → GoesOn setup P new
-    refused_step e a sendable told step = record {
-      after = on.after;
-      standing = record {
-        stands = on.stands;
-        stays = holds.stays k.world on.after.world new (laws.parts.lacks ps k on.after e a (sound_so laws setup made P holds k ends s) told on.happens.step) left.holds_still;
-        bounded = left.bounded;
-        quiet = quiet_step laws.runs.quiet setup ends new e a s.quiet step;
-      };
-    }
+    refused_step : (e : Event) (a : Answer) → IsSendableBy true e → is_out_of_memory a ≡ true → EndsStep ends e a new → GoesOn setup P new
+    refused_step e a sendable told step = by_own (memory_plainly laws.runs.steps.does setup ends new e a s.quiet told step)
       where
-        on : StepsSo (plain_setup setup) k e a (plain_ends new)
-        on = plain_step laws.runs.steps laws.runs.moves setup made k ends s.stands e a (plain_ends new) sendable (memory_plainly laws.runs.steps.does ends new e a told step)
-
         left : Stays
         left = lacks_stays e a (subst (λ b. AnswerOf b ends e a new) told step)
 
+        quiet : QuietSides setup new
+        quiet = quiet_step laws.runs.quiet setup ends new e a s.quiet step
+
+        by_plain : EndsStep (plain_ends ends) e a (plain_ends new) → GoesOn setup P new
+        by_plain plain =
+            let on : StepsSo (plain_setup setup) k e a (plain_ends new) = plain_step laws.runs.steps laws.runs.moves setup made k ends s.stands e a (plain_ends new) sendable plain in
+            record {
+              after = on.after;
+              standing = record {
+                stands = on.stands;
+                stays = holds.stays k.world on.after.world new (laws.parts.lacks ps k on.after e a (sound_so laws setup made P holds k ends s) told on.happens.step) left.holds_still;
+                bounded = left.bounded;
+                quiet = quiet;
+              };
+            }
+
+        by_own : LacksPlainly setup ends e a new → GoesOn setup P new
+        by_own (inl plain) = by_plain plain
+        by_own (inr (own, same)) =
+            record { after = k; standing = record { stands = subst (λ x. StandsKeeping ps k (plain_ends x)) (sym same) s.stands; stays = left.holds_still; bounded = left.bounded; quiet = quiet } }
+
   -- Where none was.
-  module _ (e : Event) (sendable : IsSendable setup e) (told : is_out_of_memory (answered ends e).0 ≡ false) where
+  module _ (e : Event) (sendable : IsSendableBy true e) (told : is_out_of_memory (answered ends e).0 ≡ false) where
     calm : is_connection_fault (answered ends e).0 ≡ false
     calm = faultless laws setup made P holds k ends s e sendable
 
@@ -218,7 +254,7 @@ module _ (laws : AlikeLaws) (setup : Setup) (made : IsMadeSetup setup) (P : Worl
     step_so = subst (λ b. AnswerOf b ends e (answered ends e).0 (answered ends e).1) (sym told) (refl, refl)
 
     on : StepsTo setup k e (answered ends e).0 (answered ends e).1
-    on = any_step laws.runs.steps laws.runs.moves setup made k ends s.stands (answered ends e).1 e (answered ends e).0 (plain_sides_count setup ends s.quiet) sendable (refuses_plainly laws.runs.quiet setup ends e s.quiet) step_so calm
+    on = any_step laws.runs.steps laws.runs.moves setup made k ends s.stands (answered ends e).1 e (answered ends e).0 s.quiet sendable (refuses_plainly laws.runs.quiet setup ends e s.quiet) step_so calm
 
     standing_so : P on.after.world (answered ends e).1 → GoesOn setup P (answered ends e).1
     standing_so stays = record {
@@ -239,14 +275,16 @@ module _ (laws : AlikeLaws) (setup : Setup) (made : IsMadeSetup setup) (P : Worl
         by_step (Alike unrefused same) = absurd (differ (is_malformed_refusal (answered ends e).0) malformed unrefused)
 
     -- an event that is no pull
-    goes : ((v : KeepingWorld) → StepWithMemory (plain_setup setup) k e (answered ends e).0 v → WorldStep setup k.world e (answered ends e).0 v.world) → KeepsNone ends e → (is_strict_send setup e ≡ true → judges ends e ≡ false)
+    goes : ((v : KeepingWorld) → StepWithMemory (plain_setup setup) k e (answered ends e).0 v → WorldStep setup k.world e (answered ends e).0 v.world) → KeepsNone ends e → (is_send e ≡ true → judges ends e ≡ false)
         → ((v : KeepingWorld) → PullsOn setup k e (answered ends e).0 v → ⊥) → GoesOn setup P (answered ends e).1
     goes from none unjudged no_pull = standing_so (by_case on.happens)
       where
         by_case : HappensAnywhere setup k e (answered ends e).0 on.after → P on.after.world (answered ends e).1
         by_case (AsPlainly unrefused h) = holds.goes k.world on.after.world ends e s.stays (before laws setup made P holds k ends s) then_behind (from on.after h.step) none calm
         by_case (LacksMemory lacks h) = absurd (differ (is_out_of_memory (answered ends e).0) lacks told)
-        by_case (RefusesMalformed strict malformed is) = subst (λ v. P v.world (answered ends e).1) (sym is) (subst (P k.world) (sym (unchanged malformed (unjudged strict))) s.stays)
+        by_case (RefusesMalformed strict malformed is) = subst (λ v. P v.world (answered ends e).1) (sym is) (subst (P k.world) (sym (unchanged malformed (unjudged (strict_sends setup e strict)))) s.stays)
+        by_case (RefusesOwn own is) =
+            subst (λ v. P v.world (answered ends e).1) (sym is) (subst (P k.world) (sym (unchanged (unread_malformed (answered ends e).0 (MayLack e) (unread setup e) told own) (unjudged (unread_sends setup e (answered ends e).0 own)))) s.stays)
         by_case (GivesMessageUp p) = absurd (no_pull on.after p)
 
     -- one that pulls, by the answer to it
@@ -264,7 +302,7 @@ module _ (laws : AlikeLaws) (setup : Setup) (made : IsMadeSetup setup) (P : Worl
           → ((v : KeepingWorld) → Answers (plain_setup setup) k e a v → memory.Pulls (plain_setup setup) k side e (is_settled k.world side id) a v)
           → ((v : World) → Step (plain_setup setup) (caught_up (plain_setup setup) k side) e a v ⊎ GivesUpBy setup (caught_up (plain_setup setup) k side) e a v → WorldStep setup (caught_up (plain_setup setup) k side) e a v)
           → ((v : KeepingWorld) → PullsOn setup k e a v → (settled (caught_up (plain_setup setup) k side) side id ≡ None) × GivesUpBy setup (caught_up (plain_setup setup) k side) e a v.world)
-          → KeepsNone (with_end ends side (caught laws setup made P holds k ends s side).next) e → (is_strict_send setup e ≡ true → ⊥) → GoesOn setup P (answered ends e).1
+          → KeepsNone (with_end ends side (caught laws setup made P holds k ends s side).next) e → (is_send e ≡ true → ⊥) → GoesOn setup P (answered ends e).1
       pulls_on next_is answers steps gives none unsent = standing_so (by_settled (is_settled k.world side id) refl)
         where
           a_is : (answered ends e).0 ≡ a
@@ -297,7 +335,8 @@ module _ (laws : AlikeLaws) (setup : Setup) (made : IsMadeSetup setup) (P : Worl
               by_case : HappensAnywhere setup k e a on.after → P on.after.world (answered ends e).1
               by_case (AsPlainly unrefused h) = subst (λ v. P v.world (answered ends e).1) (sym (pulled true is h.step).1) left_so
               by_case (LacksMemory lacks h) = absurd (differ (is_out_of_memory a) lacks told_so)
-              by_case (RefusesMalformed strict malformed same_world) = absurd (unsent strict)
+              by_case (RefusesMalformed strict malformed same_world) = absurd (unsent (strict_sends setup e strict))
+              by_case (RefusesOwn unread same_world) = absurd (unsent (unread_sends setup e a unread))
               by_case (GivesMessageUp p) = absurd (differ (is_settled k.world side id) is (unsettled_so (gives on.after p).0))
           by_settled false is = by_case happens
             where
@@ -315,22 +354,23 @@ module _ (laws : AlikeLaws) (setup : Setup) (made : IsMadeSetup setup) (P : Worl
               by_case : HappensAnywhere setup k e a on.after → P on.after.world (answered ends e).1
               by_case (AsPlainly unrefused h) = goes_so (steps on.after.world (inl (pulled false is h.step).0))
               by_case (LacksMemory lacks h) = absurd (differ (is_out_of_memory a) lacks told_so)
-              by_case (RefusesMalformed strict malformed same_world) = absurd (unsent strict)
+              by_case (RefusesMalformed strict malformed same_world) = absurd (unsent (strict_sends setup e strict))
+              by_case (RefusesOwn unread same_world) = absurd (unsent (unread_sends setup e a unread))
               by_case (GivesMessageUp p) = goes_so (steps on.after.world (inr (gives on.after p).1))
 
   -- a send
-  sends_on : (e : Event) (sendable : IsSendable setup e) (told : is_out_of_memory (answered ends e).0 ≡ false)
+  sends_on : (e : Event) (sendable : IsSendableBy true e) (told : is_out_of_memory (answered ends e).0 ≡ false)
       → ((v : KeepingWorld) → Answers (plain_setup setup) k e (answered ends e).0 v → WorldStep setup k.world e (answered ends e).0 v.world) → KeepsNone ends e → judges ends e ≡ false
       → ((v : KeepingWorld) → PullsOn setup k e (answered ends e).0 v → ⊥) → GoesOn setup P (answered ends e).1
   sends_on e sendable told from none unjudged no_pull = goes e sendable told (λ v step. from v (subst (λ b. StepOf b ps k e (answered ends e).0 v) told step)) none (λ strict. unjudged) no_pull
 
   -- one that neither sends nor pulls
-  quietly_on : (e : Event) (sendable : IsSendable setup e) (told : is_out_of_memory (answered ends e).0 ≡ false) → ((v : World) → KeepsParts k.world v → WorldStep setup k.world e (answered ends e).0 v) → KeepsNone ends e
-      → (is_strict_send setup e ≡ true → ⊥) → ((v : KeepingWorld) → PullsOn setup k e (answered ends e).0 v → ⊥) → is_quiet e ≡ true → GoesOn setup P (answered ends e).1
+  quietly_on : (e : Event) (sendable : IsSendableBy true e) (told : is_out_of_memory (answered ends e).0 ≡ false) → ((v : World) → KeepsParts k.world v → WorldStep setup k.world e (answered ends e).0 v) → KeepsNone ends e
+      → (is_send e ≡ true → ⊥) → ((v : KeepingWorld) → PullsOn setup k e (answered ends e).0 v → ⊥) → is_quiet e ≡ true → GoesOn setup P (answered ends e).1
   quietly_on e sendable told from none unsent no_pull is =
       goes e sendable told (λ v step. from v.world (laws.parts.quiet ps k v e (answered ends e).0 (sound_so laws setup made P holds k ends s) is step)) none (λ strict. absurd (unsent strict)) no_pull
 
-  answered_step : (e : Event) → IsSendable setup e → is_out_of_memory (answered ends e).0 ≡ false → GoesOn setup P (answered ends e).1
+  answered_step : (e : Event) → IsSendableBy true e → is_out_of_memory (answered ends e).0 ≡ false → GoesOn setup P (answered ends e).1
   answered_step (event.Head side id head) sendable told = sends_on (event.Head side id head) sendable told (λ v step. step.0) tt refl (λ v p. absurd p)
   answered_step (event.Fields side id fields) sendable told = sends_on (event.Fields side id fields) sendable told (λ v step. step.0) tt refl (λ v p. absurd p)
   answered_step (event.Body side id bytes) sendable told = sends_on (event.Body side id bytes) sendable told (λ v step. step.0) tt refl (λ v p. absurd p)
@@ -358,7 +398,7 @@ module _ (laws : AlikeLaws) (setup : Setup) (made : IsMadeSetup setup) (P : Worl
       (λ v step. step) (λ v step. step) (λ v m. (m.unsettled, record { why = m.why; told = m.told; unsettled = m.unsettled; gives = m.given_up })) (keeps_none laws setup made P holds k ends s side) (λ strict. absurd (cc))
 
   -- **One event.**
-  pub goes_on : (new : Ends) (e : Event) (a : Answer) → IsSendable setup e → EndsStep ends e a new → GoesOn setup P new
+  pub goes_on : (new : Ends) (e : Event) (a : Answer) → IsSendableBy true e → EndsStep ends e a new → GoesOn setup P new
   goes_on new e a sendable step = by_memory (is_out_of_memory a) refl step
     where
       by_memory : (b : Bool) → is_out_of_memory a ≡ b → AnswerOf b ends e a new → GoesOn setup P new

@@ -24,7 +24,7 @@ use Rattle.h3_world.specs.Order.{is_end, is_over, next_part}
 use Rattle.h3_world.specs.OwnStreams.{control_stream, decoder_stream, encoder_stream}
 use Rattle.h3_world.specs.Pauses.{pause_of}
 use Rattle.h3_world.specs.Pulling.{PausesExactly, Pulls, PullsNext, fault_or, pull_unidirectional, pull_unopened, settled}
-use Rattle.h3_world.specs.Sendable.{IsSendable}
+use Rattle.h3_world.specs.Sendable.{IsSendableBy}
 use Rattle.h3_world.specs.Sound.{AreSent, IsSoundExchange, IsSoundWorld}
 use Rattle.h3_world.specs.Streams.{exchange, flow, has_outgoing, is_open, waiting}
 use Rattle.h3_world.specs.World.{Exchange, Party, World, no_exchange, party}
@@ -51,7 +51,7 @@ use Rattle.h3_memory.specs.SoundKeeping.{IsSoundKeeping}
 use Rattle.h3_strict.specs.GivingUpLaws.{alive_before}
 use Rattle.h3_strict.specs.PlainEnds.{plain_setup}
 use Rattle.h3_faithful.specs.Faithful.{is_pause, pauses_on}
-use Rattle.h3_faithful.specs.Steps.{AsPlainly, GivesMessageUp, HappensAnywhere, LacksMemory, RefusesMalformed}
+use Rattle.h3_faithful.specs.Steps.{AsPlainly, GivesMessageUp, HappensAnywhere, LacksMemory, RefusesMalformed, RefusesOwn}
 use Rattle.h3_faithful.proofs.Accounts.{AccountsAt, MemoryMoves, RunsSo, accounts, out_is_front, sound_keeping_after}
 use Rattle.h3_faithful.proofs.Ordered.{on_same}
 use Rattle.h3_faithful.proofs.Takes.{both_of}
@@ -87,6 +87,7 @@ pub nothing_waits : (setup : Setup) (k new : KeepingWorld) (writer : Side) (id :
 nothing_waits setup k new writer id (AsPlainly told h) = short_waits (plain_setup setup) k new writer id h.step
 nothing_waits setup k new writer id (LacksMemory told h) = absurd (let never : false ≡ true = told in cc)
 nothing_waits setup k new writer id (RefusesMalformed strict told is) = absurd (let never : false ≡ true = told in cc)
+nothing_waits setup k new writer id (RefusesOwn unread is) = absurd unread
 nothing_waits setup k new writer id (GivesMessageUp pulls) = absurd pulls
 
 -- a part is more than no bytes, but for the end
@@ -240,7 +241,7 @@ pausing (pull.Fault f) h = cc
 pausing (pull.Item i) h = cc
 pausing pull.NoMessages h = cc
 
-module _ (laws : MemoryMoves) (at_end : PausesAtEnd) (setup : Setup) (before : List Event) (given : List Answer) (k new : KeepingWorld) (side : Side) (id : ℕ) (sendable : AllByRecursion (IsSendable setup) before) (run : RunsSo setup before given k)
+module _ (laws : MemoryMoves) (at_end : PausesAtEnd) (setup : Setup) (before : List Event) (given : List Answer) (k new : KeepingWorld) (side : Side) (id : ℕ) (sendable : AllByRecursion (IsSendableBy true) before) (run : RunsSo setup before given k)
     (live : (flow k.world (other side) id).is_reset ≡ false) (encoder : waiting (plain_setup setup) (caught_up (plain_setup setup) k side) (other side) (encoder_id (other side)) ≡ zero)
     (message : waiting (plain_setup setup) (caught_up (plain_setup setup) k side) (other side) id ≡ zero) where
   abbrev ps : Setup
@@ -332,6 +333,7 @@ module _ (laws : MemoryMoves) (at_end : PausesAtEnd) (setup : Setup) (before : L
       (λ is. (subst (λ b. memory.Pulls ps k side (event.Pull side id) b (answer.Pulled p) new) is step).0) (λ is. (subst (λ b. memory.Pulls ps k side (event.Pull side id) b (answer.Pulled p) new) is step).0)
   pull_at p pauses (LacksMemory told h) = absurd (no_memory_pause p pauses told)
   pull_at p pauses (RefusesMalformed strict told is) = absurd (let never : false ≡ true = told in cc)
+  pull_at p pauses (RefusesOwn unread is) = absurd unread
   pull_at p pauses (GivesMessageUp m) = absurd (let never : false ≡ true = sym (ap is_pause m.told) ∙ pauses in cc)
 
   list_at : (l : ListPull) → is_pause (pull_of l) ≡ true → HappensAnywhere setup k (event.PullFields side id) (answer.Listed l) new → AllCame
@@ -342,6 +344,7 @@ module _ (laws : MemoryMoves) (at_end : PausesAtEnd) (setup : Setup) (before : L
       (λ is. (subst (λ b. memory.Pulls ps k side (event.PullFields side id) b (answer.Listed l) new) is step).0.0) (λ is. (subst (λ b. memory.Pulls ps k side (event.PullFields side id) b (answer.Listed l) new) is step).0.0)
   list_at l pauses (LacksMemory told h) = absurd (no_memory_pause (pull_of l) pauses told)
   list_at l pauses (RefusesMalformed strict told is) = absurd (let never : false ≡ true = told in cc)
+  list_at l pauses (RefusesOwn unread is) = absurd unread
   list_at l pauses (GivesMessageUp m) = absurd (let never : false ≡ true = sym (ap is_pause m.told) ∙ pauses in cc)
 
   pub all_came_out : (e : Event) (x : Answer) → HappensAnywhere setup k e x new → pauses_on side id e x ≡ true → AllCame

@@ -10,7 +10,7 @@ use Rattle.h3_world.specs.Headline.{is_connection_fault}
 use Rattle.h3_world.specs.ListLaws.{fault_listed}
 use Rattle.h3_world.specs.Lists.{pull_of}
 use Rattle.h3_world.specs.Run.{Run}
-use Rattle.h3_world.specs.Sendable.{IsSendable}
+use Rattle.h3_world.specs.Sendable.{IsSendableBy}
 use Rattle.h3_world.specs.Streams.{waiting}
 use Rattle.h3_world.specs.World.{empty_world}
 use Rattle.h3_world.specs.declared.event.Answer.{Answer}
@@ -109,12 +109,12 @@ pauses_no_fault side id (event.Pull acting i) (answer.Pulled p) h = pause_no_fau
 pauses_no_fault side id (event.PullFields acting i) (answer.Listed l) h = fault_listed l ∙ pause_no_fault (pull_of l) (both_of (is_on side id acting i) (is_pause (pull_of l)) h).1
 pauses_no_fault side id e a h = absurd (cc)
 
-module _ (laws : MemoryMoves) (accepted : OrderedAccepted) (at_end : PausesAtEnd) (setup : Setup) (events : List Event) (answers : List Answer) (sendable : AllByRecursion (IsSendable setup) events) (runs : RunsUntilFault setup events answers) where
+module _ (laws : MemoryMoves) (accepted : OrderedAccepted) (at_end : PausesAtEnd) (setup : Setup) (events : List Event) (answers : List Answer) (sendable : AllByRecursion (IsSendableBy true) events) (runs : RunsUntilFault setup events answers) where
   abbrev first : KeepingWorld
   first = nothing_kept (empty_world (plain_setup setup))
 
-  may : (n : ℕ) → AllByRecursion (IsSendable setup) (take n events)
-  may n = sendable_front (IsSendable setup) n events sendable
+  may : (n : ℕ) → AllByRecursion (IsSendableBy true) (take n events)
+  may n = sendable_front (IsSendableBy true) n events sendable
 
   accepts_at : (n : ℕ) (e : Event) (a : Answer) (later : List Event) (others : List Answer) → is_without_fault n answers → drop n events ≡ e ∷ later → drop n answers ≡ a ∷ others → AcceptsNext setup (take n events) (take n answers) e a
   accepts_at n e a later others none at_e at_a = λ side id on next.
@@ -169,7 +169,7 @@ module _ (laws : MemoryMoves) (accepted : OrderedAccepted) (at_end : PausesAtEnd
       by_lists es given at_e at_a h = absurd h
 
 -- **Up to a fault of the connection.**
-pub until_fault : MemoryMoves → OrderedAccepted → PausesAtEnd → (setup : Setup) (events : List Event) (answers : List Answer) → AllByRecursion (IsSendable setup) events → RunsUntilFault setup events answers → UntilFault setup events answers
+pub until_fault : MemoryMoves → OrderedAccepted → PausesAtEnd → (setup : Setup) (events : List Event) (answers : List Answer) → AllByRecursion (IsSendableBy true) events → RunsUntilFault setup events answers → UntilFault setup events answers
 until_fault laws accepted at_end setup events answers sendable runs =
     record {
       hands_out = λ n none. let r = runs.runs n none in hands_out laws setup (take n events) (take n answers) r.world (may laws accepted at_end setup events answers sendable runs n) r.run;

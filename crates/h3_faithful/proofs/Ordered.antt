@@ -1,10 +1,11 @@
 -- A send that is in order by the events before it is accepted.
 use Rattle.std.proofs.Common.{◌≡◌, ◌⊎◌, inl, inr, ℕ, Bool, true, false, List, [], ◌∷◌, refl, ap, sym, ◌∙◌, subst, Option, Some, None, if◌then◌else◌}
-use Rattle.std.specs.Prelude.{not, ◌&&◌, ◌||◌, ◌-◌, ◌^◌, length, map, nat_lt, take, unwrap_or}
+use Rattle.std.specs.Prelude.{not, ◌&&◌, ◌||◌, ◌-◌, ◌^◌, is_some, length, map, nat_lt, take, unwrap_or}
 use Rattle.std.specs.List.{list_any}
 use Rattle.std.proofs.lemmas.Bool.{le-ltb, leb-true}
 use Rattle.h3_field.specs.Field.{Field, section_size}
 use Rattle.h3_header.specs.Head.{Head as Fields, head_fields, has_pseudo}
+use Rattle.h3_header.specs.HeadTests.{takes_protocol}
 use Rattle.h3_header.specs.Reads.{head_of_fields}
 use Rattle.h3_proto.specs.Settings.{value_of}
 use Rattle.h3_proto.specs.declared.stream.Side.{Side}
@@ -19,6 +20,7 @@ use Rattle.h3_connection.specs.Refusals.{first_of, is_too_large, unless_going}
 use Rattle.h3_connection.specs.StrictConnection.{is_strict}
 use Rattle.h3_connection.specs.StrictSending.{unless_malformed}
 use Rattle.h3_connection.specs.declared.event.Malformation.{Malformation}
+use Rattle.h3_connection.specs.declared.event.Malformation.TheVariants as malformation
 use Rattle.h3_connection.specs.declared.event.Refusal.{Refusal}
 use Rattle.h3_connection.specs.declared.event.Refusal.TheVariants as refusal
 use Rattle.h3_qpack.specs.WholeInstructions.{whole_in}
@@ -50,8 +52,8 @@ use Rattle.h3_memory.specs.MemoryStep.{Answers, StepOf}
 use Rattle.h3_memory.specs.MemoryStep.{LacksMemory as AnswersWithoutMemory}
 use Rattle.h3_strict.specs.PlainEnds.{is_malformed_refusal, plain_setup}
 use Rattle.h3_faithful.specs.Faithful.{AcceptsNext, IsAccepted, asks_for_strict}
-use Rattle.h3_faithful.specs.Sends.{awaits_head, begins_late, goes_on, is_between, is_head_section, is_next, is_trailer_section, opens, sends_list, takes_size}
-use Rattle.h3_faithful.specs.Steps.{AsPlainly, GivesMessageUp, HappensAnywhere, LacksMemory, PullsOn, RefusesMalformed, is_strict_send}
+use Rattle.h3_faithful.specs.Sends.{awaits_head, begins_late, goes_on, is_between, is_head_section, is_next, is_trailer_section, opens, takes_size, may_be_unread}
+use Rattle.h3_faithful.specs.Steps.{AsPlainly, GivesMessageUp, HappensAnywhere, IsRefusedUnread, LacksMemory, MayLack, PullsOn, RefusesMalformed, RefusesOwn, is_strict_send, unread}
 use Rattle.h3_faithful.proofs.Takes.{both_hold, both_of, opposite, takes_body_next, takes_end_next, takes_head_next, three_of}
 
 -- What the events and their answers say of a stream of a side holds of it in the world.
@@ -260,12 +262,30 @@ refused_late true true None last rest old after new success a h k is step = cc
 refused_late true false going last rest old after new success a h k is step = cc
 refused_late false takes going last rest old after new success a h k is step = cc
 
-unreadable_answer : (setup : Setup) (w new : World) (e : Event) (a : Answer) → IsUnreadable setup w e → Step setup w e a new → (why : Malformation) × (a ≡ answer.Refused (refusal.Malformed why)) × (sends_list e ≡ true)
+unreadable_answer : (setup : Setup) (w new : World) (e : Event) (a : Answer) → IsUnreadable setup w e → Step setup w e a new → (why : Malformation) × (a ≡ answer.Refused (refusal.Malformed why))
 unreadable_answer setup w new (event.Fields side id fields) a h step =
-    (h.3, refused_so (is_open w side id) (takes_head (outgoing_of (flow w side id))) (none_after setup w side) h.3 (unreadable (takes_any (announced_at setup side)) fields) _ w _ new answer.Done a h.0 h.1 h.2 h.4 step, refl)
+    (h.3, refused_so (is_open w side id) (takes_head (outgoing_of (flow w side id))) (none_after setup w side) h.3 (unreadable (takes_any (announced_at setup side)) fields) _ w _ new answer.Done a h.0 h.1 h.2 h.4 step)
 unreadable_answer setup w new (event.TrailerFields side id fields) a h step =
-    (h.2, refused_so (is_open w side id) (takes_body (outgoing_of (flow w side id))) None h.2 (unreadable (takes_any (announced_at setup side)) fields) _ w _ new answer.Done a h.0 h.1 refl h.3 step, refl)
+    (h.2, refused_so (is_open w side id) (takes_body (outgoing_of (flow w side id))) None h.2 (unreadable (takes_any (announced_at setup side)) fields) _ w _ new answer.Done a h.0 h.1 refl h.3 step)
 unreadable_answer setup w new e a h step = absurd h
+
+unless_taken : (takes : Bool) → is_some (if takes then None else Some malformation.Value) ≡ true → not takes ≡ true
+unless_taken true h = absurd (cc)
+unless_taken false h = refl
+
+-- what reads as no header is a list
+unreadable_may : (setup other_setup : Setup) (w : World) (e : Event) → IsUnreadable other_setup w e → may_be_unread setup e ≡ true
+unreadable_may setup other_setup w (event.Fields side id fields) h = refl
+unreadable_may setup other_setup w (event.TrailerFields side id fields) h = refl
+unreadable_may setup other_setup w e h = absurd h
+
+-- what the side does not read itself may be that
+unread_may : (setup : Setup) (e : Event) → is_some (unread setup e) ≡ true → may_be_unread setup e ≡ true
+unread_may setup (event.Fields side id fields) h = refl
+unread_may setup (event.TrailerFields side id fields) h = refl
+unread_may setup (event.Head side id head) h = unless_taken (takes_protocol (takes_any (announced_at setup side)) head.protocol) h
+unread_may setup (event.Trailer side id trailer) h = unless_taken (takes_protocol (takes_any (announced_at setup side)) trailer.protocol) h
+unread_may setup e h = absurd (cc)
 
 -- what has gone away is a server, and the client begins no request then
 going_of : (setup : Setup) (w : World) (side : Side) (last : ℕ) → none_after setup w side ≡ Some last → (side ≡ Client) × (is_strict setup.client ≡ true) × (w.server.own.goaways ≡ [] → ⊥)
@@ -311,6 +331,13 @@ malformed_accepted : (may late : Bool) (a : Answer) → is_malformed_refusal a �
 malformed_accepted may late (answer.Refused (refusal.Malformed why)) h allowed = allowed
 malformed_accepted may late a h allowed = absurd (cc)
 
+-- what the side does not read itself is malformed, or memory is wanting
+unread_accepted : (may late : Bool) (a : Answer) (lacks : Type 0) (own : Option Malformation) → IsRefusedUnread lacks own a → (is_some own ≡ true → may ≡ true) → IsAccepted may late a
+unread_accepted may late (answer.Refused (refusal.Malformed why)) lacks (Some told) h allowed = allowed refl
+unread_accepted may late (answer.Refused refusal.OutOfMemory) lacks (Some told) h allowed = tt
+unread_accepted may late a lacks (Some told) h allowed = absurd h
+unread_accepted may late a lacks None h allowed = absurd h
+
 memory_accepted : (setup : Setup) (k new : KeepingWorld) (e : Event) (a : Answer) (may late : Bool) → IsPlaced setup k.world e → AnswersWithoutMemory setup k e a new → IsAccepted may late a
 memory_accepted setup k new (event.Head side id head) (answer.Refused refusal.OutOfMemory) may late h step = tt
 memory_accepted setup k new (event.Fields side id fields) (answer.Refused refusal.OutOfMemory) may late h step = tt
@@ -354,20 +381,21 @@ accepts_next accepted setup before given k new e a tells happens = λ side id on
     late : Bool
     late = begins_late setup before given e
 
-    by_step : (side : Side) (id : ℕ) → is_next setup side id (sent side id before given) e ≡ true → IsPlaced (plain_setup setup) k.world e → HappensAnywhere setup k e a new → IsAccepted (sends_list e || asks_for_strict setup side) late a
+    by_step : (side : Side) (id : ℕ) → is_next setup side id (sent side id before given) e ≡ true → IsPlaced (plain_setup setup) k.world e → HappensAnywhere setup k e a new → IsAccepted (may_be_unread setup e || asks_for_strict setup side) late a
     by_step side id next in_place (AsPlainly not_memory h) =
-        by_place (sends_list e || asks_for_strict setup side) refl in_place (step_of (plain_setup setup) k new e a in_place (subst (λ b. StepOf b (plain_setup setup) k e a new) not_memory h.step))
+        by_place (may_be_unread setup e || asks_for_strict setup side) refl in_place (step_of (plain_setup setup) k new e a in_place (subst (λ b. StepOf b (plain_setup setup) k e a new) not_memory h.step))
       where
-        by_place : (may : Bool) → (sends_list e || asks_for_strict setup side) ≡ may → IsPlaced (plain_setup setup) k.world e → Step (plain_setup setup) k.world e a new.world → IsAccepted may late a
+        by_place : (may : Bool) → (may_be_unread setup e || asks_for_strict setup side) ≡ may → IsPlaced (plain_setup setup) k.world e → Step (plain_setup setup) k.world e a new.world → IsAccepted may late a
         by_place may is (inl order) step = subst (IsAccepted may late) (sym (accepted (plain_setup setup) k.world new.world e a step order)) tt
         by_place may is (inr (inl none)) step =
             let told = unreadable_answer (plain_setup setup) k.world new.world e a none step in
-            subst (IsAccepted may late) (sym told.1) (sym is ∙ or_first (sends_list e) (asks_for_strict setup side) told.2)
+            subst (IsAccepted may late) (sym told.1) (sym is ∙ or_first (may_be_unread setup e) (asks_for_strict setup side) (unreadable_may setup (plain_setup setup) k.world e none))
         by_place may is (inr (inr gone)) step =
             let told = late_answer setup before given k.world new.world e a (tells side id).going gone step in
             subst (IsAccepted may late) (sym told.1) told.2
     by_step side id next in_place (LacksMemory memory h) =
-        memory_accepted (plain_setup setup) k new e a (sends_list e || asks_for_strict setup side) late in_place (subst (λ b. StepOf b (plain_setup setup) k e a new) memory h.step)
+        memory_accepted (plain_setup setup) k new e a (may_be_unread setup e || asks_for_strict setup side) late in_place (subst (λ b. StepOf b (plain_setup setup) k e a new) memory h.step)
     by_step side id next in_place (RefusesMalformed strict refused same) =
-        malformed_accepted (sends_list e || asks_for_strict setup side) late a refused (or_second (sends_list e) (asks_for_strict setup side) (strict_allows setup side id (sent side id before given) e next strict))
+        malformed_accepted (may_be_unread setup e || asks_for_strict setup side) late a refused (or_second (may_be_unread setup e) (asks_for_strict setup side) (strict_allows setup side id (sent side id before given) e next strict))
+    by_step side id next in_place (RefusesOwn own same) = unread_accepted (may_be_unread setup e || asks_for_strict setup side) late a (MayLack e) (unread setup e) own (λ some. or_first (may_be_unread setup e) (asks_for_strict setup side) (unread_may setup e some))
     by_step side id next in_place (GivesMessageUp pulls) = absurd (no_pull setup k new e a in_place pulls)

@@ -1,7 +1,7 @@
--- A side that asks for no strict messages counts nothing of what it sends, over a whole run, memory refused or not. So it refuses no send as
--- malformed that it would not refuse so where it judges plainly.
-use Rattle.std.proofs.Common.{◌≡◌, ◌⊎◌, inl, inr, ℕ, Bool, true, false, if◌then◌else◌, List, [], ◌∷◌, length, refl, sym, ◌∙◌, subst, Option, Some, None}
-use Rattle.std.specs.Prelude.{not, ◌&&◌, ◌==◌, nat_lt, take}
+-- A side keeps to what it announced, and one that asks for no strict messages counts nothing of what it sends, over a whole run, memory refused or
+-- not. So it refuses no send as malformed that it would not refuse so where it judges plainly, but what it does not read itself.
+use Rattle.std.proofs.Common.{◌≡◌, ◌⊎◌, inl, inr, ℕ, ◌<◌, Bool, true, false, if◌then◌else◌, List, [], ◌∷◌, length, refl, ap, sym, ◌∙◌, subst, Option, Some, None}
+use Rattle.std.specs.Prelude.{not, ◌&&◌, ◌==◌, nat_lt, take, unwrap_or}
 use Rattle.h3_field.specs.Field.{Field}
 use Rattle.h3_proto.specs.declared.stream.Side.{Side}
 use Rattle.h3_proto.specs.declared.stream.Side.TheVariants.{Client, Server}
@@ -19,10 +19,12 @@ use Rattle.h3_connection.specs.Refusals.{going_away, raised, refusal_of_goaway, 
 use Rattle.h3_connection.specs.Sending as sender
 use Rattle.h3_connection.specs.Sending.{closed_or, does}
 use Rattle.h3_connection.specs.Shown.{has_outgoing, is_finished, is_reset, waiting}
+use Rattle.h3_connection.specs.StrictSending.{broken_protocol}
 use Rattle.h3_connection.specs.StreamSets.{stream_at}
 use Rattle.h3_connection.specs.declared.arrival.Arrival.{Arrival}
 use Rattle.h3_connection.specs.declared.arrival.Arrival.TheVariants.{BytesCame, EndCame, ResetCame}
 use Rattle.h3_connection.specs.declared.event.Fault.TheVariants as fault
+use Rattle.h3_connection.specs.declared.event.Malformation.{Malformation}
 use Rattle.h3_connection.specs.declared.event.Pull.{Pull}
 use Rattle.h3_connection.specs.declared.event.Pull.TheVariants as pull
 use Rattle.h3_connection.specs.declared.event.Refusal.{Refusal}
@@ -37,58 +39,54 @@ use Rattle.h3_world.specs.declared.event.Answer.TheVariants as answer
 use Rattle.h3_world.specs.declared.event.Event.{Event}
 use Rattle.h3_world.specs.declared.event.Event.TheVariants as event
 use Rattle.h3_world.specs.declared.lists.ListPull.TheVariants as list
-use Rattle.h3_world.specs.Setup.{Setup, announced_at}
+use Rattle.h3_world.specs.Lists.{unreadable}
+use Rattle.h3_world.specs.Setup.{Setup, announced_at, takes_any}
 use Rattle.h3_memory.specs.Refused.{AnswerOf, CutsList, CutsOff, CutsSection, EndsStep, IsAsked, LacksMemory, LosesNothing, Stores, handed_over}
-use Rattle.h3_strict.specs.CountsNothing.{CountsNothing, RefusesAlike}
+use Rattle.h3_strict.specs.CountsNothing.{CountsNothing, KeepsTo, RefusesAlike}
+use Rattle.h3_strict.specs.PlainAlike.{SameUnless}
 use Rattle.h3_strict.specs.PlainEnds.{is_malformed_refusal, plain_ends}
 use Rattle.h3_strict.specs.Plainly.{is_malformed, plainly}
 use Rattle.h3_faithful.specs.Faithful.{asks_for_strict}
-use Rattle.h3_faithful.proofs.AnyPull.{PlainSidesCount}
+use Rattle.h3_faithful.specs.Steps.{IsRefusedUnread}
 use Rattle.h3_faithful.proofs.AnyStep.{RefusesPlainly}
-use Rattle.h3_faithful.proofs.PlainMemory.{at_end}
+use Rattle.h3_faithful.proofs.PlainMemory.{QuietSides, at_end}
 
 -- The laws of `h3_strict` that are cited.
 pub record QuietLaws : Type 0 where
-  pub first : (side : Side) (own : Announced) → own.choices.strict_messages ≡ false → CountsNothing own (new_endpoint side own)
-  pub event : (own : Announced) (ends : Ends) (side : Side) → CountsNothing own (end_at ends side) → (e : Event) → CountsNothing own (end_at (answered ends e).1 side)
-  pub reads : (own : Announced) (e new : EndpointHistory) (arrivals : List Arrival) → ReadsPart e arrivals new → CountsNothing own e → CountsNothing own new
-  pub asked : (own : Announced) (e : EndpointHistory) (id : ℕ) (old new : Incoming) → CountsNothing own e → stream_at e.incoming id ≡ Some old → CountsOn old.content new.content → CountsNothing own (with_incoming e id new)
-  pub advances : (own : Announced) (e : EndpointHistory) (id count : ℕ) → CountsNothing own e → CountsNothing own (sender.advance e id count)
+  pub first : (side : Side) (own : Announced) → KeepsTo own (new_endpoint side own)
+  pub event : (own : Announced) (ends : Ends) (side : Side) → KeepsTo own (end_at ends side) → (e : Event) → KeepsTo own (end_at (answered ends e).1 side)
+  pub reads : (own : Announced) (e new : EndpointHistory) (arrivals : List Arrival) → ReadsPart e arrivals new → KeepsTo own e → KeepsTo own new
+  pub asked : (own : Announced) (e : EndpointHistory) (id : ℕ) (old new : Incoming) → KeepsTo own e → stream_at e.incoming id ≡ Some old → CountsOn old.content new.content → KeepsTo own (with_incoming e id new)
+  pub advances : (own : Announced) (e : EndpointHistory) (id count : ℕ) → KeepsTo own e → KeepsTo own (sender.advance e id count)
   pub sends : (own : Announced) (e : EndpointHistory) → CountsNothing own e → RefusesAlike e
 
-abbrev pub QuietSides : Setup → Ends → Type 0
-QuietSides setup ends = (side : Side) → asks_for_strict setup side ≡ false → CountsNothing (announced_at setup side) (end_at ends side)
-
-pub plain_sides_count : (setup : Setup) (ends : Ends) → QuietSides setup ends → PlainSidesCount setup ends
-plain_sides_count setup ends quiet = λ side plain. quiet side plain.0
-
 pub new_quiet : QuietLaws → (setup : Setup) → QuietSides setup (new_ends setup)
-new_quiet laws setup Client plain = laws.first Client setup.client plain
-new_quiet laws setup Server plain = laws.first Server setup.server plain
+new_quiet laws setup Client = laws.first Client setup.client
+new_quiet laws setup Server = laws.first Server setup.server
 
 -- One end changes.
-sets : (own : Announced) (ends : Ends) (s side : Side) (e : EndpointHistory) → (CountsNothing own (end_at ends side) → CountsNothing own e) → CountsNothing own (end_at ends s) → CountsNothing own (end_at (with_end ends side e) s)
+sets : (own : Announced) (ends : Ends) (s side : Side) (e : EndpointHistory) → (KeepsTo own (end_at ends side) → KeepsTo own e) → KeepsTo own (end_at ends s) → KeepsTo own (end_at (with_end ends side e) s)
 sets own ends Client Client e goes h = goes h
 sets own ends Server Server e goes h = goes h
 sets own ends Client Server e goes h = h
 sets own ends Server Client e goes h = h
 
-sets_behind : (own : Announced) (ends : Ends) (s writer : Side) (sent e : EndpointHistory) → (CountsNothing own (end_at ends writer) → CountsNothing own sent) → (CountsNothing own (end_at ends (other writer)) → CountsNothing own e) → CountsNothing own (end_at ends s)
-    → CountsNothing own (end_at (with_end (with_end ends writer sent) (other writer) e) s)
+sets_behind : (own : Announced) (ends : Ends) (s writer : Side) (sent e : EndpointHistory) → (KeepsTo own (end_at ends writer) → KeepsTo own sent) → (KeepsTo own (end_at ends (other writer)) → KeepsTo own e) → KeepsTo own (end_at ends s)
+    → KeepsTo own (end_at (with_end (with_end ends writer sent) (other writer) e) s)
 sets_behind own ends Client Client sent e first goes h = first h
 sets_behind own ends Server Server sent e first goes h = first h
 sets_behind own ends Client Server sent e first goes h = goes h
 sets_behind own ends Server Client sent e first goes h = goes h
 
-module _ (laws : QuietLaws) (own : Announced) (ends new : Ends) (s : Side) (h : CountsNothing own (end_at ends s)) where
+module _ (laws : QuietLaws) (own : Announced) (ends new : Ends) (s : Side) (h : KeepsTo own (end_at ends s)) where
   abbrev Stays : Type 0
-  Stays = CountsNothing own (end_at new s)
+  Stays = KeepsTo own (end_at new s)
 
   same : new ≡ ends → Stays
-  same is = subst (λ x. CountsNothing own (end_at x s)) (sym is) h
+  same is = subst (λ x. KeepsTo own (end_at x s)) (sym is) h
 
   cut_stays : (side : Side) (id : ℕ) (fields : List Field) → CutsOff ends side id fields new → Stays
-  cut_stays side id fields cut = subst (λ x. CountsNothing own (end_at x s)) (sym cut.is) (sets own ends s side _ (λ k. k) h)
+  cut_stays side id fields cut = subst (λ x. KeepsTo own (end_at x s)) (sym cut.is) (sets own ends s side _ (λ k. k) h)
 
   section_stays : (p : Option Refusal) (side : Side) (id : ℕ) (fields : List Field) → CutsSection p ends side id fields new → Stays
   section_stays None side id fields cut = cut_stays side id fields cut
@@ -105,23 +103,23 @@ module _ (laws : QuietLaws) (own : Announced) (ends new : Ends) (s : Side) (h : 
   list_stays (Some r) side id fields is = absurd is
 
   stored_stays : (reader : Side) (a : Arrival) → Stores ends reader a ends new → Stays
-  stored_stays reader a t = subst (λ x. CountsNothing own (end_at x s)) (sym t.is) (sets own ends s reader t.after (λ k. laws.reads own (unkept (end_at ends reader)) t.after _ t.read k) h)
+  stored_stays reader a t = subst (λ x. KeepsTo own (end_at x s)) (sym t.is) (sets own ends s reader t.after (λ k. laws.reads own (unkept (end_at ends reader)) t.after _ t.read k) h)
 
   offered_stays : (writer : Side) (id count : ℕ) (a : Arrival) → Stores ends (other writer) a (handed_over ends writer id count) new → Stays
   offered_stays writer id count a t =
       let e = end_at ends (other writer) in
-      subst (λ x. CountsNothing own (end_at x s)) (sym t.is)
+      subst (λ x. KeepsTo own (end_at x s)) (sym t.is)
       (sets_behind own ends s writer (sender.advance (end_at ends writer) id count) t.after (laws.advances own (end_at ends writer) id count) (λ k. laws.reads own (unkept e) t.after _ t.read k) h)
 
   lost_stays : (side : Side) (id : ℕ) → LosesNothing ends side id new → Stays
   lost_stays side id l = by_case l.is
     where
-      read : CountsNothing own (end_at ends side) → CountsNothing own l.after
+      read : KeepsTo own (end_at ends side) → KeepsTo own l.after
       read k = laws.reads own (unkept (end_at ends side)) l.after _ l.read k
 
       by_case : (new ≡ with_end ends side l.after) ⊎ ((l.after.kept ≡ []) × IsAsked l.after id (end_at new side) × (new ≡ with_end ends side (end_at new side))) → Stays
-      by_case (inl is) = subst (λ x. CountsNothing own (end_at x s)) (sym is) (sets own ends s side l.after read h)
-      by_case (inr (none, asked, is)) = subst (λ x. CountsNothing own (end_at x s)) (sym is) (sets own ends s side (end_at new side) (λ k. subst (CountsNothing own) (sym asked.is) (laws.asked own l.after id asked.old asked.asked (read k) asked.here asked.counts)) h)
+      by_case (inl is) = subst (λ x. KeepsTo own (end_at x s)) (sym is) (sets own ends s side l.after read h)
+      by_case (inr (none, asked, is)) = subst (λ x. KeepsTo own (end_at x s)) (sym is) (sets own ends s side (end_at new side) (λ k. subst (KeepsTo own) (sym asked.is) (laws.asked own l.after id asked.old asked.asked (read k) asked.here asked.counts)) h)
 
   lacks_stays : (e : Event) (a : Answer) → LacksMemory ends e a new → Stays
   lacks_stays (event.OpenRequest side) (answer.Refused refusal.OutOfMemory) l = same l.1
@@ -144,11 +142,11 @@ module _ (laws : QuietLaws) (own : Announced) (ends new : Ends) (s : Side) (h : 
 
 -- **One event, memory refused or not.**
 pub quiet_step : QuietLaws → (setup : Setup) (ends new : Ends) (e : Event) (a : Answer) → QuietSides setup ends → EndsStep ends e a new → QuietSides setup new
-quiet_step laws setup ends new e a quiet step = λ s plain. by_memory s (quiet s plain) (is_out_of_memory a) step
+quiet_step laws setup ends new e a quiet step = λ s. by_memory s (quiet s) (is_out_of_memory a) step
   where
-    by_memory : (s : Side) → CountsNothing (announced_at setup s) (end_at ends s) → (b : Bool) → AnswerOf b ends e a new → CountsNothing (announced_at setup s) (end_at new s)
+    by_memory : (s : Side) → KeepsTo (announced_at setup s) (end_at ends s) → (b : Bool) → AnswerOf b ends e a new → KeepsTo (announced_at setup s) (end_at new s)
     by_memory s h true lacks = lacks_stays laws (announced_at setup s) ends new s h e a lacks
-    by_memory s h false is = subst (λ x. CountsNothing (announced_at setup s) (end_at x s)) (sym is.1) (laws.event (announced_at setup s) ends s h e)
+    by_memory s h false is = subst (λ x. KeepsTo (announced_at setup s) (end_at x s)) (sym is.1) (laws.event (announced_at setup s) ends s h e)
 
 -- What is refused as malformed: sends alone.
 abbrev malforms : Option Refusal → Bool
@@ -238,10 +236,13 @@ pulled_so ends side (p, e) = refl
 listed_so : (ends : Ends) (side : Side) (id : ℕ) (x : Pull × EndpointHistory) → is_malformed_refusal (was_listed ends side id x).0 ≡ false
 listed_so ends side id (p, e) = refl
 
--- A send that is refused so is so where the end judges plainly.
+-- A send that is refused so is so where the end judges plainly, or by what the side does not read itself.
 module _ (ends : Ends) where
   abbrev IsAlike : Answer × Ends → Answer × Ends → Type 0
   IsAlike x y = y ≡ (x.0, plain_ends x.1)
+
+  abbrev IsOwn : Option Malformation → Answer → Type 0
+  IsOwn own a = (why : Malformation) × (own ≡ Some why) × (a ≡ answer.Refused (refusal.Malformed why))
 
   refused_alike : (side : Side) (r q : Option Refusal) (f g : EndpointHistory) → (does q (plainly (end_at ends side)) g).0 ≡ (does r (end_at ends side) f).0
       → is_malformed_refusal (done ends side answer.Done (does r (end_at ends side) f)).0 ≡ true
@@ -252,46 +253,70 @@ module _ (ends : Ends) where
   refused_alike Server (Some r) q f g same h =
       subst (λ x. IsAlike (answer.Refused r, ends) (done (plain_ends ends) Server answer.Done (does x (plainly ends.server) g))) (sym (sym (told q (plainly ends.server) g) ∙ same)) refl
 
+  own_refused : (side : Side) (r : Option Refusal) (f : EndpointHistory) (own : Option Malformation) → (why : Malformation) × (own ≡ Some why) × ((does r (end_at ends side) f).0 ≡ Some (refusal.Malformed why))
+      → IsOwn own (done ends side answer.Done (does r (end_at ends side) f)).0
+  own_refused side None f own is = absurd (let never : None ≡ Some (refusal.Malformed is.0) = is.2 in cc)
+  own_refused side (Some r) f own is = (is.0, is.1, ap (λ o. answer.Refused (unwrap_or o r)) is.2)
+
   sent_alike : (side : Side) (call : EndpointHistory → Option Refusal × EndpointHistory) → IsAlike (done ends side answer.Done (call (end_at ends side))) (done (plain_ends ends) side answer.Done (call (plainly (end_at ends side))))
       → IsAlike (done ends side answer.Done (call (end_at ends side))) (done (plain_ends ends) side answer.Done (call (end_at (plain_ends ends) side)))
   sent_alike side call h = subst (λ x. IsAlike (done ends side answer.Done (call (end_at ends side))) (done (plain_ends ends) side answer.Done (call x))) (sym (at_end ends side)) h
+
+  -- a call by its rules
+  sent_so : (side : Side) (call : EndpointHistory → Option Refusal × EndpointHistory) (r q : Option Refusal) (f g : EndpointHistory) (own : Option Malformation) → call (end_at ends side) ≡ does r (end_at ends side) f
+      → call (plainly (end_at ends side)) ≡ does q (plainly (end_at ends side)) g → SameUnless own (does r (end_at ends side) f).0 (does q (plainly (end_at ends side)) g).0
+      → is_malformed_refusal (done ends side answer.Done (does r (end_at ends side) f)).0 ≡ true
+      → IsAlike (done ends side answer.Done (call (end_at ends side))) (done (plain_ends ends) side answer.Done (call (end_at (plain_ends ends) side))) ⊎ IsOwn own (done ends side answer.Done (call (end_at ends side))).0
+  sent_so side call r q f g own is plain_is (inl same) malformed =
+      inl (sent_alike side call (subst (λ x. IsAlike (done ends side answer.Done x) (done (plain_ends ends) side answer.Done (call (plainly (end_at ends side))))) (sym is)
+      (subst (λ x. IsAlike (done ends side answer.Done (does r (end_at ends side) f)) (done (plain_ends ends) side answer.Done x)) (sym plain_is) (refused_alike side r q f g same malformed))))
+  sent_so side call r q f g own is plain_is (inr unread) malformed = inr (subst (λ x. IsOwn own (done ends side answer.Done x).0) (sym is) (own_refused side r f own unread))
+
+-- it is what the side does not read, as it announced
+refuses_own : (lacks : Type 0) (own : Option Malformation) (a : Answer) → (why : Malformation) × (own ≡ Some why) × (a ≡ answer.Refused (refusal.Malformed why)) → IsRefusedUnread lacks own a
+refuses_own lacks own a is = subst (λ o. IsRefusedUnread lacks o a) (sym is.1) (subst (IsRefusedUnread lacks (Some is.0)) (sym is.2) refl)
 
 -- **Any event.**
 pub refuses_plainly : QuietLaws → (setup : Setup) (ends : Ends) (e : Event) → QuietSides setup ends → RefusesPlainly setup ends e
 refuses_plainly laws setup ends e quiet = by_event e
   where
     alike : (side : Side) → asks_for_strict setup side ≡ false → RefusesAlike (end_at ends side)
-    alike side plain = laws.sends (announced_at setup side) (end_at ends side) (quiet side plain)
+    alike side plain = laws.sends (announced_at setup side) (end_at ends side) ((quiet side).1 plain)
 
     -- no such event is refused so
     by_none : (e : Event) → is_malformed_refusal (answered ends e).0 ≡ false → RefusesPlainly setup ends e
     by_none e unmalformed = λ plain malformed. absurd (let never : false ≡ true = sym unmalformed ∙ malformed in cc)
 
+    -- by what the side does not read, as it announced
+    by_own : {A : Type 0} (side : Side) (lacks : Type 0) (unread : Announced → Option Malformation) (a : Answer) → A ⊎ IsOwn ends (unread (end_at ends side).announced) a → A ⊎ IsRefusedUnread lacks (unread (announced_at setup side)) a
+    by_own side lacks unread a (inl same) = inl same
+    by_own side lacks unread a (inr own) = inr (subst (λ x. IsRefusedUnread lacks (unread x) a) (quiet side).0 (refuses_own lacks (unread (end_at ends side).announced) a own))
+
     by_event : (e : Event) → RefusesPlainly setup ends e
     by_event (event.Head side id head) = λ plain malformed.
         let x = end_at ends side in
-        sent_alike ends side (λ v. sender.send_head v id head)
-        (refused_alike ends side (sender.head_refusal x id head) (sender.head_refusal (plainly x) id head) _ _ ((alike side plain).head id head) malformed)
+        by_own side (Unit {0}) (λ own. broken_protocol own head) (answered ends (event.Head side id head)).0
+        (sent_so ends side (λ v. sender.send_head v id head) (sender.head_refusal x id head) (sender.head_refusal (plainly x) id head) _ _ (broken_protocol x.announced head) refl refl ((alike side plain).head id head) malformed)
     by_event (event.Fields side id fields) = λ plain malformed.
         let x = end_at ends side in
-        sent_alike ends side (λ v. send_fields v id fields)
-        (refused_alike ends side (fields_refusal x id fields) (fields_refusal (plainly x) id fields) _ _ ((alike side plain).fields id fields) malformed)
+        by_own side (24576 < length fields) (λ own. unreadable (takes_any own) fields) (answered ends (event.Fields side id fields)).0
+        (sent_so ends side (λ v. send_fields v id fields) (fields_refusal x id fields) (fields_refusal (plainly x) id fields) _ _ (unreadable (takes_any x.announced) fields) refl refl ((alike side plain).fields id fields) malformed)
     by_event (event.Body side id bytes) = λ plain malformed.
         let x = end_at ends side in
-        sent_alike ends side (λ v. sender.send_body v id bytes)
-        (refused_alike ends side (sender.body_refusal x id (length bytes)) (sender.body_refusal (plainly x) id (length bytes)) _ _ ((alike side plain).body id bytes) malformed)
+        inl (sent_alike ends side (λ v. sender.send_body v id bytes)
+        (refused_alike ends side (sender.body_refusal x id (length bytes)) (sender.body_refusal (plainly x) id (length bytes)) _ _ ((alike side plain).body id bytes) malformed))
     by_event (event.Trailer side id trailer) = λ plain malformed.
         let x = end_at ends side in
-        sent_alike ends side (λ v. sender.send_trailer v id trailer)
-        (refused_alike ends side (sender.trailer_refusal x id trailer) (sender.trailer_refusal (plainly x) id trailer) _ _ ((alike side plain).trailer id trailer) malformed)
+        by_own side (Unit {0}) (λ own. broken_protocol own trailer) (answered ends (event.Trailer side id trailer)).0
+        (sent_so ends side (λ v. sender.send_trailer v id trailer) (sender.trailer_refusal x id trailer) (sender.trailer_refusal (plainly x) id trailer) _ _ (broken_protocol x.announced trailer) refl refl ((alike side plain).trailer id trailer) malformed)
     by_event (event.TrailerFields side id fields) = λ plain malformed.
         let x = end_at ends side in
-        sent_alike ends side (λ v. send_trailer_fields v id fields)
-        (refused_alike ends side (trailer_fields_refusal x id fields) (trailer_fields_refusal (plainly x) id fields) _ _ ((alike side plain).trailer_fields id fields) malformed)
+        by_own side (24576 < length fields) (λ own. unreadable (takes_any own) fields) (answered ends (event.TrailerFields side id fields)).0
+        (sent_so ends side (λ v. send_trailer_fields v id fields) (trailer_fields_refusal x id fields) (trailer_fields_refusal (plainly x) id fields) _ _ (unreadable (takes_any x.announced) fields) refl refl ((alike side plain).trailer_fields id fields) malformed)
     by_event (event.Finish side id) = λ plain malformed.
         let x = end_at ends side in
-        sent_alike ends side (λ v. sender.finish v id)
-        (refused_alike ends side (sender.finish_refusal x id) (sender.finish_refusal (plainly x) id) _ _ ((alike side plain).end id) malformed)
+        inl (sent_alike ends side (λ v. sender.finish v id)
+        (refused_alike ends side (sender.finish_refusal x id) (sender.finish_refusal (plainly x) id) _ _ ((alike side plain).end id) malformed))
     by_event (event.OpenRequest side) = by_none (event.OpenRequest side) (does_so ends side (answer.Opened (end_at ends side).next_id) (sender.open_refusal (end_at ends side)) (end_at ends side) _ refl
         (closed_malforms (end_at ends side).closed _ (opens_so (end_at ends side).side (last_id (end_at ends side).peer.goaways) (end_at ends side).next_id)))
     by_event (event.Reset side id) = by_none (event.Reset side id) (does_so ends side answer.Done (sender.reset_refusal (end_at ends side) id) (end_at ends side) _ refl (closed_malforms (end_at ends side).closed _ (stops_so _ _ _)))

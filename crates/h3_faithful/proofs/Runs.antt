@@ -8,7 +8,7 @@ use Rattle.h3_connection.specs.declared.event.Refusal.TheVariants as refusal
 use Rattle.h3_world.specs.Ends.{Ends, answered, new_ends}
 use Rattle.h3_world.specs.Headline.{is_connection_fault, is_out_of_memory}
 use Rattle.h3_world.specs.Run.{Run}
-use Rattle.h3_world.specs.Sendable.{IsSendable}
+use Rattle.h3_world.specs.Sendable.{IsSendable, IsSendableBy}
 use Rattle.h3_world.specs.Setup.{IsMadeSetup, JudgesPlainly, Setup}
 use Rattle.h3_world.specs.World.{empty_world}
 use Rattle.h3_world.specs.declared.event.Answer.{Answer}
@@ -26,7 +26,8 @@ use Rattle.h3_faithful.specs.Steps.{HappensAnywhere, RunsUntilFault, StandsAnywh
 use Rattle.h3_faithful.proofs.Accounts.{MemoryMoves}
 use Rattle.h3_faithful.proofs.AnyPull.{StepLaws, plain_step}
 use Rattle.h3_faithful.proofs.AnyStep.{any_step}
-use Rattle.h3_faithful.proofs.Quiet.{QuietLaws, QuietSides, new_quiet, plain_sides_count, quiet_step, refuses_plainly}
+use Rattle.h3_faithful.proofs.PlainMemory.{QuietSides}
+use Rattle.h3_faithful.proofs.Quiet.{QuietLaws, new_quiet, quiet_step, refuses_plainly}
 
 -- The laws that are cited of a whole run.
 pub record RunLaws : Type 0 where
@@ -43,7 +44,7 @@ pub record RanTo (setup : Setup) (k : KeepingWorld) (n : ℕ) (events : List Eve
   pub ends : Ends
   pub stands : StandsKeeping (plain_setup setup) world (plain_ends ends)
   pub quiet : QuietSides setup ends
-  pub sendable : AllByRecursion (IsSendable setup) (drop n events)
+  pub sendable : AllByRecursion (IsSendableBy true) (drop n events)
   pub rest : EndsRun ends (drop n events) (drop n answers) last
 
 -- two that are none
@@ -78,13 +79,13 @@ module _ (laws : RunLaws) (setup : Setup) (made : IsMadeSetup setup) where
   abbrev ps : Setup
   ps = plain_setup setup
 
-  ran : (n : ℕ) (k : KeepingWorld) (ends : Ends) (events : List Event) (answers : List Answer) (last : Ends) → StandsKeeping ps k (plain_ends ends) → QuietSides setup ends → AllByRecursion (IsSendable setup) events
+  ran : (n : ℕ) (k : KeepingWorld) (ends : Ends) (events : List Event) (answers : List Answer) (last : Ends) → StandsKeeping ps k (plain_ends ends) → QuietSides setup ends → AllByRecursion (IsSendableBy true) events
       → EndsRun ends events answers last → is_without_fault n answers → RanTo setup k n events answers last
   ran zero k ends events answers last stands quiet sendable run none = record { world = k; run = refl; ends = ends; stands = stands; quiet = quiet; sendable = sendable; rest = run }
   ran (suc n) k ends [] [] last stands quiet sendable run none = record { world = k; run = refl; ends = ends; stands = stands; quiet = quiet; sendable = sendable; rest = run }
   ran (suc n) k ends (e ∷ events) (a ∷ answers) last stands quiet sendable run none =
       let faultless = neither (is_connection_fault a) (list_any is_connection_fault (take n answers)) none in
-      let on = any_step laws.steps laws.moves setup made k ends stands run.0 e a (plain_sides_count setup ends quiet) sendable.0 (refuses_plainly laws.quiet setup ends e quiet) run.1 faultless.0 in
+      let on = any_step laws.steps laws.moves setup made k ends stands run.0 e a quiet sendable.0 (refuses_plainly laws.quiet setup ends e quiet) run.1 faultless.0 in
       let r = ran n on.after run.0 events answers last on.stands (quiet_step laws.quiet setup ends run.0 e a quiet run.1) sendable.1 run.2 faultless.1 in
       record { world = r.world; run = (on.after, on.happens, r.run); ends = r.ends; stands = r.stands; quiet = r.quiet; sendable = r.sendable; rest = r.rest }
   ran (suc n) k ends [] (a ∷ answers) last stands quiet sendable run none = absurd run
@@ -96,19 +97,19 @@ module _ (laws : RunLaws) (setup : Setup) (made : IsMadeSetup setup) where
     run : Run (HappensAnywhere setup) k events answers world
     stands : StandsKeeping (plain_setup setup) world (plain_ends last)
 
-  ran_all : (k : KeepingWorld) (ends : Ends) (events : List Event) (answers : List Answer) (last : Ends) → StandsKeeping ps k (plain_ends ends) → QuietSides setup ends → AllByRecursion (IsSendable setup) events
+  ran_all : (k : KeepingWorld) (ends : Ends) (events : List Event) (answers : List Answer) (last : Ends) → StandsKeeping ps k (plain_ends ends) → QuietSides setup ends → AllByRecursion (IsSendableBy true) events
       → EndsRun ends events answers last → list_any is_connection_fault answers ≡ false → RanAll k events answers last
   ran_all k ends [] [] last stands quiet sendable run none = record { world = k; run = refl; stands = subst (λ x. StandsKeeping ps k (plain_ends x)) (sym run) stands }
   ran_all k ends (e ∷ events) (a ∷ answers) last stands quiet sendable run none =
       let faultless = neither (is_connection_fault a) (list_any is_connection_fault answers) none in
-      let on = any_step laws.steps laws.moves setup made k ends stands run.0 e a (plain_sides_count setup ends quiet) sendable.0 (refuses_plainly laws.quiet setup ends e quiet) run.1 faultless.0 in
+      let on = any_step laws.steps laws.moves setup made k ends stands run.0 e a quiet sendable.0 (refuses_plainly laws.quiet setup ends e quiet) run.1 faultless.0 in
       let r = ran_all on.after run.0 events answers last on.stands (quiet_step laws.quiet setup ends run.0 e a quiet run.1) sendable.1 run.2 faultless.1 in
       record { world = r.world; run = (on.after, on.happens, r.run); stands = r.stands }
   ran_all k ends [] (a ∷ answers) last stands quiet sendable run none = absurd run
   ran_all k ends (e ∷ events) [] last stands quiet sendable run none = absurd run
 
   -- An event that judges nothing finds no fault.
-  unjudged_faultless : (k : KeepingWorld) (ends new : Ends) (e : Event) (a : Answer) → StandsKeeping ps k (plain_ends ends) → IsSendable setup e → EndsStep ends e a new
+  unjudged_faultless : (k : KeepingWorld) (ends new : Ends) (e : Event) (a : Answer) → StandsKeeping ps k (plain_ends ends) → IsSendableBy true e → EndsStep ends e a new
       → (judges ends e ≡ true → is_connection_fault (answered ends e).0 ≡ false) → is_connection_fault a ≡ false
   unjudged_faultless k ends new e a stands sendable step unless = by_memory (is_out_of_memory a) refl step
     where
@@ -125,7 +126,7 @@ module _ (laws : RunLaws) (setup : Setup) (made : IsMadeSetup setup) where
       by_memory false told is = ap is_connection_fault is.0 ∙ answered_so (ap is_out_of_memory (sym is.0) ∙ told) (laws.steps.plainly ends e)
 
   -- so no send does
-  send_faultless : (k : KeepingWorld) (ends new : Ends) (e : Event) (a : Answer) → StandsKeeping ps k (plain_ends ends) → IsSendable setup e → EndsStep ends e a new → is_send e ≡ true → is_connection_fault a ≡ false
+  send_faultless : (k : KeepingWorld) (ends new : Ends) (e : Event) (a : Answer) → StandsKeeping ps k (plain_ends ends) → IsSendableBy true e → EndsStep ends e a new → is_send e ≡ true → is_connection_fault a ≡ false
   send_faultless k ends new e a stands sendable step sends =
       unjudged_faultless k ends new e a stands sendable step (λ judged. absurd (let never : true ≡ false = sym judged ∙ send_judges ends e sends in cc))
 
@@ -139,12 +140,12 @@ module _ (laws : RunLaws) (setup : Setup) (made : IsMadeSetup setup) where
       subst (StandsKeeping ps first) (sym (laws.new_plain setup)) (subst (λ k. StandsKeeping ps k (new_ends ps)) r.run r.stands)
 
   -- **Any two ends.**
-  pub runs_until_fault : (events : List Event) (answers : List Answer) (ends : Ends) → AllByRecursion (IsSendable setup) events → EndsRun (new_ends setup) events answers ends → RunsUntilFault setup events answers
+  pub runs_until_fault : (events : List Event) (answers : List Answer) (ends : Ends) → AllByRecursion (IsSendableBy true) events → EndsRun (new_ends setup) events answers ends → RunsUntilFault setup events answers
   runs_until_fault events answers ends sendable run =
       record {
         runs = λ n none. let r = front n none in record { world = r.world; run = r.run };
         sends = λ n e a later others none at_e at_a sends. let r = front n none in
-            let may = subst (AllByRecursion (IsSendable setup)) at_e r.sendable in
+            let may = subst (AllByRecursion (IsSendableBy true)) at_e r.sendable in
             let rest = subst (λ es. EndsRun r.ends es (a ∷ others) ends) at_e (subst (λ given. EndsRun r.ends (drop n events) given ends) at_a r.rest) in
             send_faultless r.world r.ends rest.0 e a r.stands may.0 rest.1 sends;
       }
@@ -153,7 +154,7 @@ module _ (laws : RunLaws) (setup : Setup) (made : IsMadeSetup setup) where
       front n none = ran n first (new_ends setup) events answers ends new_stand (new_quiet laws.quiet setup) sendable run none
 
   -- **And where they stand at the end.**
-  pub stands_at_the_end : (events : List Event) (answers : List Answer) (ends : Ends) → AllByRecursion (IsSendable setup) events → EndsRun (new_ends setup) events answers ends → list_any is_connection_fault answers ≡ false
+  pub stands_at_the_end : (events : List Event) (answers : List Answer) (ends : Ends) → AllByRecursion (IsSendableBy true) events → EndsRun (new_ends setup) events answers ends → list_any is_connection_fault answers ≡ false
       → StandsAnywhere setup events answers ends
   stands_at_the_end events answers ends sendable run none =
       let r = ran_all first (new_ends setup) events answers ends new_stand (new_quiet laws.quiet setup) sendable run none in

@@ -1,5 +1,5 @@
 -- Each step of the world of any two sides keeps it sound.
-use Rattle.std.proofs.Common.{◌≡◌, ℕ, [], sym, subst, None}
+use Rattle.std.proofs.Common.{◌≡◌, ℕ, true, [], sym, subst, None}
 use Rattle.h3_proto.specs.declared.stream.Side.{Side}
 use Rattle.h3_connection.specs.Announcing.{section_of}
 use Rattle.h3_connection.specs.OwnIds.{other}
@@ -13,7 +13,7 @@ use Rattle.h3_world.specs.Items.{HasCome, handed_out}
 use Rattle.h3_world.specs.Lists.{pull_of}
 use Rattle.h3_world.specs.Order.{next_part}
 use Rattle.h3_world.specs.Pulling.{PausesExactly, settled}
-use Rattle.h3_world.specs.Sendable.{IsSendable}
+use Rattle.h3_world.specs.Sendable.{IsSendable, IsSendableBy}
 use Rattle.h3_world.specs.Sending.{given_up}
 use Rattle.h3_world.specs.Setup.{Setup, announced_at}
 use Rattle.h3_world.specs.Step.{IsExact}
@@ -28,7 +28,7 @@ use Rattle.h3_memory.specs.MemoryStep.{StepWithMemory, UnlessMemory, reader_worl
 use Rattle.h3_memory.specs.SoundKeeping.{IsSoundKeeping}
 use Rattle.h3_strict.specs.GivesUp.{AtOnce, BehindPart, GivesUp}
 use Rattle.h3_strict.specs.PlainEnds.{plain_setup}
-use Rattle.h3_faithful.specs.Steps.{AsPlainly, GivesMessageUp, HappensAnywhere, LacksMemory, PullsMalformed, PullsOn, RefusesMalformed}
+use Rattle.h3_faithful.specs.Steps.{AsPlainly, GivesMessageUp, HappensAnywhere, LacksMemory, PullsMalformed, PullsOn, RefusesMalformed, RefusesOwn}
 
 -- `each_step_keeps_worlds_sound` and `a_side_gives_a_stream_up` of `h3_memory`
 pub record SoundLaws : Type 0 where
@@ -59,8 +59,9 @@ module _ (laws : SoundLaws) (setup : Setup) (k new : KeepingWorld) (sound : IsSo
   gives_up_sound (event.PullFields side id) (answer.Listed l) m = pull_sound side id (pull_of l) m
   gives_up_sound e a m = absurd m
 
-  pub sound_step : (e : Event) (a : Answer) → IsSendable setup e → HappensAnywhere setup k e a new → IsSoundKeeping ps new
+  pub sound_step : (e : Event) (a : Answer) → IsSendableBy true e → HappensAnywhere setup k e a new → IsSoundKeeping ps new
   sound_step e a sendable (AsPlainly told h) = laws.each ps k new e a sendable sound h.step h.exact
   sound_step e a sendable (LacksMemory told h) = laws.each ps k new e a sendable sound h.step h.exact
   sound_step e a sendable (RefusesMalformed strict told is) = subst (IsSoundKeeping ps) (sym is) sound
+  sound_step e a sendable (RefusesOwn unread is) = subst (IsSoundKeeping ps) (sym is) sound
   sound_step e a sendable (GivesMessageUp pulls) = gives_up_sound e a pulls

@@ -17,7 +17,7 @@ use Rattle.h3_world.specs.Items.{handed_out}
 use Rattle.h3_world.specs.Lists.{pull_of}
 use Rattle.h3_world.specs.Refusals.{next_id, open_refusal}
 use Rattle.h3_world.specs.Run.{Run}
-use Rattle.h3_world.specs.Sendable.{IsSendable}
+use Rattle.h3_world.specs.Sendable.{IsSendableBy}
 use Rattle.h3_world.specs.Sending.{given_up, opened}
 use Rattle.h3_world.specs.Step.{Does}
 use Rattle.h3_world.specs.Streams.{flow, has_outgoing, is_open, waiting, with_flow}
@@ -42,7 +42,7 @@ use Rattle.h3_memory.specs.SoundKeeping.{IsSoundKeeping}
 use Rattle.h3_strict.specs.GivesUp.{AtOnce, BehindPart, GivesUp}
 use Rattle.h3_strict.specs.PlainEnds.{plain_setup}
 use Rattle.h3_faithful.specs.Sends.{opens}
-use Rattle.h3_faithful.specs.Steps.{AsPlainly, GivesMessageUp, HappensAnywhere, LacksMemory, PullsMalformed, PullsOn, RefusesMalformed}
+use Rattle.h3_faithful.specs.Steps.{AsPlainly, GivesMessageUp, HappensAnywhere, LacksMemory, PullsMalformed, PullsOn, RefusesMalformed, RefusesOwn}
 use Rattle.h3_faithful.proofs.Accounts.{MemoryMoves, RunsSo, accounts_of, sound_after}
 use Rattle.h3_faithful.proofs.Ordered.{Tells, on_same}
 use Rattle.h3_faithful.proofs.SoundSteps.{sound_step}
@@ -109,6 +109,7 @@ module _ (laws : MemoryMoves) (setup : Setup) where
     step_stays e a (AsPlainly told h) = laws.stays ps k new e a writer id sound h.step
     step_stays e a (LacksMemory told h) = laws.stays ps k new e a writer id sound h.step
     step_stays e a (RefusesMalformed strict told is) = subst (λ v. StaysBy k.world e writer id a v.world) (sym is) ((as_steps writer id (resets_on writer id e a) (goes_away e a)).same k.world)
+    step_stays e a (RefusesOwn unread is) = subst (λ v. StaysBy k.world e writer id a v.world) (sym is) ((as_steps writer id (resets_on writer id e a) (goes_away e a)).same k.world)
     step_stays e a (GivesMessageUp pulls) = pulls_stay e a pulls
 
   -- a stream that is opened
@@ -184,6 +185,8 @@ module _ (laws : MemoryMoves) (setup : Setup) where
   opened_so k new side id (event.Deliver acting i count) (answer.Delivered n) on (LacksMemory told h) = absurd (let never : false ≡ true = told in cc)
   opened_so k new side id (event.OpenRequest acting) (answer.Opened i) on (RefusesMalformed strict told is) = absurd (let never : false ≡ true = told in cc)
   opened_so k new side id (event.Deliver acting i count) (answer.Delivered n) on (RefusesMalformed strict told is) = absurd (let never : false ≡ true = told in cc)
+  opened_so k new side id (event.OpenRequest acting) (answer.Opened i) on (RefusesOwn unread is) = absurd unread
+  opened_so k new side id (event.Deliver acting i count) (answer.Delivered n) on (RefusesOwn unread is) = absurd unread
   opened_so k new side id (event.OpenRequest acting) (answer.Opened i) on (GivesMessageUp pulls) = absurd pulls
   opened_so k new side id (event.Deliver acting i count) (answer.Delivered n) on (GivesMessageUp pulls) = absurd pulls
   opened_so k new side id e a on happens = absurd (cc)
@@ -194,7 +197,7 @@ module _ (laws : MemoryMoves) (setup : Setup) where
     unreset : any_of (resets_on side id) events answers ≡ false → (flow k.world side id).is_reset ≡ false → (flow new.world side id).is_reset ≡ false
     unsaid : any_of goes_away events answers ≡ false → k.world.server.own.goaways ≡ [] → new.world.server.own.goaways ≡ []
 
-  run_stays : (k new : KeepingWorld) (events : List Event) (answers : List Answer) (side : Side) (id : ℕ) → AllByRecursion (IsSendable setup) events → IsSoundKeeping ps k → Run (HappensAnywhere setup) k events answers new → StaysOver k new events answers side id
+  run_stays : (k new : KeepingWorld) (events : List Event) (answers : List Answer) (side : Side) (id : ℕ) → AllByRecursion (IsSendableBy true) events → IsSoundKeeping ps k → Run (HappensAnywhere setup) k events answers new → StaysOver k new events answers side id
   run_stays k new [] [] side id sendable sound run = subst (λ v. StaysOver k v [] [] side id) (sym run) (record { opened = λ h. h; unreset = λ e h. h; unsaid = λ e h. h })
   run_stays k new (e ∷ es) (a ∷ later) side id sendable sound run =
       let mid = run.0 in
@@ -231,7 +234,7 @@ module _ (laws : MemoryMoves) (setup : Setup) where
       of true = refl
       of false = refl
 
-  pub tells : (events : List Event) (answers : List Answer) (k : KeepingWorld) → AllByRecursion (IsSendable setup) events → RunsSo setup events answers k → (side : Side) (id : ℕ) → Tells k.world side id events answers
+  pub tells : (events : List Event) (answers : List Answer) (k : KeepingWorld) → AllByRecursion (IsSendableBy true) events → RunsSo setup events answers k → (side : Side) (id : ℕ) → Tells k.world side id events answers
   tells events answers k sendable run side id =
       let first = nothing_kept (empty_world ps) in
       let told = run_stays first k events answers side id sendable (laws.begins ps) run in

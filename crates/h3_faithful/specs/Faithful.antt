@@ -16,7 +16,7 @@ use Rattle.h3_world.specs.declared.event.Event.TheVariants as event
 use Rattle.h3_headline.specs.Changes.{resets_on}
 use Rattle.h3_headline.specs.Exactly.{IsAllOf, IsExactly, reader_at}
 use Rattle.h3_headline.specs.Messages.{IsFrontOf, any_of, has_finished, has_pulled_end, is_on, pulled, sent}
-use Rattle.h3_faithful.specs.Sends.{begins_late, goes_on, is_next, sends_list}
+use Rattle.h3_faithful.specs.Sends.{begins_late, goes_on, is_next, may_be_unread}
 
 -- Each side is handed of each stream what the other side sent on it.
 pub record HandsOut (setup : Setup) (events : List Event) (answers : List Answer) : Type 0 where
@@ -45,7 +45,7 @@ IsAccepted may_be_malformed may_be_late _ = ⊥
 abbrev pub AcceptsNext : Setup → List Event → List Answer → Event → Answer → Type 0
 AcceptsNext setup before given e a =
     (side : Side) (id : ℕ) → goes_on side id before given ≡ true → is_next setup side id (sent side id before given) e ≡ true
-    → IsAccepted (sends_list e || asks_for_strict setup side) (begins_late setup before given e) a
+    → IsAccepted (may_be_unread setup e || asks_for_strict setup side) (begins_late setup before given e) a
 
 abbrev pub is_pause : Pull → Bool
 is_pause p = is_some (pause_of p)

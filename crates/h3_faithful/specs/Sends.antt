@@ -3,6 +3,7 @@ use Rattle.std.specs.Prelude.{ℕ, Bool, true, false, not, ◌&&◌, List, nat_l
 use Rattle.std.specs.List.{list_any}
 use Rattle.h3_field.specs.Field.{Field, section_size}
 use Rattle.h3_header.specs.Head.{head_fields, has_pseudo}
+use Rattle.h3_header.specs.HeadTests.{takes_protocol}
 use Rattle.h3_header.specs.Reads.{head_of_fields}
 use Rattle.h3_proto.specs.StreamIds.{is_request_stream}
 use Rattle.h3_proto.specs.declared.stream.Side.{Side}
@@ -11,7 +12,7 @@ use Rattle.h3_connection.specs.Announcing.{section_of}
 use Rattle.h3_connection.specs.OwnIds.{other}
 use Rattle.h3_connection.specs.Pulling.{is_for}
 use Rattle.h3_connection.specs.StrictConnection.{is_strict}
-use Rattle.h3_world.specs.Setup.{Setup, announced_at}
+use Rattle.h3_world.specs.Setup.{Setup, announced_at, takes_any}
 use Rattle.h3_world.specs.declared.event.Answer.{Answer}
 use Rattle.h3_world.specs.declared.event.Answer.TheVariants as answer
 use Rattle.h3_world.specs.declared.event.Event.{Event}
@@ -60,10 +61,13 @@ is_next setup side id before (event.TrailerFields acting i fields) = is_on side 
 is_next setup side id before (event.Finish acting i) = is_on side id acting i && list_any is_head_section before
 is_next setup side id before _ = false
 
-abbrev pub sends_list : Event → Bool
-sends_list (event.Fields side id fields) = true
-sends_list (event.TrailerFields side id fields) = true
-sends_list _ = false
+-- The side may not read itself what it is to send: a list, or a head by a protocol that the side does not take (RFC 8441, section 4).
+abbrev pub may_be_unread : Setup → Event → Bool
+may_be_unread setup (event.Fields side id fields) = true
+may_be_unread setup (event.TrailerFields side id fields) = true
+may_be_unread setup (event.Head side id head) = not (takes_protocol (takes_any (announced_at setup side)) head.protocol)
+may_be_unread setup (event.Trailer side id trailer) = not (takes_protocol (takes_any (announced_at setup side)) trailer.protocol)
+may_be_unread setup _ = false
 
 -- A client that asks for a strict connection begins no request once its server goes away (RFC 9114, section 5.2).
 abbrev pub begins_late : Setup → List Event → List Answer → Event → Bool

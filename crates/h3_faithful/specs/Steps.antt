@@ -1,14 +1,21 @@
--- The world of any two sides, memory refused or not: as that of sides that ask for no strict messages and limit nothing, with two steps more.
-use Rattle.std.specs.Prelude.{◌≡◌, ℕ, Bool, true, false, ◌∷◌, List, [], None, drop, take}
+-- The world of any two sides, memory refused or not: as that of sides that ask for no strict messages, limit nothing and take any protocol, with
+-- three steps more.
+use Rattle.std.specs.Prelude.{◌≡◌, ℕ, ◌<◌, Bool, true, false, ◌∷◌, List, [], length, Option, Some, None, drop, take}
 use Rattle.h3_proto.specs.declared.stream.Side.{Side}
+use Rattle.h3_connection.specs.OwnIds.{other}
+use Rattle.h3_connection.specs.StrictSending.{broken_protocol}
 use Rattle.h3_connection.specs.declared.event.Fault.TheVariants.{Stream}
 use Rattle.h3_connection.specs.declared.event.Malformation.{Malformation}
 use Rattle.h3_connection.specs.declared.event.Pull.{Pull}
 use Rattle.h3_connection.specs.declared.event.Pull.TheVariants.{Fault}
+use Rattle.h3_connection.specs.declared.event.Refusal.TheVariants as refusal
 use Rattle.h3_connection.specs.declared.event.StreamFault.TheVariants.{Malformed}
+use Rattle.h3_connection.specs.declared.setup.Announced.{Announced}
 use Rattle.h3_world.specs.Ends.{Ends}
+use Rattle.h3_world.specs.Flow.{Flow, Section}
 use Rattle.h3_world.specs.Headline.{is_connection_fault, is_out_of_memory}
-use Rattle.h3_world.specs.Lists.{pull_of}
+use Rattle.h3_world.specs.Lists.{pull_of, unreadable}
+use Rattle.h3_world.specs.Order.{next_part, section_of_part}
 use Rattle.h3_world.specs.Pulling.{settled}
 use Rattle.h3_world.specs.Run.{Run}
 use Rattle.h3_world.specs.World.{empty_world}
@@ -16,7 +23,8 @@ use Rattle.h3_world.specs.declared.event.Answer.{Answer}
 use Rattle.h3_world.specs.declared.event.Answer.TheVariants as answer
 use Rattle.h3_world.specs.declared.event.Event.{Event}
 use Rattle.h3_world.specs.declared.event.Event.TheVariants as event
-use Rattle.h3_world.specs.Setup.{IsPlain, Setup, announced_at}
+use Rattle.h3_world.specs.Setup.{IsPlain, Setup, announced_at, takes_any}
+use Rattle.h3_world.specs.Streams.{flow}
 use Rattle.h3_memory.specs.Kept.{KeepingWorld, caught_up, nothing_kept, with_kept}
 use Rattle.h3_memory.specs.Keeping.{StandsKeeping}
 use Rattle.h3_memory.specs.MemoryStep.{HappensWithMemory}
@@ -34,10 +42,37 @@ is_strict_send setup (event.TrailerFields side id fields) = asks_for_strict setu
 is_strict_send setup (event.Finish side id) = asks_for_strict setup side
 is_strict_send setup _ = false
 
--- A pull that finds the message malformed once all that the side keeps is read. A side that judges plainly finds none so.
+-- What the side would not read itself of what it is to send: a protocol that it does not take (RFC 8441, section 4), or a bad part of a list.
+abbrev pub unread : Setup → Event → Option Malformation
+unread setup (event.Head side id head) = broken_protocol (announced_at setup side) head
+unread setup (event.Fields side id fields) = unreadable (takes_any (announced_at setup side)) fields
+unread setup (event.Trailer side id trailer) = broken_protocol (announced_at setup side) trailer
+unread setup (event.TrailerFields side id fields) = unreadable (takes_any (announced_at setup side)) fields
+unread setup _ = None
+
+-- A list tells that memory is wanting only above so many fields.
+abbrev pub MayLack : Event → Type 0
+MayLack (event.Fields side id fields) = 24576 < length fields
+MayLack (event.TrailerFields side id fields) = 24576 < length fields
+MayLack _ = Unit {0}
+
+-- What the side would not read itself is malformed, or memory is wanting.
+abbrev pub IsRefusedUnread : Type 0 → Option Malformation → Answer → Type 0
+IsRefusedUnread lacks (Some why) (answer.Refused (refusal.Malformed told)) = told ≡ why
+IsRefusedUnread lacks (Some why) (answer.Refused refusal.OutOfMemory) = lacks
+IsRefusedUnread lacks why a = ⊥
+
+abbrev pub RefusesUnread : Setup → Event → Answer → Type 0
+RefusesUnread setup e a = IsRefusedUnread (MayLack e) (unread setup e) a
+
+-- The next part of the flow is a section that the side does not read: by another protocol than those that it takes.
+abbrev pub IsUnreadNext : Announced → Flow → Malformation → Type 0
+IsUnreadNext own f why = (s : Section) × (section_of_part (next_part f) ≡ Some s) × (unreadable (takes_any own) s.fields ≡ Some why)
+
+-- A pull that finds the message malformed once all that the side keeps is read. A side that judges plainly finds only what it does not read.
 pub record PullsMalformed (setup : Setup) (k : KeepingWorld) (side : Side) (id : ℕ) (p : Pull) (new : KeepingWorld) : Type 0 where
-  pub judges : IsPlain (announced_at setup side) → ⊥
   pub why : Malformation
+  pub judges : IsPlain (announced_at setup side) → IsUnreadNext (announced_at setup side) (flow (caught_up (plain_setup setup) k side) (other side) id) why
   pub told : p ≡ Fault (Stream (Malformed why))
   pub unsettled : settled (caught_up (plain_setup setup) k side) side id ≡ None
   pub given_up : GivesUp (plain_setup setup) (caught_up (plain_setup setup) k side) side id why new.world
@@ -56,7 +91,9 @@ pub data HappensAnywhere (setup : Setup) (k : KeepingWorld) (e : Event) (a : Ans
   LacksMemory : is_out_of_memory a ≡ true → HappensWithMemory (plain_setup setup) k e a new → HappensAnywhere setup k e a new
   -- a strict side refuses a send as malformed, and nothing changes
   RefusesMalformed : is_strict_send setup e ≡ true → is_malformed_refusal a ≡ true → new ≡ k → HappensAnywhere setup k e a new
-  -- a pull of a side that asks for strict messages, or has a limit, gives the message up
+  -- a side refuses what it would not read itself, and nothing changes
+  RefusesOwn : RefusesUnread setup e a → new ≡ k → HappensAnywhere setup k e a new
+  -- a pull of a side that asks for strict messages, has a limit or does not read the next section gives the message up
   GivesMessageUp : PullsOn setup k e a new → HappensAnywhere setup k e a new
 
 -- **The answers are those of a run of such steps.**

@@ -1,5 +1,5 @@
 -- Worked schedules of sides that judge plainly, and of such as are strict or limit what is unfinished.
-use Rattle.std.specs.Prelude.{ℕ, Bool, true, false, ◌&&◌, List, [], ◌∷◌, ◌++◌, codes}
+use Rattle.std.specs.Prelude.{ℕ, Bool, true, false, ◌&&◌, List, [], ◌∷◌, ◌++◌, Some, codes}
 use Rattle.h3_header.specs.Head.{Head as Fields, head_fields}
 use Rattle.h3_proto.specs.Config.{no_choices, no_extensions}
 use Rattle.h3_proto.specs.declared.stream.Side.{Side}
@@ -119,6 +119,38 @@ abbrev pub limited_answers : List Answer
 limited_answers =
     answer.Opened 0 ∷ answer.Opened 4 ∷ answer.Delivered 0 ∷ answer.Delivered 0 ∷ answer.Done ∷ answer.Delivered 293 ∷
     too_long ∷ answer.Done ∷ answer.Delivered 5 ∷ answer.Pulled (pull.Item (item.Head (status 200))) ∷ too_long ∷ []
+
+-- A side that takes any protocol, and a request for one that other sides do not take (RFC 8441, section 4). Its header section has 38 bytes, 17 more
+-- than that of home: two of the name's length, 7 of the name (RFC 7541, appendix B), one of the value's length and 7 of the value
+abbrev pub curious : Announced
+curious = record (plain 1000 0 0) { choices = record no_choices { extensions = record no_extensions { any_protocol = true } } }
+
+abbrev pub curious_client : Setup
+curious_client = between curious (plain 1000 0 0)
+
+abbrev pub curious_server : Setup
+curious_server = between (plain 1000 0 0) curious
+
+abbrev pub websocket : Fields
+websocket = record home { method = Some (codes "CONNECT"); protocol = Some (codes "websocket") }
+
+-- the server finds it malformed, and another stream goes on
+abbrev pub asked_run : List Event
+asked_run =
+    event.OpenRequest Client ∷ event.Head Client 0 websocket ∷ event.Deliver Client 0 38 ∷ event.Pull Server 0 ∷
+    event.OpenRequest Client ∷ event.Head Client 4 home ∷ event.Deliver Client 4 21 ∷ event.Pull Server 4 ∷ []
+
+abbrev pub asked_answers : List Answer
+asked_answers =
+    answer.Opened 0 ∷ answer.Done ∷ answer.Delivered 38 ∷ answer.Pulled (pull.Fault (fault.Stream (stream_fault.Malformed malformation.Value))) ∷
+    answer.Opened 4 ∷ answer.Done ∷ answer.Delivered 21 ∷ answer.Pulled (pull.Item (item.Head home)) ∷ []
+
+-- and a client that does not take it sends no such request
+abbrev pub unasked_run : List Event
+unasked_run = event.OpenRequest Client ∷ event.Head Client 0 websocket ∷ event.Head Client 0 home ∷ []
+
+abbrev pub unasked_answers : List Answer
+unasked_answers = answer.Opened 0 ∷ answer.Refused (refusal.Malformed malformation.Value) ∷ answer.Done ∷ []
 
 -- what comes of a response of a status alone
 abbrev pub status_pulled : List MessageContent

@@ -13,8 +13,8 @@ ghost use Rattle.h3_headline.specs.Exactly.{IsAllOf, IsExactly, reader_at};
 ghost use Rattle.h3_headline.specs.Messages.{IsFrontOf, has_finished, has_pulled_end, pulled, sent};
 ghost use Rattle.h3_strict.specs.WorkedStrict.{early_answers, early_run, refused_answers, refused_run, strict_setup, tunnel_answers, tunnel_run};
 ghost use Rattle.h3_faithful.specs.Faithful.{PausesDelivered};
-ghost use Rattle.h3_faithful.specs.Sends.{begins_late};
-ghost use Rattle.h3_faithful.specs.WorkedFaithful.{careful_client, control_answers, control_run, delivered_answers, delivered_run, early_pulled, early_sent, late_answers, late_run, limited_answers, limited_client, limited_run, listed_sent, mixed_pulled, nexts, reset_answers, reset_run, status_pulled, status_sent, strict_pulled, strict_sent};
+ghost use Rattle.h3_faithful.specs.Sends.{begins_late, may_be_unread};
+ghost use Rattle.h3_faithful.specs.WorkedFaithful.{asked_answers, asked_run, careful_client, control_answers, control_run, curious_client, curious_server, delivered_answers, delivered_run, early_pulled, early_sent, late_answers, late_run, limited_answers, limited_client, limited_run, listed_sent, mixed_pulled, nexts, reset_answers, reset_run, status_pulled, status_sent, strict_pulled, strict_sent, unasked_answers, unasked_run, websocket};
 ghost use Rattle.h3_faithful.specs.WorkedMemory.{again_answers, again_run, again_sent, kept_answers, kept_run, later_answers, later_run, verdict_answers, verdict_run};
 
 /// A list that is sent and pulled as a list, with a body, a trailer and the end after it.
@@ -119,4 +119,14 @@ pub fn strict_verdicts_wait_for_memory()
     ensures front { IsFrontOf (IsExactly (reader_at strict_setup Client)) (pulled Client 0 verdict_run verdict_answers) (sent Server 0 verdict_run verdict_answers) }
     ensures other { pulled Client 4 verdict_run verdict_answers ≡ status_pulled }
     ensures faultless { list_any is_connection_fault verdict_answers ≡ false }
+{}
+
+/// A server that takes two protocols alone finds another malformed, and the next stream goes on. A client that takes those alone sends no other.
+pub fn other_protocols_are_malformed()
+    ensures answers { answers_of_ends (new_ends curious_client) asked_run ≡ asked_answers }
+    ensures faultless { list_any is_connection_fault asked_answers ≡ false }
+    ensures none { pulled Server 0 asked_run asked_answers ≡ [] }
+    ensures refused { answers_of_ends (new_ends curious_server) unasked_run ≡ unasked_answers }
+    ensures unread { may_be_unread curious_server (event.Head Client 0 websocket) ≡ true }
+    ensures read { may_be_unread curious_client (event.Head Client 0 websocket) ≡ false }
 {}

@@ -48,7 +48,7 @@ second_takes true b protocol taken = taken
 second_takes false b protocol taken = takes_named b protocol taken
 
 -- each side takes what both take
-each_takes : (setup : Setup) (side : Side) (protocol : Option (List ℕ)) → takes_protocol (both_take_any setup) protocol ≡ true → takes_protocol (takes_any (announced_at setup side)) protocol ≡ true
+pub each_takes : (setup : Setup) (side : Side) (protocol : Option (List ℕ)) → takes_protocol (both_take_any setup) protocol ≡ true → takes_protocol (takes_any (announced_at setup side)) protocol ≡ true
 each_takes setup Client protocol taken = first_takes (takes_any setup.client) (takes_any setup.server) protocol taken
 each_takes setup Server protocol taken = second_takes (takes_any setup.client) (takes_any setup.server) protocol taken
 
@@ -90,12 +90,17 @@ is_read : (read : HeadRead) → unread_by read ≡ None → (h : Fields) × (rea
 is_read (IsHead h) e = (h, refl)
 is_read (IsNone why) e = cc
 
+-- So a list that may be sent and that one side reads is accepted by each.
+pub list_accepted : (laws : ReadingLaws) (setup : Setup) (any : Bool) (reader : Side) (fields : List Field) → IsSendableList (both_take_any setup) fields → unreadable any fields ≡ None → AcceptsAll (takes_any (announced_at setup reader)) (trailer_head []) fields
+list_accepted laws setup any reader fields sendable none =
+    let read = is_read (head_by any fields) none in
+    each_reads laws setup reader fields read.0 (sendable.taken read.0 (reads_any laws any fields read.0 read.1))
+
 writable_list : (laws : Laws) (setup : Setup) (w : World) (side : Side) (id : ℕ) (fields : List Field) → IsSoundWorld setup w → IsSendableList (both_take_any setup) fields
     → unreadable (takes_any (announced_at setup side)) fields ≡ None → IsWritableAs setup w side id (head_of_fields fields) fields
 writable_list laws setup w side id fields sound sendable none =
-    let read = is_read (head_by (takes_any (announced_at setup side)) fields) none in
     record {
-      reads = each_reads laws.reading setup (other side) fields read.0 (sendable.taken read.0 (reads_any laws.reading (takes_any (announced_at setup side)) fields read.0 read.1));
+      reads = list_accepted laws.reading setup (takes_any (announced_at setup side)) (other side) fields sendable none;
       is_for = λ reader. refl;
       is_interim = refl;
       has_pseudo = refl;

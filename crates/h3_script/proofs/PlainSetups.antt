@@ -12,11 +12,13 @@ use Rattle.h3_connection.specs.declared.setup.Limits.{Limits}
 use Rattle.h3_connection.specs.declared.setup.NewError.{NewError}
 use Rattle.h3_connection.specs.declared.setup.NewError.TheVariants.{Settings}
 use Rattle.h3_proto.specs.declared.frame.SettingsError.TheVariants.{InvalidSettingValue}
-use Rattle.h3_world.specs.Setup.{both, announced_at, takes_settings, IsPlain, JudgesPlainly, Setup}
+use Rattle.h3_world.specs.Setup.{both, announced_at, takes_settings, IsPlain, Setup}
 use Rattle.h3_world.specs.declared.event.Event.{Event}
 use Rattle.h3_script.specs.Words.{words_of, number_of}
 use Rattle.h3_script.specs.ScriptLine.{config_of, setup_by, setup_of}
 use Rattle.h3_script.specs.Script.{lines_of, said, SaysSoFar, IsScript}
+use Rattle.h3_world.specs.Small.{ArePlain}
+use Rattle.h3_script.proofs.ScriptSizes.{script_taken}
 
 -- What a configuration announces that chooses nothing is plain.
 side_by : (section : ℕ) (limits : Limits) (a : Announced) → announced_by (announced (config_of section) 0) limits no_choices ≡ Ok a → IsPlain a
@@ -90,5 +92,5 @@ plain_at : (setup : Setup) (side : Side) → AreSides setup → IsPlain (announc
 plain_at setup Client made = made.client
 plain_at setup Server made = made.server
 
-pub script_plain : (most : ℕ) (text : List ℕ) (setup : Setup) (events : List Event) → IsScript most text setup events → JudgesPlainly setup
-script_plain most text setup events h = λ side. plain_at setup side (sides most text setup events h)
+pub script_plain : (most : ℕ) (text : List ℕ) (setup : Setup) (events : List Event) → IsScript most text setup events → ArePlain setup events
+script_plain most text setup events h = record { sides = λ side. plain_at setup side (sides most text setup events h); taken = script_taken most text setup events h }

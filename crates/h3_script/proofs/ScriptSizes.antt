@@ -329,9 +329,8 @@ so_far_small : (lines : List (List ℕ)) (setup : Setup) (events : List Event) �
 so_far_small [] setup events h few = absurd h
 so_far_small (first ∷ rest) setup events h few = events_small rest events h.1 (omega (arith, few, sum_by-cons (λ (l : List ℕ). length l + 1) first rest))
 
-pub script_small : (text : List ℕ) (setup : Setup) (events : List Event) → IsScript (2 ^ 48) text setup events → AreSmall setup events
-script_small text setup events h =
-    record {
-      small = so_far_small (said (lines_of text)) setup events h.says (omega (arith, said_few (lines_of text), pieces_length 10 text, h.within));
-      taken = so_far_taken (said (lines_of text)) setup events h.says;
-    }
+pub script_small : (text : List ℕ) (setup : Setup) (events : List Event) → IsScript (2 ^ 48) text setup events → AreSmall events
+script_small text setup events h = so_far_small (said (lines_of text)) setup events h.says (omega (arith, said_few (lines_of text), pieces_length 10 text, h.within))
+
+pub script_taken : (most : ℕ) (text : List ℕ) (setup : Setup) (events : List Event) → IsScript most text setup events → AllByRecursion (NamesTaken (both_take_any setup)) events
+script_taken most text setup events h = so_far_taken (said (lines_of text)) setup events h.says

@@ -1,7 +1,7 @@
 //! What holds of scripts. These functions do nothing: their contracts are the laws.
 ghost use Rattle.std.specs.Prelude.{◌≡◌, ℕ, ◌^◌, List};
-ghost use Rattle.h3_script.specs.Small.{AreSmall};
-ghost use Rattle.h3_world.specs.Setup.{JudgesPlainly, Setup as Made};
+ghost use Rattle.h3_script.specs.Small.{ArePlain, AreSmall};
+ghost use Rattle.h3_world.specs.Setup.{Setup as Made};
 ghost use Rattle.h3_script.specs.Script.{IsScript, RefusesLine};
 ghost use Rattle.h3_world.specs.declared.event.Event.{Event as Does};
 
@@ -22,12 +22,12 @@ pub fn a_script_is_read_in_one_way()
         → (s ≡ t) × (xs ≡ ys) }
 {}
 
-/// A script of at most 2^48 bytes sends no section or body of 2^56 bytes or more, and names no `:protocol`.
+/// A script of at most 2^48 bytes sends no section or body of 2^56 bytes or more.
 pub fn a_script_has_small_events()
-    ensures { (text : List ℕ) (setup : Made) (events : List Does) → IsScript (2 ^ 48) text setup events → AreSmall setup events }
+    ensures { (text : List ℕ) (setup : Made) (events : List Does) → IsScript (2 ^ 48) text setup events → AreSmall events }
 {}
 
-/// A script asks for no strict messages, and for no limit on what is unfinished.
+/// A script asks for no strict messages, and for no limit on what is unfinished. It names no `:protocol`.
 pub fn a_script_judges_plainly()
-    ensures { (most : ℕ) (text : List ℕ) (setup : Made) (events : List Does) → IsScript most text setup events → JudgesPlainly setup }
+    ensures { (most : ℕ) (text : List ℕ) (setup : Made) (events : List Does) → IsScript most text setup events → ArePlain setup events }
 {}

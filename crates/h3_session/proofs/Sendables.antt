@@ -10,7 +10,8 @@ use Rattle.h3_header.specs.HeadTests.{takes_protocol}
 use Rattle.h3_header.specs.NamedProtocolLaws.{named_taken}
 use Rattle.h3_header.specs.ProtocolText.{IsProtocolBy}
 use Rattle.h3_header.specs.Head.{Head as Fields, head_fields}
-use Rattle.h3_world.specs.Sendable.{IsSendable, IsSendableBy, IsSendableHead, IsSendableList, NamesTaken, NamesTakenIn}
+use Rattle.h3_header.specs.HeadRead.{IsHead, head_by}
+use Rattle.h3_world.specs.Sendable.{IsSendable, IsSendableBy, IsSendableHead, IsSendableList, NamesTaken}
 use Rattle.h3_world.specs.Setup.{Setup, both_take_any}
 use Rattle.h3_world.specs.Small.{AreSmall, IsSmall}
 use Rattle.h3_world.specs.declared.event.Event.{Event}
@@ -30,39 +31,63 @@ protocol_taken false protocol is = named_taken protocol is
 protocol_taken true None is = refl
 protocol_taken true (Some text) is = (Decides-and _ _ (Decides-and _ _ (Decides-ltb 0 (length text)) (passes _ text)) (at_most (length text) 31)).1 is
 
-head_sendable : (any : Bool) (head : Fields) → IsHeader head → IfSome head.protocol (IsProtocolBy any) → section_size (head_fields head) < 2 ^ 56 → IsSendableHead any head
-head_sendable any head h named small =
+head_sendable : (any : Bool) (head : Fields) → IsHeader head → takes_protocol any head.protocol ≡ true → section_size (head_fields head) < 2 ^ 56 → IsSendableHead any head
+head_sendable any head h taken small =
     record {
-      taken = protocol_taken any head.protocol named;
+      taken = taken;
       reads_back = h.reads_back;
       section = record { of_bytes = h.of_bytes; small = small };
       read_as = h.read_as;
     }
 
-list_sendable : (any : Bool) (fields : List Field) → AllByRecursion IsFieldOfBytes fields → AllByRecursion (NamesTakenIn any) fields → section_size fields < 2 ^ 56 → IsSendableList any fields
-list_sendable any fields of_bytes named small = record { taken = list_taken any fields named; section = record { of_bytes = of_bytes; small = small } }
+list_sendable : (any : Bool) (fields : List Field) → AllByRecursion IsFieldOfBytes fields → ((head : Fields) → head_by true fields ≡ IsHead head → head_by any fields ≡ IsHead head) → section_size fields < 2 ^ 56 → IsSendableList any fields
+list_sendable any fields of_bytes taken small = record { taken = taken; section = record { of_bytes = of_bytes; small = small } }
 
-event_sendable : (any : Bool) (e : Event) → IsTyped e → NamesTaken any e → IsSmall e → IsSendableBy any e
-event_sendable any (event.OpenRequest side) h n s = tt
-event_sendable any (event.Head side id head) h n s = head_sendable any head h n s
-event_sendable any (event.Fields side id fields) h n s = list_sendable any fields h n s
-event_sendable any (event.Body side id bytes) h n s = s
-event_sendable any (event.Trailer side id trailer) h n s = head_sendable any trailer h n s
-event_sendable any (event.TrailerFields side id fields) h n s = list_sendable any fields h n s
-event_sendable any (event.Finish side id) h n s = tt
-event_sendable any (event.Reset side id) h n s = tt
-event_sendable any (event.Cancel side id) h n s = tt
-event_sendable any (event.Goaway side id) h n s = h
-event_sendable any (event.Deliver side id count) h n s = tt
-event_sendable any (event.DeliverEnd side id) h n s = tt
-event_sendable any (event.DeliverReset side id) h n s = tt
-event_sendable any (event.Pull side id) h n s = tt
-event_sendable any (event.PullFields side id) h n s = tt
-event_sendable any (event.Show side) h n s = tt
+-- **What types hold, within the bounds of numbers.**
+event_small : (e : Event) → IsTyped e → IsSmall e → IsSendableBy true e
+event_small (event.OpenRequest side) h s = tt
+event_small (event.Head side id head) h s = head_sendable true head h h.token s
+event_small (event.Fields side id fields) h s = list_sendable true fields h (λ head is. is) s
+event_small (event.Body side id bytes) h s = s
+event_small (event.Trailer side id trailer) h s = head_sendable true trailer h h.token s
+event_small (event.TrailerFields side id fields) h s = list_sendable true fields h (λ head is. is) s
+event_small (event.Finish side id) h s = tt
+event_small (event.Reset side id) h s = tt
+event_small (event.Cancel side id) h s = tt
+event_small (event.Goaway side id) h s = h
+event_small (event.Deliver side id count) h s = tt
+event_small (event.DeliverEnd side id) h s = tt
+event_small (event.DeliverReset side id) h s = tt
+event_small (event.Pull side id) h s = tt
+event_small (event.PullFields side id) h s = tt
+event_small (event.Show side) h s = tt
 
-all_sendable : (any : Bool) (events : List Event) → AllByRecursion IsTyped events → AllByRecursion (NamesTaken any) events → AllByRecursion IsSmall events → AllByRecursion (IsSendableBy any) events
-all_sendable any [] h n s = tt
-all_sendable any (e ∷ events) h n s = (event_sendable any e h.0 n.0 s.0, all_sendable any events h.1 n.1 s.1)
+pub small_are_sendable : (events : List Event) → AllByRecursion IsTyped events → AreSmall events → AllByRecursion (IsSendableBy true) events
+small_are_sendable [] h s = tt
+small_are_sendable (e ∷ events) h s = (event_small e h.0 s.0, small_are_sendable events h.1 s.1)
 
-pub small_are_sendable : (setup : Setup) (events : List Event) → AllByRecursion IsTyped events → AreSmall setup events → AllByRecursion (IsSendable setup) events
-small_are_sendable setup events h small = all_sendable (both_take_any setup) events h small.taken small.small
+-- **And where each side takes the protocols that are named.**
+event_taken : (any : Bool) (e : Event) → NamesTaken any e → IsSendableBy true e → IsSendableBy any e
+event_taken any (event.Head side id head) n h = record { taken = protocol_taken any head.protocol n; reads_back = h.reads_back; section = h.section; read_as = h.read_as }
+event_taken any (event.Fields side id fields) n h = record { taken = list_taken any fields n; section = h.section }
+event_taken any (event.Trailer side id trailer) n h = record { taken = protocol_taken any trailer.protocol n; reads_back = h.reads_back; section = h.section; read_as = h.read_as }
+event_taken any (event.TrailerFields side id fields) n h = record { taken = list_taken any fields n; section = h.section }
+event_taken any (event.Body side id bytes) n h = h
+event_taken any (event.Goaway side id) n h = h
+event_taken any (event.OpenRequest side) n h = tt
+event_taken any (event.Finish side id) n h = tt
+event_taken any (event.Reset side id) n h = tt
+event_taken any (event.Cancel side id) n h = tt
+event_taken any (event.Deliver side id count) n h = tt
+event_taken any (event.DeliverEnd side id) n h = tt
+event_taken any (event.DeliverReset side id) n h = tt
+event_taken any (event.Pull side id) n h = tt
+event_taken any (event.PullFields side id) n h = tt
+event_taken any (event.Show side) n h = tt
+
+all_taken : (any : Bool) (events : List Event) → AllByRecursion (NamesTaken any) events → AllByRecursion (IsSendableBy true) events → AllByRecursion (IsSendableBy any) events
+all_taken any [] n h = tt
+all_taken any (e ∷ events) n h = (event_taken any e n.0 h.0, all_taken any events n.1 h.1)
+
+pub plain_are_sendable : (setup : Setup) (events : List Event) → AllByRecursion (NamesTaken (both_take_any setup)) events → AllByRecursion (IsSendableBy true) events → AllByRecursion (IsSendable setup) events
+plain_are_sendable setup events taken h = all_taken (both_take_any setup) events taken h

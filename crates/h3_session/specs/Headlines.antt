@@ -4,7 +4,8 @@ use Rattle.std.specs.List.{list_any}
 use Rattle.h3_connection.specs.State.{EndpointState, StandsFor}
 use Rattle.h3_world.specs.declared.event.Answer.{Answer}
 use Rattle.h3_world.specs.declared.event.Event.{Event}
-use Rattle.h3_world.specs.Setup.{JudgesPlainly, Setup}
+use Rattle.h3_world.specs.Setup.{Setup}
+use Rattle.h3_world.specs.Small.{ArePlain}
 use Rattle.h3_world.specs.Ends.{Ends}
 use Rattle.h3_world.specs.Headline.{Happens, is_connection_fault}
 use Rattle.h3_world.specs.Run.{Run}
@@ -44,4 +45,4 @@ pub record RunsInOneWorld (setup : Setup) (events : List Event) (answers : List 
   pub until_fault : RunsUntilFault setup events answers
   pub to_the_end : list_any is_connection_fault answers ≡ false → RunsToTheEnd setup events answers client server
   -- Of sides that judge plainly each step is one of theirs, memory refused or not.
-  pub plainly : JudgesPlainly setup → RunsInKeepingWorld setup events answers client server
+  pub plainly : ArePlain setup events → RunsInKeepingWorld setup events answers client server

@@ -14,6 +14,7 @@ use Rattle.h3_world.specs.declared.event.Event.TheVariants as event
 pub record IsHeader (head : Fields) : Type 0 where
   pub of_bytes : AllByRecursion IsFieldOfBytes (head_fields head)
   pub reads_back : (any : Bool) → takes_protocol any head.protocol ≡ true → ReadsBackBy any (head_fields head)
+  pub token : takes_protocol true head.protocol ≡ true
   pub untaken : takes_protocol false head.protocol ≡ false → head_of (head_fields head) ≡ IsNone Value
   pub read_as : head_of_fields (head_fields head) ≡ as_read head
 

@@ -122,13 +122,14 @@ pub fn calls_are_steps_of_two_endpoints()
 {}
 
 ghost use Rattle.std.specs.List.{AllByRecursion};
-ghost use Rattle.h3_world.specs.Small.{AreSmall};
-ghost use Rattle.h3_world.specs.Sendable.{IsSendable};
+ghost use Rattle.h3_world.specs.Small.{ArePlain, AreSmall};
+ghost use Rattle.h3_world.specs.Sendable.{IsSendable, IsSendableBy};
 ghost use Rattle.h3_session.specs.Typed.{IsTyped};
 
-/// The events of a schedule within the bounds of `run` may be sent: what the laws of two endpoints ask for.
+/// The events of a schedule within the bound of `run` may be sent: what the laws of two endpoints ask for, of any sides, and of plain ones.
 pub fn schedules_within_bounds_may_be_sent()
-    ensures { (setup : Setup) (events : List Event) → AllByRecursion IsTyped events → AreSmall setup events → AllByRecursion (IsSendable setup) events }
+    ensures any { (events : List Event) → AllByRecursion IsTyped events → AreSmall events → AllByRecursion (IsSendableBy true) events }
+    ensures plain { (setup : Setup) (events : List Event) → AllByRecursion IsTyped events → AreSmall events → ArePlain setup events → AllByRecursion (IsSendable setup) events }
 {}
 
 ghost use Rattle.std.specs.Prelude.{Result};

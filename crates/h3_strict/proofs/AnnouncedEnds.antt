@@ -45,7 +45,7 @@ body_announced : (e : EndpointHistory) (id : ℕ) (bytes : List ℕ) → (sender
 body_announced e id [] = does_announced (sender.body_refusal e id 0) e _ refl
 body_announced e id (byte ∷ bytes) = does_announced (sender.body_refusal e id (length (byte ∷ bytes))) e _ refl
 
-advance_announced : (e : EndpointHistory) (id count : ℕ) → (sender.advance e id count).announced ≡ e.announced
+pub advance_announced : (e : EndpointHistory) (id count : ℕ) → (sender.advance e id count).announced ≡ e.announced
 advance_announced e id count = by_stream (stream_at e.outgoing id)
   where
     by_stream : (o : Option Outgoing) → (sender.advance_at e id count o).announced ≡ e.announced
@@ -151,7 +151,7 @@ offered_stay ends writer id count (None, e) same =
     λ s. sets (with_end ends writer new) (other writer) e (same ∙ sym (first (other writer))) s ∙ first s
 
 -- **Any event.**
-stays : (ends : Ends) (e : Event) → Stay ends (answered ends e).1
+pub stays : (ends : Ends) (e : Event) → Stay ends (answered ends e).1
 stays ends (event.OpenRequest side) = done_stay ends side (answer.Opened (end_at ends side).next_id) (sender.open_request (end_at ends side)) (does_announced (sender.open_refusal (end_at ends side)) (end_at ends side) _ refl)
 stays ends (event.Head side id head) = done_stay ends side answer.Done (sender.send_head (end_at ends side) id head) (does_announced (sender.head_refusal (end_at ends side) id head) (end_at ends side) _ refl)
 stays ends (event.Fields side id fields) = done_stay ends side answer.Done (send_fields (end_at ends side) id fields) (does_announced (fields_refusal (end_at ends side) id fields) (end_at ends side) _ refl)

@@ -266,7 +266,7 @@ module _ (side : Side) (own : Announced) (id : ℕ) (r : DecoderState) where
 
   read_tells : (i : Incoming) (replies : List DecoderInstruction) (fields : List Field) → pauses (read_section side (plain own) id r (plain_incoming i) replies fields).answer ≡ false
   read_tells i replies fields =
-      either Tells (nat_lt (section_of own) (told_size fields)) _ _ refl (judged_tells (with_content side (plain own) (plain_incoming i) fields) replies (head_by own.choices.extensions.any_protocol fields))
+      either Tells (nat_lt (section_of own) (told_size fields)) _ _ refl (judged_tells (with_content side (plain own) (plain_incoming i) fields) replies (head_by true fields))
 
 -- what a section gives is one
 no_section : (kind : Header → Item) → ((h : Header) → HasNoSection (pull.Item (kind h)) → ⊥) → (most : ℕ) (fields : List Field) (it : Item) → IsSectionItem kind most fields it → HasNoSection (pull.Item it) → ⊥

@@ -2,8 +2,8 @@
 use Rattle.std.proofs.Common.{◌≡◌, ℕ, ◌+◌, Bool, true, false, List, [], ◌∷◌, ◌++◌, length, refl, sym, ap, ◌∙◌, subst, Option, Some, None, if◌then◌else◌}
 use Rattle.std.specs.Prelude.{◌&&◌, not, unwrap_or, is_some}
 use Rattle.h3_field.specs.Field.{Field, section_size}
-use Rattle.h3_header.specs.Head.{Head, head_fields, has_pseudo}
-use Rattle.h3_header.specs.Reads.{head_of_fields}
+use Rattle.h3_header.specs.Head.{Head, head_fields, has_pseudo, trailer_head}
+use Rattle.h3_header.specs.Reads.{AcceptsAll, head_of_fields}
 use Rattle.h3_messages.specs.OwnMessages.{IsSentOf}
 use Rattle.h3_messages.specs.OwnMessageLaws.{sent_ends, sent_fits, sent_trails}
 use Rattle.h3_proto.specs.declared.stream.Side.{Side}
@@ -49,7 +49,7 @@ use Rattle.h3_headline.specs.Standing.{Stands}
 use Rattle.h3_headline.specs.Steps.{IsThere}
 use Rattle.h3_strict.proofs.KeepsCounts.{SameCounts, head_keeps, out_set, same_counts}
 use Rattle.h3_strict.proofs.SendEvents.{flows_with, flows_with_party, interim_tally, part_tally, request_tally, response_tally, sends_part}
-use Rattle.h3_strict.proofs.SentLaws.{TakesBody, TakesEnd, TakesHead, TakesTrailer, body_is_behind, body_rules, finish_rules, head_rules, is_head_part, trailer_is_late, trailer_rules, head_judged, trailer_judged}
+use Rattle.h3_strict.proofs.SentLaws.{TakesBody, TakesEnd, TakesHead, TakesTrailer, body_is_behind, body_rules, finish_rules, head_rules, head_told, is_head_part, trailer_is_late, trailer_rules, trailer_told, head_judged, trailer_judged}
 use Rattle.h3_strict.proofs.SentTallies.{after_head, side_of}
 use Rattle.h3_strict.specs.PlainEnds.{plain_ends, plain_setup}
 use Rattle.h3_strict.specs.Tallies.{Tallies, TalliesFlow, awaited_of}
@@ -100,44 +100,45 @@ module _ (setup : Setup) (w : World) (ends : Ends) (known : ℕ → Bool) (h : S
   -- **A head, or a list.**
   head_goes : (s : Side) (i : ℕ) (told : Option Malformation) (head : Head) (fields : List Field) (wrule : Option Refusal) (v : World) (a : Answer) (next : Ends)
       → (a, next) ≡ done ends s answer.Done (does (head_judged (end_at ends s) i told head fields) (end_at ends s) (after_head (end_at ends s) i head fields (strict_at s))) → (wrule ≡ None → is_open w s i ≡ true)
+      → (told ≡ None → AcceptsAll (takes_any (announced_at setup (other s))) (trailer_head []) fields)
       → Does wrule w answer.Done (with_section (if is_interim head.status then Interim else HeadPart) w s i fields) a v → (s ≡ Server → a ≡ answer.Done → is_interim head.status ≡ false → known i ≡ true) → Tallies setup v next known
-  head_goes s i told head fields wrule v a next is opens step knows =
+  head_goes s i told head fields wrule v a next is opens reads step knows =
       subst (λ (x : Answer × Ends). Tallies setup v x.1 known) (sym is)
       (call_cases (λ b u n. (s ≡ Server → b ≡ answer.Done → is_interim head.status ≡ false → known i ≡ true) → Tallies setup u n known) ends s answer.Done (head_judged (end_at ends s) i told head fields) wrule
       (after_head (end_at ends s) i head fields (strict_at s)) w (with_section (if is_interim head.status then Interim else HeadPart) w s i fields) v not_done
       (subst (λ (x : Answer × Ends). Does wrule w answer.Done (with_section (if is_interim head.status then Interim else HeadPart) w s i fields) x.0 v) is step)
       (λ r k. t)
-      (λ none goes_on k. goes s (head_rules (end_at ends s) i told head fields none) (opens goes_on) (λ e. k e refl))
+      (λ none goes_on k. goes s (head_rules (end_at ends s) i told head fields none) (reads (head_told (end_at ends s) i told head fields none)) (opens goes_on) (λ e. k e refl))
       (λ e f final. knows e (ap (λ (x : Answer × Ends). x.0) is ∙ f) final))
     where
-      by_interim : (s : Side) (b : Bool) → is_interim head.status ≡ b → TakesHead (end_at ends s) i head fields → is_open w s i ≡ true → (s ≡ Server → is_interim head.status ≡ false → known i ≡ true)
+      by_interim : (s : Side) (b : Bool) → is_interim head.status ≡ b → TakesHead (end_at ends s) i head fields → AcceptsAll (takes_any (announced_at setup (other s))) (trailer_head []) fields → is_open w s i ≡ true → (s ≡ Server → is_interim head.status ≡ false → known i ≡ true)
           → Tallies setup (with_section (if b then Interim else HeadPart) w s i fields) (with_end ends s (after_head (end_at ends s) i head fields (strict_at s))) known
-      by_interim s true e takes opened knows = interim_tally setup w ends known i head fields h t strict s (only_server s head (subst (λ d. is_for (other d) head ≡ true) (side_of setup w ends s h) takes.fits) e) opened takes e
-      by_interim Server false e takes opened knows = response_tally setup w ends known i head fields h t strict opened takes e (knows refl e)
-      by_interim Client false e takes opened knows = request_tally setup w ends known i head fields h t strict opened takes
+      by_interim s true e takes reads opened knows = interim_tally setup w ends known i head fields h t strict s (only_server s head (subst (λ d. is_for (other d) head ≡ true) (side_of setup w ends s h) takes.fits) e) opened takes reads e
+      by_interim Server false e takes reads opened knows = response_tally setup w ends known i head fields h t strict opened takes reads e (knows refl e)
+      by_interim Client false e takes reads opened knows = request_tally setup w ends known i head fields h t strict opened takes reads
 
-      goes : (s : Side) → TakesHead (end_at ends s) i head fields → is_open w s i ≡ true → (s ≡ Server → is_interim head.status ≡ false → known i ≡ true)
+      goes : (s : Side) → TakesHead (end_at ends s) i head fields → AcceptsAll (takes_any (announced_at setup (other s))) (trailer_head []) fields → is_open w s i ≡ true → (s ≡ Server → is_interim head.status ≡ false → known i ≡ true)
           → Tallies setup (with_section (if is_interim head.status then Interim else HeadPart) w s i fields) (with_end ends s (after_head (end_at ends s) i head fields (strict_at s))) known
-      goes s takes opened knows = by_interim s (is_interim head.status) refl takes opened knows
+      goes s takes reads opened knows = by_interim s (is_interim head.status) refl takes reads opened knows
 
-  pub head_event : (s : Side) (i : ℕ) (head : Head) (v : World) (a : Answer) (next : Ends) → (a, next) ≡ done ends s answer.Done (sender.send_head (end_at ends s) i head)
+  pub head_event : (s : Side) (i : ℕ) (head : Head) → AcceptsAll (takes_any (announced_at setup (other s))) (trailer_head []) (head_fields head) → (v : World) (a : Answer) (next : Ends) → (a, next) ≡ done ends s answer.Done (sender.send_head (end_at ends s) i head)
       → Does (head_refusal (plain_setup setup) w s i head) w answer.Done (sent_head w s i head) a v → (s ≡ Server → a ≡ answer.Done → is_interim head.status ≡ false → known i ≡ true) → Tallies setup v next known
-  head_event s i head v a next is step knows =
+  head_event s i head reads v a next is step knows =
       head_goes s i (broken_protocol (end_at ends s).announced head) head (head_fields head) (head_refusal (plain_setup setup) w s i head) v a next is
       (not_refused (is_open w s i) (
       (not (takes_head (outgoing_of (flow w s i))), refusal.OutOfOrder) ∷
       unless_going (none_after (plain_setup setup) w s) (
       (not (is_for (other s) head), refusal.WrongSide) ∷
-      (is_too_large (settings_known (plain_setup setup) w s) (head_fields head), refusal.TooLarge (section_size (head_fields head))) ∷ []))) step knows
+      (is_too_large (settings_known (plain_setup setup) w s) (head_fields head), refusal.TooLarge (section_size (head_fields head))) ∷ []))) (λ none. reads) step knows
 
-  pub fields_event : (s : Side) (i : ℕ) (fields : List Field) (v : World) (a : Answer) (next : Ends) → (a, next) ≡ done ends s answer.Done (send_fields (end_at ends s) i fields)
+  pub fields_event : (s : Side) (i : ℕ) (fields : List Field) → (unreadable (takes_any (end_at ends s).announced) fields ≡ None → AcceptsAll (takes_any (announced_at setup (other s))) (trailer_head []) fields) → (v : World) (a : Answer) (next : Ends) → (a, next) ≡ done ends s answer.Done (send_fields (end_at ends s) i fields)
       → Does (fields_refusal (plain_setup setup) w s i fields) w answer.Done (sent_fields w s i fields) a v → (s ≡ Server → a ≡ answer.Done → is_interim (head_of_fields fields).status ≡ false → known i ≡ true) → Tallies setup v next known
-  fields_event s i fields v a next is step knows =
+  fields_event s i fields reads v a next is step knows =
       head_goes s i (unreadable (takes_any (end_at ends s).announced) fields) (head_of_fields fields) fields (fields_refusal (plain_setup setup) w s i fields) v a next is
       (not_refused (is_open w s i) (
       (not (takes_head (outgoing_of (flow w s i))), refusal.OutOfOrder) ∷
       unless_going (none_after (plain_setup setup) w s) (
-      unless_malformed (unreadable (takes_any (announced_at (plain_setup setup) s)) fields) (wrong_side s (head_of_fields fields) ∷ of_list None (settings_known (plain_setup setup) w s) fields)))) step knows
+      unless_malformed (unreadable (takes_any (announced_at (plain_setup setup) s)) fields) (wrong_side s (head_of_fields fields) ∷ of_list None (settings_known (plain_setup setup) w s) fields)))) reads step knows
 
   -- A part behind the head.
   behind_head : (s : Side) (i : ℕ) (part : Part) (p : Outgoing) (e : EndpointHistory) (v : World) → IsThere w i → ((writer : Side) (id : ℕ) → flow v writer id ≡ (if is_on writer id s i then appended (flow w s i) part else flow w writer id))
@@ -199,16 +200,16 @@ module _ (setup : Setup) (w : World) (ends : Ends) (known : ℕ → Bool) (h : S
   -- **A trailer.**
   trailer_goes : (s : Side) (i : ℕ) (told : Option Malformation) (trailer : Head) (fields : List Field) (wrule : Option Refusal) (v : World) (a : Answer) (next : Ends)
       → (a, next) ≡ done ends s answer.Done (does (trailer_judged (end_at ends s) i told trailer fields) (end_at ends s) (after_trailer (end_at ends s) i fields)) → (wrule ≡ None → is_open w s i ≡ true)
-      → Does wrule w answer.Done (with_section Trailer w s i fields) a v → Tallies setup v next known
-  trailer_goes s i told trailer fields wrule v a next is opens step =
+      → (told ≡ None → AcceptsAll (takes_any (announced_at setup (other s))) (trailer_head []) fields) → Does wrule w answer.Done (with_section Trailer w s i fields) a v → Tallies setup v next known
+  trailer_goes s i told trailer fields wrule v a next is opens reads step =
       subst (λ (x : Answer × Ends). Tallies setup v x.1 known) (sym is)
       (call_cases (λ b u n. Tallies setup u n known) ends s answer.Done (trailer_judged (end_at ends s) i told trailer fields) wrule (after_trailer (end_at ends s) i fields) w (with_section Trailer w s i fields) v not_done
       (subst (λ (x : Answer × Ends). Does wrule w answer.Done (with_section Trailer w s i fields) x.0 v) is step)
       (λ r. t)
-      (λ none goes_on. goes (trailer_rules (end_at ends s) i told trailer fields none) (opens goes_on)))
+      (λ none goes_on. goes (trailer_rules (end_at ends s) i told trailer fields none) (reads (trailer_told (end_at ends s) i told trailer fields none)) (opens goes_on)))
     where
-      goes : TakesTrailer (end_at ends s) i fields → is_open w s i ≡ true → Tallies setup (with_section Trailer w s i fields) (with_end ends s (after_trailer (end_at ends s) i fields)) known
-      goes takes opened =
+      goes : TakesTrailer (end_at ends s) i fields → AcceptsAll (takes_any (announced_at setup (other s))) (trailer_head []) fields → is_open w s i ≡ true → Tallies setup (with_section Trailer w s i fields) (with_end ends s (after_trailer (end_at ends s) i fields)) known
+      goes takes accepts opened =
           let there = open_there w s i opened in
           let o = outgoing_at (end_at ends s) i in
           let said = content_along (other s) (awaited_of s (flow w Client i).sent) (flow w s i).sent in
@@ -221,26 +222,27 @@ module _ (setup : Setup) (w : World) (ends : Ends) (known : ℕ → Bool) (h : S
               trailer_taken (other s) (end_at ends s).announced (announced_at setup (other s)) fields (strict_at s) takes.rule,
               sym (sent_trails o.content said sends) ∙ late.0,
               sym (sent_ends o.content said sends) ∙ late.1,
+              accepts,
             ),
             λ ends_now. sends,
           )
 
-  pub trailer_event : (s : Side) (i : ℕ) (trailer : Head) (v : World) (a : Answer) (next : Ends) → (a, next) ≡ done ends s answer.Done (sender.send_trailer (end_at ends s) i trailer)
+  pub trailer_event : (s : Side) (i : ℕ) (trailer : Head) → AcceptsAll (takes_any (announced_at setup (other s))) (trailer_head []) (head_fields trailer) → (v : World) (a : Answer) (next : Ends) → (a, next) ≡ done ends s answer.Done (sender.send_trailer (end_at ends s) i trailer)
       → Does (trailer_refusal (plain_setup setup) w s i trailer) w answer.Done (sent_trailer w s i trailer) a v → Tallies setup v next known
-  trailer_event s i trailer v a next is step =
+  trailer_event s i trailer reads v a next is step =
       trailer_goes s i (broken_protocol (end_at ends s).announced trailer) trailer (head_fields trailer) (trailer_refusal (plain_setup setup) w s i trailer) v a next is
       (not_refused (is_open w s i) (
       (not (takes_body (outgoing_of (flow w s i))), refusal.OutOfOrder) ∷
       (has_pseudo trailer, refusal.PseudoInTrailer) ∷
-      (is_too_large (settings_known (plain_setup setup) w s) (head_fields trailer), refusal.TooLarge (section_size (head_fields trailer))) ∷ [])) step
+      (is_too_large (settings_known (plain_setup setup) w s) (head_fields trailer), refusal.TooLarge (section_size (head_fields trailer))) ∷ [])) (λ none. reads) step
 
-  pub trailer_fields_event : (s : Side) (i : ℕ) (fields : List Field) (v : World) (a : Answer) (next : Ends) → (a, next) ≡ done ends s answer.Done (send_trailer_fields (end_at ends s) i fields)
+  pub trailer_fields_event : (s : Side) (i : ℕ) (fields : List Field) → (unreadable (takes_any (end_at ends s).announced) fields ≡ None → AcceptsAll (takes_any (announced_at setup (other s))) (trailer_head []) fields) → (v : World) (a : Answer) (next : Ends) → (a, next) ≡ done ends s answer.Done (send_trailer_fields (end_at ends s) i fields)
       → Does (trailer_fields_refusal (plain_setup setup) w s i fields) w answer.Done (sent_trailer_fields w s i fields) a v → Tallies setup v next known
-  trailer_fields_event s i fields v a next is step =
+  trailer_fields_event s i fields reads v a next is step =
       trailer_goes s i (unreadable (takes_any (end_at ends s).announced) fields) (head_of_fields fields) fields (trailer_fields_refusal (plain_setup setup) w s i fields) v a next is
       (not_refused (is_open w s i) (
       (not (takes_body (outgoing_of (flow w s i))), refusal.OutOfOrder) ∷
-      unless_malformed (unreadable (takes_any (announced_at (plain_setup setup) s)) fields) (with_pseudo (head_of_fields fields) ∷ of_list None (settings_known (plain_setup setup) w s) fields))) step
+      unless_malformed (unreadable (takes_any (announced_at (plain_setup setup) s)) fields) (with_pseudo (head_of_fields fields) ∷ of_list None (settings_known (plain_setup setup) w s) fields))) reads step
 
   -- **The end.**
   pub finish_event : (s : Side) (i : ℕ) (v : World) (a : Answer) (next : Ends) → (a, next) ≡ done ends s answer.Done (sender.finish (end_at ends s) i)

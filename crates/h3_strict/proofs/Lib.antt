@@ -16,6 +16,7 @@ mod SameWorlds
 mod KeepsCounts
 mod UncountedPulls
 mod NothingCounted
+mod KeepsTo
 mod SentLaws
 mod StrictCodes
 mod AnnouncedEnds

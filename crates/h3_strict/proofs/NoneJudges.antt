@@ -3,6 +3,8 @@ use Rattle.std.proofs.Common.{◌≡◌, inl, ℕ, Bool, true, false, List, [], 
 use Rattle.std.specs.Prelude.{◌==◌, ◌&&◌}
 use Rattle.std.specs.List.{AllByRecursion}
 use Rattle.std.proofs.lemmas.Bool.{and_right}
+use Rattle.h3_header.specs.Head.{Head, head_fields, trailer_head}
+use Rattle.h3_header.specs.Reads.{AcceptsAll}
 use Rattle.h3_messages.specs.declared.content.Content.{Content}
 use Rattle.h3_messages.specs.declared.content.Content.TheVariants.{Unsaid}
 use Rattle.h3_proto.specs.declared.stream.Side.{Side}
@@ -29,8 +31,8 @@ use Rattle.h3_world.specs.Flow.{Flow, unused}
 use Rattle.h3_world.specs.Headline.{Happens}
 use Rattle.h3_world.specs.Refusals.{next_id}
 use Rattle.h3_world.specs.Run.{Run}
-use Rattle.h3_world.specs.Sendable.{IsSendable}
-use Rattle.h3_world.specs.Setup.{IsMadeSetup, Setup, TakesAnyLength, announced_at}
+use Rattle.h3_world.specs.Sendable.{IsSendable, IsSendableHead}
+use Rattle.h3_world.specs.Setup.{IsMadeSetup, Setup, TakesAnyLength, announced_at, both_take_any, takes_any}
 use Rattle.h3_world.specs.Streams.{flow}
 use Rattle.h3_world.specs.World.{World, empty_world, no_exchange}
 use Rattle.h3_world.specs.declared.event.Answer.{Answer}
@@ -41,6 +43,7 @@ use Rattle.h3_headline.specs.Cited.{Laws}
 use Rattle.h3_headline.specs.FlowLaws.{same_both}
 use Rattle.h3_headline.specs.ListEventLaws.{same_lists}
 use Rattle.h3_headline.specs.PullEventLaws.{pull_on}
+use Rattle.h3_headline.specs.SentEventLaws.{each_takes, list_accepted}
 use Rattle.h3_headline.specs.Standing.{Stands}
 use Rattle.h3_strict.proofs.CallEvents.{body_event, fields_event, finish_event, head_event, trailer_event, trailer_fields_event}
 use Rattle.h3_strict.proofs.PlainLists.{faults_same, heads_same}
@@ -54,6 +57,7 @@ use Rattle.h3_strict.proofs.QuietEvents.{cancel_event, deliver_event, end_event,
 use Rattle.h3_strict.proofs.SameWorlds.{answers_more, ends_more, run_last, run_same}
 use Rattle.h3_strict.specs.PlainEnds.{Alike, Judges, NoneJudges, RefusesMalformed, StepsPlainly, is_malformed_refusal, judges, plain_ends, plain_setup, refused_by, was_too_long}
 use Rattle.h3_headline.specs.Messages.{is_done}
+use Rattle.h3_strict.specs.NarrowLaws.{all_widen}
 use Rattle.h3_strict.specs.Plainly.{is_excess, plainly}
 use Rattle.h3_strict.specs.ServerKnows.{AnswersKnowing, ServerKnows, ServerKnowsFrom, hands_head, is_server, knows_behind, tells_head}
 use Rattle.h3_strict.specs.Tallies.{Tallies, TalliesFlow, JudgesStrictly, awaited_of, has_head}
@@ -92,36 +96,40 @@ module _ (laws : Laws) (setup : Setup) (made : IsMadeSetup (plain_setup setup)) 
           sym (lists_plain e.kept e i) ∙ same_lists laws plain w on.new s i (plainly e) p made (stands_at setup w ends s h) h.sound step exact in
           ap pull_of lists ∙ (pulls_listed plain w on.new s i p step).stands
 
+  -- what its reader reads of a header that may be sent
+  header_read : (s : Side) (head : Head) → IsSendableHead (both_take_any setup) head → AcceptsAll (takes_any (announced_at setup (other s))) (trailer_head []) (head_fields head)
+  header_read s head sendable = (sendable.reads_back (takes_any (announced_at setup (other s))) (each_takes setup (other s) head.protocol sendable.taken)).0
+
   -- What an event leaves.
-  event_tally : (e : Event) (w v : World) (ends : Ends) (known : ℕ → Bool) → Stands (plain_setup setup) w (plain_ends ends) → Stands (plain_setup setup) v (plain_ends (answered ends e).1) → Happens (plain_setup setup) w e (answered ends e).0 v
+  event_tally : (e : Event) (w v : World) (ends : Ends) (known : ℕ → Bool) → IsSendable setup e → Stands (plain_setup setup) w (plain_ends ends) → Stands (plain_setup setup) v (plain_ends (answered ends e).1) → Happens (plain_setup setup) w e (answered ends e).0 v
       → AnswersKnowing known e (answered ends e).0 → Tallies setup w ends known → Tallies setup v (answered ends e).1 (λ id. knows_behind id (known id) e (answered ends e).0)
-  event_tally (event.OpenRequest s) w v ends known h g step knows t = open_event setup w ends known h t s v (answered ends (event.OpenRequest s)).0 (answered ends (event.OpenRequest s)).1 refl (answer.Opened (next_id w)) step.step
-  event_tally (event.Head s i head) w v ends known h g step knows t =
-      head_event setup w ends known h t (λ side. (strict side).0) s i head v (answered ends (event.Head s i head)).0 (answered ends (event.Head s i head)).1 refl step.step (λ side done final. knows (ap is_server side) (ap is_done done) final)
-  event_tally (event.Fields s i fields) w v ends known h g step knows t =
-      fields_event setup w ends known h t (λ side. (strict side).0) s i fields v (answered ends (event.Fields s i fields)).0 (answered ends (event.Fields s i fields)).1 refl step.step (λ side done final. knows (ap is_server side) (ap is_done done) final)
-  event_tally (event.Body s i bytes) w v ends known h g step knows t = body_event setup w ends known h t (λ side. (strict side).0) s i bytes v (answered ends (event.Body s i bytes)).0 (answered ends (event.Body s i bytes)).1 refl step.step
-  event_tally (event.Trailer s i trailer) w v ends known h g step knows t = trailer_event setup w ends known h t (λ side. (strict side).0) s i trailer v (answered ends (event.Trailer s i trailer)).0 (answered ends (event.Trailer s i trailer)).1 refl step.step
-  event_tally (event.TrailerFields s i fields) w v ends known h g step knows t =
-      trailer_fields_event setup w ends known h t (λ side. (strict side).0) s i fields v (answered ends (event.TrailerFields s i fields)).0 (answered ends (event.TrailerFields s i fields)).1 refl step.step
-  event_tally (event.Finish s i) w v ends known h g step knows t = finish_event setup w ends known h t (λ side. (strict side).0) s i v (answered ends (event.Finish s i)).0 (answered ends (event.Finish s i)).1 refl step.step
-  event_tally (event.Reset s i) w v ends known h g step knows t = reset_event setup w ends known h t s i v (answered ends (event.Reset s i)).0 (answered ends (event.Reset s i)).1 refl step.step
-  event_tally (event.Cancel s i) w v ends known h g step knows t = cancel_event setup w ends known h t s i v (answered ends (event.Cancel s i)).0 (answered ends (event.Cancel s i)).1 refl step.step
-  event_tally (event.Goaway s i) w v ends known h g step knows t = goaway_event setup w ends known h t s i v (answered ends (event.Goaway s i)).0 (answered ends (event.Goaway s i)).1 refl step.step
-  event_tally (event.Deliver s i count) w v ends known h g step knows t = deliver_event setup w ends known h t s i count v (answered ends (event.Deliver s i count)).0 (answered ends (event.Deliver s i count)).1 refl step.step
-  event_tally (event.DeliverEnd s i) w v ends known h g step knows t = end_event setup w ends known h t s i v (answered ends (event.DeliverEnd s i)).0 (answered ends (event.DeliverEnd s i)).1 refl step.step
-  event_tally (event.DeliverReset s i) w v ends known h g step knows t = lost_event setup w ends known h t s i v (answered ends (event.DeliverReset s i)).0 (answered ends (event.DeliverReset s i)).1 refl step.step
-  event_tally (event.Pull s i) w v ends known h g step knows t =
+  event_tally (event.OpenRequest s) w v ends known sendable h g step knows t = open_event setup w ends known h t s v (answered ends (event.OpenRequest s)).0 (answered ends (event.OpenRequest s)).1 refl (answer.Opened (next_id w)) step.step
+  event_tally (event.Head s i head) w v ends known sendable h g step knows t =
+      head_event setup w ends known h t (λ side. (strict side).0) s i head (header_read s head sendable) v (answered ends (event.Head s i head)).0 (answered ends (event.Head s i head)).1 refl step.step (λ side done final. knows (ap is_server side) (ap is_done done) final)
+  event_tally (event.Fields s i fields) w v ends known sendable h g step knows t =
+      fields_event setup w ends known h t (λ side. (strict side).0) s i fields (λ none. list_accepted laws.reading setup (takes_any (end_at ends s).announced) (other s) fields sendable none) v (answered ends (event.Fields s i fields)).0 (answered ends (event.Fields s i fields)).1 refl step.step (λ side done final. knows (ap is_server side) (ap is_done done) final)
+  event_tally (event.Body s i bytes) w v ends known sendable h g step knows t = body_event setup w ends known h t (λ side. (strict side).0) s i bytes v (answered ends (event.Body s i bytes)).0 (answered ends (event.Body s i bytes)).1 refl step.step
+  event_tally (event.Trailer s i trailer) w v ends known sendable h g step knows t = trailer_event setup w ends known h t (λ side. (strict side).0) s i trailer (header_read s trailer sendable) v (answered ends (event.Trailer s i trailer)).0 (answered ends (event.Trailer s i trailer)).1 refl step.step
+  event_tally (event.TrailerFields s i fields) w v ends known sendable h g step knows t =
+      trailer_fields_event setup w ends known h t (λ side. (strict side).0) s i fields (λ none. list_accepted laws.reading setup (takes_any (end_at ends s).announced) (other s) fields sendable none) v (answered ends (event.TrailerFields s i fields)).0 (answered ends (event.TrailerFields s i fields)).1 refl step.step
+  event_tally (event.Finish s i) w v ends known sendable h g step knows t = finish_event setup w ends known h t (λ side. (strict side).0) s i v (answered ends (event.Finish s i)).0 (answered ends (event.Finish s i)).1 refl step.step
+  event_tally (event.Reset s i) w v ends known sendable h g step knows t = reset_event setup w ends known h t s i v (answered ends (event.Reset s i)).0 (answered ends (event.Reset s i)).1 refl step.step
+  event_tally (event.Cancel s i) w v ends known sendable h g step knows t = cancel_event setup w ends known h t s i v (answered ends (event.Cancel s i)).0 (answered ends (event.Cancel s i)).1 refl step.step
+  event_tally (event.Goaway s i) w v ends known sendable h g step knows t = goaway_event setup w ends known h t s i v (answered ends (event.Goaway s i)).0 (answered ends (event.Goaway s i)).1 refl step.step
+  event_tally (event.Deliver s i count) w v ends known sendable h g step knows t = deliver_event setup w ends known h t s i count v (answered ends (event.Deliver s i count)).0 (answered ends (event.Deliver s i count)).1 refl step.step
+  event_tally (event.DeliverEnd s i) w v ends known sendable h g step knows t = end_event setup w ends known h t s i v (answered ends (event.DeliverEnd s i)).0 (answered ends (event.DeliverEnd s i)).1 refl step.step
+  event_tally (event.DeliverReset s i) w v ends known sendable h g step knows t = lost_event setup w ends known h t s i v (answered ends (event.DeliverReset s i)).0 (answered ends (event.DeliverReset s i)).1 refl step.step
+  event_tally (event.Pull s i) w v ends known sendable h g step knows t =
       known_less setup v (answered ends (event.Pull s i)).1 (λ j. if is_server s && (i == j) && hands_head (pulls (end_at ends s) i).0 then true else known j) _ (λ j is. is)
       (pull_tally laws setup made w ends known h t strict s i v step.step step.no_connection_fault g)
-  event_tally (event.PullFields s i) w v ends known h g step knows t =
+  event_tally (event.PullFields s i) w v ends known sendable h g step knows t =
       let e = end_at ends s in
       let p = (pulls e i).0 in
       let o = fields_behind e.kept e i in
       known_less setup v (answered ends (event.PullFields s i)).1 (λ j. if is_server s && (i == j) && hands_head p then true else known j) _
       (λ j is. subst (λ b. (if is_server s && (i == j) && b then true else known j) ≡ true) (heads_same o p) is)
       (pull_tally laws setup made w ends known h t strict s i v (subst (λ q. Pulls (plain_setup setup) w s i q v) (reads_as s i w ends known h t) step.step.0) (sym (faults_same o p) ∙ step.no_connection_fault) g)
-  event_tally (event.Show s) w v ends known h g step knows t = subst (λ u. Tallies setup u ends known) (sym step.step.1) t
+  event_tally (event.Show s) w v ends known sendable h g step knows t = subst (λ u. Tallies setup u ends known) (sym step.step.1) t
 
   -- what comes is never too long
   none_too_long : (s : Side) (ends : Ends) → (end_at ends s).announced ≡ announced_at setup s → TakesAnyLength (announced_at setup s) → (a : Answer) → was_too_long ends s a ≡ false
@@ -201,7 +209,7 @@ module _ (laws : Laws) (setup : Setup) (made : IsMadeSetup (plain_setup setup)) 
         let plain = plain_setup setup in
         let begun = new_ends plain in
         let all = all_more past e r.sendable sendable in
-        let next = runs (past ++ e ∷ []) all in
+        let next = runs (past ++ e ∷ []) (all_widen (both_take_any setup) (past ++ e ∷ []) all) in
         let answers : answers_of_ends begun (past ++ e ∷ []) ≡ answers_of_ends begun past ++ (answered ends e).0 ∷ [] =
         answers_more begun past e ∙ ap (λ x. answers_of_ends begun past ++ (answered x e).0 ∷ []) r.leads ∙ ap (λ (x : Answer × Ends). answers_of_ends begun past ++ x.0 ∷ []) same in
         let leads : ends_after begun (past ++ e ∷ []) ≡ plain_ends (answered ends e).1 = ends_more begun past e ∙ ap (λ x. (answered x e).1) r.leads ∙ ap (λ (x : Answer × Ends). x.1) same in
@@ -215,7 +223,7 @@ module _ (laws : Laws) (setup : Setup) (made : IsMadeSetup (plain_setup setup)) 
           world = next.0;
           run = next.1;
           stands = stands;
-          tallies = event_tally e r.world next.0 ends known r.stands stands happens knows r.tallies;
+          tallies = event_tally e r.world next.0 ends known sendable r.stands stands happens knows r.tallies;
         }
 
     next_from : (events past : List Event) (ends : Ends) (known : ℕ → Bool) (e : Event) → StepsPlainly ends e → IsSendable setup e → AnswersKnowing known e (answered ends e).0

@@ -4,7 +4,6 @@ use Rattle.std.specs.Prelude.{not, ◌&&◌, ◌==◌, nat_lt, take, unwrap_or}
 use Rattle.std.specs.List.{AllByRecursion}
 use Rattle.h3_field.specs.Field.{Field}
 use Rattle.h3_header.specs.Head.{head_fields}
-use Rattle.h3_header.specs.Reads.{head_of_fields}
 use Rattle.h3_messages.specs.Content.{left_behind}
 use Rattle.h3_messages.specs.declared.content.Content.TheVariants.{Unsaid}
 use Rattle.h3_proto.specs.declared.stream.Side.{Side}
@@ -42,18 +41,14 @@ use Rattle.h3_connection.specs.declared.setup.Announced.{Announced}
 use Rattle.h3_world.specs.Delivering.{reset_code}
 use Rattle.h3_world.specs.EndLists.{fields_refusal, send_fields, send_trailer_fields, trailer_fields_refusal}
 use Rattle.h3_world.specs.Ends.{Ends, answered, done, end_at, was_listed, was_offered, was_pulled, with_end}
-use Rattle.h3_world.specs.Lists.{unreadable}
-use Rattle.h3_world.specs.Setup.{takes_any}
 use Rattle.h3_world.specs.declared.event.Answer.{Answer}
 use Rattle.h3_world.specs.declared.event.Answer.TheVariants as answer
 use Rattle.h3_world.specs.declared.event.Event.{Event}
 use Rattle.h3_world.specs.declared.event.Event.TheVariants as event
-use Rattle.h3_connection.specs.StrictSending.{broken_protocol}
 use Rattle.h3_strict.specs.CountsNothing.{CountsNothing, RefusesAlike, comes_uncounted, is_uncounted}
 use Rattle.h3_strict.specs.Plainly.{plainly}
 use Rattle.h3_strict.proofs.KeepsCounts.{SameStreams, if_learned_same, unidirectional_same}
-use Rattle.h3_strict.proofs.PlainParts.{told}
-use Rattle.h3_strict.proofs.PlainSends.{bodies_same, ends_same, heads_same, trailers_same}
+use Rattle.h3_strict.proofs.PlainSends.{bodies_same, ends_same, fields_same, head_same, told, trailer_fields_same, trailer_same}
 use Rattle.h3_strict.proofs.UncountedPulls.{pull_uncounted}
 
 abbrev AllUncounted : Streams Outgoing → Type 0
@@ -390,11 +385,11 @@ module _ (own : Announced) where
   refuses_alike e h =
       let loose : e.announced.choices.strict_messages ≡ false = ap (λ (a : Announced). a.choices.strict_messages) h.0 ∙ h.1 in
       record {
-        head = λ id head. same _ _ (plainly e) e _ _ (heads_same e id loose (none e id h) (broken_protocol e.announced head) head (head_fields head));
-        fields = λ id fields. same _ _ (plainly e) e _ _ (heads_same e id loose (none e id h) (unreadable (takes_any e.announced) fields) (head_of_fields fields) fields);
+        head = λ id head. head_same e id loose (none e id h) head;
+        fields = λ id fields. fields_same e id loose (none e id h) fields;
         body = λ id bytes. same _ _ (plainly e) e _ _ (bodies_same e id loose (none e id h) (length bytes));
-        trailer = λ id trailer. same _ _ (plainly e) e _ _ (trailers_same e id loose (none e id h) (broken_protocol e.announced trailer) trailer (head_fields trailer));
-        trailer_fields = λ id fields. same _ _ (plainly e) e _ _ (trailers_same e id loose (none e id h) (unreadable (takes_any e.announced) fields) (head_of_fields fields) fields);
+        trailer = λ id trailer. trailer_same e id loose (none e id h) trailer;
+        trailer_fields = λ id fields. trailer_fields_same e id loose (none e id h) fields;
         end = λ id. same _ _ (plainly e) e _ _ (ends_same e id loose (none e id h));
       }
     where

@@ -8,13 +8,14 @@ use Rattle.h3_world.specs.Ends.{answers_of_ends, ends_after, new_ends}
 use Rattle.h3_world.specs.Headline.{Happens, is_connection_fault}
 use Rattle.h3_world.specs.Run.{Run}
 use Rattle.h3_world.specs.Sendable.{IsSendable}
-use Rattle.h3_world.specs.Setup.{IsMadeSetup, JudgesPlainly, Setup}
+use Rattle.h3_world.specs.Setup.{IsMadeSetup, JudgesPlainly, Setup, both_take_any}
 use Rattle.h3_world.specs.World.{World, empty_world}
 use Rattle.h3_world.specs.declared.event.Answer.{Answer}
 use Rattle.h3_world.specs.declared.event.Event.{Event}
 use Rattle.h3_headline.specs.Exactly.{IsAllOf, IsExactly, Reader, reader_at}
 use Rattle.h3_headline.specs.Messages.{IsFrontOf, MessageContent, has_finished, has_pulled_end, pulled, sent}
 use Rattle.h3_headline.specs.Standing.{Stands}
+use Rattle.h3_strict.specs.NarrowLaws.{all_widen}
 use Rattle.h3_strict.specs.PlainEnds.{RunsPlainly, answers_without_malformed, plain_ends, plain_setup, without_malformed}
 use Rattle.h3_strict.proofs.PlainMessages.{same_ended, same_faults, same_finished, same_pulled, same_sent, sendable_left}
 use Rattle.h3_strict.proofs.PlainSetups.{judges_plainly, setup_plainly}
@@ -36,8 +37,8 @@ module _ (setup : Setup) (events : List Event) (made : IsMadeSetup setup) (senda
   abbrev left_answers : List Answer
   left_answers = answers_without_malformed (answers_of_ends (new_ends setup) events)
 
-  pub may_be_sent : AllByRecursion (IsSendable setup) left
-  may_be_sent = sendable_left setup events (answers_of_ends (new_ends setup) events) sendable
+  pub may_be_sent : AllByRecursion (IsSendable (plain_setup setup)) left
+  may_be_sent = all_widen (both_take_any setup) left (sendable_left setup events (answers_of_ends (new_ends setup) events) sendable)
 
   abbrev plain_answers : List Answer
   plain_answers = answers_of_ends (new_ends (plain_setup setup)) left

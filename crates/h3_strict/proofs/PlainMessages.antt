@@ -4,6 +4,7 @@ use Rattle.std.specs.Prelude.{◌||◌}
 use Rattle.std.specs.List.{AllByRecursion, list_any}
 use Rattle.h3_proto.specs.declared.stream.Side.{Side}
 use Rattle.h3_headline.specs.Messages.{MessageContent, all_of, any_of, ended_in, finished_in, has_finished, has_pulled_end, pulled, pulled_in, sent, sent_in}
+use Rattle.h3_connection.specs.declared.event.Refusal.TheVariants as refusal
 use Rattle.h3_world.specs.Headline.{is_connection_fault}
 use Rattle.h3_world.specs.Sendable.{IsSendable}
 use Rattle.h3_world.specs.declared.event.Answer.{Answer}
@@ -43,16 +44,16 @@ any_without f none (e ∷ events) (a ∷ answers) = any_if f e a events answers 
 
 module _ (side : Side) (id : ℕ) (events : List Event) (answers : List Answer) where
   pub same_sent : sent side id (without_malformed events answers) (answers_without_malformed answers) ≡ sent side id events answers
-  same_sent = all_without (sent_in side id) (λ e a is. let r = refused_is a is in ap (sent_in side id e) r.1 ∙ sends_none r.0 side id e) events answers
+  same_sent = all_without (sent_in side id) (λ e a is. let r = refused_is a is in ap (sent_in side id e) r.1 ∙ sends_none (refusal.Malformed r.0) side id e) events answers
 
   pub same_pulled : pulled side id (without_malformed events answers) (answers_without_malformed answers) ≡ pulled side id events answers
-  same_pulled = all_without (pulled_in side id) (λ e a is. let r = refused_is a is in ap (pulled_in side id e) r.1 ∙ pulls_none r.0 side id e) events answers
+  same_pulled = all_without (pulled_in side id) (λ e a is. let r = refused_is a is in ap (pulled_in side id e) r.1 ∙ pulls_none (refusal.Malformed r.0) side id e) events answers
 
   pub same_finished : has_finished side id (without_malformed events answers) (answers_without_malformed answers) ≡ has_finished side id events answers
-  same_finished = any_without (finished_in side id) (λ e a is. let r = refused_is a is in ap (finished_in side id e) r.1 ∙ finishes_none r.0 side id e) events answers
+  same_finished = any_without (finished_in side id) (λ e a is. let r = refused_is a is in ap (finished_in side id e) r.1 ∙ finishes_none (refusal.Malformed r.0) side id e) events answers
 
   pub same_ended : has_pulled_end side id (without_malformed events answers) (answers_without_malformed answers) ≡ has_pulled_end side id events answers
-  same_ended = any_without (ended_in side id) (λ e a is. let r = refused_is a is in ap (ended_in side id e) r.1 ∙ ends_none r.0 side id e) events answers
+  same_ended = any_without (ended_in side id) (λ e a is. let r = refused_is a is in ap (ended_in side id e) r.1 ∙ ends_none (refusal.Malformed r.0) side id e) events answers
 
 -- no fault is lost
 faults_if : (a : Answer) (answers : List Answer) (b : Bool) → (b ≡ true → is_connection_fault a ≡ false) → list_any is_connection_fault (answers_without_malformed answers) ≡ list_any is_connection_fault answers

@@ -22,6 +22,7 @@ use Rattle.h3_connection.specs.Unidirectional.{Role, role_after, with_bytes}
 use Rattle.h3_connection.specs.Unidirectional.Role.{Control, Decoder, Encoder, Ignored, Push, Session, Untold, Other}
 use Rattle.h3_connection.specs.declared.arrival.Arrival.{Arrival}
 use Rattle.h3_connection.specs.declared.arrival.Arrival.TheVariants.{BytesCame}
+use Rattle.h3_connection.specs.declared.event.Malformation.{Malformation}
 use Rattle.h3_connection.specs.declared.event.Refusal.{Refusal}
 use Rattle.h3_connection.specs.declared.setup.Announced.{Announced}
 use Rattle.h3_headline.specs.PeerStreams.{no_limit}
@@ -30,7 +31,7 @@ use Rattle.h3_strict.specs.Plainly.{is_excess, plain_incoming, plainly}
 use Rattle.h3_strict.proofs.InstructionReading.{HearsAlike, HearsLong, HearsSame, ListensAlike, ListensLong, ListensSame, hears_alike, listens_alike}
 use Rattle.h3_strict.proofs.PlainPulled.{lists_plain}
 use Rattle.h3_strict.proofs.PlainReading.{IsLong, IsTooLong, PeerPlainly, ReadsAlike, ReadsPlainly, ReadsSame, arrival_plain, bad_plain, learned_plain, opened_plain, peer_plain, plain_found, refused_plain, with_in}
-use Rattle.h3_strict.proofs.PlainSends.{advances_plainly, cancels_alike, fields_alike, goaways_alike, heads_alike, opens_alike, trailer_fields_alike, trailers_alike}
+use Rattle.h3_strict.proofs.PlainSends.{advances_plainly, cancels_alike, fields_alike, goaways_alike, heads_alike, opens_alike, told, trailer_fields_alike, trailers_alike}
 use Rattle.h3_strict.proofs.PlainSteps.{finished, has_one, waits, was_reset}
 use Rattle.h3_strict.proofs.PlainStreams.{at_each}
 
@@ -133,13 +134,8 @@ settles_plain e id PeerUnidirectional = refl
 settles_plain e id ServerOpened = refl
 settles_plain e id OwnUnidirectional = refl
 
--- a call is told by its rules
-pub told : (p : Option Refusal) (e f : EndpointHistory) → (does p e f).0 ≡ p
-told None e f = refl
-told (Some r) e f = refl
-
-called : (p q : Option Refusal) (e f g h : EndpointHistory) → RulesPlainly p q → RulesPlainly (does p e f).0 (does q g h).0
-called p q e f g h rules = subst (λ x. RulesPlainly x (does q g h).0) (sym (told p e f)) (subst (RulesPlainly p) (sym (told q g h)) rules)
+called : {unread : Option Malformation} (p q : Option Refusal) (e f g h : EndpointHistory) → RulesPlainly unread p q → RulesPlainly unread (does p e f).0 (does q g h).0
+called {unread = unread} p q e f g h rules = subst (λ x. RulesPlainly unread x (does q g h).0) (sym (told p e f)) (subst (RulesPlainly unread p) (sym (told q g h)) rules)
 
 -- **All that an end does so.**
 pub does_so : (e : EndpointHistory) → DoesPlainly e

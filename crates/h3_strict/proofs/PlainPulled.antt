@@ -231,7 +231,7 @@ section_plain : (own : Announced) (i : Incoming) (o : Option (List ℕ)) → nex
 section_plain own i None = refl
 section_plain own i (Some bytes) = refl
 
-items_plain : (e : EndpointHistory) (id : ℕ) → fields_item (plainly e) id ≡ fields_item e id
+pub items_plain : (e : EndpointHistory) (id : ℕ) → fields_item (plainly e) id ≡ fields_item e id
 items_plain e id = by_kind (kind_of e.side id)
   where
     at_stream : (o : Option Incoming) → fields_there e.announced e.decoding.decoder (option_map plain_incoming o) ≡ fields_there e.announced e.decoding.decoder o

@@ -1,5 +1,5 @@
 -- A pull of one request stream: a rule of strict messages judges its message, or it is answered as without strict messages.
-use Rattle.std.proofs.Common.{arith, ◌≡◌, ◌≤◌, ℕ, Bool, true, false, if◌then◌else◌, List, [], ◌∷◌, length, refl, subst, sym, Option, Some, None}
+use Rattle.std.proofs.Common.{arith, ◌≡◌, ◌⊎◌, inl, inr, ◌≤◌, ℕ, Bool, true, false, if◌then◌else◌, List, [], ◌∷◌, length, refl, subst, sym, Option, Some, None}
 use Rattle.std.specs.Prelude.{not, ◌&&◌, ◌==◌, ◌^◌, ◌-◌, nat_lt}
 use Rattle.std.specs.List.{concat}
 use Rattle.h3_field.specs.Field.{Field}
@@ -7,7 +7,7 @@ use Rattle.h3_field.specs.Instruction.{DecoderInstruction}
 use Rattle.h3_qpack.specs.DecoderState.{DecoderState}
 use Rattle.h3_qpack.specs.DecodedSection.{DecodedSection, Fields, Missing, BadSection, decode_section}
 use Rattle.h3_header.specs.Head.{Head, has_pseudo}
-use Rattle.h3_header.specs.HeadRead.{HeadRead, IsHead, IsNone, head_by}
+use Rattle.h3_header.specs.HeadRead.{HeadRead, IsHead, IsNone, Value, head_by}
 use Rattle.h3_messages.specs.Content.{is_exceeded, may_end, takes_trailer}
 use Rattle.h3_proto.specs.declared.stream.Side.{Side}
 use Rattle.h3_proto.specs.declared.stream.Side.TheVariants.{Client, Server}
@@ -34,6 +34,7 @@ use Rattle.h3_connection.specs.declared.place.Place.{Place}
 use Rattle.h3_connection.specs.StrictConnection.{is_no_session, kinds_of}
 use Rattle.h3_connection.specs.declared.place.Place.TheVariants.{BeforeHead, InBody, AfterTrailer, InSession}
 use Rattle.h3_connection.specs.declared.setup.Announced.{Announced}
+use Rattle.h3_strict.specs.NarrowLaws.{reads_less}
 use Rattle.h3_strict.specs.Plainly.{plain, plain_incoming, tells_malformed}
 
 -- the same answer, of a stream without what strict messages know of it
@@ -104,7 +105,19 @@ module _ (side : Side) (own : Announced) (id : ℕ) (r : DecoderState) where
   read_plain : (n : ℕ) (i : Incoming) (replies : List DecoderInstruction) (fields : List Field) → PullsPlainly n (read_section side own id r i replies fields) (read_section side (plain own) id r (plain_incoming i) replies fields)
   read_plain n i replies fields =
       either n (nat_lt (section_of own) (told_size fields)) _ _ _ _ (Same refl)
-      (judged_plain n side id (with_content side own i fields) replies (if_whole i.content (broken_rule side own i.place fields)) (head_by own.choices.extensions.any_protocol fields))
+      (by_read (reads_less own.choices.extensions.any_protocol fields))
+    where
+      j : Incoming
+      j = with_content side own i fields
+
+      broken : Option Malformation
+      broken = if_whole i.content (broken_rule side own i.place fields)
+
+      -- what the end does not read is malformed
+      by_read : (head_by own.choices.extensions.any_protocol fields ≡ head_by true fields) ⊎ ((head_by own.choices.extensions.any_protocol fields ≡ IsNone Value) × (own.choices.extensions.any_protocol ≡ false))
+          → PullsPlainly n (judged side id j replies broken (head_by own.choices.extensions.any_protocol fields)) (judged side id (plain_incoming j) replies None (head_by true fields))
+      by_read (inl same) = subst (λ h. PullsPlainly n (judged side id j replies broken h) (judged side id (plain_incoming j) replies None (head_by true fields))) (sym same) (judged_plain n side id j replies broken (head_by true fields))
+      by_read (inr value) = subst (λ h. PullsPlainly n (judged side id j replies broken h) (judged side id (plain_incoming j) replies None (head_by true fields))) (sym value.0) (Judged refl (least n))
 
   decoded_plain : (n : ℕ) (i : Incoming) (d : DecodedSection) → PullsPlainly n (decoded side own id r i d) (decoded side (plain own) id r (plain_incoming i) d)
   decoded_plain n i (Fields fields count) = read_plain n (past_section i) (acknowledgment id count) fields

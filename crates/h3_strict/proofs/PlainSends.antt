@@ -40,8 +40,9 @@ use Rattle.h3_proto.specs.declared.stream.Side.{Side}
 use Rattle.h3_proto.specs.declared.stream.Side.TheVariants.{Client, Server}
 use Rattle.h3_connection.specs.declared.setup.Announced.{Announced}
 use Rattle.h3_strict.specs.Plainly.{each_stream, plain, plain_incoming, plain_outgoing, plainly}
-use Rattle.h3_strict.specs.PlainAlike.{Agrees, RulesPlainly}
-use Rattle.h3_strict.proofs.PlainCalls.{AcceptsOrLarge, CallsPlainly, behind, if_broken, unless_broken, if_open, does_plainly}
+use Rattle.h3_strict.specs.PlainAlike.{Agrees, RulesPlainly, SameUnless}
+use Rattle.h3_strict.specs.NarrowLaws.{list_narrows, protocol_narrows}
+use Rattle.h3_strict.proofs.PlainCalls.{AcceptsOrLarge, CallsPlainly, behind, if_broken, unless_broken, if_open, does_plainly, reads_own, same_behind, same_open, same_own}
 use Rattle.h3_strict.proofs.PlainStreams.{above_each, at_each, set_each, set_alike, in_at, out_at}
 
 -- one sender changes
@@ -128,39 +129,36 @@ module _ (e : EndpointHistory) (id : ℕ) where
       by_size true = inr (section_size fields, refl)
       by_size false = inl refl
 
-  -- a rule that both ends ask
-  both_unless : (rule : Option Malformation) (one two : List (Bool × Refusal)) → RulesPlainly (first_of one) (first_of two) → RulesPlainly (first_of (unless_malformed rule one)) (first_of (unless_malformed rule two))
-  both_unless None one two h = h
-  both_unless (Some why) one two h = Agrees refl
-
-  both_going : (going : Option ℕ) (one two : List (Bool × Refusal)) → RulesPlainly (first_of one) (first_of two) → RulesPlainly (first_of (unless_going going one)) (first_of (unless_going going two))
+  both_going : {unread : Option Malformation} (going : Option ℕ) (one two : List (Bool × Refusal)) → RulesPlainly unread (first_of one) (first_of two)
+      → RulesPlainly unread (first_of (unless_going going one)) (first_of (unless_going going two))
   both_going None one two h = h
-  both_going (Some last) one two h = Agrees refl
+  both_going (Some last) one two h = Agrees (inl refl)
 
-  head_rules_plain : (head : Head) (fields : List Field) (protocol broken : Option Malformation) (o : Option Outgoing)
-      → RulesPlainly (head_rules e (going_of e) o head fields protocol broken) (head_rules e (going_of e) (option_map plain_outgoing o) head fields protocol None)
-  head_rules_plain head fields protocol broken None = if_open e.closed _ _ (Agrees refl)
-  head_rules_plain head fields protocol broken (Some o) =
+  -- what the end does not read, and what no end does
+  head_rules_plain : (head : Head) (fields : List Field) (own all broken : Option Malformation) → (own ≡ None → all ≡ None) → (o : Option Outgoing)
+      → RulesPlainly own (head_rules e (going_of e) o head fields own broken) (head_rules e (going_of e) (option_map plain_outgoing o) head fields all None)
+  head_rules_plain head fields own all broken narrows None = if_open e.closed _ _ (Agrees (inl refl))
+  head_rules_plain head fields own all broken narrows (Some o) =
       let size = too_large fields in
       let judges = unless_malformed broken size in
       let sides : Bool × Refusal = (not (is_for (other e.side) head), refusal.WrongSide) in
-      let one = unless_malformed protocol (sides ∷ judges) in
-      let two = unless_malformed protocol (sides ∷ size) in
+      let one = unless_malformed own (sides ∷ judges) in
+      let two = unless_malformed all (sides ∷ size) in
       if_open e.closed _ _ (behind (not (takes_head o)) refusal.OutOfOrder (unless_going (going_of e) one) (unless_going (going_of e) two)
-      (both_going (going_of e) one two (both_unless protocol (sides ∷ judges) (sides ∷ size) (behind sides.0 sides.1 judges size (unless_broken broken size size (accepts_or_large fields) (Agrees refl))))))
+      (both_going (going_of e) one two (reads_own own all (sides ∷ judges) (sides ∷ size) narrows (behind sides.0 sides.1 judges size (unless_broken broken size size (accepts_or_large fields) (Agrees (inl refl)))))))
 
-  head_judged_plainly : (protocol : Option Malformation) (head : Head) (fields : List Field) → RulesPlainly (head_judged e id protocol head fields) (head_judged (plainly e) id protocol head fields)
-  head_judged_plainly protocol head fields =
+  head_judged_plainly : (own all : Option Malformation) → (own ≡ None → all ≡ None) → (head : Head) (fields : List Field) → RulesPlainly own (head_judged e id own head fields) (head_judged (plainly e) id all head fields)
+  head_judged_plainly own all narrows head fields =
       let broken = broken_head_at e id fields in
-      subst (λ g. RulesPlainly (head_rules e (going_of e) sent head fields protocol broken) (head_rules e g (stream_at (plainly e).outgoing id) head fields protocol None)) (sym (going_plain e.announced e.side (last_id e.peer.goaways)))
-      (found (λ o. RulesPlainly (head_rules e (going_of e) sent head fields protocol broken) (head_rules e (going_of e) o head fields protocol None)) (head_rules_plain head fields protocol broken sent))
+      subst (λ g. RulesPlainly own (head_rules e (going_of e) sent head fields own broken) (head_rules e g (stream_at (plainly e).outgoing id) head fields all None)) (sym (going_plain e.announced e.side (last_id e.peer.goaways)))
+      (found (λ o. RulesPlainly own (head_rules e (going_of e) sent head fields own broken) (head_rules e (going_of e) o head fields all None)) (head_rules_plain head fields own all broken narrows sent))
 
   -- a head that goes out as these fields
-  head_as_plainly : (protocol : Option Malformation) (head : Head) (fields : List Field)
-      → CallsPlainly e (does (head_judged e id protocol head fields) e (head_sent e id head fields)) (does (head_judged (plainly e) id protocol head fields) (plainly e) (head_sent (plainly e) id head fields))
-  head_as_plainly protocol head fields =
-      does_plainly (head_judged e id protocol head fields) (head_judged (plainly e) id protocol head fields) e _ _
-      (head_judged_plainly protocol head fields)
+  head_as_plainly : (own all : Option Malformation) → (own ≡ None → all ≡ None) → (head : Head) (fields : List Field)
+      → CallsPlainly e (does (head_judged e id own head fields) e (head_sent e id head fields)) (does (head_judged (plainly e) id all head fields) (plainly e) (head_sent (plainly e) id head fields))
+  head_as_plainly own all narrows head fields =
+      does_plainly (head_judged e id own head fields) (head_judged (plainly e) id all head fields) e _ _
+      (head_judged_plainly own all narrows head fields)
       (ap (λ (t : Streams Outgoing). record (plainly new) { incoming = each_stream plain_incoming e.incoming; outgoing = t }) outgoing_is
       ∙ ap (λ (s : Streams Incoming). record (plainly new) { incoming = s }) (sym incoming_is))
     where
@@ -201,25 +199,35 @@ module _ (e : EndpointHistory) (id : ℕ) where
       outgoing_is : set_stream (plainly e).outgoing id (with_part (outgoing_at (plainly e) id)) ≡ each_stream plain_outgoing new.outgoing
       outgoing_is = sets_out e id with_part (λ o. refl) ∙ sym (if_said e.announced.choices.strict_messages)
 
-  pub heads_alike : (head : Head) → RulesPlainly (head_judged e id (broken_protocol e.announced head) head (head_fields head)) (head_judged (plainly e) id (broken_protocol e.announced head) head (head_fields head))
-  heads_alike head = head_judged_plainly (broken_protocol e.announced head) head (head_fields head)
+  -- what the end does not read of a header or a list, and what no end does
+  abbrev own_head : Head → Option Malformation
+  own_head head = broken_protocol e.announced head
+
+  abbrev any_head : Head → Option Malformation
+  any_head head = broken_protocol (plain e.announced) head
+
+  abbrev own_list : List Field → Option Malformation
+  own_list fields = unreadable (takes_any e.announced) fields
+
+  pub heads_alike : (head : Head) → RulesPlainly (broken_protocol e.announced head) (head_judged e id (broken_protocol e.announced head) head (head_fields head)) (head_judged (plainly e) id (broken_protocol (plain e.announced) head) head (head_fields head))
+  heads_alike head = head_judged_plainly (own_head head) (any_head head) (protocol_narrows e.announced head) head (head_fields head)
 
   pub fields_alike : (fields : List Field)
-      → RulesPlainly (head_judged e id (unreadable (takes_any e.announced) fields) (head_of_fields fields) fields) (head_judged (plainly e) id (unreadable (takes_any e.announced) fields) (head_of_fields fields) fields)
-  fields_alike fields = head_judged_plainly (unreadable (takes_any e.announced) fields) (head_of_fields fields) fields
+      → RulesPlainly (unreadable (takes_any e.announced) fields) (head_judged e id (unreadable (takes_any e.announced) fields) (head_of_fields fields) fields) (head_judged (plainly e) id (unreadable true fields) (head_of_fields fields) fields)
+  fields_alike fields = head_judged_plainly (own_list fields) (unreadable true fields) (list_narrows (takes_any e.announced) fields) (head_of_fields fields) fields
 
   pub heads_plainly : (head : Head) → CallsPlainly e (send_head e id head) (send_head (plainly e) id head)
-  heads_plainly head = head_as_plainly (broken_protocol e.announced head) head (head_fields head)
+  heads_plainly head = head_as_plainly (own_head head) (any_head head) (protocol_narrows e.announced head) head (head_fields head)
 
   pub fields_plainly : (fields : List Field) → CallsPlainly e (send_fields e id fields) (send_fields (plainly e) id fields)
-  fields_plainly fields = head_as_plainly (unreadable (takes_any e.announced) fields) (head_of_fields fields) fields
+  fields_plainly fields = head_as_plainly (own_list fields) (unreadable true fields) (list_narrows (takes_any e.announced) fields) (head_of_fields fields) fields
 
-  body_rules_plain : (size : ℕ) (o : Option Outgoing) → RulesPlainly (body_rules e o size) (body_rules e (option_map plain_outgoing o) size)
-  body_rules_plain size None = if_open e.closed _ _ (Agrees refl)
+  body_rules_plain : (size : ℕ) (o : Option Outgoing) → RulesPlainly None (body_rules e o size) (body_rules e (option_map plain_outgoing o) size)
+  body_rules_plain size None = if_open e.closed _ _ (Agrees (inl refl))
   body_rules_plain size (Some o) =
       let passes = passes_content o.content size in
       if_open e.closed _ _ (behind (not (takes_body o)) refusal.OutOfOrder ((passes, refusal.Malformed malformation.ContentLength) ∷ []) ((false, refusal.Malformed malformation.ContentLength) ∷ [])
-      (if_broken passes malformation.ContentLength [] ((false, refusal.Malformed malformation.ContentLength) ∷ []) (inl refl) (Agrees refl)))
+      (if_broken passes malformation.ContentLength [] ((false, refusal.Malformed malformation.ContentLength) ∷ []) (inl refl) (Agrees (inl refl))))
 
   body_is : (bytes : List ℕ) → counted (sent_bytes (plainly e) id bytes) (length bytes) ≡ plainly (counted (sent_bytes e id bytes) (length bytes))
   body_is [] = refl
@@ -228,72 +236,74 @@ module _ (e : EndpointHistory) (id : ℕ) where
   pub bodies_plainly : (bytes : List ℕ) → CallsPlainly e (send_body e id bytes) (send_body (plainly e) id bytes)
   bodies_plainly bytes =
       does_plainly (body_refusal e id (length bytes)) (body_refusal (plainly e) id (length bytes)) e _ _
-      (found (λ o. RulesPlainly (body_rules e sent (length bytes)) (body_rules e o (length bytes))) (body_rules_plain (length bytes) sent)) (body_is bytes)
+      (found (λ o. RulesPlainly None (body_rules e sent (length bytes)) (body_rules e o (length bytes))) (body_rules_plain (length bytes) sent)) (body_is bytes)
 
-  trailer_rules_plain : (head : Head) (fields : List Field) (protocol broken : Option Malformation) (o : Option Outgoing) → RulesPlainly (trailer_rules e o head fields protocol broken) (trailer_rules e (option_map plain_outgoing o) head fields protocol None)
-  trailer_rules_plain head fields protocol broken None = if_open e.closed _ _ (Agrees refl)
-  trailer_rules_plain head fields protocol broken (Some o) =
+  trailer_rules_plain : (head : Head) (fields : List Field) (own all broken : Option Malformation) → (own ≡ None → all ≡ None) → (o : Option Outgoing)
+      → RulesPlainly own (trailer_rules e o head fields own broken) (trailer_rules e (option_map plain_outgoing o) head fields all None)
+  trailer_rules_plain head fields own all broken narrows None = if_open e.closed _ _ (Agrees (inl refl))
+  trailer_rules_plain head fields own all broken narrows (Some o) =
       let size = too_large fields in
       let judges = unless_malformed broken size in
       let early = unless_malformed (early_trailer o.content) judges in
       let pseudo : Bool × Refusal = (has_pseudo head, refusal.PseudoInTrailer) in
-      if_open e.closed _ _ (behind (not (takes_body o)) refusal.OutOfOrder (unless_malformed protocol (pseudo ∷ early)) (unless_malformed protocol (pseudo ∷ size))
-      (both_unless protocol (pseudo ∷ early) (pseudo ∷ size) (behind pseudo.0 pseudo.1 early size
-      (unless_broken (early_trailer o.content) judges size (accepts_or_large fields) (unless_broken broken size size (accepts_or_large fields) (Agrees refl))))))
+      if_open e.closed _ _ (behind (not (takes_body o)) refusal.OutOfOrder (unless_malformed own (pseudo ∷ early)) (unless_malformed all (pseudo ∷ size))
+      (reads_own own all (pseudo ∷ early) (pseudo ∷ size) narrows (behind pseudo.0 pseudo.1 early size
+      (unless_broken (early_trailer o.content) judges size (accepts_or_large fields) (unless_broken broken size size (accepts_or_large fields) (Agrees (inl refl)))))))
 
-  trailer_judged_plainly : (protocol : Option Malformation) (head : Head) (fields : List Field) → RulesPlainly (trailer_judged e id protocol head fields) (trailer_judged (plainly e) id protocol head fields)
-  trailer_judged_plainly protocol head fields =
+  trailer_judged_plainly : (own all : Option Malformation) → (own ≡ None → all ≡ None) → (head : Head) (fields : List Field) → RulesPlainly own (trailer_judged e id own head fields) (trailer_judged (plainly e) id all head fields)
+  trailer_judged_plainly own all narrows head fields =
       let broken = broken_trailer e.announced fields in
-      found (λ o. RulesPlainly (trailer_rules e sent head fields protocol broken) (trailer_rules e o head fields protocol None)) (trailer_rules_plain head fields protocol broken sent)
+      found (λ o. RulesPlainly own (trailer_rules e sent head fields own broken) (trailer_rules e o head fields all None)) (trailer_rules_plain head fields own all broken narrows sent)
 
-  trailer_as_plainly : (protocol : Option Malformation) (head : Head) (fields : List Field)
-      → CallsPlainly e (does (trailer_judged e id protocol head fields) e (after_trailer_fields e id fields)) (does (trailer_judged (plainly e) id protocol head fields) (plainly e) (after_trailer_fields (plainly e) id fields))
-  trailer_as_plainly protocol head fields =
+  trailer_as_plainly : (own all : Option Malformation) → (own ≡ None → all ≡ None) → (head : Head) (fields : List Field)
+      → CallsPlainly e (does (trailer_judged e id own head fields) e (after_trailer_fields e id fields)) (does (trailer_judged (plainly e) id all head fields) (plainly e) (after_trailer_fields (plainly e) id fields))
+  trailer_as_plainly own all narrows head fields =
       let part : OwnPart = OwnTrailer (written_section e.encoder id fields) in
       let new : EndpointHistory = counted (appended (encoded e id fields) id part) (fields_cost fields) in
-      does_plainly (trailer_judged e id protocol head fields) (trailer_judged (plainly e) id protocol head fields) e _ _
-      (trailer_judged_plainly protocol head fields)
+      does_plainly (trailer_judged e id own head fields) (trailer_judged (plainly e) id all head fields) e _ _
+      (trailer_judged_plainly own all narrows head fields)
       (with_out e new id (λ o. record o { parts = o.parts ++ part ∷ [] }) (λ o. refl))
 
-  pub trailers_alike : (head : Head) → RulesPlainly (trailer_judged e id (broken_protocol e.announced head) head (head_fields head)) (trailer_judged (plainly e) id (broken_protocol e.announced head) head (head_fields head))
-  trailers_alike head = trailer_judged_plainly (broken_protocol e.announced head) head (head_fields head)
+  pub trailers_alike : (head : Head)
+      → RulesPlainly (broken_protocol e.announced head) (trailer_judged e id (broken_protocol e.announced head) head (head_fields head)) (trailer_judged (plainly e) id (broken_protocol (plain e.announced) head) head (head_fields head))
+  trailers_alike head = trailer_judged_plainly (own_head head) (any_head head) (protocol_narrows e.announced head) head (head_fields head)
 
   pub trailer_fields_alike : (fields : List Field)
-      → RulesPlainly (trailer_judged e id (unreadable (takes_any e.announced) fields) (head_of_fields fields) fields) (trailer_judged (plainly e) id (unreadable (takes_any e.announced) fields) (head_of_fields fields) fields)
-  trailer_fields_alike fields = trailer_judged_plainly (unreadable (takes_any e.announced) fields) (head_of_fields fields) fields
+      → RulesPlainly (unreadable (takes_any e.announced) fields) (trailer_judged e id (unreadable (takes_any e.announced) fields) (head_of_fields fields) fields) (trailer_judged (plainly e) id (unreadable true fields) (head_of_fields fields) fields)
+  trailer_fields_alike fields = trailer_judged_plainly (own_list fields) (unreadable true fields) (list_narrows (takes_any e.announced) fields) (head_of_fields fields) fields
 
   pub trailers_plainly : (head : Head) → CallsPlainly e (send_trailer e id head) (send_trailer (plainly e) id head)
-  trailers_plainly head = trailer_as_plainly (broken_protocol e.announced head) head (head_fields head)
+  trailers_plainly head = trailer_as_plainly (own_head head) (any_head head) (protocol_narrows e.announced head) head (head_fields head)
 
   pub trailer_fields_plainly : (fields : List Field) → CallsPlainly e (send_trailer_fields e id fields) (send_trailer_fields (plainly e) id fields)
-  trailer_fields_plainly fields = trailer_as_plainly (unreadable (takes_any e.announced) fields) (head_of_fields fields) fields
+  trailer_fields_plainly fields = trailer_as_plainly (own_list fields) (unreadable true fields) (list_narrows (takes_any e.announced) fields) (head_of_fields fields) fields
 
-  finish_rules_plain : (o : Option Outgoing) → RulesPlainly (finish_rules e o) (finish_rules e (option_map plain_outgoing o))
-  finish_rules_plain None = if_open e.closed _ _ (Agrees refl)
+  finish_rules_plain : (o : Option Outgoing) → RulesPlainly None (finish_rules e o) (finish_rules e (option_map plain_outgoing o))
+  finish_rules_plain None = if_open e.closed _ _ (Agrees (inl refl))
   finish_rules_plain (Some o) =
       let early = not (may_end o.content) in
       if_open e.closed _ _ (behind (not (takes_end o)) refusal.OutOfOrder ((early, refusal.Malformed malformation.ContentLength) ∷ []) ((false, refusal.Malformed malformation.ContentLength) ∷ [])
-      (if_broken early malformation.ContentLength [] ((false, refusal.Malformed malformation.ContentLength) ∷ []) (inl refl) (Agrees refl)))
+      (if_broken early malformation.ContentLength [] ((false, refusal.Malformed malformation.ContentLength) ∷ []) (inl refl) (Agrees (inl refl))))
 
   pub ends_plainly : CallsPlainly e (finish e id) (finish (plainly e) id)
   ends_plainly =
       does_plainly (finish_refusal e id) (finish_refusal (plainly e) id) e _ _
-      (found (λ o. RulesPlainly (finish_rules e sent) (finish_rules e o)) (finish_rules_plain sent)) (with_out e e id with_finish (λ o. refl))
+      (found (λ o. RulesPlainly None (finish_rules e sent) (finish_rules e o)) (finish_rules_plain sent)) (with_out e e id with_finish (λ o. refl))
 
-  reset_rules_plain : (o : Option Outgoing) → RulesPlainly (reset_rules e id o) (reset_rules e id (option_map plain_outgoing o))
-  reset_rules_plain None = Agrees refl
-  reset_rules_plain (Some o) = Agrees refl
+  reset_rules_plain : (o : Option Outgoing) → RulesPlainly None (reset_rules e id o) (reset_rules e id (option_map plain_outgoing o))
+  reset_rules_plain None = Agrees (inl refl)
+  reset_rules_plain (Some o) = Agrees (inl refl)
 
   pub resets_plainly : CallsPlainly e (reset e id) (reset (plainly e) id)
   resets_plainly =
       does_plainly (reset_refusal e id) (reset_refusal (plainly e) id) e _ _
-      (found (λ o. RulesPlainly (reset_rules e id sent) (reset_rules e id o)) (reset_rules_plain sent)) (with_out e e id with_reset (λ o. refl))
+      (found (λ o. RulesPlainly None (reset_rules e id sent) (reset_rules e id o)) (reset_rules_plain sent)) (with_out e e id with_reset (λ o. refl))
 
-  pub goaways_alike : RulesPlainly (goaway_refusal e id) (goaway_refusal (plainly e) id)
-  goaways_alike = Agrees refl
+  pub goaways_alike : RulesPlainly None (goaway_refusal e id) (goaway_refusal (plainly e) id)
+  goaways_alike = Agrees (inl refl)
 
   pub goaways_plainly : CallsPlainly e (goaway e id) (goaway (plainly e) id)
-  goaways_plainly = does_plainly (goaway_refusal e id) (goaway_refusal (plainly e) id) e _ _ (Agrees refl) refl
+  goaways_plainly = does_plainly (goaway_refusal e id) (goaway_refusal (plainly e) id) e _ _ goaways_alike refl
 
   -- a stream is given up
   gives_up_by : (i : Incoming) (fault : StreamFault) (first : Option StreamFault) → given_up_by (plain_incoming i) fault first ≡ plain_incoming (given_up_by i fault first)
@@ -305,12 +315,12 @@ module _ (e : EndpointHistory) (id : ℕ) where
       ap (λ (s : Streams Incoming). record (plainly (give_up e id i fault)) { incoming = s })
       (ap (λ j. set_stream (plainly e).incoming id j) (gives_up_by i fault i.fault) ∙ set_each plain_incoming e.incoming id (given_up_by i fault i.fault))
 
-  cancel_rules_plain : (o : Option Incoming) → RulesPlainly (cancel_rules e id o) (cancel_rules e id (option_map plain_incoming o))
-  cancel_rules_plain None = Agrees refl
-  cancel_rules_plain (Some i) = Agrees refl
+  cancel_rules_plain : (o : Option Incoming) → RulesPlainly None (cancel_rules e id o) (cancel_rules e id (option_map plain_incoming o))
+  cancel_rules_plain None = Agrees (inl refl)
+  cancel_rules_plain (Some i) = Agrees (inl refl)
 
-  pub cancels_alike : RulesPlainly (cancel_refusal e id) (cancel_refusal (plainly e) id)
-  cancels_alike = subst (λ o. RulesPlainly (cancel_rules e id (stream_at e.incoming id)) (cancel_rules e id o)) (sym (at_each plain_incoming e.incoming id)) (cancel_rules_plain (stream_at e.incoming id))
+  pub cancels_alike : RulesPlainly None (cancel_refusal e id) (cancel_refusal (plainly e) id)
+  cancels_alike = subst (λ o. RulesPlainly None (cancel_rules e id (stream_at e.incoming id)) (cancel_rules e id o)) (sym (at_each plain_incoming e.incoming id)) (cancel_rules_plain (stream_at e.incoming id))
 
   pub cancels_plainly : CallsPlainly e (cancel e id) (cancel (plainly e) id)
   cancels_plainly =
@@ -328,7 +338,15 @@ module _ (e : EndpointHistory) (id : ℕ) where
   pub advances_plainly : (count : ℕ) → advance (plainly e) id count ≡ plainly (advance e id count)
   advances_plainly count = ap (advance_at (plainly e) id count) (at_each plain_outgoing e.outgoing id) ∙ advances_by count sent
 
--- Where an end asks for no strict messages and counts nothing, each send is refused alike.
+-- a call is told by its rules
+pub told : (p : Option Refusal) (e f : EndpointHistory) → (does p e f).0 ≡ p
+told None e f = refl
+told (Some r) e f = refl
+
+told_same : {unread : Option Malformation} (p q : Option Refusal) (e f g k : EndpointHistory) → SameUnless unread p q → SameUnless unread (does p e f).0 (does q g k).0
+told_same {unread = unread} p q e f g k same = subst (λ x. SameUnless unread x (does q g k).0) (sym (told p e f)) (subst (SameUnless unread p) (sym (told q g k)) same)
+
+-- Where an end asks for no strict messages and counts nothing, each send is refused alike, but for what it does not read.
 module _ (e : EndpointHistory) (id : ℕ) (plain_messages : e.announced.choices.strict_messages ≡ false) (uncounted : (outgoing_at e id).content ≡ Unsaid) where
   same_out : stream_at (plainly e).outgoing id ≡ stream_at e.outgoing id
   same_out = at_each plain_outgoing e.outgoing id ∙ of (stream_at e.outgoing id) uncounted
@@ -337,18 +355,59 @@ module _ (e : EndpointHistory) (id : ℕ) (plain_messages : e.announced.choices.
       of None h = refl
       of (Some o) h = ap (λ c. Some (record o { content = c })) (sym h)
 
-  pub heads_same : (protocol : Option Malformation) (head : Head) (fields : List Field) → head_judged (plainly e) id protocol head fields ≡ head_judged e id protocol head fields
-  heads_same protocol head fields =
+  going_same : {unread : Option Malformation} (going : Option ℕ) (one two : List (Bool × Refusal)) → SameUnless unread (first_of one) (first_of two)
+      → SameUnless unread (first_of (unless_going going one)) (first_of (unless_going going two))
+  going_same None one two h = h
+  going_same (Some last) one two h = inl refl
+
+  head_rules_same : (o : Option Outgoing) (own all : Option Malformation) → (own ≡ None → all ≡ None) → (head : Head) (fields : List Field)
+      → SameUnless own (head_rules e (going_of e) o head fields own None) (head_rules e (going_of e) o head fields all None)
+  head_rules_same o own all narrows head fields =
+      let large : List (Bool × Refusal) = (is_too_large (settings_known e.announced e.peer.settings) fields, refusal.TooLarge (section_size fields)) ∷ [] in
+      let later : List (Bool × Refusal) = (not (is_for (other e.side) head), refusal.WrongSide) ∷ large in
+      let one : List (Bool × Refusal) = unless_going (going_of e) (unless_malformed own later) in
+      let two : List (Bool × Refusal) = unless_going (going_of e) (unless_malformed all later) in
+      let order : Bool × Refusal = (not (takes_head (unwrap_or o nothing_sent)), refusal.OutOfOrder) in
+      same_open e.closed _ _ (same_behind (not (is_some o)) refusal.NotOpen (order ∷ one) (order ∷ two)
+      (same_behind (not (takes_head (unwrap_or o nothing_sent))) refusal.OutOfOrder one two (going_same (going_of e) (unless_malformed own later) (unless_malformed all later) (same_own own all later narrows))))
+
+  heads_same : (own all : Option Malformation) → (own ≡ None → all ≡ None) → (head : Head) (fields : List Field) → SameUnless own (head_judged e id own head fields) (head_judged (plainly e) id all head fields)
+  heads_same own all narrows head fields =
       let broken = violation_of_own_head e.side (settings_known e.announced e.peer.settings) (known_of (stream_at e.incoming id)) fields in
       let none : broken_head_at e id fields ≡ None = ap (λ b. if b then option_map malformation_by broken else None) plain_messages in
-      ap (λ g. head_rules e g (stream_at (plainly e).outgoing id) head fields protocol None) (going_plain e.announced e.side (last_id e.peer.goaways))
-      ∙ ap (λ o. head_rules e (going_of e) o head fields protocol None) same_out
-      ∙ ap (head_rules e (going_of e) (stream_at e.outgoing id) head fields protocol) (sym none)
+      subst (λ g. SameUnless own (head_judged e id own head fields) (head_rules e g (stream_at (plainly e).outgoing id) head fields all None)) (sym (going_plain e.announced e.side (last_id e.peer.goaways)))
+      (subst (λ o. SameUnless own (head_judged e id own head fields) (head_rules e (going_of e) o head fields all None)) (sym same_out)
+      (subst (λ r. SameUnless own (head_rules e (going_of e) (stream_at e.outgoing id) head fields own r) (head_rules e (going_of e) (stream_at e.outgoing id) head fields all None)) (sym none)
+      (head_rules_same (stream_at e.outgoing id) own all narrows head fields)))
 
-  pub trailers_same : (protocol : Option Malformation) (head : Head) (fields : List Field) → trailer_judged (plainly e) id protocol head fields ≡ trailer_judged e id protocol head fields
-  trailers_same protocol head fields =
+  trailer_rules_same : (o : Option Outgoing) (own all : Option Malformation) → (own ≡ None → all ≡ None) → (head : Head) (fields : List Field)
+      → SameUnless own (trailer_rules e o head fields own None) (trailer_rules e o head fields all None)
+  trailer_rules_same o own all narrows head fields =
+      let large : List (Bool × Refusal) = (is_too_large (settings_known e.announced e.peer.settings) fields, refusal.TooLarge (section_size fields)) ∷ [] in
+      let later : List (Bool × Refusal) = (has_pseudo head, refusal.PseudoInTrailer) ∷ unless_malformed (early_trailer (unwrap_or o nothing_sent).content) large in
+      let order : Bool × Refusal = (not (takes_body (unwrap_or o nothing_sent)), refusal.OutOfOrder) in
+      same_open e.closed _ _ (same_behind (not (is_some o)) refusal.NotOpen (order ∷ unless_malformed own later) (order ∷ unless_malformed all later)
+      (same_behind (not (takes_body (unwrap_or o nothing_sent))) refusal.OutOfOrder (unless_malformed own later) (unless_malformed all later) (same_own own all later narrows)))
+
+  trailers_same : (own all : Option Malformation) → (own ≡ None → all ≡ None) → (head : Head) (fields : List Field) → SameUnless own (trailer_judged e id own head fields) (trailer_judged (plainly e) id all head fields)
+  trailers_same own all narrows head fields =
       let none : broken_trailer e.announced fields ≡ None = ap (λ b. if b then option_map malformation_by (violation_of_own_trailer fields) else None) plain_messages in
-      ap (λ o. trailer_rules e o head fields protocol None) same_out ∙ ap (trailer_rules e (stream_at e.outgoing id) head fields protocol) (sym none)
+      subst (λ o. SameUnless own (trailer_judged e id own head fields) (trailer_rules e o head fields all None)) (sym same_out)
+      (subst (λ r. SameUnless own (trailer_rules e (stream_at e.outgoing id) head fields own r) (trailer_rules e (stream_at e.outgoing id) head fields all None)) (sym none)
+      (trailer_rules_same (stream_at e.outgoing id) own all narrows head fields))
+
+  -- so is a header, and a list
+  pub head_same : (head : Head) → SameUnless (broken_protocol e.announced head) (send_head e id head).0 (send_head (plainly e) id head).0
+  head_same head = told_same _ _ _ _ _ _ (heads_same (broken_protocol e.announced head) (broken_protocol (plain e.announced) head) (protocol_narrows e.announced head) head (head_fields head))
+
+  pub fields_same : (fields : List Field) → SameUnless (unreadable (takes_any e.announced) fields) (send_fields e id fields).0 (send_fields (plainly e) id fields).0
+  fields_same fields = told_same _ _ _ _ _ _ (heads_same (unreadable (takes_any e.announced) fields) (unreadable true fields) (list_narrows (takes_any e.announced) fields) (head_of_fields fields) fields)
+
+  pub trailer_same : (head : Head) → SameUnless (broken_protocol e.announced head) (send_trailer e id head).0 (send_trailer (plainly e) id head).0
+  trailer_same head = told_same _ _ _ _ _ _ (trailers_same (broken_protocol e.announced head) (broken_protocol (plain e.announced) head) (protocol_narrows e.announced head) head (head_fields head))
+
+  pub trailer_fields_same : (fields : List Field) → SameUnless (unreadable (takes_any e.announced) fields) (send_trailer_fields e id fields).0 (send_trailer_fields (plainly e) id fields).0
+  trailer_fields_same fields = told_same _ _ _ _ _ _ (trailers_same (unreadable (takes_any e.announced) fields) (unreadable true fields) (list_narrows (takes_any e.announced) fields) (head_of_fields fields) fields)
 
   pub bodies_same : (size : ℕ) → body_refusal (plainly e) id size ≡ body_refusal e id size
   bodies_same size = ap (λ o. body_rules e o size) same_out
@@ -363,10 +422,10 @@ opens_as e id None =
     ap (λ (s : Streams Incoming). record (plainly e) { incoming = s; outgoing = set_stream (plainly e).outgoing id nothing_sent }) (set_each plain_incoming e.incoming id nothing_came)
     ∙ ap (λ (t : Streams Outgoing). record (plainly (opened_at e id None)) { outgoing = t }) (set_each plain_outgoing e.outgoing id nothing_sent)
 
-pub opens_alike : (e : EndpointHistory) → RulesPlainly (open_refusal e) (open_refusal (plainly e))
-opens_alike e = Agrees refl
+pub opens_alike : (e : EndpointHistory) → RulesPlainly None (open_refusal e) (open_refusal (plainly e))
+opens_alike e = Agrees (inl refl)
 
 pub opens_plainly : (e : EndpointHistory) → CallsPlainly e (open_request e) (open_request (plainly e))
 opens_plainly e =
-    does_plainly (open_refusal e) (open_refusal (plainly e)) e _ _ (Agrees refl)
+    does_plainly (open_refusal e) (open_refusal (plainly e)) e _ _ (opens_alike e)
     (ap (λ (f : EndpointHistory). record f { next_id = e.next_id + 4 }) (opens_as e e.next_id None))

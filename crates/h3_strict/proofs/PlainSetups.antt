@@ -1,5 +1,5 @@
 -- New endpoints, and setups, without strict messages.
-use Rattle.std.proofs.Common.{◌≡◌, false, refl}
+use Rattle.std.proofs.Common.{◌≡◌, false, true, refl}
 use Rattle.h3_proto.specs.declared.stream.Side.{Side}
 use Rattle.h3_proto.specs.declared.stream.Side.TheVariants.{Client, Server}
 use Rattle.h3_connection.specs.Endpoint.{new_endpoint}
@@ -45,10 +45,10 @@ setup_plainly setup h = record { sides = sides_plainly setup h; take = kept }
     kept Client = h.take Client
     kept Server = h.take Server
 
--- the same protocols are taken
-pub same_protocols : (setup : Setup) (side : Side) → takes_any (announced_at (plain_setup setup) side) ≡ takes_any (announced_at setup side)
-same_protocols setup Client = refl
-same_protocols setup Server = refl
+-- any protocol is taken
+pub any_protocols : (setup : Setup) (side : Side) → takes_any (announced_at (plain_setup setup) side) ≡ true
+any_protocols setup Client = refl
+any_protocols setup Server = refl
 
 pub judges_plainly : (setup : Setup) → JudgesPlainly (plain_setup setup)
 judges_plainly setup Client = (refl, refl)

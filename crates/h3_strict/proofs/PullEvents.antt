@@ -34,12 +34,12 @@ use Rattle.h3_headline.specs.SendingLaws.{both_of}
 use Rattle.h3_headline.specs.SessionDecoderLaws.{endpoint_decodes}
 use Rattle.h3_headline.specs.Standing.{IsReadableBy, ReceivesFlow, Stands, StandsAt}
 use Rattle.h3_strict.proofs.KeepsCounts.{KeepsBut, SameCounts, no_stream, same_streams, streams_keep}
-use Rattle.h3_strict.proofs.PlainSetups.{same_protocols}
+use Rattle.h3_strict.proofs.PlainSetups.{any_protocols}
 use Rattle.h3_strict.proofs.PlainStreams.{at_each}
 use Rattle.h3_strict.proofs.SentTallies.{side_of, stands_at}
 use Rattle.h3_strict.proofs.StrictStreams.{pull_counts}
 use Rattle.h3_strict.specs.PlainEnds.{plain_ends, plain_setup}
-use Rattle.h3_strict.specs.Plainly.{exceeds, is_judged, judged_as, judged_at, judged_open, plain_incoming, plainly, tells_malformed}
+use Rattle.h3_strict.specs.Plainly.{exceeds, is_judged, judged_as, judged_at, judged_open, plain, plain_incoming, plainly, tells_malformed}
 use Rattle.h3_strict.specs.StrictPull.{CountsFlow, PullsOn}
 use Rattle.h3_strict.specs.Tallies.{IsFine, JudgesStrictly, Tallies, TalliesFlow, awaited_of}
 
@@ -109,7 +109,7 @@ module _ (laws : Laws) (setup : Setup) (made : IsMadeSetup (plain_setup setup)) 
       (subst (λ (a : Announced). PullsOn side awaited i.response f (pull_stream side a id puller.decoding.decoder i)) (sym (t.announced side))
       (pull_counts laws.lists side own id puller.decoding.decoder (strict side).0 (strict side).1 awaited i.response came (party w (other side)) f i (sound_flow (plain_setup setup) w (other side) id h.sound there) r.same alive more
       (endpoint_decodes laws.streams laws.lists (plain_setup setup) w side id (plainly puller) made puller_stands h.sound r.opened alive)
-      (next_readable laws.lists side own id came puller.decoding.decoder f (subst (λ any. AllByRecursion (IsReadableBy any side) f.sent) (same_protocols setup side) (b.sends_there id)))
+      (next_readable laws.lists side (plain own) id came puller.decoding.decoder f (subst (λ any. AllByRecursion (IsReadableBy any side) f.sent) (any_protocols setup side) (b.sends_there id)))
       tallied.unbroken (record { counts = counts; response = refl })))
 
   -- **No pull finds a message malformed.**

@@ -1,11 +1,13 @@
 -- A pull of any end, whatever it keeps, beside the same end that judges plainly.
-use Rattle.std.proofs.Common.{◌≡◌, ℕ, Bool, true, false, List, [], ◌∷◌, ◌++◌, append_assoc, refl, ap, sym, ◌∙◌, subst, Option, Some, None, if◌then◌else◌}
+use Rattle.std.proofs.Common.{◌≡◌, ◌⊎◌, inl, inr, ℕ, Bool, true, false, List, [], ◌∷◌, ◌++◌, append_assoc, refl, ap, sym, ◌∙◌, subst, Option, Some, None, if◌then◌else◌}
 use Rattle.std.specs.Prelude.{not, ◌&&◌, nat_lt, option_map, unwrap_or}
+use Rattle.h3_field.specs.Field.{Field}
 use Rattle.h3_field.specs.Instruction.{DecoderInstruction}
 use Rattle.h3_field.specs.Instruction.DecoderInstruction.{CancelStream}
 use Rattle.h3_messages.specs.declared.content.Content.{Content}
 use Rattle.h3_messages.specs.declared.content.Content.TheVariants.{Unsaid}
 use Rattle.h3_proto.specs.Config.{is_limit}
+use Rattle.h3_connection.specs.Coming.{fields_behind, fields_item, fields_next, fields_of_kind, fields_there}
 use Rattle.h3_connection.specs.Control.{Found}
 use Rattle.h3_connection.specs.Delivering.{incoming_at, with_incoming}
 use Rattle.h3_connection.specs.Endpoint.{EndpointHistory, Kind, heads_waiting, kind_of, replied}
@@ -17,7 +19,7 @@ use Rattle.h3_connection.specs.Sending.{if_too_many, pull_at, pull_request, pull
 use Rattle.h3_connection.specs.StreamSetLaws.{set-here, set-set}
 use Rattle.h3_connection.specs.StreamSets.{set_stream, stream_at}
 use Rattle.h3_connection.specs.declared.arrival.Arrival.{Arrival}
-use Rattle.h3_connection.specs.declared.event.Fault.TheVariants.{Stream}
+use Rattle.h3_connection.specs.declared.event.Fault.TheVariants.{Connection, Stream}
 use Rattle.h3_connection.specs.declared.event.Item.TheVariants as item
 use Rattle.h3_connection.specs.declared.event.Malformation.{Malformation}
 use Rattle.h3_connection.specs.declared.event.Pull.{Pull}
@@ -31,18 +33,18 @@ use Rattle.h3_world.specs.declared.event.Answer.TheVariants as answer
 use Rattle.h3_headline.specs.GivenUp.{IsGone, giving_up}
 use Rattle.h3_strict.specs.CountsNothing.{CountsNothing}
 use Rattle.h3_strict.specs.Plainly.{plain, plain_incoming, plainly}
-use Rattle.h3_strict.specs.PullPlainly.{GivesUpAs, LeavesGone, LeftAtOnce, LeftBehind, OtherFaults, PullAlike, PullFaults, PullGone, PullPlainly}
+use Rattle.h3_strict.specs.PullPlainly.{GivesUpAs, IsUnread, LeavesGone, LeftAtOnce, LeftBehind, OtherFaults, PullAlike, PullFaults, PullGone, PullPlainly, shows_header, tells_fault}
 use Rattle.h3_strict.proofs.NothingCounted.{all_count, at_come}
 use Rattle.h3_strict.proofs.PlainCalls.{plain_result}
 use Rattle.h3_strict.proofs.PlainParts.{found_plain}
-use Rattle.h3_strict.proofs.PlainPulled.{given_plain, limit_plain, peer_plain, settled_kind, settles_alike}
+use Rattle.h3_strict.proofs.PlainPulled.{given_plain, items_plain, limit_plain, peer_plain, settled_kind, settles_alike}
 use Rattle.h3_strict.proofs.PlainPulls.{plain_pulled}
 use Rattle.h3_strict.proofs.PlainReading.{all_plain}
 use Rattle.h3_strict.proofs.PlainStreams.{at_each, set_each}
 use Rattle.h3_strict.proofs.PullEvents.{given_up_again, over_again}
 use Rattle.h3_strict.proofs.PullResults.{gone_end}
-use Rattle.h3_strict.proofs.UncountedPulls.{pull_same}
-use Rattle.h3_strict.proofs.Verdicts.{AtOnce, BehindSection, EndsAll, IsSame, Marks, Verdict, marks_of, pull_told}
+use Rattle.h3_strict.proofs.UncountedPulls.{FindsUnread, pull_same}
+use Rattle.h3_strict.proofs.Verdicts.{AtOnce, BehindSection, BothGone, EndsAll, IsSame, Marks, Verdict, marks_of, pull_told}
 
 both_true : (a b : Bool) → (a && b) ≡ true → (a ≡ true) × (b ≡ true)
 both_true true true h = (refl, refl)
@@ -79,12 +81,12 @@ unsaid_is c h = absurd (cc)
 abbrev is_loose : EndpointHistory → ℕ → Bool
 is_loose f id = not f.announced.choices.strict_messages && (not (is_limit f.announced.choices.unfinished_limit) && is_unsaid (incoming_at f id).content)
 
--- the pull of one stream, where nothing is kept
-data AtVerdict (f : EndpointHistory) (id : ℕ) (a b : Pull × EndpointHistory) : Type 0 where
-  AlikeAt : b ≡ plain_result a → AtVerdict f id a b
-  FaultsAt : is_connection_fault (answer.Pulled a.0) ≡ true → AtVerdict f id a b
-  -- no end does that asks for no strict messages, has no limit and counts no content of it
-  GoneAt : (why : Malformation) → GivesUpAs a b (plainly f) id why → (is_loose f id ≡ true → ⊥) → AtVerdict f id a b
+-- the pull of one stream, where nothing is kept and this list is next
+data AtVerdict (f : EndpointHistory) (id : ℕ) (next : Option (List Field)) (a b : Pull × EndpointHistory) : Type 0 where
+  AlikeAt : b ≡ plain_result a → AtVerdict f id next a b
+  FaultsAt : is_connection_fault (answer.Pulled a.0) ≡ true → AtVerdict f id next a b
+  -- an end that asks for no strict messages, has no limit and counts no content of it does so only if it does not read the list
+  GoneAt : (why : Malformation) → GivesUpAs a b (plainly f) id why → (is_loose f id ≡ true → IsUnread f.announced next why × (shows_header b.0 ≡ true)) → AtVerdict f id next a b
 
 module _ (f : EndpointHistory) (id : ℕ) where
   module _ (i : Incoming) (here : stream_at f.incoming id ≡ Some i) where
@@ -99,6 +101,9 @@ module _ (f : EndpointHistory) (id : ℕ) where
 
     abbrev b : Pull × EndpointHistory
     b = pulled (plainly f) id (within_limit (plainly f) id q)
+
+    abbrev next : Option (List Field)
+    next = fields_next f.announced f.decoding.decoder i
 
     there : stream_at (plainly f).incoming id ≡ Some (plain_incoming i)
     there = at_each plain_incoming f.incoming id ∙ ap (option_map plain_incoming) here
@@ -130,23 +135,23 @@ module _ (f : EndpointHistory) (id : ℕ) where
     given : (x : Pulled) (c : Bool) → p ≡ x → many x ≡ c → a ≡ pulled f id (if_too_many c x)
     given x c same is = ap (λ y. pulled f id (within_limit f id y)) same ∙ ap (λ d. pulled f id (if_too_many d x)) is
 
-    too_many : (x : Pulled) → p ≡ x → many x ≡ true → AtVerdict f id a b
+    too_many : (x : Pulled) → p ≡ x → many x ≡ true → AtVerdict f id next a b
     too_many x same is = FaultsAt (ap (λ z. is_connection_fault (answer.Pulled z.0)) (given x true same is))
 
-    alike : q ≡ plain_pulled p → AtVerdict f id a b
+    alike : q ≡ plain_pulled p → AtVerdict f id next a b
     alike same = AlikeAt (ap (λ x. pulled (plainly f) id (within_limit (plainly f) id x)) same ∙ ap (pulled (plainly f) id) (limit_plain f id p) ∙ given_plain f id (within_limit f id p))
 
-    told : (is_loose f id ≡ true → ⊥) → Verdict id (marks_of i) p q → AtVerdict f id a b
+    told : (is_loose f id ≡ true → (why : Malformation) → p.answer ≡ pull.Fault (Stream (Malformed why)) → IsUnread f.announced next why × (shows_header b.0 ≡ true)) → Verdict id (marks_of i) p q → AtVerdict f id next a b
     told judges (IsSame same) = alike same
     told judges (EndsAll code ends_so) = by_many (many p) refl
       where
-        by_many : (c : Bool) → many p ≡ c → AtVerdict f id a b
+        by_many : (c : Bool) → many p ≡ c → AtVerdict f id next a b
         by_many true is = too_many p refl is
         by_many false is =
             FaultsAt (ap (λ z. is_connection_fault (answer.Pulled z.0)) (given p false refl is) ∙ ap (λ x. is_connection_fault (answer.Pulled (pulled f id (record p { answer = x })).0)) ends_so)
     told judges (AtOnce why j is marks) = by_many (many (malformed id why j [])) refl
       where
-        by_many : (c : Bool) → many (malformed id why j []) ≡ c → AtVerdict f id a b
+        by_many : (c : Bool) → many (malformed id why j []) ≡ c → AtVerdict f id next a b
         by_many true k = too_many (malformed id why j []) is k
         by_many false k =
             let goes = goes_on why j [] is in
@@ -161,7 +166,29 @@ module _ (f : EndpointHistory) (id : ℕ) where
               goes = goes.1;
               gone = left_gone i j (plain_incoming i) why marks refl;
               leaves = LeftAtOnce (ap (λ z. plainly z.1) left ∙ sym (ap (λ s. record (plainly (gone_end f id j why [])) { incoming = s }) (set_each plain_incoming f.incoming id x)));
-            }) judges
+            }) (λ loose. judges loose why (ap (λ (x : Pulled). x.answer) is))
+    told judges (BothGone why other j replies is marks fault) = by_many (many (malformed id why j replies)) refl
+      where
+        -- the other end finds a fault too
+        faults : (c : Bool) → tells_fault (pulled (plainly f) id (if_too_many c q)).0 ≡ true
+        faults true = refl
+        faults false = ap (λ y. tells_fault (pulled (plainly f) id (record q { answer = y })).0) fault
+
+        by_many : (c : Bool) → many (malformed id why j replies) ≡ c → AtVerdict f id next a b
+        by_many true k = too_many (malformed id why j replies) is k
+        by_many false k =
+            let goes = goes_on why j replies is in
+            let left = given (malformed id why j replies) false is k in
+            GoneAt why (record {
+              old = plain_incoming i;
+              left = plain_incoming (given_up j (Malformed why));
+              told = ap (λ z. z.0) left;
+              here = there;
+              alive = goes.0;
+              goes = goes.1;
+              gone = left_gone i j (plain_incoming i) why marks refl;
+              leaves = OtherFaults (faults other_many);
+            }) (λ loose. judges loose why (ap (λ (x : Pulled). x.answer) is))
     told judges (BehindSection why j it is marks gives kept) = by_many (many (malformed id why j q.replies)) refl
       where
         behind : EndpointHistory
@@ -175,7 +202,7 @@ module _ (f : EndpointHistory) (id : ℕ) where
             ap (λ s. record (plainly (replied (with_incoming f id x) (q.replies ++ CancelStream id ∷ []))) { incoming = s; own = record f.own { replies = (f.own.replies ++ q.replies) ++ CancelStream id ∷ [] } }) (set-set (plainly f).incoming id q.incoming (plain_incoming x) ∙ set_each plain_incoming f.incoming id x)
             ∙ ap (λ l. record (plainly (replied (with_incoming f id x) (q.replies ++ CancelStream id ∷ []))) { own = record f.own { replies = l } }) (append_assoc f.own.replies q.replies (CancelStream id ∷ []))
 
-        gone_of : (i.fault ≡ None) × (i.is_over ≡ false) → a ≡ pulled f id (malformed id why j q.replies) → LeavesGone a b (plainly f) id why (plain_incoming (given_up j (Malformed why))) → AtVerdict f id a b
+        gone_of : (i.fault ≡ None) × (i.is_over ≡ false) → a ≡ pulled f id (malformed id why j q.replies) → LeavesGone a b (plainly f) id why (plain_incoming (given_up j (Malformed why))) → AtVerdict f id next a b
         gone_of goes left leaves =
             GoneAt why (record {
               old = plain_incoming i;
@@ -186,10 +213,10 @@ module _ (f : EndpointHistory) (id : ℕ) where
               goes = goes.1;
               gone = left_gone i j (plain_incoming i) why marks refl;
               leaves = leaves;
-            }) judges
+            }) (λ loose. judges loose why (ap (λ (x : Pulled). x.answer) is))
 
-        by_other : (i.fault ≡ None) × (i.is_over ≡ false) → a ≡ pulled f id (malformed id why j q.replies) → (c : Bool) → other_many ≡ c → AtVerdict f id a b
-        by_other goes left true k = gone_of goes left (OtherFaults (ap (λ c. is_connection_fault (answer.Pulled (pulled (plainly f) id (if_too_many c q)).0)) k))
+        by_other : (i.fault ≡ None) × (i.is_over ≡ false) → a ≡ pulled f id (malformed id why j q.replies) → (c : Bool) → other_many ≡ c → AtVerdict f id next a b
+        by_other goes left true k = gone_of goes left (OtherFaults (ap (λ c. tells_fault (pulled (plainly f) id (if_too_many c q)).0) k))
         by_other goes left false k =
             let x = given_up j (Malformed why) in
             let out : b ≡ (pull.Item it, behind) = ap (λ c. pulled (plainly f) id (if_too_many c q)) k ∙ item_out q gives in
@@ -197,25 +224,44 @@ module _ (f : EndpointHistory) (id : ℕ) where
             (ap (λ (m : Marks). m.fault) kept ∙ goes.0) (ap (λ (m : Marks). m.is_over) kept ∙ goes.1) (left_gone i j q.incoming why marks kept)
             (ap (λ z. plainly z.1) left ∙ sym (same_gone x) ∙ ap (λ (z : Pull × EndpointHistory). giving_up z.1 id (plain_incoming x)) (sym out)))
 
-        by_many : (c : Bool) → many (malformed id why j q.replies) ≡ c → AtVerdict f id a b
+        by_many : (c : Bool) → many (malformed id why j q.replies) ≡ c → AtVerdict f id next a b
         by_many true k = too_many (malformed id why j q.replies) is k
         by_many false k = by_other (goes_on why j q.replies is) (given (malformed id why j q.replies) false is k) other_many refl
 
-    -- a loose end judges nothing
-    by_loose : (c : Bool) → is_loose f id ≡ c → AtVerdict f id a b
-    by_loose false k = told (λ loose. let never : false ≡ true = sym k ∙ loose in cc) (pull_told f.side f.announced id f.decoding.decoder i)
+    -- a loose end judges nothing that it reads
+    by_loose : (c : Bool) → is_loose f id ≡ c → AtVerdict f id next a b
+    by_loose false k = told (λ loose. absurd (let never : false ≡ true = sym k ∙ loose in cc)) (pull_told f.side f.announced id f.decoding.decoder i)
     by_loose true k =
         let strict = both_true (not f.announced.choices.strict_messages) _ k in
         let limit = both_true (not (is_limit f.announced.choices.unfinished_limit)) _ strict.1 in
         let none : i.content ≡ Unsaid = ap (λ o. (unwrap_or o nothing_came).content) (sym here) ∙ unsaid_is (incoming_at f id).content limit.1 in
-        alike (pull_same f.side f.announced id f.decoding.decoder i (not_true f.announced.choices.strict_messages strict.0) (not_true (is_limit f.announced.choices.unfinished_limit) limit.0) none)
+        by_reading (pull_same f.side f.announced id f.decoding.decoder i (not_true f.announced.choices.strict_messages strict.0) (not_true (is_limit f.announced.choices.unfinished_limit) limit.0) none)
+      where
+        same_why : (u : Malformation) (why : Malformation) → ◌≡◌ {A = Pull} (pull.Fault (Stream (Malformed u))) (pull.Fault (Stream (Malformed why))) → u ≡ why
+        same_why u why is = cc
 
-  at_request : (o : Option Incoming) → stream_at f.incoming id ≡ o → AtVerdict f id (pull_request f id o) (pull_request (plainly f) id (option_map plain_incoming o))
+        -- what is shown is shown where not too many wait, and else a fault is
+        shown_then : (c : Bool) (x : Pull) → q.answer ≡ x → shows_header x ≡ true → shows_header (pulled (plainly f) id (if_too_many c q)).0 ≡ true
+        shown_then true x is shown = refl
+        shown_then false (pull.Item (item.Interim head)) is shown = ap (λ y. shows_header (pulled (plainly f) id (record q { answer = y })).0) is
+        shown_then false (pull.Item (item.Head head)) is shown = ap (λ y. shows_header (pulled (plainly f) id (record q { answer = y })).0) is
+        shown_then false (pull.Item (item.Trailer head)) is shown = ap (λ y. shows_header (pulled (plainly f) id (record q { answer = y })).0) is
+        shown_then false (pull.Fault (Connection code)) is shown = ap (λ y. shows_header (pulled (plainly f) id (record q { answer = y })).0) is
+        shown_then false (pull.Fault (Stream why)) is shown = ap (λ y. shows_header (pulled (plainly f) id (record q { answer = y })).0) is
+        shown_then false x is shown = absurd (cc)
+
+        by_reading : (q ≡ plain_pulled p) ⊎ FindsUnread f.announced next p q → AtVerdict f id next a b
+        by_reading (inl same) = alike same
+        by_reading (inr u) =
+            told (λ loose why is. (subst (IsUnread f.announced next) (same_why u.why why (sym u.told ∙ is)) u.unread, shown_then other_many q.answer refl u.shown)) (pull_told f.side f.announced id f.decoding.decoder i)
+
+  at_request : (o : Option Incoming) → stream_at f.incoming id ≡ o → AtVerdict f id (fields_there f.announced f.decoding.decoder o) (pull_request f id o) (pull_request (plainly f) id (option_map plain_incoming o))
   at_request None here = AlikeAt refl
   at_request (Some i) here = by_loose i here (is_loose f id) refl
 
-  at_kind : (k : Kind) → AtVerdict f id (pull_at f id k) (pull_at (plainly f) id k)
-  at_kind Request = subst (λ o. AtVerdict f id (pull_at f id Request) (pull_request (plainly f) id o)) (sym (at_each plain_incoming f.incoming id)) (at_request (stream_at f.incoming id) refl)
+  at_kind : (k : Kind) → AtVerdict f id (fields_of_kind f id k) (pull_at f id k) (pull_at (plainly f) id k)
+  at_kind Request =
+      subst (λ o. AtVerdict f id (fields_of_kind f id Request) (pull_at f id Request) (pull_request (plainly f) id o)) (sym (at_each plain_incoming f.incoming id)) (at_request (stream_at f.incoming id) refl)
   at_kind ServerOpened = AlikeAt refl
   at_kind OwnUnidirectional = AlikeAt refl
   at_kind PeerUnidirectional = AlikeAt (peer_plain f id (stream_at f.unidirectional id))
@@ -229,19 +275,23 @@ module _ (e : EndpointHistory) (id : ℕ) where
   of_settled : (l : List Arrival) → e.kept ≡ l → e.closed ≡ None → settles e id ≡ true → pulls e id ≡ pull_at e id (kind_of e.side id) → pulls (plainly e) id ≡ pull_at (plainly e) id (kind_of e.side id) → PullPlainly e id
   of_settled l is open_ settled one two = PullAlike (two ∙ settled_kind e id (kind_of e.side id) settled ∙ ap plain_result (sym one))
 
-  of_read : (f : EndpointHistory) → settles e id ≡ false → read_all e.kept (unkept e) ≡ (f, None) → pulls e id ≡ pull_at f id (kind_of f.side id) → pulls (plainly e) id ≡ pull_at (plainly f) id (kind_of f.side id) → PullPlainly e id
-  of_read f unsettled reads one two = of (subst (λ x. AtVerdict f id x (pulls (plainly e) id)) (sym one) (subst (AtVerdict f id (pull_at f id (kind_of f.side id))) (sym two) (at_kind f id (kind_of f.side id))))
+  of_read : (f : EndpointHistory) → fields_behind (plainly e).kept (plainly e) id ≡ fields_item f id → settles e id ≡ false → read_all e.kept (unkept e) ≡ (f, None) → pulls e id ≡ pull_at f id (kind_of f.side id) → pulls (plainly e) id ≡ pull_at (plainly f) id (kind_of f.side id) → PullPlainly e id
+  of_read f lists unsettled reads one two =
+      of (subst (λ x. AtVerdict f id (fields_item f id) x (pulls (plainly e) id)) (sym one) (subst (AtVerdict f id (fields_item f id) (pull_at f id (kind_of f.side id))) (sym two) (at_kind f id (kind_of f.side id))))
     where
       -- an end that counts nothing counts nothing once it has read what it keeps
+      counts_behind : (own : Announced) → CountsNothing own e → CountsNothing own f
+      counts_behind own counts = subst (λ (x : Found). CountsNothing own x.0) reads (all_count own e.kept (unkept e) counts)
+
       is_loose_behind : (own : Announced) → CountsNothing own e → TakesAnyLength own → is_loose f id ≡ true
       is_loose_behind own counts any =
-          let behind : CountsNothing own f = subst (λ (x : Found). CountsNothing own x.0) reads (all_count own e.kept (unkept e) counts) in
+          let behind = counts_behind own counts in
           ap (λ (a : Announced). not a.choices.strict_messages && (not (is_limit a.choices.unfinished_limit) && is_unsaid (incoming_at f id).content)) behind.0
           ∙ ap (λ s. not s && (not (is_limit own.choices.unfinished_limit) && is_unsaid (incoming_at f id).content)) behind.1
           ∙ ap (λ l. not l && is_unsaid (incoming_at f id).content) any
           ∙ ap is_unsaid (at_come f.incoming id behind.3)
 
-      of : AtVerdict f id (pulls e id) (pulls (plainly e) id) → PullPlainly e id
+      of : AtVerdict f id (fields_item f id) (pulls e id) (pulls (plainly e) id) → PullPlainly e id
       of (AlikeAt alike) = PullAlike alike
       of (FaultsAt faults) = PullFaults faults
       of (GoneAt why gives judges) =
@@ -251,7 +301,11 @@ module _ (e : EndpointHistory) (id : ℕ) where
             unsettled = unsettled;
             reads = found_plain (unkept e).announced (read_all e.kept (unkept e)) (read_all e.kept (unkept (plainly e))) f (all_plain e.kept (unkept e)) reads;
             gives = gives;
-            judges = λ own counts any. judges (is_loose_behind own counts any);
+            judges = λ own counts any.
+                let found = judges (is_loose_behind own counts any) in (
+                  subst (λ (a : Announced). IsUnread a (fields_behind (plainly e).kept (plainly e) id) why) (counts_behind own counts).0 (subst (λ o. IsUnread f.announced o why) (sym lists) found.0),
+                  found.1,
+                );
           })
 
   abbrev Behind : List Arrival → Pull × EndpointHistory
@@ -269,7 +323,7 @@ module _ (e : EndpointHistory) (id : ℕ) where
       by_settles : (b : Bool) → settles e id ≡ b → PullPlainly e id
       by_settles true settled = of_settled [] is open_ settled one two
       by_settles false unsettled =
-          of_read e unsettled (ap (λ l. read_all l (unkept e)) is ∙ ap (λ l. let x : Found = (record e { kept = l }, None) in x) (sym is)) one two
+          of_read e (ap (λ l. fields_behind l (plainly e) id) is ∙ items_plain e id) unsettled (ap (λ l. read_all l (unkept e)) is ∙ ap (λ l. let x : Found = (record e { kept = l }, None) in x) (sym is)) one two
   by_kept (k ∷ kept) is open_ = by_settles (settles e id) refl
     where
       found : Found
@@ -293,7 +347,10 @@ module _ (e : EndpointHistory) (id : ℕ) where
       by_found : (x : Found) → found ≡ x → settles e id ≡ false → PullPlainly e id
       by_found (f, Some code) at unsettled = PullFaults (ap (λ z. is_connection_fault (answer.Pulled z.0)) (one false unsettled ∙ ap (λ y. pulled_after y id) at))
       by_found (f, None) at unsettled =
-          of_read f unsettled (ap (λ l. read_all l (unkept e)) is ∙ at) (one false unsettled ∙ ap (λ y. pulled_after y id) at)
+          of_read f
+          (ap (λ l. fields_behind l (plainly e) id) is ∙ ap (λ b. if b then fields_item (plainly e) id else fields_item other.0 id) (settles_alike e id kind ∙ unsettled)
+          ∙ ap (λ (x : Found). fields_item x.0 id) (found_plain (unkept e).announced found other f (all_plain (k ∷ kept) (unkept e)) at) ∙ items_plain f id)
+          unsettled (ap (λ l. read_all l (unkept e)) is ∙ at) (one false unsettled ∙ ap (λ y. pulled_after y id) at)
           (two false unsettled ∙ ap (λ y. pulled_after y id) (found_plain (unkept e).announced found other f (all_plain (k ∷ kept) (unkept e)) at))
 
       by_settles : (b : Bool) → settles e id ≡ b → PullPlainly e id

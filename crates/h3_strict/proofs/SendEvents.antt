@@ -2,7 +2,8 @@
 use Rattle.std.proofs.Common.{◌≡◌, inl, inr, ℕ, zero, suc, ◌≤◌, Bool, true, false, List, [], ◌∷◌, ◌++◌, length, take, refl, sym, ap, ◌∙◌, subst, Option, Some, None, if◌then◌else◌}
 use Rattle.std.specs.Prelude.{◌==◌, ◌&&◌, ◌||◌, not, flat_map, unwrap_or, is_some, option_map}
 use Rattle.h3_field.specs.Field.{Field}
-use Rattle.h3_header.specs.Head.{Head}
+use Rattle.h3_header.specs.Head.{Head, trailer_head}
+use Rattle.h3_header.specs.Reads.{AcceptsAll}
 use Rattle.h3_messages.specs.Content.{awaited_by, content_of_request, may_end}
 use Rattle.h3_messages.specs.OwnMessageLaws.{own_request_content, own_response_content}
 use Rattle.h3_messages.specs.OwnMessages.{IsSentOf, content_of_own_response}
@@ -29,7 +30,7 @@ use Rattle.h3_world.specs.Flow.{Flow, Part, own_part}
 use Rattle.h3_world.specs.Flow.Part.{Body, End, Head as HeadPart, Interim, Trailer}
 use Rattle.h3_world.specs.Order.{is_over, outgoing_of}
 use Rattle.h3_world.specs.Sending.{appended, having_encoded, section_sent, with_section}
-use Rattle.h3_world.specs.Setup.{Setup, announced_at}
+use Rattle.h3_world.specs.Setup.{Setup, announced_at, takes_any}
 use Rattle.h3_world.specs.Sound.{AreSent, MayFollow, is_before_head as is_before, is_in_body, is_trailer}
 use Rattle.h3_world.specs.Streams.{flow, is_open, with_flow}
 use Rattle.h3_world.specs.World.{Party, World, party, with_party}
@@ -115,10 +116,10 @@ module _ (setup : Setup) (w : World) (ends : Ends) (known : ℕ → Bool) (i : �
   strict_end s = ap (λ (a : Announced). a.choices.strict_messages) (t.announced s) ∙ strict s
 
   -- An interim head, which a server sends.
-  pub interim_tally : (s : Side) → s ≡ Server → is_open w s i ≡ true → TakesHead (end_at ends s) i head fields → is_interim head.status ≡ true
+  pub interim_tally : (s : Side) → s ≡ Server → is_open w s i ≡ true → TakesHead (end_at ends s) i head fields → AcceptsAll (takes_any (announced_at setup (other s))) (trailer_head []) fields → is_interim head.status ≡ true
       → Tallies setup (with_section Interim w s i fields) (with_end ends s (after_head (end_at ends s) i head fields (strict_end s))) known
-  interim_tally Client off opened takes interim = absurd (cc)
-  interim_tally Server on opened takes interim =
+  interim_tally Client off opened takes reads interim = absurd (cc)
+  interim_tally Server on opened takes reads interim =
       let e = ends.server in
       let there = open_there w Server i opened in
       let q = having_encoded (party w Server) i fields in
@@ -130,7 +131,7 @@ module _ (setup : Setup) (w : World) (ends : Ends) (known : ℕ → Bool) (i : �
       (sends_part w (with_section Interim w Server i fields) ends Server i part p (after_head e i head fields (strict_end Server)) (flows_with_party w Server q i part there) (head_out e i head fields (strict_end Server))
       (server_in e i head fields (strict_end Server) (side_of setup w ends Server h)) refl)
       sound.out refl
-      (head_unbroken setup w ends known Server i head fields h t (strict Server) takes, subst (IsAwaited Client) (sym along) (asked_awaited (flow w Client i).sent))
+      (head_unbroken setup w ends known Server i head fields h t (strict Server) takes, subst (IsAwaited Client) (sym along) (asked_awaited (flow w Client i).sent), reads)
       (λ ends_now. absurd (no_end_yet p (by_kind (is_interim head.status) interim) ends_now)) t
     where
       by_kind : (b : Bool) → b ≡ true → is_unsent ((outgoing_at ends.server i).parts ++ (if b then OwnInterim (written_section ends.server.encoder i fields) else OwnHead (written_section ends.server.encoder i fields)) ∷ []) ≡ true
@@ -138,9 +139,9 @@ module _ (setup : Setup) (w : World) (ends : Ends) (known : ℕ → Bool) (i : �
       by_kind false e = absurd (cc)
 
   -- A final head, which a server sends where it knows what was asked.
-  pub response_tally : is_open w Server i ≡ true → TakesHead ends.server i head fields → is_interim head.status ≡ false → known i ≡ true
+  pub response_tally : is_open w Server i ≡ true → TakesHead ends.server i head fields → AcceptsAll (takes_any (announced_at setup Client)) (trailer_head []) fields → is_interim head.status ≡ false → known i ≡ true
       → Tallies setup (with_section HeadPart w Server i fields) (with_end ends Server (after_head ends.server i head fields (strict_end Server))) known
-  response_tally opened takes final knows =
+  response_tally opened takes reads final knows =
       let e = ends.server in
       let there = open_there w Server i opened in
       let q = having_encoded (party w Server) i fields in
@@ -163,7 +164,7 @@ module _ (setup : Setup) (w : World) (ends : Ends) (known : ℕ → Bool) (i : �
       (server_in e i head fields (strict_end Server) (side_of setup w ends Server h)) refl)
       sound.out (λ id. ap (λ (x : Flow). asked_in x.sent) (flows Client id)) (λ id. ap (λ (x : Flow). has_head x.sent) (flows Client id))
       (λ id has. ap (λ (x : Flow). has_head x.sent) (flows Client id) ∙ asks k.has id (i == id) refl (sym (ap (λ (x : Flow). has_head x.sent) (flows Server id)) ∙ has))
-      (head_unbroken setup w ends known Server i head fields h t (strict Server) takes, subst (IsAwaited Client) (sym along) (asked_awaited request))
+      (head_unbroken setup w ends known Server i head fields h t (strict Server) takes, subst (IsAwaited Client) (sym along) (asked_awaited request), reads)
       (λ ends_now.
       subst (λ c. IsSentOf p.content (content_of_head Client c fields)) (sym along)
       (subst (λ c. IsSentOf c (content_of_head Client (asked_in request) fields))
@@ -231,7 +232,7 @@ false_true e = cc
 
 -- **The final head of a request.** Its response is awaited by what it asks.
 module _ (setup : Setup) (w : World) (ends : Ends) (known : ℕ → Bool) (i : ℕ) (head : Head) (fields : List Field) (h : Stands (plain_setup setup) w (plain_ends ends)) (t : Tallies setup w ends known)
-    (strict : (side : Side) → (announced_at setup side).choices.strict_messages ≡ true) (opened : is_open w Client i ≡ true) (takes : TakesHead ends.client i head fields) where
+    (strict : (side : Side) → (announced_at setup side).choices.strict_messages ≡ true) (opened : is_open w Client i ≡ true) (takes : TakesHead ends.client i head fields) (reads : AcceptsAll (takes_any (announced_at setup Server)) (trailer_head []) fields) where
   pub asking : ends.client.announced.choices.strict_messages ≡ true
   asking = ap (λ (a : Announced). a.choices.strict_messages) (t.announced Client) ∙ strict Client
 
@@ -330,7 +331,7 @@ module _ (setup : Setup) (w : World) (ends : Ends) (known : ℕ → Bool) (i : �
       let sound = sound_flow (plain_setup setup) w Client i h.sound is_there in
       let along = head_along setup w ends Client i head fields Server Unsaid h opened takes in
       flow_grows Server (announced_at setup Server) Unsaid f request_part (outgoing_at e i) (said_head e i head fields asking) (incoming_at ends.server i) sound.out
-      (head_unbroken setup w ends known Client i head fields h t (strict Client) takes, along)
+      (head_unbroken setup w ends known Client i head fields h t (strict Client) takes, along, reads)
       (λ ends_now.
       subst (λ c. IsSentOf c (content_of_request fields))
       (sym (ap (λ b. if b then content_of_own e.side (known_of (stream_at e.incoming i)) fields else (outgoing_at e i).content) (head_is_open (outgoing_at e i) takes.takes).0

@@ -64,6 +64,16 @@ head_rules e id protocol head fields done =
       small = held (is_too_large (settings_known e.announced e.peer.settings) fields) (refusal.TooLarge (section_size fields)) [] (not_early broken large (passed (not (is_for (other e.side) head)) refusal.WrongSide (unless_malformed broken large) placed));
     }
 
+-- so the list was read
+pub head_told : (e : EndpointHistory) (id : ℕ) (told : Option Malformation) (head : Head) (fields : List Field) → head_judged e id told head fields ≡ None → told ≡ None
+head_told e id told head fields done =
+    let large = (is_too_large (settings_known e.announced e.peer.settings) fields, refusal.TooLarge (section_size fields)) ∷ [] in
+    let wrong = (not (is_for (other e.side) head), refusal.WrongSide) ∷ unless_malformed (broken_head_at e id fields) large in
+    let going = (sender_at e id).going in
+    let judged = unless_going going (unless_malformed told wrong) in
+    let there = passed (not (is_open e id)) refusal.NotOpen ((not (takes_head (outgoing_at e id)), refusal.OutOfOrder) ∷ judged) (not_closed e.closed _ done) in
+    not_malformed told wrong (not_going going (unless_malformed told wrong) (passed (not (takes_head (outgoing_at e id))) refusal.OutOfOrder judged there))
+
 -- a body
 pub record TakesBody (e : EndpointHistory) (id size : ℕ) : Type 0 where
   pub takes : takes_body (outgoing_at e id) ≡ true
@@ -103,6 +113,14 @@ trailer_rules e id protocol trailer fields done =
       rule = not_malformed broken large (not_early early (unless_malformed broken large) behind);
       small = held (is_too_large (settings_known e.announced e.peer.settings) fields) (refusal.TooLarge (section_size fields)) [] (not_early broken large (not_early early (unless_malformed broken large) behind));
     }
+
+pub trailer_told : (e : EndpointHistory) (id : ℕ) (told : Option Malformation) (trailer : Head) (fields : List Field) → trailer_judged e id told trailer fields ≡ None → told ≡ None
+trailer_told e id told trailer fields done =
+    let large = (is_too_large (settings_known e.announced e.peer.settings) fields, refusal.TooLarge (section_size fields)) ∷ [] in
+    let early = early_trailer (outgoing_at e id).content in
+    let pseudo = (has_pseudo trailer, refusal.PseudoInTrailer) ∷ unless_malformed early (unless_malformed (broken_trailer e.announced fields) large) in
+    let there = passed (not (is_open e id)) refusal.NotOpen ((not (takes_body (outgoing_at e id)), refusal.OutOfOrder) ∷ unless_malformed told pseudo) (not_closed e.closed _ done) in
+    not_malformed told pseudo (passed (not (takes_body (outgoing_at e id))) refusal.OutOfOrder (unless_malformed told pseudo) there)
 
 -- the end
 pub record TakesEnd (e : EndpointHistory) (id : ℕ) : Type 0 where
@@ -156,7 +174,7 @@ unsent_no_head (End ∷ parts) h = unsent_no_head parts h
 pub unbroken_other : (reader : Side) (own : Announced) (before after : Content) (parts : List Part) → has_head parts ≡ false → is_unsent (flat_map own_part parts) ≡ true → IsAwaited reader after → may_end after ≡ true
     → AreUnbroken reader own before parts → AreUnbroken reader own after parts
 unbroken_other reader own before after [] none unsent awaited ends h = tt
-unbroken_other reader own before after (Interim s ∷ parts) none unsent awaited ends h = ((h.0.0, awaited), unbroken_other reader own before after parts none unsent awaited ends h.1)
+unbroken_other reader own before after (Interim s ∷ parts) none unsent awaited ends h = ((h.0.0, awaited, h.0.2), unbroken_other reader own before after parts none unsent awaited ends h.1)
 unbroken_other reader own before after (HeadPart s ∷ parts) none unsent awaited ends h = absurd (cc)
 unbroken_other reader own before after (Body bytes end ∷ parts) none unsent awaited ends h = absurd (cc)
 unbroken_other reader own before after (Trailer s ∷ parts) none unsent awaited ends h = absurd (cc)

@@ -150,7 +150,7 @@ module _ (lists : ListsAreTheirValue) (side : Side) (own : Announced) (id : ℕ)
 
   -- A final head.
   pub head_reads : (f : Flow) (s : Section) (x : Incoming) (replies : List DecoderInstruction) → next_part f ≡ Some (Head s) → place_after (take f.parts_out f.sent) ≡ BeforeHead → place_after (take (f.parts_out + 1) f.sent) ≡ InBody
-      → IsReadableBy (takes_any own) side (Head s) → IsUnbroken side own (content_along side awaited (take f.parts_out f.sent)) (Head s) → x.place ≡ BeforeHead → x.body_left ≡ 0
+      → IsReadableBy true side (Head s) → IsUnbroken side own (content_along side awaited (take f.parts_out f.sent)) (Head s) → x.place ≡ BeforeHead → x.body_left ≡ 0
       → Counting side awaited known f x → Reads f s x replies
   head_reads f s x replies next place behind readable unbroken at none counts =
       let said = content_along side awaited (take f.parts_out f.sent) in
@@ -196,7 +196,7 @@ module _ (lists : ListsAreTheirValue) (side : Side) (own : Announced) (id : ℕ)
 
   -- An interim head.
   pub interim_reads : (f : Flow) (s : Section) (x : Incoming) (replies : List DecoderInstruction) → next_part f ≡ Some (Interim s) → place_after (take f.parts_out f.sent) ≡ BeforeHead
-      → IsReadableBy (takes_any own) side (Interim s) → IsUnbroken side own (content_along side awaited (take f.parts_out f.sent)) (Interim s) → x.place ≡ BeforeHead → x.body_left ≡ 0
+      → IsReadableBy true side (Interim s) → IsUnbroken side own (content_along side awaited (take f.parts_out f.sent)) (Interim s) → x.place ≡ BeforeHead → x.body_left ≡ 0
       → Counting side awaited known f x → Reads f s x replies
   interim_reads f s x replies next place readable unbroken at none counts =
       let said = content_along side awaited (take f.parts_out f.sent) in
@@ -205,7 +205,7 @@ module _ (lists : ListsAreTheirValue) (side : Side) (own : Announced) (id : ℕ)
       let stays = same ∙ sym more in
       let is : side ≡ Client = client_is side readable.0 in
       let last = one_status s.fields (response_rules own s.fields strict (subst (λ d. broken_rule d own BeforeHead s.fields ≡ None) is unbroken.0)) in
-      let text : is_interim_text (last_value (codes ":status") s.fields) ≡ true = interim_by_last (takes_any own) s.fields readable.3 ∙ readable.2 in
+      let text : is_interim_text (last_value (codes ":status") s.fields) ≡ true = interim_by_last true s.fields readable.3 ∙ readable.2 in
       let status : is_interim_status (value_of (codes ":status") s.fields) ≡ true = sym (ap is_interim_text last) ∙ text in
       let whole_is : content_behind side x.place x.content s.fields ≡ x.content =
       ap (λ p. content_behind side p x.content s.fields) at ∙ ap (λ d. content_read d x.content s.fields) is ∙ interim_stays x.content (value_of (codes ":status") s.fields) (value_of (codes "content-length") s.fields) status in
@@ -231,7 +231,7 @@ module _ (lists : ListsAreTheirValue) (side : Side) (own : Announced) (id : ℕ)
 
   -- A trailer.
   pub trailer_reads : (f : Flow) (s : Section) (x : Incoming) (replies : List DecoderInstruction) → next_part f ≡ Some (Trailer s) → place_after (take (f.parts_out + 1) f.sent) ≡ AfterTrailer
-      → IsReadableBy (takes_any own) side (Trailer s) → IsUnbroken side own (content_along side awaited (take f.parts_out f.sent)) (Trailer s) → x.place ≡ InBody → x.body_left ≡ 0
+      → IsReadableBy true side (Trailer s) → IsUnbroken side own (content_along side awaited (take f.parts_out f.sent)) (Trailer s) → x.place ≡ InBody → x.body_left ≡ 0
       → Counting side awaited known f x → Reads f s x replies
   trailer_reads f s x replies next after readable unbroken at none counts =
       let said = content_along side awaited (take f.parts_out f.sent) in

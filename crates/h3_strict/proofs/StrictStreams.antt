@@ -46,7 +46,7 @@ use Rattle.h3_headline.specs.ReceivingLaws.{encoding_some}
 use Rattle.h3_headline.specs.Standing.{ReadsFlow, ReceivesFlow, StandsBefore, WaitsIn, place_after, place_behind, section_frame}
 use Rattle.h3_strict.proofs.StrictSections.{either, head_reads, interim_reads, read_good, trailer_reads}
 use Rattle.h3_strict.proofs.UnbrokenLaws.{along_next, ends_too, left_no_more, next_within, not_exceeded, trails_too, unbroken_next}
-use Rattle.h3_strict.specs.Plainly.{plain_incoming, tells_malformed}
+use Rattle.h3_strict.specs.Plainly.{plain, plain_incoming, tells_malformed}
 use Rattle.h3_strict.specs.StrictPull.{Counting, CountsFlow, PullsOn, flow_after, response_after}
 use Rattle.h3_strict.specs.Unbroken.{AreUnbroken, CountsAlong, IsUnbroken, SaysNoMore, begun, content_along}
 use Rattle.h3_connection.specs.StrictConnection.{kinds_of}
@@ -119,22 +119,25 @@ module _ (lists : ListsAreTheirValue) (side : Side) (own : Announced) (id : ℕ)
 
   -- The fields of the next part are read well.
   next_reads : (p : Party) (f : Flow) (part : Part) (s : Section) (x : Incoming) → IsSoundFlow p f → next_part f ≡ Some part → section_of_part (Some part) ≡ Some s → AreUnbroken side own awaited f.sent
-      → IsReadableNext lists side own id r 0 (Some part) → x.place ≡ place_after (take f.parts_out f.sent) → x.body_left ≡ 0 → Counting side awaited known f x
+      → IsReadableNext lists side (plain own) id r 0 (Some part) → x.place ≡ place_after (take f.parts_out f.sent) → x.body_left ≡ 0 → Counting side awaited known f x
       → PullsOn side awaited known f (read_section side own id r x (acknowledgment id s.count) s.fields)
   next_reads p f (Interim t) s x sound next is unbroken readable place none counts =
+      let fine = unbroken_next side own awaited f.sent f.parts_out (Interim t) unbroken next in
       let at = part_at p f (Interim t) sound next in
-      let good = read_good lists side own id r strict awaited known f item.Interim t (Interim t) x (acknowledgment id t.count) (interim_part t) next readable.3 none
-      (interim_reads lists side own id r strict awaited known f t x (acknowledgment id t.count) next at.place_is readable (unbroken_next side own awaited f.sent f.parts_out (Interim t) unbroken next) (place ∙ at.place_is) none counts) in
+      let good = read_good lists side own id r strict awaited known f item.Interim t (Interim t) x (acknowledgment id t.count) (interim_part t) next fine.2 none
+      (interim_reads lists side own id r strict awaited known f t x (acknowledgment id t.count) next at.place_is readable fine (place ∙ at.place_is) none counts) in
       subst (λ u. PullsOn side awaited known f (read_section side own id r x (acknowledgment id u.count) u.fields)) (same_section t s is) good
   next_reads p f (Head t) s x sound next is unbroken readable place none counts =
+      let fine = unbroken_next side own awaited f.sent f.parts_out (Head t) unbroken next in
       let at = part_at p f (Head t) sound next in
-      let good = read_good lists side own id r strict awaited known f item.Head t (Head t) x (acknowledgment id t.count) (head_part t) next readable.2 none
-      (head_reads lists side own id r strict awaited known f t x (acknowledgment id t.count) next at.place_is at.place_next readable (unbroken_next side own awaited f.sent f.parts_out (Head t) unbroken next) (place ∙ at.place_is) none counts) in
+      let good = read_good lists side own id r strict awaited known f item.Head t (Head t) x (acknowledgment id t.count) (head_part t) next fine.2 none
+      (head_reads lists side own id r strict awaited known f t x (acknowledgment id t.count) next at.place_is at.place_next readable fine (place ∙ at.place_is) none counts) in
       subst (λ u. PullsOn side awaited known f (read_section side own id r x (acknowledgment id u.count) u.fields)) (same_section t s is) good
   next_reads p f (Trailer t) s x sound next is unbroken readable place none counts =
+      let fine = unbroken_next side own awaited f.sent f.parts_out (Trailer t) unbroken next in
       let at = part_at p f (Trailer t) sound next in
-      let good = read_good lists side own id r strict awaited known f item.Trailer t (Trailer t) x (acknowledgment id t.count) (trailer_part t) next readable.1 none
-      (trailer_reads lists side own id r strict awaited known f t x (acknowledgment id t.count) next at.place_next readable (unbroken_next side own awaited f.sent f.parts_out (Trailer t) unbroken next) (place ∙ at.place_is) none counts) in
+      let good = read_good lists side own id r strict awaited known f item.Trailer t (Trailer t) x (acknowledgment id t.count) (trailer_part t) next fine.3 none
+      (trailer_reads lists side own id r strict awaited known f t x (acknowledgment id t.count) next at.place_next readable fine (place ∙ at.place_is) none counts) in
       subst (λ u. PullsOn side awaited known f (read_section side own id r x (acknowledgment id u.count) u.fields)) (same_section t s is) good
   next_reads p f (Body bytes own_length) s x sound next is unbroken readable place none counts = cc
   next_reads p f End s x sound next is unbroken readable place none counts = cc
@@ -341,7 +344,7 @@ module _ (lists : ListsAreTheirValue) (side : Side) (own : Announced) (id : ℕ)
       still_open false e = refl
 
   -- In front of any part.
-  before_comes : (came : ℕ) (p : Party) (f : Flow) (part : Option Part) (i : Incoming) → IsBefore p f (plain_incoming i) → next_part f ≡ part → DecodesNext lists side own id r came part → IsReadableNext lists side own id r came part
+  before_comes : (came : ℕ) (p : Party) (f : Flow) (part : Option Part) (i : Incoming) → IsBefore p f (plain_incoming i) → next_part f ≡ part → DecodesNext lists side own id r came part → IsReadableNext lists side (plain own) id r came part
       → AreUnbroken side own awaited f.sent → Counting side awaited known f i → PullsOn side awaited known f (between_frames side own id r i)
   before_comes came p f None i h next decodes readable unbroken counts = none_comes p f i h next counts
   before_comes came p f (Some (Interim s)) i h next decodes readable unbroken counts =
@@ -368,7 +371,7 @@ module _ (lists : ListsAreTheirValue) (side : Side) (own : Announced) (id : ℕ)
 
   -- No section is at hand.
   no_section_comes : (came : ℕ) (p : Party) (f : Flow) (i : Incoming) → IsSoundFlow p f → GoesOn f (plain_incoming i) → ReceivesFlow f (plain_incoming i) → ReadsFlow f (plain_incoming i) → i.section ≡ None
-      → DecodesNext lists side own id r came (next_part f) → IsReadableNext lists side own id r came (next_part f) → AreUnbroken side own awaited f.sent → Counting side awaited known f i
+      → DecodesNext lists side own id r came (next_part f) → IsReadableNext lists side (plain own) id r came (next_part f) → AreUnbroken side own awaited f.sent → Counting side awaited known f i
       → PullsOn side awaited known f (if nat_lt 0 i.body_left then at_payload id i else between_frames side own id r i)
   no_section_comes came p f i sound on same reads none decodes readable unbroken counts =
       by_left i.body_left refl reads.unread (subst (λ o. WaitsIn f (plain_incoming i) o (section_of_part (next_part f))) none reads.waits)
@@ -413,7 +416,7 @@ module _ (lists : ListsAreTheirValue) (side : Side) (own : Announced) (id : ℕ)
 
   -- A section is at hand, and waits.
   waiting_comes : (came : ℕ) (p : Party) (f : Flow) (part : Option Part) (i : Incoming) (bytes : List ℕ) → IsSoundFlow p f → ReadsFlow f (plain_incoming i) → next_part f ≡ part
-      → WaitsIn f (plain_incoming i) (Some bytes) (section_of_part part) → DecodesNext lists side own id r came part → IsReadableNext lists side own id r came part → AreUnbroken side own awaited f.sent
+      → WaitsIn f (plain_incoming i) (Some bytes) (section_of_part part) → DecodesNext lists side own id r came part → IsReadableNext lists side (plain own) id r came part → AreUnbroken side own awaited f.sent
       → Counting side awaited known f i → PullsOn side awaited known f (at_section side own id r i bytes)
   waiting_comes came p f None i bytes sound reads next waits decodes readable unbroken counts = absurd waits
   waiting_comes came p f (Some (Body x end)) i bytes sound reads next waits decodes readable unbroken counts = absurd waits
@@ -443,7 +446,7 @@ module _ (lists : ListsAreTheirValue) (side : Side) (own : Announced) (id : ℕ)
 
   -- **A pull of a flow whose parts break no rule.**
   pub pull_counts : (came : ℕ) (p : Party) (f : Flow) (i : Incoming) → IsSoundFlow p f → ReceivesFlow f (plain_incoming i) → f.fault ≡ None → is_over f ≡ false
-      → DecodesNext lists side own id r came (next_part f) → IsReadableNext lists side own id r came (next_part f) → AreUnbroken side own awaited f.sent → Counting side awaited known f i
+      → DecodesNext lists side own id r came (next_part f) → IsReadableNext lists side (plain own) id r came (next_part f) → AreUnbroken side own awaited f.sent → Counting side awaited known f i
       → PullsOn side awaited known f (pull_stream side own id r i)
   pull_counts came p f i sound same alive more decodes readable unbroken counts =
       let reads = same.reads alive in

@@ -6,7 +6,7 @@ use Rattle.std.specs.List.{concat, list_any}
 use Rattle.h3_field.specs.Field.{Field}
 use Rattle.h3_field.specs.Instruction.{DecoderInstruction}
 use Rattle.h3_header.specs.Head.{Head, has_pseudo}
-use Rattle.h3_header.specs.HeadRead.{HeadRead, IsHead, IsNone, head_by}
+use Rattle.h3_header.specs.HeadRead.{HeadRead, IsHead, IsNone, Value, head_by}
 use Rattle.h3_messages.specs.Content.{is_exceeded, may_end, takes_trailer}
 use Rattle.h3_proto.specs.declared.stream.Side.{Side}
 use Rattle.h3_proto.specs.declared.stream.Side.TheVariants.{Client, Server}
@@ -50,6 +50,7 @@ use Rattle.h3_headline.specs.PartLaws.{part_at}
 use Rattle.h3_headline.specs.Pulling.{ComesTo, HandsOut, Pauses}
 use Rattle.h3_headline.specs.Standing.{place_after}
 use Rattle.h3_strict.proofs.TunnelParts.{any_at}
+use Rattle.h3_strict.specs.NarrowLaws.{reads_less}
 use Rattle.h3_strict.specs.Plainly.{plain, plain_incoming}
 use Rattle.h3_strict.specs.Tunnels.{trails}
 
@@ -128,7 +129,20 @@ module _ (side : Side) (own : Announced) (id : ℕ) (r : DecoderState) where
   read_why : (i : Incoming) (replies : List DecoderInstruction) (fields : List Field) → Plain (read_section side own id r i replies fields) (read_section side (plain own) id r (plain_incoming i) replies fields)
   read_why i replies fields =
       either (nat_lt (section_of own) (told_size fields)) _ _ _ _ (AnswersSame refl)
-      (judged_why side id (with_content side own i fields) replies (if_whole i.content (broken_rule side own i.place fields)) (head_by own.choices.extensions.any_protocol fields))
+      (by_read (reads_less own.choices.extensions.any_protocol fields))
+    where
+      j : Incoming
+      j = with_content side own i fields
+
+      broken : Option Malformation
+      broken = if_whole i.content (broken_rule side own i.place fields)
+
+      Told : HeadRead → Type 0
+      Told h = Plain (judged side id j replies broken h) (judged side id (plain_incoming j) replies None (head_by true fields))
+
+      by_read : (head_by own.choices.extensions.any_protocol fields ≡ head_by true fields) ⊎ ((head_by own.choices.extensions.any_protocol fields ≡ IsNone Value) × (own.choices.extensions.any_protocol ≡ false)) → Told (head_by own.choices.extensions.any_protocol fields)
+      by_read (inl same) = subst Told (sym same) (judged_why side id j replies broken (head_by true fields))
+      by_read (inr value) = subst Told (sym value.0) (EndsNone refl)
 
   decoded_why : (i : Incoming) (d : DecodedSection) → Plain (decoded side own id r i d) (decoded side (plain own) id r (plain_incoming i) d)
   decoded_why i (Fields fields count) = read_why (past_section i) (acknowledgment id count) fields
@@ -146,7 +160,7 @@ module _ (side : Side) (own : Announced) (id : ℕ) (r : DecoderState) where
   trail_decoded : (i : Incoming) (d : DecodedSection) → i.place ≡ InBody → may_trail (decoded side (plain own) id r (plain_incoming i) d).answer ≡ true
   trail_decoded i (Fields fields count) place =
       both (λ p. may_trail p.answer ≡ true) (nat_lt (section_of own) (told_size fields)) _ _ refl
-      (trail_judged (with_content side (plain own) (past_section (plain_incoming i)) fields) (acknowledgment id count) (head_by own.choices.extensions.any_protocol fields) place)
+      (trail_judged (with_content side (plain own) (past_section (plain_incoming i)) fields) (acknowledgment id count) (head_by true fields) place)
   trail_decoded i (Missing count) place = both (λ p. may_trail p.answer ≡ true) (i.waits_for == 0) _ _ refl refl
   trail_decoded i BadSection place = refl
 

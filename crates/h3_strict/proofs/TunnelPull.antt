@@ -41,7 +41,7 @@ use Rattle.h3_world.specs.Order.{is_over, next_part}
 use Rattle.h3_world.specs.Pauses.{paused}
 use Rattle.h3_world.specs.Pulling.{Pulls, PullsNext, settled}
 use Rattle.h3_world.specs.Sending.{given_up}
-use Rattle.h3_world.specs.Setup.{Setup, announced_at, takes_any}
+use Rattle.h3_world.specs.Setup.{Setup, announced_at}
 use Rattle.h3_world.specs.Sound.{IsSoundFlow}
 use Rattle.h3_world.specs.Streams.{flow, is_open}
 use Rattle.h3_world.specs.World.{Party, World, party, with_party}
@@ -256,7 +256,7 @@ changes_at Client w v ends x id j c others sent left t = client_changes w v ends
 changes_at Server w v ends x id j c others sent left t = server_changes w v ends x id j c others sent left.0 left.1 t
 
 left_by : (w v : World) (ends : Ends) (side : Side) (own : Announced) (id : ℕ) (r : DecoderState) → own.choices.strict_messages ≡ true → (came : ℕ) (p : Party) (i : Incoming) → IsSoundFlow p (flow w (other side) id)
-    → Along side own id r came (flow w (other side) id) i → AllByRecursion (IsReadableBy (takes_any own) side) (flow w (other side) id).sent → Tunnels w ends → incoming_at (end_at ends side) id ≡ i
+    → Along side own id r came (flow w (other side) id) i → AllByRecursion (IsReadableBy true side) (flow w (other side) id).sent → Tunnels w ends → incoming_at (end_at ends side) id ≡ i
     → PullWorld w v side id (pull_stream side own id r i).answer (pull_stream side own id r i).incoming.fault → LeftAt side w v id (pull_stream side own id r i).incoming
 left_by w v ends Client own id r strict came p i sound along readable t here (GoesNext m) =
     client_left own id r strict came p (flow w Server id) i sound (flow w Client id).sent (flow v Server id) along

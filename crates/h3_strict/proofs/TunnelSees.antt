@@ -30,7 +30,7 @@ use Rattle.h3_world.specs.Came.{insertions_came}
 use Rattle.h3_world.specs.Ends.{Ends, end_at}
 use Rattle.h3_world.specs.Flow.{Flow, own_part}
 use Rattle.h3_world.specs.Order.{is_over, next_part, outgoing_of, section_of_part}
-use Rattle.h3_world.specs.Setup.{IsMadeSetup, Setup, announced_at, flags_secrets, takes_any}
+use Rattle.h3_world.specs.Setup.{IsMadeSetup, Setup, announced_at, flags_secrets}
 use Rattle.h3_world.specs.Sound.{IsSoundFlow, IsSoundWorld}
 use Rattle.h3_world.specs.Streams.{flow, is_open}
 use Rattle.h3_world.specs.World.{World, party}
@@ -46,7 +46,7 @@ use Rattle.h3_headline.specs.SendingLaws.{both_of}
 use Rattle.h3_headline.specs.SessionDecoderLaws.{endpoint_decodes, insertions_read}
 use Rattle.h3_headline.specs.Standing.{IsReadableBy, ReceivesFlow, StandsAt, are_settings_there, place_after, with_meaning}
 use Rattle.h3_strict.proofs.BehindPulls.{part_pauses, pauses}
-use Rattle.h3_strict.proofs.PlainSetups.{judges_plainly, same_protocols}
+use Rattle.h3_strict.proofs.PlainSetups.{any_protocols, judges_plainly}
 use Rattle.h3_strict.proofs.SentTallies.{connects_known, plain_settings}
 use Rattle.h3_strict.proofs.TunnelLimits.{flow_sections, none_left}
 use Rattle.h3_strict.proofs.TunnelStreams.{Along}
@@ -66,7 +66,7 @@ pub record Sees (setup : Setup) (w : World) (ends : Ends) : Type 0 where
   pub side_is : (side : Side) → (end_at ends side).side ≡ side
   pub closed : (side : Side) → (end_at ends side).closed ≡ None
   pub sound : IsSoundWorld (plain_setup setup) w
-  pub readable : (side : Side) (id : ℕ) → AllByRecursion (IsReadableBy (takes_any (announced_at setup side)) side) (flow w (other side) id).sent
+  pub readable : (side : Side) (id : ℕ) → AllByRecursion (IsReadableBy true side) (flow w (other side) id).sent
   pub parts : (side : Side) (id : ℕ) → is_open w side id ≡ true → (outgoing_at (end_at ends side) id).parts ≡ flat_map own_part (flow w side id).sent
   pub connect : (side : Side) → peer_connects (settings_known (end_at ends side).announced (end_at ends side).peer.settings) ≡ true → connects (announced_at setup (other side)) ≡ true
   pub streams : (side : Side) (id : ℕ) (i : Incoming) → stream_at (end_at ends side).incoming id ≡ Some i → SeenStream setup w side id (end_at ends side).decoding.decoder i
@@ -253,8 +253,8 @@ module _ (laws : Laws) (setup : Setup) (made : IsMadeSetup (plain_setup setup)) 
       second true = refl
       second false = refl
 
-  readable_seen : (side : Side) (id : ℕ) → AllByRecursion (IsReadableBy (takes_any (announced_at setup side)) side) (flow w (other side) id).sent
-  readable_seen side id = subst (λ any. AllByRecursion (IsReadableBy any side) (flow w (other side) id).sent) (same_protocols setup side) ((both_of (plain_setup setup) w side b.behind b.stands).sends_there id)
+  readable_seen : (side : Side) (id : ℕ) → AllByRecursion (IsReadableBy true side) (flow w (other side) id).sent
+  readable_seen side id = subst (λ any. AllByRecursion (IsReadableBy any side) (flow w (other side) id).sent) (any_protocols setup side) ((both_of (plain_setup setup) w side b.behind b.stands).sends_there id)
 
   -- **What is seen of both.**
   pub sees_behind : Sees setup w ends

@@ -25,7 +25,6 @@ use Rattle.h3_connection.specs.declared.setup.Announced.{Announced}
 use Rattle.h3_world.specs.Flow.{Flow, Part, Section}
 use Rattle.h3_world.specs.Flow.Part.{Body, End, Head as HeadPart, Interim, Trailer}
 use Rattle.h3_world.specs.Order.{is_over, next_part, section_of_part}
-use Rattle.h3_world.specs.Setup.{takes_any}
 use Rattle.h3_world.specs.Sound.{IsSoundFlow}
 use Rattle.h3_world.specs.World.{Party}
 use Rattle.h3_headline.specs.PartLaws.{part_at}
@@ -204,7 +203,7 @@ module _ (own : Announced) (id : ℕ) (r : DecoderState) (strict : own.choices.s
       by_place (inr off) = behind off (old fault ((pull_stays Client own id r i (leaves_behind Client own i.place (ap is_before_head place ∙ off))).content lives mark))
 
   -- **The server's**: it counts one only if the request asks for one, and knows what it asks for.
-  pub server_left : Along Server own id r came f i → AllByRecursion (IsReadableBy (takes_any own) Server) f.sent → (i.fault ≡ None → marked Server i.content ≡ true → list_any asks_tunnel f.sent ≡ true)
+  pub server_left : Along Server own id r came f i → AllByRecursion (IsReadableBy true Server) f.sent → (i.fault ≡ None → marked Server i.content ≡ true → list_any asks_tunnel f.sent ≡ true)
       → ((c : Content) → i.response ≡ Some c → (has_head f.sent ≡ true) × (c ≡ asked_in f.sent))
       → ((pull_stream Server own id r i).incoming.fault ≡ None → marked Server (pull_stream Server own id r i).incoming.content ≡ true → list_any asks_tunnel f.sent ≡ true)
       × ((c : Content) → (pull_stream Server own id r i).incoming.response ≡ Some c → (has_head f.sent ≡ true) × (c ≡ asked_in f.sent))
@@ -269,9 +268,9 @@ module _ (own : Announced) (id : ℕ) (r : DecoderState) (strict : own.choices.s
           by_part (HeadPart t) next is = head_read t next (same_section (sym is))
           by_part (Interim t) next is = absurd (let never : false ≡ true = (readable_at f.sent f.parts_out (Interim t) readable next).0 in cc)
             where
-              readable_at : (parts : List Part) (n : ℕ) (z : Part) → AllByRecursion (IsReadableBy (takes_any own) Server) parts → slice_get parts n ≡ Some z → IsReadableBy (takes_any own) Server z
+              readable_at : (parts : List Part) (n : ℕ) (z : Part) → AllByRecursion (IsReadableBy true Server) parts → slice_get parts n ≡ Some z → IsReadableBy true Server z
               readable_at [] n z h e = absurd (cc)
-              readable_at (v ∷ parts) zero z h e = subst (IsReadableBy (takes_any own) Server) (ap (λ o. unwrap_or o v) e) h.0
+              readable_at (v ∷ parts) zero z h e = subst (IsReadableBy true Server) (ap (λ o. unwrap_or o v) e) h.0
               readable_at (v ∷ parts) (suc n) z h e = readable_at parts n z h.1 e
           by_part (Trailer t) next is = in_front (sym (part_at p f (Trailer t) sound next).place_is ∙ at)
           by_part (Body bytes end) next is = absurd (let never : None ≡ Some s = is in cc)

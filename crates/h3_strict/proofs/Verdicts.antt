@@ -1,5 +1,5 @@
 -- A pull of one request stream by a side that judges more: it is answered as without that, or ends the connection, or gives the message up.
-use Rattle.std.proofs.Common.{◌≡◌, ℕ, Bool, true, false, if◌then◌else◌, List, [], ◌∷◌, length, refl, subst, sym, Option, Some, None}
+use Rattle.std.proofs.Common.{◌≡◌, ◌⊎◌, inl, inr, ℕ, Bool, true, false, if◌then◌else◌, List, [], ◌∷◌, length, refl, subst, sym, Option, Some, None}
 use Rattle.std.specs.Prelude.{not, ◌&&◌, ◌==◌, ◌^◌, ◌-◌, nat_lt}
 use Rattle.std.specs.List.{concat}
 use Rattle.h3_field.specs.Field.{Field}
@@ -7,7 +7,7 @@ use Rattle.h3_field.specs.Instruction.{DecoderInstruction}
 use Rattle.h3_qpack.specs.DecoderState.{DecoderState}
 use Rattle.h3_qpack.specs.DecodedSection.{DecodedSection, Fields, Missing, BadSection, decode_section}
 use Rattle.h3_header.specs.Head.{Head, has_pseudo}
-use Rattle.h3_header.specs.HeadRead.{HeadRead, IsHead, IsNone, head_by}
+use Rattle.h3_header.specs.HeadRead.{HeadRead, IsHead, IsNone, Value, head_by}
 use Rattle.h3_messages.specs.Content.{is_exceeded, may_end, takes_trailer}
 use Rattle.h3_proto.specs.declared.stream.Side.{Side}
 use Rattle.h3_proto.specs.declared.stream.Side.TheVariants.{Client, Server}
@@ -21,7 +21,7 @@ use Rattle.h3_wire.specs.declared.proto.frame.Frame.TheVariants as frame
 use Rattle.h3_connection.specs.Announcing.{section_of}
 use Rattle.h3_connection.specs.Codes.{excessive_load, frame_unexpected}
 use Rattle.h3_connection.specs.Incoming.{Incoming, is_body}
-use Rattle.h3_connection.specs.Pulling.{Pulled, just, connection_fault, malformed, body_of, raw_of, unless_broken, whole_head, whole_trailer, head_or_trailer, judged, read_section, decoded, at_section, at_trailer, at_end, at_frame, framed, next_frame, between_frames, excess, in_message, next_item, pull_stream, in_payload, at_payload, begun_section, begun_payload, left_with, past_section, acknowledgment, is_for, is_client, is_interim, with_content, told_size}
+use Rattle.h3_connection.specs.Pulling.{Pulled, just, connection_fault, malformed, body_of, raw_of, unless_broken, whole_head, whole_trailer, head_or_trailer, judged, read_section, decoded, at_section, at_trailer, at_end, at_frame, framed, next_frame, between_frames, excess, in_message, next_item, pull_stream, in_payload, at_payload, begun_section, begun_payload, left_with, past_section, acknowledgment, is_for, is_client, is_interim, malformation_of, with_content, told_size}
 use Rattle.h3_connection.specs.Skipping.{skipped}
 use Rattle.h3_connection.specs.StrictConnection.{is_no_session, kinds_of}
 use Rattle.h3_connection.specs.StrictMessages.{broken_rule, if_whole}
@@ -32,9 +32,11 @@ use Rattle.h3_connection.specs.declared.event.Malformation.{Malformation}
 use Rattle.h3_connection.specs.declared.event.Malformation.TheVariants as malformation
 use Rattle.h3_connection.specs.declared.event.Pull.TheVariants as pull
 use Rattle.h3_connection.specs.declared.event.StreamFault.{StreamFault}
+use Rattle.h3_connection.specs.declared.event.StreamFault.TheVariants as stream_fault
 use Rattle.h3_connection.specs.declared.place.Place.{Place}
 use Rattle.h3_connection.specs.declared.place.Place.TheVariants.{BeforeHead, InBody, AfterTrailer, InSession}
 use Rattle.h3_connection.specs.declared.setup.Announced.{Announced}
+use Rattle.h3_strict.specs.NarrowLaws.{reads_less}
 use Rattle.h3_strict.specs.Plainly.{plain, plain_incoming}
 use Rattle.h3_strict.proofs.PlainPulls.{plain_pulled}
 
@@ -48,11 +50,12 @@ pub record Marks : Type 0 where
 abbrev pub marks_of : Incoming → Marks
 marks_of i = record { ended = i.ended; was_reset = i.was_reset; is_over = i.is_over; fault = i.fault }
 
--- The message is given up at once, or behind the section that the other pull hands out.
+-- The message is given up at once, or behind the section that the other pull hands out; or that gives it up too.
 pub data Verdict (id : ℕ) (m : Marks) (p q : Pulled) : Type 0 where
   IsSame : q ≡ plain_pulled p → Verdict id m p q
   EndsAll : (code : ℕ) → p.answer ≡ pull.Fault (Connection code) → Verdict id m p q
   AtOnce : (why : Malformation) (j : Incoming) → p ≡ malformed id why j [] → marks_of j ≡ m → Verdict id m p q
+  BothGone : (why other : Malformation) (j : Incoming) (replies : List DecoderInstruction) → p ≡ malformed id why j replies → marks_of j ≡ m → q.answer ≡ pull.Fault (Stream (stream_fault.Malformed other)) → Verdict id m p q
   BehindSection : (why : Malformation) (j : Incoming) (it : Item) → p ≡ malformed id why j q.replies → marks_of j ≡ m → q.answer ≡ pull.Item it → marks_of q.incoming ≡ m → Verdict id m p q
 
 either : (id : ℕ) (m : Marks) (b : Bool) (x y v w : Pulled) → Verdict id m x v → Verdict id m y w → Verdict id m (if b then x else y) (if b then v else w)
@@ -113,11 +116,48 @@ judged_told : (side : Side) (id : ℕ) (i : Incoming) (replies : List DecoderIns
 judged_told side id i replies broken (IsNone why) = IsSame refl
 judged_told side id i replies broken (IsHead h) = section_told side id i replies broken i.place h
 
+-- one that the side does not read
+unread_told : (side : Side) (id : ℕ) (i : Incoming) (replies : List DecoderInstruction) (read : HeadRead) → Verdict id (marks_of i) (malformed id malformation.Value i replies) (judged side id (plain_incoming i) replies None read)
+unread_told side id i replies (IsNone why) = BothGone malformation.Value (malformation_of why) i replies refl refl refl
+unread_told side id i replies (IsHead h) = by_place i.place
+  where
+    by_side : (b c : Bool) → Verdict id (marks_of i) (malformed id malformation.Value i replies)
+        (if b then malformed id malformation.WrongSide (plain_incoming i) replies else (
+        if c then record { answer = pull.Item (item.Interim h); incoming = plain_incoming i; replies = replies } else
+        record { answer = pull.Item (item.Head h); incoming = record (plain_incoming i) { place = InBody }; replies = replies }))
+    by_side true c = BothGone malformation.Value malformation.WrongSide i replies refl refl refl
+    by_side false true = BehindSection malformation.Value i (item.Interim h) refl refl refl refl
+    by_side false false = BehindSection malformation.Value i (item.Head h) refl refl refl refl
+
+    by_pseudo : (b : Bool) → Verdict id (marks_of i) (malformed id malformation.Value i replies)
+        (if b then malformed id malformation.PseudoInTrailer (plain_incoming i) replies else record { answer = pull.Item (item.Trailer h); incoming = record (plain_incoming i) { place = AfterTrailer }; replies = replies })
+    by_pseudo true = BothGone malformation.Value malformation.PseudoInTrailer i replies refl refl refl
+    by_pseudo false = BehindSection malformation.Value i (item.Trailer h) refl refl refl refl
+
+    by_place : (place : Place) → Verdict id (marks_of i) (malformed id malformation.Value i replies) (head_or_trailer side id (plain_incoming i) replies None place h)
+    by_place BeforeHead = by_side (not (is_for side h)) (is_client side && is_interim h.status)
+    by_place InBody = by_pseudo (has_pseudo h)
+    by_place AfterTrailer = by_pseudo (has_pseudo h)
+    by_place InSession = by_pseudo (has_pseudo h)
+
 module _ (side : Side) (own : Announced) (id : ℕ) (r : DecoderState) where
   read_told : (i : Incoming) (replies : List DecoderInstruction) (fields : List Field) → Verdict id (marks_of i) (read_section side own id r i replies fields) (read_section side (plain own) id r (plain_incoming i) replies fields)
   read_told i replies fields =
       either id (marks_of i) (nat_lt (section_of own) (told_size fields)) _ _ _ _ (IsSame refl)
-      (judged_told side id (with_content side own i fields) replies (if_whole i.content (broken_rule side own i.place fields)) (head_by own.choices.extensions.any_protocol fields))
+      (by_read (reads_less own.choices.extensions.any_protocol fields))
+    where
+      j : Incoming
+      j = with_content side own i fields
+
+      broken : Option Malformation
+      broken = if_whole i.content (broken_rule side own i.place fields)
+
+      Told : HeadRead → Type 0
+      Told h = Verdict id (marks_of i) (judged side id j replies broken h) (judged side id (plain_incoming j) replies None (head_by true fields))
+
+      by_read : (head_by own.choices.extensions.any_protocol fields ≡ head_by true fields) ⊎ ((head_by own.choices.extensions.any_protocol fields ≡ IsNone Value) × (own.choices.extensions.any_protocol ≡ false)) → Told (head_by own.choices.extensions.any_protocol fields)
+      by_read (inl same) = subst Told (sym same) (judged_told side id j replies broken (head_by true fields))
+      by_read (inr value) = subst Told (sym value.0) (unread_told side id j replies (head_by true fields))
 
   decoded_told : (i : Incoming) (d : DecodedSection) → Verdict id (marks_of i) (decoded side own id r i d) (decoded side (plain own) id r (plain_incoming i) d)
   decoded_told i (Fields fields count) = read_told (past_section i) (acknowledgment id count) fields

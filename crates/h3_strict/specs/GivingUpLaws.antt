@@ -41,6 +41,8 @@ use Rattle.h3_headline.specs.Pulls.{SaysNothing}
 use Rattle.h3_headline.specs.SettledLaws.{settled_alive, settled_gone, settled_none}
 use Rattle.h3_headline.specs.Steps.{IsThere}
 use Rattle.h3_strict.specs.Accounts.{Accounts, AdvancesBy, AnswersNothing, KeepsOn, Quiet}
+use Rattle.h3_connection.specs.declared.event.Refusal.{Refusal}
+use Rattle.h3_connection.specs.declared.event.Refusal.TheVariants as refusal
 use Rattle.h3_strict.specs.MalformedLaws.{ends_none, finishes_none, pulls_none, refused_is, sends_none}
 use Rattle.h3_strict.specs.PlainEnds.{is_malformed_refusal}
 use Rattle.h3_strict.specs.AdvanceLaws.{keeps, says, advances, gives_up_on, quiet_none}
@@ -145,14 +147,17 @@ pub told_nothing : (l : ListPull) (why : Malformation) → pull_of l ≡ pull.Fa
 told_nothing (list.Item i) why is = absurd (cc)
 told_nothing l why is = (refl, refl)
 
+-- what is refused
+pub refusal_advances : (setup : Setup) (w : World) (e : Event) (r : Refusal) (writer : Side) (id : ℕ) → AdvancesBy setup w e writer id (answer.Refused r) w
+refusal_advances setup w e r writer id =
+    says (reader_of setup writer) (flow w writer id) (flow w writer id) [] (sent_in writer id e (answer.Refused r)) false (finished_in writer id e (answer.Refused r)) [] (pulled_in (other writer) id e (answer.Refused r)) false
+    (ended_in (other writer) id e (answer.Refused r)) (sym (sends_none r writer id e)) (sym (finishes_none r writer id e)) (sym (pulls_none r (other writer) id e)) (sym (ends_none r (other writer) id e))
+    (keeps (reader_of setup writer) (flow w writer id))
+
 -- a send that is refused as malformed
 pub refused_advances : (setup : Setup) (w : World) (e : Event) (a : Answer) (writer : Side) (id : ℕ) → is_malformed_refusal a ≡ true → AdvancesBy setup w e writer id a w
 refused_advances setup w e a writer id told =
-    let m = refused_is a told in
-    subst (λ b. AdvancesBy setup w e writer id b w) (sym m.1)
-    (says (reader_of setup writer) (flow w writer id) (flow w writer id) [] (sent_in writer id e (answer.Refused _)) false (finished_in writer id e (answer.Refused _)) [] (pulled_in (other writer) id e (answer.Refused _)) false
-    (ended_in (other writer) id e (answer.Refused _)) (sym (sends_none m.0 writer id e)) (sym (finishes_none m.0 writer id e)) (sym (pulls_none m.0 (other writer) id e)) (sym (ends_none m.0 (other writer) id e))
-    (keeps (reader_of setup writer) (flow w writer id)))
+    let m = refused_is a told in subst (λ b. AdvancesBy setup w e writer id b w) (sym m.1) (refusal_advances setup w e (refusal.Malformed m.0) writer id)
 
 -- before anything, each flow is unused
 pub nothing_yet : (setup : Setup) (writer : Side) (id : ℕ) → flow (empty_world setup) writer id ≡ unused

@@ -15,6 +15,7 @@ pub mod Accounts
 pub mod AdvanceLaws
 pub mod GivingUpLaws
 pub mod MalformedLaws
+pub mod NarrowLaws
 pub mod Tunnels
 pub mod StandsBehind
 pub mod WorldSteps

@@ -22,9 +22,9 @@ pub refused_is : (a : Answer) → is_malformed_refusal a ≡ true → (why : Mal
 refused_is (answer.Refused r) is = let m = malformed_is r is in (m.0, ap answer.Refused m.1)
 refused_is _ is = absurd (cc)
 
--- it sends nothing and hands out nothing
-module _ (why : Malformation) where
-  pub sends_none : (side : Side) (id : ℕ) (e : Event) → sent_in side id e (answer.Refused (refusal.Malformed why)) ≡ []
+-- what is refused sends nothing and hands out nothing
+module _ (r : Refusal) where
+  pub sends_none : (side : Side) (id : ℕ) (e : Event) → sent_in side id e (answer.Refused r) ≡ []
   sends_none side id (event.Head acting i head) = refl
   sends_none side id (event.Body acting i bytes) = refl
   sends_none side id (event.Trailer acting i trailer) = refl
@@ -32,7 +32,7 @@ module _ (why : Malformation) where
   sends_none side id (event.TrailerFields acting i fields) = refl
   sends_none side id _ = refl
 
-  pub finishes_none : (side : Side) (id : ℕ) (e : Event) → finished_in side id e (answer.Refused (refusal.Malformed why)) ≡ false
+  pub finishes_none : (side : Side) (id : ℕ) (e : Event) → finished_in side id e (answer.Refused r) ≡ false
   finishes_none side id (event.Finish acting i) = refl
   finishes_none side id _ = refl
 
@@ -40,7 +40,7 @@ module _ (why : Malformation) where
   none_if true = refl
   none_if false = refl
 
-  pub pulls_none : (side : Side) (id : ℕ) (e : Event) → pulled_in side id e (answer.Refused (refusal.Malformed why)) ≡ []
+  pub pulls_none : (side : Side) (id : ℕ) (e : Event) → pulled_in side id e (answer.Refused r) ≡ []
   pulls_none side id (event.Pull acting i) = none_if _
   pulls_none side id (event.PullFields acting i) = none_if _
   pulls_none side id _ = refl
@@ -49,7 +49,7 @@ module _ (why : Malformation) where
   not_both true = refl
   not_both false = refl
 
-  pub ends_none : (side : Side) (id : ℕ) (e : Event) → ended_in side id e (answer.Refused (refusal.Malformed why)) ≡ false
+  pub ends_none : (side : Side) (id : ℕ) (e : Event) → ended_in side id e (answer.Refused r) ≡ false
   ends_none side id (event.Pull acting i) = not_both _
   ends_none side id (event.PullFields acting i) = not_both _
   ends_none side id _ = refl

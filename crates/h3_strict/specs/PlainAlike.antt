@@ -11,29 +11,34 @@ use Rattle.h3_connection.specs.PartReading.{ReadsPart}
 use Rattle.h3_connection.specs.Sending.{advance, cancel, goaway, open_request, send_head, send_trailer}
 use Rattle.h3_connection.specs.Shown.{has_outgoing, is_finished, is_reset}
 use Rattle.h3_connection.specs.StreamSets.{stream_at}
+use Rattle.h3_connection.specs.StrictSending.{broken_protocol}
 use Rattle.h3_connection.specs.declared.arrival.Arrival.{Arrival}
 use Rattle.h3_connection.specs.declared.event.Malformation.{Malformation}
 use Rattle.h3_connection.specs.declared.event.Refusal.{Refusal}
 use Rattle.h3_connection.specs.declared.event.Refusal.TheVariants as refusal
 use Rattle.h3_world.specs.EndLists.{send_fields, send_trailer_fields}
-use Rattle.h3_world.specs.Lists.{listed_pull}
+use Rattle.h3_world.specs.Lists.{listed_pull, unreadable}
+use Rattle.h3_world.specs.Setup.{takes_any}
 use Rattle.h3_strict.specs.Plainly.{plain_incoming, plainly}
 
--- Two refusals of a call: of an end, and of the same end that judges plainly. They are the same; or the first is as malformed, and then the other end
--- accepts the call, or finds a list too large.
-pub data RulesPlainly (p q : Option Refusal) : Type 0 where
-  Breaks : (why : Malformation) → p ≡ Some (refusal.Malformed why) → (q ≡ None) ⊎ ((size : ℕ) × (q ≡ Some (refusal.TooLarge size))) → RulesPlainly p q
-  Agrees : q ≡ p → RulesPlainly p q
+-- Two refusals of a call: of an end, and of the same end that judges plainly. They are the same; or the end refuses what it does not read itself.
+abbrev pub SameUnless : Option Malformation → Option Refusal → Option Refusal → Type 0
+SameUnless unread p q = (q ≡ p) ⊎ ((why : Malformation) × (unread ≡ Some why) × (p ≡ Some (refusal.Malformed why)))
+
+-- So it is; or the end refuses the call as malformed, and the other end accepts it, or finds a list too large.
+pub data RulesPlainly (unread : Option Malformation) (p q : Option Refusal) : Type 0 where
+  Breaks : (why : Malformation) → p ≡ Some (refusal.Malformed why) → (q ≡ None) ⊎ ((size : ℕ) × (q ≡ Some (refusal.TooLarge size))) → RulesPlainly unread p q
+  Agrees : SameUnless unread p q → RulesPlainly unread p q
 
 -- It sends and gives up so, has the same to send, takes the same, and reads what came up to the same point.
 pub record DoesPlainly (e : EndpointHistory) : Type 0 where
-  pub opens : RulesPlainly (open_request e).0 (open_request (plainly e)).0
-  pub head : (id : ℕ) (head : Head) → RulesPlainly (send_head e id head).0 (send_head (plainly e) id head).0
-  pub fields : (id : ℕ) (fields : List Field) → RulesPlainly (send_fields e id fields).0 (send_fields (plainly e) id fields).0
-  pub trailer : (id : ℕ) (trailer : Head) → RulesPlainly (send_trailer e id trailer).0 (send_trailer (plainly e) id trailer).0
-  pub trailer_fields : (id : ℕ) (fields : List Field) → RulesPlainly (send_trailer_fields e id fields).0 (send_trailer_fields (plainly e) id fields).0
-  pub cancels : (id : ℕ) → RulesPlainly (cancel e id).0 (cancel (plainly e) id).0
-  pub goes_away : (id : ℕ) → RulesPlainly (goaway e id).0 (goaway (plainly e) id).0
+  pub opens : RulesPlainly None (open_request e).0 (open_request (plainly e)).0
+  pub head : (id : ℕ) (head : Head) → RulesPlainly (broken_protocol e.announced head) (send_head e id head).0 (send_head (plainly e) id head).0
+  pub fields : (id : ℕ) (fields : List Field) → RulesPlainly (unreadable (takes_any e.announced) fields) (send_fields e id fields).0 (send_fields (plainly e) id fields).0
+  pub trailer : (id : ℕ) (trailer : Head) → RulesPlainly (broken_protocol e.announced trailer) (send_trailer e id trailer).0 (send_trailer (plainly e) id trailer).0
+  pub trailer_fields : (id : ℕ) (fields : List Field) → RulesPlainly (unreadable (takes_any e.announced) fields) (send_trailer_fields e id fields).0 (send_trailer_fields (plainly e) id fields).0
+  pub cancels : (id : ℕ) → RulesPlainly None (cancel e id).0 (cancel (plainly e) id).0
+  pub goes_away : (id : ℕ) → RulesPlainly None (goaway e id).0 (goaway (plainly e) id).0
   pub advances : (id count : ℕ) → advance (plainly e) id count ≡ plainly (advance e id count)
   pub waits : (id : ℕ) → bytes_waiting (plainly e) id ≡ bytes_waiting e id
   pub has_one : (id : ℕ) → has_outgoing (plainly e) id ≡ has_outgoing e id

@@ -1,5 +1,5 @@
--- What an endpoint that asks for strict messages, or limits what is unfinished, is without that: the same endpoint, which does neither and
--- counts no content.
+-- What an endpoint that asks for strict messages, limits what is unfinished, or takes two protocols alone is without that: the same endpoint,
+-- which does none of it and counts no content.
 use Rattle.std.specs.Prelude.{ℕ, Bool, true, false, [], ◌∷◌, Option, Some, None, ◌==◌, ◌||◌, ◌&&◌, ◌^◌, ◌-◌}
 use Rattle.h3_proto.specs.Config.{is_limit}
 use Rattle.h3_messages.specs.declared.content.Content.TheVariants.{Unsaid}
@@ -22,9 +22,9 @@ use Rattle.h3_connection.specs.declared.event.StreamFault.{StreamFault}
 use Rattle.h3_connection.specs.declared.event.StreamFault.TheVariants as stream_fault
 use Rattle.h3_connection.specs.declared.setup.Announced.{Announced}
 
--- it announces the same, asks for no strict messages, and has no limit on what is unfinished
+-- it announces the same, asks for no strict messages, has no limit on what is unfinished, and takes any protocol
 abbrev pub plain : Announced → Announced
-plain a = record a { choices = record a.choices { strict_messages = false; unfinished_limit = 2 ^ 62 - 1 } }
+plain a = record a { choices = record a.choices { strict_messages = false; unfinished_limit = 2 ^ 62 - 1; extensions = record a.choices.extensions { any_protocol = true } } }
 
 -- nothing is known of what content there is, nor of what a response may have
 abbrev pub plain_incoming : Incoming → Incoming

@@ -1,6 +1,8 @@
 -- What a strict reader takes: parts of a message that break no rule of well-formed messages (RFC 9114, sections 4.1.2 and 4.2 to 4.5), with the
 -- content that they say.
 use Rattle.std.specs.Prelude.{◌≡◌, ◌⊎◌, ℕ, zero, suc, ◌+◌, ◌≤◌, true, false, List, [], ◌∷◌, take, length, fold, None}
+use Rattle.h3_header.specs.Head.{trailer_head}
+use Rattle.h3_header.specs.Reads.{AcceptsAll}
 use Rattle.h3_messages.specs.Content.{is_exceeded, left_behind, may_end, takes_trailer}
 use Rattle.h3_messages.specs.declared.content.Content.{Content}
 use Rattle.h3_messages.specs.declared.content.Content.TheVariants.{Unsaid, Tunnel, Unanswered}
@@ -11,6 +13,7 @@ use Rattle.h3_connection.specs.declared.place.Place.TheVariants.{BeforeHead, InB
 use Rattle.h3_connection.specs.declared.setup.Announced.{Announced}
 use Rattle.h3_world.specs.Flow.{Part}
 use Rattle.h3_world.specs.Flow.Part.{Interim, Head, Body, Trailer, End}
+use Rattle.h3_world.specs.Setup.{takes_any}
 use Rattle.h3_headline.specs.Standing.{place_after}
 
 -- how much content is left behind a part, for who reads it: the head says it, and each piece of the body is taken from it
@@ -30,12 +33,13 @@ abbrev pub IsAwaited : Side → Content → Type 0
 IsAwaited Client content = may_end content ≡ true
 IsAwaited Server content = content ≡ Unsaid
 
--- The part breaks no rule for a reader that announced so much, where this content is left.
+-- The part breaks no rule for a reader that announced so much, where this content is left, and a list reads as a header by the protocols that
+-- the reader takes.
 abbrev pub IsUnbroken : Side → Announced → Content → Part → Type 0
-IsUnbroken reader own content (Interim s) = (broken_rule reader own BeforeHead s.fields ≡ None) × IsAwaited reader content
-IsUnbroken reader own content (Head s) = (broken_rule reader own BeforeHead s.fields ≡ None) × IsAwaited reader content
+IsUnbroken reader own content (Interim s) = (broken_rule reader own BeforeHead s.fields ≡ None) × IsAwaited reader content × AcceptsAll (takes_any own) (trailer_head []) s.fields
+IsUnbroken reader own content (Head s) = (broken_rule reader own BeforeHead s.fields ≡ None) × IsAwaited reader content × AcceptsAll (takes_any own) (trailer_head []) s.fields
 IsUnbroken reader own content (Body bytes end) = is_exceeded (left_behind content (length bytes)) ≡ false
-IsUnbroken reader own content (Trailer s) = (broken_rule reader own InBody s.fields ≡ None) × (takes_trailer content ≡ true) × (may_end content ≡ true)
+IsUnbroken reader own content (Trailer s) = (broken_rule reader own InBody s.fields ≡ None) × (takes_trailer content ≡ true) × (may_end content ≡ true) × AcceptsAll (takes_any own) (trailer_head []) s.fields
 IsUnbroken reader own content End = may_end content ≡ true
 
 -- None of the parts does, each behind those before it.

@@ -17,7 +17,7 @@ ghost use Rattle.h3_connection.specs.StreamSets.{stream_at};
 ghost use Rattle.h3_connection.specs.Sending.{advance};
 ghost use Rattle.h3_connection.specs.declared.arrival.Arrival.{Arrival};
 ghost use Rattle.h3_world.specs.Ends.{end_at};
-ghost use Rattle.h3_strict.specs.CountsNothing.{CountsNothing, RefusesAlike};
+ghost use Rattle.h3_strict.specs.CountsNothing.{CountsNothing, KeepsTo, RefusesAlike};
 ghost use Rattle.h3_strict.specs.PlainAlike.{DoesPlainly};
 ghost use Rattle.h3_strict.specs.Plainly.{plain, plainly};
 
@@ -43,14 +43,15 @@ pub fn ends_do_the_same_plainly()
     ensures { (e : EndpointHistory) → DoesPlainly e }
 {}
 
-/// A side that asks for no strict messages counts nothing of what it sends, nor of what comes (`CountsNothing`). It refuses each send as the
-/// same end does that judges plainly.
+/// A side keeps to what it announced. If that asks for no strict messages, it counts nothing of what it sends, nor of what comes
+/// (`CountsNothing`). Then it refuses each send as the same end does that judges plainly, but for a list or header that it does not read
+/// itself.
 pub fn sides_that_judge_plainly_count_nothing()
-    ensures first { (side : Side) (own : Announced) → own.choices.strict_messages ≡ false → CountsNothing own (new_endpoint side own) }
-    ensures event { (own : Announced) (ends : Ends) (side : Side) → CountsNothing own (end_at ends side) → (e : Event) → CountsNothing own (end_at (answered ends e).1 side) }
-    ensures reads { (own : Announced) (e new : EndpointHistory) (arrivals : List Arrival) → ReadsPart e arrivals new → CountsNothing own e → CountsNothing own new }
-    ensures asked { (own : Announced) (e : EndpointHistory) (id : ℕ) (old new : Incoming) → CountsNothing own e → stream_at e.incoming id ≡ Some old → CountsOn old.content new.content → CountsNothing own (with_incoming e id new) }
-    ensures advances { (own : Announced) (e : EndpointHistory) (id count : ℕ) → CountsNothing own e → CountsNothing own (advance e id count) }
+    ensures first { (side : Side) (own : Announced) → KeepsTo own (new_endpoint side own) }
+    ensures event { (own : Announced) (ends : Ends) (side : Side) → KeepsTo own (end_at ends side) → (e : Event) → KeepsTo own (end_at (answered ends e).1 side) }
+    ensures reads { (own : Announced) (e new : EndpointHistory) (arrivals : List Arrival) → ReadsPart e arrivals new → KeepsTo own e → KeepsTo own new }
+    ensures asked { (own : Announced) (e : EndpointHistory) (id : ℕ) (old new : Incoming) → KeepsTo own e → stream_at e.incoming id ≡ Some old → CountsOn old.content new.content → KeepsTo own (with_incoming e id new) }
+    ensures advances { (own : Announced) (e : EndpointHistory) (id count : ℕ) → KeepsTo own e → KeepsTo own (advance e id count) }
     ensures sends { (own : Announced) (e : EndpointHistory) → CountsNothing own e → RefusesAlike e }
 {}
 
@@ -130,8 +131,8 @@ pub fn schedules_that_judge_nothing_find_no_fault()
 ghost use Rattle.h3_strict.specs.PullPlainly.{PullPlainly};
 
 /// A pull of any end, whatever it keeps, is answered as by the same end that judges plainly. Or it is answered by a fault of the connection. Or
-/// it finds a message malformed and gives it up, once all that is kept is read: at once, or after the section that the other end returns. No
-/// end gives one up so that counts nothing and has no limit.
+/// it finds a message malformed and gives it up, once all that is kept is read: at once, or after the section that the other end returns. An
+/// end that counts nothing and has no limit gives one up so only if it does not read the section that is next.
 pub fn pulls_are_plain_or_give_a_message_up()
     ensures { (e : EndpointHistory) (id : ℕ) → PullPlainly e id }
 {}

@@ -1,10 +1,9 @@
 //! The program: a script in, the answers out.
 ghost use Rattle.std.specs.Prelude.{◌≡◌, ◌⊎◌, ◌≤◌, IfOk};
 ghost use Rattle.std.specs.Process.{exit_status};
-ghost use Rattle.h3_script.specs.Small.{AreSmall};
+ghost use Rattle.h3_script.specs.Small.{ArePlain, AreSmall};
 ghost use Rattle.h3_script.specs.Inputs.{RefusesInput};
 ghost use Rattle.h3_talk.specs.Talks.{AnswersTo, Prints, AnswersScript, Loses};
-ghost use Rattle.h3_world.specs.Setup.{JudgesPlainly};
 
 use h3_script::input::read_script;
 use h3_script::output::write_answers;
@@ -54,8 +53,8 @@ pub fn exit_code<R: Read, W: Write>(alloc: Global, reader: &mut R, writer: &mut 
 
 /// Writes the answers to the events of a script.
 fn answer<W: Write>(alloc: Global, script: Script, writer: &mut W) -> u8
-    requires plain { JudgesPlainly script.setup }
-    requires small { AreSmall script.setup script.events.items }
+    requires plain { ArePlain script.setup script.events.items }
+    requires small { AreSmall script.events.items }
     ensures answered { result ≡ 0 → Prints script.setup script.events.items (W.contents writer.old) (W.contents writer.new) }
     ensures statuses { (result ≡ 0) ⊎ (result ≡ 2) }
 {
@@ -72,8 +71,8 @@ fn answer<W: Write>(alloc: Global, script: Script, writer: &mut W) -> u8
 
 /// The answers of a run, without the endpoints that it leaves.
 fn answers_to(alloc: Global, setup: Setup, events: &[Event]) -> Result<Vec<Answer>, AllocError>
-    requires plain { JudgesPlainly setup }
-    requires small { AreSmall setup events.now }
+    requires plain { ArePlain setup events.now }
+    requires small { AreSmall events.now }
     ensures { IfOk result (λ answers. AnswersTo setup events.now answers.items) }
 {
     calls_are_steps_of_two_endpoints();

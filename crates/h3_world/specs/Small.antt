@@ -4,7 +4,7 @@ use Rattle.std.specs.List.{AllByRecursion}
 use Rattle.h3_field.specs.Field.{section_size}
 use Rattle.h3_header.specs.Head.{head_fields}
 use Rattle.h3_world.specs.Sendable.{NamesTaken}
-use Rattle.h3_world.specs.Setup.{Setup, both_take_any}
+use Rattle.h3_world.specs.Setup.{JudgesPlainly, Setup, both_take_any}
 use Rattle.h3_world.specs.declared.event.Event.{Event}
 use Rattle.h3_world.specs.declared.event.Event.TheVariants as event
 
@@ -17,7 +17,11 @@ IsSmall (event.Trailer acting id trailer) = section_size (head_fields trailer) <
 IsSmall (event.TrailerFields acting id fields) = section_size fields < 2 ^ 56
 IsSmall _ = Unit {0}
 
--- So it is of each event, and no header names a `:protocol` that one of the two sides does not take.
-pub record AreSmall (setup : Setup) (events : List Event) : Type 0 where
-  pub small : AllByRecursion IsSmall events
+-- So it is of each event.
+abbrev pub AreSmall : List Event → Type 0
+AreSmall events = AllByRecursion IsSmall events
+
+-- Neither side asks for strict messages or limits what is unfinished, and no event names a `:protocol` that one of the two does not take.
+pub record ArePlain (setup : Setup) (events : List Event) : Type 0 where
+  pub sides : JudgesPlainly setup
   pub taken : AllByRecursion (NamesTaken (both_take_any setup)) events

@@ -13,6 +13,6 @@ returns c = λ setup h g acts made happen.
       on.answers,
       on.stand,
       λ few.
-          let sendable = c.schedules_within_bounds_may_be_sent.ensures setup on.events (are_typed on.events on.of) few in
+          let sendable = c.schedules_within_bounds_may_be_sent.ensures.any on.events (are_typed on.events on.of) few in
           c.each_side_gets_what_the_other_sent.ensures.faithful setup on.events on.answers run.new (setup_stands made) sendable run.run,
     )

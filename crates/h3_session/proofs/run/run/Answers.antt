@@ -1,6 +1,7 @@
 use Rattle.h3_world.specs.Ends.{new_ends}
 use Rattle.h3_session.proofs.Headlines.{of_runs, runs_in_one_world, runs_in_world}
 use Rattle.h3_session.proofs.Runs.{ran, runs_to}
+use Rattle.h3_session.proofs.Sendables.{plain_are_sendable}
 use Rattle.h3_proto.specs.declared.stream.Side.TheVariants.{Client, Server}
 use Rattle.h3_session.proofs.run.run.Goals as goal
 
@@ -20,8 +21,8 @@ returns-clause-headline c = λ whole small plain.
     let calls = ran (λ v. v.items) c.args.setup _ _ c.args.events.now c.announcing-client.result c.announcing-server.result c.run_between-answers.result _ _ _ _ _ c.in_ok-client-2.answers
     c.into_sides-client.ensures.client c.into_sides-client.ensures.server c.announcing-client.ensures c.announcing-server.ensures c.in_ok-client.ensures.0 c.in_ok-client.ensures.1 c.run_between-answers.ensures c.in_ok-client-2.ensures.0 c.in_ok-client-2.ensures.1 in
     runs_in_world c.args.setup c.args.events.now c.in_ok-client-2.answers.items _ _
-    (c.two_endpoints_run_in_a_world.ensures c.args.setup c.args.events.now c.into_sides-client.ensures.made plain) c.events_are_typed.ensures
-    (runs_to (new_ends c.args.setup) c.args.events.now c.in_ok-client-2.answers.items _ _ calls whole) small
+    (c.two_endpoints_run_in_a_world.ensures c.args.setup c.args.events.now c.into_sides-client.ensures.made plain.sides) c.events_are_typed.ensures
+    (runs_to (new_ends c.args.setup) c.args.events.now c.in_ok-client-2.answers.items _ _ calls whole) small plain
 
 pub returns-clause-world : goal.returns-clause-world
 returns-clause-world c = λ small.
@@ -33,7 +34,7 @@ returns-clause-world c = λ small.
     (λ ends sendable run. record {
       until_fault = c.each_side_gets_what_the_other_sent.ensures.runs setup c.args.events.now answers ends c.into_sides-client.ensures.made sendable run;
       stands = c.each_side_gets_what_the_other_sent.ensures.stands setup c.args.events.now answers ends c.into_sides-client.ensures.made sendable run;
-      plainly = λ plain. c.two_endpoints_run_with_memory.ensures setup c.args.events.now answers ends c.into_sides-client.ensures.made plain sendable run;
+      plainly = λ plain. c.two_endpoints_run_with_memory.ensures setup c.args.events.now answers ends c.into_sides-client.ensures.made plain.sides (plain_are_sendable setup c.args.events.now plain.taken sendable) run;
     }) c.events_are_typed.ensures calls small
 
 pub returns-clause-faithful : goal.returns-clause-faithful
