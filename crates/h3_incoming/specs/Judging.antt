@@ -1,9 +1,13 @@
 -- What a decoded field section is at its place.
-use Rattle.std.specs.Prelude.{◌≡◌, ◌⊎◌, ℕ, Bool, false, List, Option, Some, IfSome}
+use Rattle.std.specs.Prelude.{◌≡◌, ◌<◌, ℕ, Bool, false, List, length, Option, Some, None, IfSome, Result, Ok, Err}
 use Rattle.h3_field.specs.Field.{Field}
 use Rattle.h3_field.specs.Instruction.{DecoderInstruction}
-use Rattle.h3_header.specs.HeadRead.{HeadRefusal, IsNone, head_by, told}
-use Rattle.h3_header.specs.declared.headers.error.HeaderError.{HeaderError}
+use Rattle.h3_header.specs.HeadRead.{HeadRefusal, IsNone, head_by}
+use Rattle.h3_messages.specs.Outline.{IsOutlined, is_request_outline, is_response_outline, refusal_by}
+use Rattle.h3_messages.specs.declared.outline.Outline.{Outline}
+use Rattle.h3_messages.specs.declared.reading.ListError.{ListError}
+use Rattle.h3_proto.specs.declared.stream.Side.{Side}
+use Rattle.h3_proto.specs.declared.stream.Side.TheVariants.{Client, Server}
 use Rattle.h3_connection.specs.Incoming.{Incoming}
 use Rattle.h3_connection.specs.Pulling.{Pulled, is_memory, malformed}
 use Rattle.h3_connection.specs.declared.event.Pull.{Pull}
@@ -26,6 +30,17 @@ abbrev pub HasList : Judged → Option (List Field) → List Field → Type 0
 HasList (judged.HandsOut place expected known) listed fields = IfSome listed (λ l. l ≡ fields)
 HasList (judged.Malformed why known) listed fields = Unit {0}
 
--- The list is no head for this, as its reading told, or as the list says itself.
-abbrev pub Tells : Bool → List Field → HeaderError → HeadRefusal → Type 0
-Tells any fields error why = (told error ≡ Some why) ⊎ (head_by any fields ≡ IsNone why)
+-- What was written is this item, unless the section is malformed.
+abbrev pub Hands : Judged → Pull → Pull → Type 0
+Hands (judged.HandsOut place expected known) answer item = answer ≡ item
+Hands (judged.Malformed why known) answer item = Unit {0}
+
+-- a side reads such heads: a client those of responses, and a server those of requests
+abbrev pub is_read_outline : Side → Outline → Bool
+is_read_outline Client o = is_response_outline o
+is_read_outline Server o = is_request_outline o
+
+-- What a list reads as was told: the outline of its head, or why it is none, or that memory was refused for one of many fields.
+abbrev pub IsListRead : Bool → List Field → Result Outline ListError → Type 0
+IsListRead any fields (Ok o) = IsOutlined (head_by any fields) o
+IsListRead any fields (Err e) = ((why : HeadRefusal) → refusal_by e ≡ Some why → head_by any fields ≡ IsNone why) × (refusal_by e ≡ None → 24576 < length fields)

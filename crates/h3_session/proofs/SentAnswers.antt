@@ -1,17 +1,24 @@
--- What a head breaks as it is sent: by its list, and, of a server's answer, by what was asked.
-use Rattle.std.proofs.Common.{◌≡◌, ℕ, List, Option, refl, ap, ◌∙◌}
-use Rattle.std.specs.Prelude.{◌&&◌}
+-- What a list breaks as it is sent: by itself, and, of a server's answer, by what was asked.
+use Rattle.std.proofs.Common.{◌≡◌, ℕ, Bool, true, false, if◌then◌else◌, List, Option, None, refl, ap, sym, subst, ◌∙◌}
+use Rattle.std.specs.Prelude.{◌≢◌, ◌&&◌, option_map}
 use Rattle.h3_field.specs.Field.{Field}
+use Rattle.h3_connection.specs.Remembering.{settings_known}
+use Rattle.h3_connection.specs.State.{EndpointState, kept_at}
+use Rattle.h3_connection.specs.StrictMessages.{malformation_by}
 use Rattle.h3_connection.specs.StrictSending.{violation_of_own_head}
+use Rattle.h3_connection.specs.declared.place.SendPlace.{SendPlace}
+use Rattle.h3_connection.specs.declared.place.SendPlace.TheVariants.{HeadSent, NothingSent, TrailerSent}
 use Rattle.h3_messages.specs.OwnMessageLaws.{unasked_answer}
-use Rattle.h3_messages.specs.OwnMessages.{awaits_tunnel, or_broken, violation_of_own_response}
+use Rattle.h3_messages.specs.OwnMessages.{awaits_tunnel, or_broken, violation_of_own_response, violation_of_own_trailer}
 use Rattle.h3_messages.specs.declared.content.Content.{Content}
 use Rattle.h3_messages.specs.declared.response_said.ResponseSaid.{ResponseSaid}
 use Rattle.h3_messages.specs.declared.violation.Violation.{Violation}
 use Rattle.h3_messages.specs.declared.violation.Violation.TheVariants.{ContentLength}
 use Rattle.h3_proto.specs.declared.stream.Side.{Side}
 use Rattle.h3_proto.specs.declared.stream.Side.TheVariants.{Client, Server}
-use Rattle.h3_session.specs.SentHeads.{IsReadOf, IsSaidBy, says_length_of_tunnel, violation_of_own_list}
+use Rattle.h3_requests.specs.Refused.{known_in}
+use Rattle.h3_session.specs.Refused.{broken_behind, violation_behind}
+use Rattle.h3_session.specs.SentHeads.{IsReadAt, IsReadOf, IsReadWhere, IsSaid, IsSaidBy, says_length_of_tunnel, violation_of_own_list}
 use Rattle.h3_session.specs.declared.endpoint.strict.Said.{Said}
 use Rattle.h3_session.specs.declared.endpoint.strict.Said.TheVariants.{Nothing, Request, Response}
 use Rattle.h3_session.specs.declared.endpoint.strict.SentRead.{SentRead}
@@ -31,3 +38,70 @@ pub answer_breaks : (settings : Option (List (ℕ × ℕ))) (known : Option Cont
     → told ≡ or_broken read.violation (says_length_of_tunnel read.said && awaits_tunnel known) ContentLength → IsReadOf side settings fields read
     → told ≡ violation_of_own_head side settings known fields
 answer_breaks settings known fields side read told is h = is ∙ by_said settings known fields read.violation side read.said h.1 h.0
+
+-- what was read of a list is broken on its stream
+pub read_breaks : (place : SendPlace) (s : EndpointState) (id : ℕ) (fields : List Field) (read : SentRead) (told : Option Violation)
+    → told ≡ or_broken read.violation (says_length_of_tunnel read.said && awaits_tunnel (known_in (kept_at s.requests id))) ContentLength → IsReadAt place s fields read
+    → broken_behind place s id fields ≡ option_map malformation_by told
+read_breaks place s id fields read told is h = by place s.announced.choices.strict_messages h
+  where
+    settings : Option (List (ℕ × ℕ))
+    settings = settings_known s.announced s.peer.settings
+
+    known : Option Content
+    known = known_in (kept_at s.requests id)
+
+    silent : (v : Option Violation) → read.violation ≡ v → read.said ≡ Nothing → told ≡ v
+    silent v same none =
+        is ∙ ap (λ w. or_broken w (says_length_of_tunnel read.said && awaits_tunnel known) ContentLength) same
+        ∙ ap (λ q. or_broken v (says_length_of_tunnel q && awaits_tunnel known) ContentLength) none ∙ unasked_answer v _ ContentLength refl
+
+    head : IsReadOf s.side settings fields read → option_map malformation_by (violation_of_own_head s.side settings known fields) ≡ option_map malformation_by told
+    head of = ap (option_map malformation_by) (sym (answer_breaks settings known fields s.side read told is of))
+
+    by : (place : SendPlace) (strict : Bool) → IsReadWhere strict place s.side settings fields read
+        → (if strict then option_map malformation_by (violation_behind place s id fields) else None) ≡ option_map malformation_by told
+    by NothingSent true of = head of
+    by HeadSent true of = head of
+    by TrailerSent true of = ap (option_map malformation_by) (sym (silent (violation_of_own_trailer fields) of.0 of.1))
+    by NothingSent false of = ap (option_map malformation_by) (sym (silent None of.0 of.1))
+    by HeadSent false of = ap (option_map malformation_by) (sym (silent None of.0 of.1))
+    by TrailerSent false of = ap (option_map malformation_by) (sym (silent None of.0 of.1))
+
+-- what a head was told to say is said where rules are asked
+pub read_says : (place : SendPlace) (s : EndpointState) (fields : List Field) (read : SentRead) → place ≢ TrailerSent → IsReadAt place s fields read → IsSaid s.side s.announced fields read.said
+read_says place s fields read differs h = by place s.announced.choices.strict_messages refl differs h
+  where
+    heads : (said : Said) → s.announced.choices.strict_messages ≡ true → IsSaidBy s.side fields said → IsSaid s.side s.announced fields said
+    heads Nothing is of = absurd of
+    heads (Request awaited content) is of = (is, of)
+    heads (Response said) is of = (is, of)
+
+    silent : (said : Said) → s.announced.choices.strict_messages ≡ false → said ≡ Nothing → IsSaid s.side s.announced fields said
+    silent said is none = subst (IsSaid s.side s.announced fields) (sym none) is
+
+    by : (place : SendPlace) (strict : Bool) → s.announced.choices.strict_messages ≡ strict → place ≢ TrailerSent → IsReadWhere strict place s.side (settings_known s.announced s.peer.settings) fields read
+        → IsSaid s.side s.announced fields read.said
+    by NothingSent true is differs of = heads read.said is of.1
+    by HeadSent true is differs of = heads read.said is of.1
+    by TrailerSent true is differs of = absurd (differs refl)
+    by NothingSent false is differs of = silent read.said is of.1
+    by HeadSent false is differs of = silent read.said is of.1
+    by TrailerSent false is differs of = absurd (differs refl)
+
+-- what the rules made of a list, where they are asked, and where they are not
+pub read_head_at : (place : SendPlace) (s : EndpointState) (fields : List Field) (read : SentRead) → place ≢ TrailerSent → s.announced.choices.strict_messages ≡ true
+    → IsReadOf s.side (settings_known s.announced s.peer.settings) fields read → IsReadAt place s fields read
+read_head_at place s fields read differs is of = by place differs
+  where
+    by : (place : SendPlace) → place ≢ TrailerSent → IsReadAt place s fields read
+    by NothingSent differs = subst (λ b. IsReadWhere b NothingSent s.side (settings_known s.announced s.peer.settings) fields read) (sym is) of
+    by HeadSent differs = subst (λ b. IsReadWhere b HeadSent s.side (settings_known s.announced s.peer.settings) fields read) (sym is) of
+    by TrailerSent differs = absurd (differs refl)
+
+pub read_trailer_at : (s : EndpointState) (fields : List Field) (read : SentRead) → s.announced.choices.strict_messages ≡ true → read.violation ≡ violation_of_own_trailer fields → read.said ≡ Nothing
+    → IsReadAt TrailerSent s fields read
+read_trailer_at s fields read is broken said = subst (λ b. IsReadWhere b TrailerSent s.side (settings_known s.announced s.peer.settings) fields read) (sym is) (broken, said)
+
+pub unread_at : (place : SendPlace) (s : EndpointState) (fields : List Field) (read : SentRead) → s.announced.choices.strict_messages ≡ false → read.violation ≡ None → read.said ≡ Nothing → IsReadAt place s fields read
+unread_at place s fields read is broken said = subst (λ b. IsReadWhere b place s.side (settings_known s.announced s.peer.settings) fields read) (sym is) (broken, said)

@@ -19,7 +19,7 @@ ghost use Rattle.h3_connection.specs.declared.place.SendPlace.TheVariants.{Trail
 ghost use Rattle.h3_requests.specs.Refused.{body_refused_at, early_trailer_at};
 ghost use Rattle.h3_session.specs.Refused.{broken_behind, head_refused_in, own_head_refused, own_trailer_refused, protocol_refused, side_refused, pseudo_refused, size_refused, refused_behind};
 ghost use Rattle.h3_session.specs.SendingFields.{Encodes, StopsEncoding, Queues, Remembers, SendsFields, IsJudged, asking};
-ghost use Rattle.h3_session.specs.SentHeads.{IsReadOf, IsSaid};
+ghost use Rattle.h3_session.specs.SentHeads.{IsReadAt, IsSaid};
 
 use super::Endpoint;
 use super::strict::{Said, SentRead};
@@ -27,7 +27,7 @@ use h3_coding::varint::VarInt;
 use h3_connection::event::{Malformation, Refusal};
 use h3_connection::place::SendPlace;
 use h3_connection::setup::Announced;
-use h3_field::{HeaderField, section_size};
+use h3_field::{Fields, HeaderField, section_size};
 use h3_header::Header;
 use h3_outgoing::EncodedSection;
 use h3_proto::frame::SettingId;
@@ -80,7 +80,8 @@ impl Endpoint {
         let Ok(fields) = head.fields(self.alloc) else {
             return Err(Refusal::OutOfMemory);
         };
-        self.send_head_section(room, fields.as_slice(), place_behind(head), None)
+        let read = self.read_head(&Fields::of(fields.as_slice()));
+        self.send_head_section(room, fields.as_slice(), place_behind(head), &read)
     }
 
     // Room for the frame of a header section on a stream that takes one, unless the peer is going away or `later` refuses it. The streams are
@@ -120,7 +121,8 @@ impl Endpoint {
         let Ok(fields) = trailer.fields(self.alloc) else {
             return Err(Refusal::OutOfMemory);
         };
-        self.send_trailer_section(room, fields.as_slice())
+        let read = self.read_trailer(fields.as_slice());
+        self.send_trailer_section(room, fields.as_slice(), &read)
     }
 
     // Room for the frame of a trailer on a stream that takes one, unless `later` refuses it. The streams are found as they were.
@@ -138,20 +140,19 @@ impl Endpoint {
         self.requests.reserve_trailer(id, later)
     }
 
-    // Sends the fields of a header section so, and remembers what they say of content. A walk over them may have told what the rules make
-    // of them.
+    // Sends the fields of a header section that were read so, and remembers what they say of content.
     pub(super) fn send_head_section(
         &mut self,
         room: SectionRoom,
         fields: &[HeaderField],
         place: SendPlace,
-        known: Option<SentRead>,
+        read: &SentRead,
     ) -> Result<(), Refusal>
-        requires { IfSome known (IsReadOf self.old.side (settings_known self.old.announced self.old.peer.settings) fields.now) }
+        requires { IsReadAt place self.old fields.now read.now }
         ensures { place ≢ TrailerSent → SendsFields (asking room fields.now) self.old self.new room fields.now place (call_refused result) }
     {
         let id = room.id();
-        let said = match self.read_sent(id, fields, place, known) {
+        let said = match self.judge_read(id, read) {
             Ok(said) => said,
             Err(why) => return Err(Refusal::Malformed(why)),
         };
@@ -181,10 +182,12 @@ impl Endpoint {
         &mut self,
         room: SectionRoom,
         fields: &[HeaderField],
+        read: &SentRead,
     ) -> Result<(), Refusal>
+        requires { IsReadAt TrailerSent self.old fields.now read.now }
         ensures { SendsFields (λ e. e) self.old self.new room fields.now TrailerSent (call_refused result) }
     {
-        match self.read_sent(room.id(), fields, SendPlace::TrailerSent, None) {
+        match self.judge_read(room.id(), read) {
             Ok(_) => self.send_section(room, fields, SendPlace::TrailerSent),
             Err(why) => Err(Refusal::Malformed(why)),
         }
@@ -217,15 +220,15 @@ impl Endpoint {
         id: StreamId,
         fields: &[HeaderField],
         place: SendPlace,
-        known: Option<SentRead>,
+        read: &SentRead,
     ) -> Result<(), Refusal>
-        requires { IfSome known (IsReadOf self.now.side (settings_known self.now.announced self.now.peer.settings) fields.now) }
+        requires { IsReadAt place self.now fields.now read.now }
         ensures fits { OnOk result (refused_behind self.now id place fields.now ≡ None) }
         ensures kept { OnOk result (broken_behind place self.now id fields.now ≡ None) }
         ensures unbroken { IfErr result (λ refusal. refusal ≡ Refusal.OutOfMemory → broken_behind place self.now id fields.now ≡ None) }
         ensures err { IfErr result (λ refusal. refusal ≢ Refusal.OutOfMemory → refused_behind self.now id place fields.now ≡ Some refusal) }
     {
-        if let Err(why) = self.read_sent(id, fields, place, known) {
+        if let Err(why) = self.judge_read(id, read) {
             return Err(Refusal::Malformed(why));
         }
         match self.judge_size(fields) {

@@ -1,7 +1,7 @@
 use Rattle.std.proofs.Common.{◌≡◌, true, false, not, ap, rules, ◌∙◌}
 use Rattle.std.specs.Prelude.{is_some}
-use Rattle.h3_incoming.proofs.Outlines.{method_with_status, method_alone}
-use Rattle.h3_incoming.proofs.outline.has_method.Goals as goal
+use Rattle.h3_messages.proofs.Outlines.{method_with_status, method_alone}
+use Rattle.h3_messages.proofs.outline.has_method.Goals as goal
 
 pub returns-then-is_some : goal.returns-then-is_some
 returns-then-is_some c =

@@ -14,9 +14,8 @@ use Rattle.h3_header.specs.Reads.{IsHeadOf, kind_of, with_kind, with_field}
 use Rattle.h3_header.specs.declared.headers.judge.BadPart.TheVariants as part
 use Rattle.h3_header.specs.declared.headers.kind.FieldKind.{FieldKind}
 use Rattle.h3_header.specs.declared.headers.kind.FieldKind.TheVariants.{Method, Scheme, Authority, Path, Status, Protocol, Regular}
-use Rattle.h3_incoming.specs.Outline.{outline_of, empty_outline, outlined, outlined_by, list_read}
-use Rattle.h3_incoming.specs.declared.outline.Outline.{Outline}
-use Rattle.h3_incoming.specs.declared.outline.ListRead.TheVariants as read
+use Rattle.h3_messages.specs.Outline.{IsOutlined, outline_of, empty_outline, outlined, outlined_by}
+use Rattle.h3_messages.specs.declared.outline.Outline.{Outline}
 
 pub is_status : (text : List ℕ) → is_code_text text ≡ true → IsCodeText text
 is_status text is = by (nat_le 100 (number_of text)) (nat_lt (number_of text) 1000) (bytes_eq text (code_digits (number_of text))) refl refl refl is
@@ -96,10 +95,13 @@ all_good any fields i past few good = subst (All (λ f. bad_part any f ≡ None)
 
 -- So they read as a head, and this is its outline.
 pub short_head : (any : Bool) (fields : List Field) → ((fs : List Field) (h : Head) → head_by any fs ≡ IsHead h → IsHeadOf any fs h) → length fields ≤ 24576 → IsHeadUnlessMany any fields
-    → read.Head (fold outlined empty_outline fields) ≡ list_read (head_by any fields)
+    → IsOutlined (head_by any fields) (fold outlined empty_outline fields)
 short_head any fields law few unless = by (head_by any fields) refl
   where
-    by : (r : HeadRead) → head_by any fields ≡ r → read.Head (fold outlined empty_outline fields) ≡ list_read r
-    by (IsHead h) is =
-        ap read.Head (sym (outlines (trailer_head []) fields)) ∙ ap (λ k. read.Head (outline_of k)) (sym (law fields h is).1)
+    by : (r : HeadRead) → head_by any fields ≡ r → IsOutlined r (fold outlined empty_outline fields)
+    by (IsHead h) is = sym (outlines (trailer_head []) fields) ∙ ap outline_of (sym (law fields h is).1)
     by (IsNone why) is = absurd (omega (arith, few, unless why is))
+
+-- the outline of a list that reads as a head
+pub head_outlined : (r : HeadRead) (h : Head) (o : Outline) → r ≡ IsHead h → o ≡ outline_of h → IsOutlined r o
+head_outlined r h o is same = subst (λ q. IsOutlined q o) (sym is) same

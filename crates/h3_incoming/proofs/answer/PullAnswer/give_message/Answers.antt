@@ -1,0 +1,14 @@
+use Rattle.std.proofs.Common.{ap, ◌∙◌}
+use Rattle.h3_header.specs.HeadRead.{head_by}
+use Rattle.h3_connection.specs.declared.event.Pull.TheVariants as pull
+use Rattle.h3_incoming.specs.Answering.{item_of}
+use Rattle.h3_incoming.proofs.JudgeLaws.{one_head}
+use Rattle.h3_messages.specs.OutlineLaws.{lacks_memory}
+use Rattle.h3_incoming.proofs.answer.PullAnswer.give_message.Goals as goal
+
+pub returns-in-Ok-clause-head : goal.returns-in-Ok-clause-head
+returns-in-Ok-clause-head c = λ h is.
+    c.put.ensures ∙ ap pull.Item (c.item_of.ensures ∙ ap (item_of c.args.kind) (one_head (head_by c.args.any_protocol c.args.fields) c.in-Ok.header h (c.lists_are_their_value.ensures.head _ _ _ c.in-Ok.ensures.ok) is))
+
+pub returns-in-Err-clause-memory : goal.returns-in-Err-clause-memory
+returns-in-Err-clause-memory c = lacks_memory c.args.any_protocol c.args.fields _ c.args.outline.now (λ why is. c.lists_are_their_value.ensures.refused _ _ _ why c.in-Err.ensures.err is) c.requires c.in-Err.ensures.err
