@@ -2,7 +2,8 @@
 //! content a message has. A list is judged before it becomes a `Header`, since a `Header` keeps neither the order of its
 //! fields nor repeats of pseudo-header fields. Names and values have the grammar that `Header::try_from` asks.
 //!
-//! Nothing here takes memory, and no list is refused for its length.
+//! Nothing here takes memory, but for a list of more than 24,576 fields, whose names a map has to tell apart. No list is refused for its
+//! length by these rules.
 #![tactic(auto)]
 
 pub mod content;

@@ -90,13 +90,13 @@ impl Endpoint {
     pub(super) fn read_trailer(&self, fields: &[HeaderField]) -> SentRead
         ensures { IsReadAt TrailerSent self.now fields.now result }
     {
-        if !self.announced.choices.strict_messages {
-            return SentRead::NOTHING;
+        if self.announced.choices.strict_messages {
+            return SentRead {
+                violation: own_trailer_violation(fields),
+                said: Said::Nothing,
+            };
         }
-        SentRead {
-            violation: own_trailer_violation(fields),
-            said: Said::Nothing,
-        }
+        SentRead::NOTHING
     }
 
     // What a header section says, over which the walk was made.
