@@ -1,5 +1,5 @@
 -- What a field section is at its place.
-use Rattle.std.proofs.Common.{◌≡◌, ℕ, ◌<◌, ◌≤◌, false, nat_lt, if◌then◌else◌, List, length, refl, ap, sym, ◌∙◌, subst}
+use Rattle.std.proofs.Common.{◌≡◌, ℕ, ◌<◌, ◌≤◌, false, nat_lt, if◌then◌else◌, List, refl, ap, sym, ◌∙◌, subst}
 use Rattle.std.proofs.lemmas.Bool.{lt-ltb, le-ltb}
 use Rattle.std.specs.Prelude.{Option, Some, None, IfSome, option_map, Result, Ok, Err, IfOk, codes, Bool}
 use Rattle.h3_field.specs.Field.{Field}
@@ -27,10 +27,7 @@ use Rattle.h3_qpack.specs.declared.block_within.BlockWithin.TheVariants as withi
 use Rattle.h3_qpack.specs.declared.block_within.SectionSummary.{SectionSummary}
 use Rattle.h3_incoming.specs.declared.judge.Judged.{Judged}
 use Rattle.h3_incoming.specs.declared.judge.Judged.TheVariants as judge
-use Rattle.h3_incoming.specs.Judging.{Hands, HasItem, HasList, IsListRead, judged_as}
-use Rattle.h3_messages.specs.Outline.{IsOutlined, refusal_by}
-use Rattle.h3_messages.specs.declared.outline.Outline.{Outline}
-use Rattle.h3_messages.specs.declared.reading.ListError.{ListError}
+use Rattle.h3_incoming.specs.Judging.{Hands, HasItem, HasList, judged_as}
 use Rattle.h3_connection.specs.Pulling.{Pulled, is_memory, malformation_of, malformed, next_place, head_or_trailer, judged, with_content, read_section, decoded, at_section}
 
 -- what is said of the fields that are kept is said of the section
@@ -73,19 +70,6 @@ malformed_by None m is P given = absurd (cc)
 pub no_refusal : (o : Option HeadRefusal) → None ≡ option_map malformation_of o → o ≡ None
 no_refusal (Some why) is = absurd (cc)
 no_refusal None is = refl
-
--- what a list reads as, where that was told
-pub told_outline : (any : Bool) (fields : List Field) (list : Result Outline ListError) (o : Outline) → IsListRead any fields list → list ≡ Ok o → IsOutlined (head_by any fields) o
-told_outline any fields list o read is = subst (IsListRead any fields) is read
-
-pub told_refusal : (any : Bool) (fields : List Field) (list : Result Outline ListError) (e : ListError) → IsListRead any fields list → list ≡ Err e → (why : HeadRefusal) → refusal_by e ≡ Some why → head_by any fields ≡ IsNone why
-told_refusal any fields list e read is why some = (subst (IsListRead any fields) is read).0 why some
-
-pub many_fields : (any : Bool) (fields : List Field) (list : Result Outline ListError) (e : ListError) → IsListRead any fields list → list ≡ Err e → refusal_by e ≡ None → 24576 < length fields
-many_fields any fields list e read is none = (subst (IsListRead any fields) is read).1 none
-
-pub never_none : (r : HeadRead) (o : Outline) (why : HeadRefusal) → IsOutlined r o → r ≡ IsNone why → ⊥
-never_none r o why is none = subst (λ q. IsOutlined q o) none is
 
 -- a list has one head
 pub one_head : (r : HeadRead) (header h : Head) → r ≡ IsHead header → r ≡ IsHead h → header ≡ h

@@ -1,11 +1,9 @@
 -- What a decoded field section is at its place.
-use Rattle.std.specs.Prelude.{◌≡◌, ◌<◌, ℕ, Bool, false, List, length, Option, Some, None, IfSome, Result, Ok, Err}
+use Rattle.std.specs.Prelude.{◌≡◌, ℕ, Bool, false, List, Option, IfSome}
 use Rattle.h3_field.specs.Field.{Field}
 use Rattle.h3_field.specs.Instruction.{DecoderInstruction}
-use Rattle.h3_header.specs.HeadRead.{HeadRefusal, IsNone, head_by}
-use Rattle.h3_messages.specs.Outline.{IsOutlined, is_request_outline, is_response_outline, refusal_by}
+use Rattle.h3_messages.specs.Outline.{is_request_outline, is_response_outline}
 use Rattle.h3_messages.specs.declared.outline.Outline.{Outline}
-use Rattle.h3_messages.specs.declared.reading.ListError.{ListError}
 use Rattle.h3_proto.specs.declared.stream.Side.{Side}
 use Rattle.h3_proto.specs.declared.stream.Side.TheVariants.{Client, Server}
 use Rattle.h3_connection.specs.Incoming.{Incoming}
@@ -39,8 +37,3 @@ Hands (judged.Malformed why known) answer item = Unit {0}
 abbrev pub is_read_outline : Side → Outline → Bool
 is_read_outline Client o = is_response_outline o
 is_read_outline Server o = is_request_outline o
-
--- What a list reads as was told: the outline of its head, or why it is none, or that memory was refused for one of many fields.
-abbrev pub IsListRead : Bool → List Field → Result Outline ListError → Type 0
-IsListRead any fields (Ok o) = IsOutlined (head_by any fields) o
-IsListRead any fields (Err e) = ((why : HeadRefusal) → refusal_by e ≡ Some why → head_by any fields ≡ IsNone why) × (refusal_by e ≡ None → 24576 < length fields)

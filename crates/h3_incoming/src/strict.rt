@@ -1,8 +1,8 @@
 //! Which rule of well-formed messages a field list breaks, and how much content follows it, if the endpoint asks for these rules (RFC 9114,
 //! sections 4.1.2 and 4.2 to 4.5).
-ghost use Rattle.std.specs.Prelude.{◌≡◌, option_map};
+ghost use Rattle.std.specs.Prelude.{◌≡◌, ◌≤◌, true, length, option_map};
 ghost use Rattle.h3_connection.specs.StrictMessages.{broken_rule, malformation_by, violation_at, violation_of_head, content_read, content_behind, content_behind_large, content_at, large_content_at, response_of_head, response_behind, response_at, if_whole};
-ghost use Rattle.h3_incoming.specs.Judging.{IsListRead};
+ghost use Rattle.h3_messages.specs.Outline.{IsListRead};
 
 use h3_connection::event::Malformation;
 use h3_connection::place::Place;
@@ -44,13 +44,33 @@ pub(crate) fn read_at(
     ensures content { result.1.content ≡ content_at side announced.now place content fields.now }
     ensures response { result.1.response ≡ response_at side announced.now place response fields.now }
 {
-    let any_protocol = announced.choices.extensions.any_protocol;
-    if !announced.choices.strict_messages || fields.len() > MOST_NAMES {
-        let strict = read_strictly(side, announced, place, content, response, fields);
-        return (read_list(alloc, fields, any_protocol), strict);
+    if announced.choices.strict_messages && fields.len() <= MOST_NAMES {
+        return read_once(side, announced, place, content, response, fields);
     }
+    let any_protocol = announced.choices.extensions.any_protocol;
+    let strict = read_strictly(side, announced, place, content, response, fields);
+    (read_list(alloc, fields, any_protocol), strict)
+}
+
+// The same of a list of so few fields that a map has room for all their names, if messages are strict.
+#[inline(always)]
+fn read_once(
+    side: Side,
+    announced: &Announced,
+    place: Place,
+    content: Content,
+    response: Option<Content>,
+    fields: &Fields<'_>,
+) -> (Result<Outline, ListError>, StrictRead)
+    requires strict { announced.now.choices.strict_messages ≡ true }
+    requires few { length fields.now ≤ 24576 }
+    ensures list { IsListRead announced.now.choices.extensions.any_protocol fields.now result.0 }
+    ensures broken { result.1.broken ≡ broken_rule side announced.now place fields.now }
+    ensures content { result.1.content ≡ content_at side announced.now place content fields.now }
+    ensures response { result.1.response ≡ response_at side announced.now place response fields.now }
+{
     let mut seen = Seen::new();
-    match seen.take_good(fields, any_protocol) {
+    match seen.take_good(fields, announced.choices.extensions.any_protocol) {
         Ok(outline) => {
             let survey = Survey::of(fields, &seen);
             let strict = survey_at(side, announced, place, content, response, &survey);

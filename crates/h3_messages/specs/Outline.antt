@@ -1,9 +1,9 @@
 -- What tells of a list of fields where it may stand in a message (RFC 9114, sections 4.1 and 4.3), and what the whole list reads as.
-use Rattle.std.specs.Prelude.{◌≡◌, Bool, true, false, ◌&&◌, not, is_some, Option, Some, None}
+use Rattle.std.specs.Prelude.{◌≡◌, ◌<◌, Bool, true, false, ◌&&◌, not, is_some, List, length, Option, Some, None, Result, Ok, Err}
 use Rattle.h3_field.specs.Field.{Field}
 use Rattle.h3_header.specs.BadPart.{refusal_of}
 use Rattle.h3_header.specs.Head.{Head, has_pseudo}
-use Rattle.h3_header.specs.HeadRead.{HeadRead, HeadRefusal, IsHead, IsNone, TooMany}
+use Rattle.h3_header.specs.HeadRead.{HeadRead, HeadRefusal, IsHead, IsNone, TooMany, head_by}
 use Rattle.h3_header.specs.Reads.{kind_of, status_number}
 use Rattle.h3_header.specs.declared.headers.kind.FieldKind.{FieldKind}
 use Rattle.h3_header.specs.declared.headers.kind.FieldKind.TheVariants.{Method, Scheme, Authority, Path, Status, Protocol, Regular}
@@ -48,3 +48,8 @@ abbrev pub refusal_by : ListError → Option HeadRefusal
 refusal_by (error.Malformed part) = Some (refusal_of part)
 refusal_by error.TooMany = Some TooMany
 refusal_by error.OutOfMemory = None
+
+-- What a list reads as was told: the outline of its head, or why it is none, or that memory was refused for one of many fields.
+abbrev pub IsListRead : Bool → List Field → Result Outline ListError → Type 0
+IsListRead any fields (Ok o) = IsOutlined (head_by any fields) o
+IsListRead any fields (Err e) = ((why : HeadRefusal) → refusal_by e ≡ Some why → head_by any fields ≡ IsNone why) × (refusal_by e ≡ None → 24576 < length fields)

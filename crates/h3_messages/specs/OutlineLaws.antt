@@ -1,5 +1,6 @@
 -- What a list that reads as a head with an outline is, and why no header is made of it.
-use Rattle.std.proofs.Common.{◌≡◌, Bool, List, [], ◌∷◌, Option, Some, None, inl, inr, refl, subst}
+use Rattle.std.proofs.Common.{◌≡◌, ◌<◌, Bool, List, [], ◌∷◌, length, inl, inr, refl, subst}
+use Rattle.std.specs.Prelude.{Option, Some, None, Result, Ok, Err}
 use Rattle.h3_field.specs.Field.{Field}
 use Rattle.h3_header.specs.Head.{Head, trailer_head}
 use Rattle.h3_header.specs.HeadRead.{HeadRead, HeadRefusal, IsHead, IsNone, head_by, told}
@@ -7,12 +8,26 @@ use Rattle.h3_header.specs.Reads.{RefusesAt, RefusesOne, kind_of, with_field}
 use Rattle.h3_header.specs.declared.headers.error.HeaderError.{HeaderError}
 use Rattle.h3_header.specs.declared.headers.error.HeaderError.TheVariants as error
 use Rattle.h3_header.specs.declared.headers.kind.FieldKind.{FieldKind}
-use Rattle.h3_messages.specs.Outline.{IsOutlined, outline_of}
+use Rattle.h3_messages.specs.Outline.{IsListRead, IsOutlined, outline_of, refusal_by}
 use Rattle.h3_messages.specs.declared.outline.Outline.{Outline}
+use Rattle.h3_messages.specs.declared.reading.ListError.{ListError}
 
 pub outlined_head : (r : HeadRead) (o : Outline) → IsOutlined r o → (P : Type 0) → ((h : Head) → r ≡ IsHead h → o ≡ outline_of h → P) → P
 outlined_head (IsHead h) o is P given = given h refl is
 outlined_head (IsNone why) o is P given = absurd is
+
+pub never_none : (r : HeadRead) (o : Outline) (why : HeadRefusal) → IsOutlined r o → r ≡ IsNone why → ⊥
+never_none r o why is none = subst (λ q. IsOutlined q o) none is
+
+-- what a list reads as, where that was told
+pub told_outline : (any : Bool) (fields : List Field) (list : Result Outline ListError) (o : Outline) → IsListRead any fields list → list ≡ Ok o → IsOutlined (head_by any fields) o
+told_outline any fields list o read is = subst (IsListRead any fields) is read
+
+pub told_refusal : (any : Bool) (fields : List Field) (list : Result Outline ListError) (e : ListError) → IsListRead any fields list → list ≡ Err e → (why : HeadRefusal) → refusal_by e ≡ Some why → head_by any fields ≡ IsNone why
+told_refusal any fields list e read is why some = (subst (IsListRead any fields) is read).0 why some
+
+pub many_fields : (any : Bool) (fields : List Field) (list : Result Outline ListError) (e : ListError) → IsListRead any fields list → list ≡ Err e → refusal_by e ≡ None → 24576 < length fields
+many_fields any fields list e read is none = (subst (IsListRead any fields) is read).1 none
 
 -- a refusal that tells no malformation is for want of memory
 memory_at : (any : Bool) (at : FieldKind) (h : Head) (f : Field) (e : HeaderError) → RefusesAt any at h f e → told e ≡ None → RefusesAt any at h f error.OutOfMemory

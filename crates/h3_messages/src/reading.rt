@@ -1,10 +1,10 @@
 //! What a list of fields reads as: the fields are read where they lie.
-ghost use Rattle.std.specs.Prelude.{◌≡◌, ◌<◌, [], None, Some, IfOk, IfErr, length, option_map};
+ghost use Rattle.std.specs.Prelude.{◌≡◌, ◌<◌, [], None, IfErr, length};
 ghost use Rattle.h3_header.specs.Head.{trailer_head};
-ghost use Rattle.h3_header.specs.HeadRead.{HeadRefusal, IsNone, head_by, told};
+ghost use Rattle.h3_header.specs.HeadRead.{told};
 ghost use Rattle.h3_header.specs.Reads.{RefusesOne};
 ghost use Rattle.h3_header.specs.declared.headers.error.HeaderError.TheVariants as error;
-ghost use Rattle.h3_messages.specs.Outline.{IsOutlined, refusal_by};
+ghost use Rattle.h3_messages.specs.Outline.{IsListRead, refusal_by};
 
 use crate::outline::Outline;
 use crate::seen::Seen;
@@ -49,9 +49,7 @@ pub fn read_list(
     fields: &Fields<'_>,
     any_protocol: bool,
 ) -> Result<Outline, ListError>
-    ensures ok { IfOk result (IsOutlined (head_by any_protocol fields.now)) }
-    ensures err { IfErr result (λ e. (why : HeadRefusal) → refusal_by e ≡ Some why → head_by any_protocol fields.now ≡ IsNone why) }
-    ensures many { IfErr result (λ e. refusal_by e ≡ None → 24576 < length fields.now) }
+    ensures read { IsListRead any_protocol fields.now result }
     ensures memory { IfErr result (λ e. refusal_by e ≡ None → RefusesOne any_protocol (trailer_head []) fields.now error.OutOfMemory) }
 {
     if fields.len() > MOST_NAMES {
@@ -66,8 +64,8 @@ pub fn read_list(
 
 // Any list, by the header that is made of it.
 fn read_long(alloc: Global, fields: &Fields<'_>, any_protocol: bool) -> Result<Outline, ListError>
-    ensures ok { IfOk result (IsOutlined (head_by any_protocol fields.now)) }
-    ensures err { IfErr result (λ e. (why : HeadRefusal) → refusal_by e ≡ Some why → head_by any_protocol fields.now ≡ IsNone why) }
+    requires { 24576 < length fields.now }
+    ensures read { IsListRead any_protocol fields.now result }
     ensures memory { IfErr result (λ e. refusal_by e ≡ None → RefusesOne any_protocol (trailer_head []) fields.now error.OutOfMemory) }
 {
     h3_header::laws::lists_are_their_value();

@@ -105,3 +105,7 @@ read_trailer_at s fields read is broken said = subst (λ b. IsReadWhere b Traile
 
 pub unread_at : (place : SendPlace) (s : EndpointState) (fields : List Field) (read : SentRead) → s.announced.choices.strict_messages ≡ false → read.violation ≡ None → read.said ≡ Nothing → IsReadAt place s fields read
 unread_at place s fields read is broken said = subst (λ b. IsReadWhere b place s.side (settings_known s.announced s.peer.settings) fields read) (sym is) (broken, said)
+
+-- which is so where the same is stored but of the streams
+pub read_alike : (place : SendPlace) (s n : EndpointState) (fields : List Field) (read : SentRead) → n ≡ record s { requests = n.requests } → IsReadAt place s fields read → IsReadAt place n fields read
+read_alike place s n fields read rest h = subst (λ v. IsReadAt place v fields read) (sym rest) h

@@ -80,8 +80,9 @@ impl Endpoint {
         let Ok(fields) = head.fields(self.alloc) else {
             return Err(Refusal::OutOfMemory);
         };
-        let read = self.read_head(&Fields::of(fields.as_slice()));
-        self.send_head_section(room, fields.as_slice(), place_behind(head), &read)
+        let list = fields.as_slice();
+        let read = self.read_head(&Fields::of(list));
+        self.send_head_section(room, list, place_behind(head), &read)
     }
 
     // Room for the frame of a header section on a stream that takes one, unless the peer is going away or `later` refuses it. The streams are
@@ -121,8 +122,9 @@ impl Endpoint {
         let Ok(fields) = trailer.fields(self.alloc) else {
             return Err(Refusal::OutOfMemory);
         };
-        let read = self.read_trailer(fields.as_slice());
-        self.send_trailer_section(room, fields.as_slice(), &read)
+        let list = fields.as_slice();
+        let read = self.read_trailer(list);
+        self.send_trailer_section(room, list, &read)
     }
 
     // Room for the frame of a trailer on a stream that takes one, unless `later` refuses it. The streams are found as they were.

@@ -1,5 +1,5 @@
 //! Lists of fields that an endpoint sends as they are, with no header made of them.
-ghost use Rattle.std.specs.Prelude.{◌≡◌, ◌≢◌, ◌<◌, true, false, None, Some, IfOk, IfErr, OnOk, length, if◌then◌else◌};
+ghost use Rattle.std.specs.Prelude.{◌≡◌, ◌≢◌, ◌<◌, ◌≤◌, true, false, None, Some, IfOk, IfErr, OnOk, length, if◌then◌else◌};
 ghost use Rattle.h3_header.specs.Head.{Head};
 ghost use Rattle.h3_header.specs.HeadRead.{HeadRefusal, IsHead, head_by};
 ghost use Rattle.h3_connection.specs.Answers.{call_refused};
@@ -100,20 +100,28 @@ impl Endpoint {
         ensures err { IfErr result (λ e. e ≢ refusal.OutOfMemory → head_list_refusal self.now.side (head_by self.now.announced.choices.extensions.any_protocol fields.now) ≡ Some e) }
         ensures memory { IfErr result (λ e. e ≡ refusal.OutOfMemory → 24576 < length fields.now) }
     {
-        let any = self.announced.choices.extensions.any_protocol;
-        let list = Fields::of(fields);
-        if !self.announced.choices.strict_messages || fields.len() > MOST_NAMES {
-            let outline = match read_list(self.alloc, &list, any) {
-                Ok(outline) => outline,
-                Err(e) => return Err(refusal_of(e)),
-            };
-            return match place_behind(self.side, &outline) {
-                Ok(place) => Ok((place, self.read_head(&list))),
-                Err(e) => Err(e),
-            };
+        if self.announced.choices.strict_messages && fields.len() <= MOST_NAMES {
+            return self.judge_once(fields);
         }
+        let any = self.announced.choices.extensions.any_protocol;
+        match judge_place(self.alloc, self.side, fields, any) {
+            Ok(place) => Ok((place, self.read_head(&Fields::of(fields)))),
+            Err(e) => Err(e),
+        }
+    }
+
+    // The same by one walk, of a list of so few fields that a map has room for all their names.
+    fn judge_once(&self, fields: &[HeaderField]) -> Result<(SendPlace, SentRead), Refusal>
+        requires strict { self.now.announced.choices.strict_messages ≡ true }
+        requires few { length fields.now ≤ 24576 }
+        ensures ok { IfOk result (λ judged. IsHeadAt self.now.side (head_by self.now.announced.choices.extensions.any_protocol fields.now) judged.0) }
+        ensures read { IfOk result (λ judged. IsReadAt judged.0 self.now fields.now judged.1) }
+        ensures err { IfErr result (λ e. e ≢ refusal.OutOfMemory → head_list_refusal self.now.side (head_by self.now.announced.choices.extensions.any_protocol fields.now) ≡ Some e) }
+        ensures memory { IfErr result (λ e. e ≡ refusal.OutOfMemory → 24576 < length fields.now) }
+    {
+        let list = Fields::of(fields);
         let mut seen = Seen::new();
-        let outline = match seen.take_good(&list, any) {
+        let outline = match seen.take_good(&list, self.announced.choices.extensions.any_protocol) {
             Ok(outline) => outline,
             Err(part) => return Err(Refusal::Malformed(malformation_by(part))),
         };
@@ -210,6 +218,23 @@ fn refusal_of(e: ListError) -> Refusal
     match malformation_in(e) {
         Some(why) => Refusal::Malformed(why),
         None => Refusal::OutOfMemory,
+    }
+}
+
+// The place of the message after a list that is sent as a header section, or why the list is not one of this side.
+fn judge_place(
+    alloc: Global,
+    side: Side,
+    fields: &[HeaderField],
+    any_protocol: bool,
+) -> Result<SendPlace, Refusal>
+    ensures ok { IfOk result (IsHeadAt side (head_by any_protocol fields.now)) }
+    ensures err { IfErr result (λ e. e ≢ refusal.OutOfMemory → head_list_refusal side (head_by any_protocol fields.now) ≡ Some e) }
+    ensures memory { IfErr result (λ e. e ≡ refusal.OutOfMemory → 24576 < length fields.now) }
+{
+    match read_list(alloc, &Fields::of(fields), any_protocol) {
+        Ok(outline) => place_behind(side, &outline),
+        Err(e) => Err(refusal_of(e)),
     }
 }
 

@@ -75,6 +75,7 @@ impl Endpoint {
     // What a header section is read as: of the request that a client sends, or of the response that a server sends. An endpoint that asks for
     // no strict messages looks at no field.
     #[inline(never)]
+    #[tactic(auto, using(crate::proofs::SentAnswers::unread_at, crate::proofs::SentAnswers::read_head_at))]
     pub(super) fn read_head(&self, fields: &Fields<'_>) -> SentRead
         ensures { (place : SendPlace) → place ≢ TrailerSent → IsReadAt place self.now fields.now result }
     {
@@ -87,6 +88,7 @@ impl Endpoint {
     }
 
     // What a trailer is read as.
+    #[tactic(auto, using(crate::proofs::SentAnswers::unread_at, crate::proofs::SentAnswers::read_trailer_at))]
     pub(super) fn read_trailer(&self, fields: &[HeaderField]) -> SentRead
         ensures { IsReadAt TrailerSent self.now fields.now result }
     {

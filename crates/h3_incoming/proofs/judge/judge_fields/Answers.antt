@@ -4,10 +4,10 @@ use Rattle.h3_connection.specs.StrictMessages.{broken_rule, if_whole, content_at
 use Rattle.h3_connection.specs.declared.event.Pull.TheVariants as pull
 use Rattle.h3_header.specs.HeadRead.{head_by}
 use Rattle.h3_incoming.specs.Answering.{item_of, kind_at, message_at}
-use Rattle.h3_incoming.specs.Judging.{Hands, IsListRead}
-use Rattle.h3_incoming.proofs.JudgeLaws.{handed, hands_item, judged_behind, malformed_by, many_fields, never_none, no_refusal, read_head, read_none, told_outline, told_refusal}
-use Rattle.h3_messages.specs.Outline.{refusal_by}
-use Rattle.h3_messages.specs.OutlineLaws.{outlined_head}
+use Rattle.h3_incoming.specs.Judging.{Hands}
+use Rattle.h3_incoming.proofs.JudgeLaws.{handed, hands_item, judged_behind, malformed_by, no_refusal, read_head, read_none}
+use Rattle.h3_messages.specs.Outline.{IsListRead, refusal_by}
+use Rattle.h3_messages.specs.OutlineLaws.{many_fields, never_none, outlined_head, told_outline, told_refusal}
 use Rattle.h3_incoming.proofs.judge.judge_fields.Goals as goal
 
 pub returns-in-Some-clause-judged : goal.returns-in-Some-clause-judged

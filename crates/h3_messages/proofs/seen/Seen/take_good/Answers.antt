@@ -1,4 +1,4 @@
-use Rattle.std.proofs.Common.{◌≡◌, ◌+◌, ◌≤◌, true, None, Some, length, drop, fold, rules, ap, sym, subst, ◌∙◌, arith, take_all}
+use Rattle.std.proofs.Common.{◌≡◌, ◌+◌, ◌≤◌, true, None, Some, length, drop, fold, ap, sym, subst, ◌∙◌, arith, take_all}
 use Rattle.std.specs.Prelude.{All}
 use Rattle.std.proofs.lemmas.List.Elements.{All-more}
 use Rattle.std.proofs.lemmas.Option.{get_or_from_slice_get, slice_get_within}
@@ -6,7 +6,7 @@ use Rattle.h3_header.specs.BadPart.{bad_part}
 use Rattle.h3_header.specs.HeadRead.{head_by, is_name_at}
 use Rattle.h3_header.specs.Reads.{kind_of}
 use Rattle.h3_messages.specs.KindLaws.{name_is_good}
-use Rattle.h3_messages.specs.Outline.{IsOutlined, empty_outline, outlined}
+use Rattle.h3_messages.specs.Outline.{IsOutlined, empty_outline, outlined, outlined_by}
 use Rattle.h3_messages.proofs.Outlines.{all_good, last_outline, next_outline, short_head, status_is_good}
 use Rattle.h3_messages.proofs.Surveys.{seen_at}
 use Rattle.h3_messages.proofs.seen.Seen.take_good.Goals as goal
@@ -39,7 +39,7 @@ fields-preserved c =
     let field = c.get-field.result in
     let same = get_or_from_slice_get fields i field field c.get-field.ensures in
     let inside = slice_get_within fields i field c.get-field.ensures in
-    let one : c.with-outline.result ≡ outlined c.fields.outline field = search rules in (
+    let one : c.with-outline.result ≡ outlined c.fields.outline field = c.with-outline.ensures ∙ ap (λ k. outlined_by k c.fields.outline field) c.in-Ok.ensures.ok.0 in (
       seen_at fields i field _ _ c.get-field.ensures c.fields.invariant.0 c.take_of.ensures,
       All-more (λ f. bad_part any f ≡ None) fields i field inside c.fields.invariant.1 (subst (λ f. bad_part any f ≡ None) (sym same) c.in-Ok.ensures.ok.1),
       ap (λ o. fold outlined o (drop (i + 1) fields)) one

@@ -23,3 +23,6 @@ pub returns-in-Err-send_section : goal.returns-in-Err-send_section
 returns-in-Err-send_section c = λ head.
     head_stays c.args.self.now c.send_section.new.self c.args.room c.args.fields.now c.args.place c.in-Err-send_section.refusal
     (subst (λ r. SendsFields (λ e. e) c.args.self.now c.send_section.new.self c.args.room c.args.fields.now c.args.place (call_refused r)) c.in-Err-send_section.is c.send_section.ensures)
+
+pub send_section-requires : goal.send_section-requires
+send_section-requires c = (rw c.id-id.ensures at c.in-Ok.ensures.kept) c.args.place c.args.fields.now c.requires
