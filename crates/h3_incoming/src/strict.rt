@@ -1,7 +1,7 @@
 //! Which rule of well-formed messages a field list breaks, and how much content follows it, if the endpoint asks for these rules (RFC 9114,
 //! sections 4.1.2 and 4.2 to 4.5).
 ghost use Rattle.std.specs.Prelude.{◌≡◌, ◌≤◌, true, length, option_map};
-ghost use Rattle.h3_connection.specs.StrictMessages.{broken_rule, malformation_by, violation_at, violation_of_head, content_read, content_behind, content_behind_large, content_at, large_content_at, response_of_head, response_behind, response_at, if_whole};
+ghost use Rattle.h3_connection.specs.StrictMessages.{broken_rule, malformation_by, violation_at, content_behind, content_behind_large, content_at, large_content_at, response_behind, response_at, if_whole};
 ghost use Rattle.h3_messages.specs.Outline.{IsListRead};
 
 use h3_connection::event::Malformation;
@@ -14,6 +14,7 @@ use h3_messages::{
     trailer_violation_by,
 };
 use h3_proto::stream::Side;
+use std::alloc::Global;
 
 /// What the rules of strict messages make of a field list at its place.
 #[derive(Clone, Copy)]
@@ -124,45 +125,30 @@ fn survey_at(
     ensures response { result.response ≡ response_behind side place response survey.now.fields.now }
 {
     match place {
-        Place::BeforeHead => read_head(side, announced, content, response, survey),
+        // a client reads responses, and a server requests
+        Place::BeforeHead => match side {
+            Side::Client => {
+                let head = response_by(content, survey);
+                StrictRead {
+                    broken: told(head.violation),
+                    content: head.content,
+                    response,
+                }
+            }
+            Side::Server => {
+                let head = request_by(survey, announced.extended_connect());
+                StrictRead {
+                    broken: told(head.violation),
+                    content: head.content.until_answered(),
+                    response: Some(head.awaited),
+                }
+            }
+        },
         Place::InBody | Place::AfterTrailer | Place::InSession => StrictRead {
             broken: told(trailer_violation_by(survey)),
             content,
             response,
         },
-    }
-}
-
-// What a header section says: a client reads responses, and a server requests.
-#[inline(always)]
-fn read_head(
-    side: Side,
-    announced: &Announced,
-    awaited: Content,
-    response: Option<Content>,
-    survey: &Survey<'_>,
-) -> StrictRead
-    ensures broken { result.broken ≡ option_map malformation_by (violation_of_head side announced.now survey.now.fields.now) }
-    ensures content { result.content ≡ content_read side awaited survey.now.fields.now }
-    ensures response { result.response ≡ response_of_head side response survey.now.fields.now }
-{
-    match side {
-        Side::Client => {
-            let head = response_by(awaited, survey);
-            StrictRead {
-                broken: told(head.violation),
-                content: head.content,
-                response,
-            }
-        }
-        Side::Server => {
-            let head = request_by(survey, announced.extended_connect());
-            StrictRead {
-                broken: told(head.violation),
-                content: head.content.until_answered(),
-                response: Some(head.awaited),
-            }
-        }
     }
 }
 
