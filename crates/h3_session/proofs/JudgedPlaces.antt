@@ -1,5 +1,5 @@
 -- What a list that reads as a head with an outline is in the place of a head or a trailer.
-use Rattle.std.proofs.Common.{◌≡◌, ℕ, Bool, true, false, if◌then◌else◌, Option, Some, None, refl, ap, sym, ◌∙◌}
+use Rattle.std.proofs.Common.{◌≡◌, Bool, true, false, if◌then◌else◌, Option, Some, None, refl, ap, sym, ◌∙◌}
 use Rattle.std.specs.Prelude.{◌≢◌, not, option_map, Result, Ok, Err, OnOk}
 use Rattle.h3_header.specs.Head.{Head}
 use Rattle.h3_header.specs.HeadRead.{HeadRead, HeadRefusal, IsHead, IsNone}

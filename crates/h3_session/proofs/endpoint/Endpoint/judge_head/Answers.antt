@@ -1,5 +1,3 @@
-use Rattle.std.proofs.Common.{subst}
-use Rattle.h3_connection.specs.State.{EndpointState}
 use Rattle.h3_header.specs.HeadRead.{head_by}
 use Rattle.h3_session.proofs.JudgedPlaces.{head_place}
 use Rattle.h3_session.proofs.endpoint.Endpoint.judge_head.Goals as goal

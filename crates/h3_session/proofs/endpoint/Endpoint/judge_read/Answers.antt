@@ -1,4 +1,4 @@
-use Rattle.std.proofs.Common.{None, Some, ap, sym, ◌∙◌}
+use Rattle.std.proofs.Common.{Some, ap, sym, ◌∙◌}
 use Rattle.std.specs.Prelude.{option_map}
 use Rattle.h3_connection.specs.StrictMessages.{malformation_by}
 use Rattle.h3_messages.specs.OwnMessages.{or_broken}
