@@ -27,7 +27,7 @@ use Rattle.h3_qpack.specs.declared.block_within.BlockWithin.TheVariants as withi
 use Rattle.h3_qpack.specs.declared.block_within.SectionSummary.{SectionSummary}
 use Rattle.h3_incoming.specs.declared.judge.Judged.{Judged}
 use Rattle.h3_incoming.specs.declared.judge.Judged.TheVariants as judge
-use Rattle.h3_incoming.specs.Judging.{Hands, HasItem, HasList, judged_as}
+use Rattle.h3_incoming.specs.Judging.{HasList, judged_as}
 use Rattle.h3_connection.specs.Pulling.{Pulled, is_memory, malformation_of, malformed, next_place, head_or_trailer, judged, with_content, read_section, decoded, at_section}
 
 -- what is said of the fields that are kept is said of the section
@@ -52,15 +52,6 @@ listed_within (Ok j) limit listed block d w is h = λ dyn_ref fields k.
 pub judged_behind : (id : ℕ) (i : Incoming) (content : Content) (known : Option Content) (replies : List DecoderInstruction) (answer : Pull) (j : Judged) → judged_as id (record i { content = content; response = known }) replies answer j ≡ judged_as id i replies answer j
 judged_behind id i before known replies answer (judge.HandsOut place left told) = refl
 judged_behind id i before known replies answer (judge.Malformed why told) = refl
-
--- what is handed out is the item that was written
-pub handed : (id : ℕ) (i : Incoming) (replies : List DecoderInstruction) (answer given : Pull) (j : Judged) → Hands j answer given → judged_as id i replies given j ≡ judged_as id i replies answer j
-handed id i replies answer given (judge.HandsOut place left told) is = ap (λ p. judged_as id i replies p (judge.HandsOut place left told)) (sym is)
-handed id i replies answer given (judge.Malformed why told) is = refl
-
-pub hands_item : (j : Judged) (answer : Pull) (i : Item) → Hands j answer (pull.Item i) → HasItem j answer
-hands_item (judge.HandsOut place left told) answer i is = ap is_memory is
-hands_item (judge.Malformed why told) answer i is = tt
 
 -- why a list is malformed
 pub malformed_by : (o : Option HeadRefusal) (m : Malformation) → Some m ≡ option_map malformation_of o → (P : Type 0) → ((why : HeadRefusal) → o ≡ Some why → m ≡ malformation_of why → P) → P

@@ -28,11 +28,6 @@ abbrev pub HasList : Judged → Option (List Field) → List Field → Type 0
 HasList (judged.HandsOut place expected known) listed fields = IfSome listed (λ l. l ≡ fields)
 HasList (judged.Malformed why known) listed fields = Unit {0}
 
--- What was written is this item, unless the section is malformed.
-abbrev pub Hands : Judged → Pull → Pull → Type 0
-Hands (judged.HandsOut place expected known) answer item = answer ≡ item
-Hands (judged.Malformed why known) answer item = Unit {0}
-
 -- a side reads such heads: a client those of responses, and a server those of requests
 abbrev pub is_read_outline : Side → Outline → Bool
 is_read_outline Client o = is_response_outline o

@@ -1,22 +1,21 @@
 //! What a decoded field section is at its place of a message (RFC 9114, sections 4.1 to 4.3).
-ghost use Rattle.std.specs.Prelude.{◌≡◌, ◌<◌, ◌≤◌, ◌⊎◌, ℕ, Bool, false, List, Some, None, IfOk, OnOk, OnErr, length, option_map, codes};
+ghost use Rattle.std.specs.Prelude.{◌≡◌, ◌<◌, ◌≤◌, ◌⊎◌, ℕ, Bool, false, List, Some, None, IfOk, OnErr, length, option_map, codes};
 ghost use Rattle.h3_field.specs.Field.{Field};
 ghost use Rattle.h3_field.specs.Instruction.{DecoderInstruction};
 ghost use Rattle.h3_qpack.specs.DecoderState.{DecoderState};
 ghost use Rattle.h3_header.specs.BadPart.{IsHeadUnlessMany};
 ghost use Rattle.h3_header.specs.Head.{Head};
-ghost use Rattle.h3_header.specs.HeadRead.{IsHead, head_by};
 ghost use Rattle.h3_connection.specs.Incoming.{Incoming};
 ghost use Rattle.h3_connection.specs.declared.event.Item.TheVariants as item;
 ghost use Rattle.h3_connection.specs.declared.event.Pull.TheVariants as pull;
 ghost use Rattle.h3_qpack.specs.Sizes.{IsLarge, IsBlockWithin, last_value, told_size};
 ghost use Rattle.h3_connection.specs.Announcing.{section_of};
 ghost use Rattle.h3_connection.specs.Pulling.{read_section, whole_head, whole_trailer, head_or_trailer, next_place, is_interim_text, is_client};
-ghost use Rattle.h3_incoming.specs.Answering.{item_of, message_at};
-ghost use Rattle.h3_incoming.specs.Judging.{Hands, HasItem, HasList, is_read_outline, judged_as};
-ghost use Rattle.h3_messages.specs.Outline.{IsOutlined, outline_of};
+ghost use Rattle.h3_incoming.specs.Answering.{message_at};
+ghost use Rattle.h3_incoming.specs.Judging.{HasItem, HasList, is_read_outline, judged_as};
+ghost use Rattle.h3_messages.specs.Outline.{outline_of};
 
-use crate::answer::{Answer, MessageKind, Plain, is_interim, kind_at};
+use crate::answer::{Answer, Plain, is_interim, kind_at};
 use crate::malformed::malformation_in;
 use crate::strict::{if_whole, large_content_at, read_at};
 use h3_connection::event::Malformation;
@@ -150,33 +149,17 @@ fn judge_fields<O: Answer>(
         broken,
         &outline,
     );
-    let kind = kind_at(side, place, &outline);
-    match hand_out(alloc, any_protocol, kind, &outline, &judged, fields, out) {
-        Ok(()) => Ok(judged),
-        Err(e) => Err(e),
-    }
-}
-
-// The answer is the header or trailer section that a list is, unless it is malformed.
-fn hand_out<O: Answer>(
-    alloc: Global,
-    any_protocol: bool,
-    kind: MessageKind,
-    outline: &Outline,
-    judged: &Judged,
-    fields: FieldBlock,
-    out: &mut O,
-) -> Result<(), AllocError>
-    requires { IsOutlined (head_by any_protocol fields) outline.now }
-    ensures item { OnOk result ((h : Head) → head_by any_protocol fields ≡ IsHead h → Hands judged.now (O.told out.new) (pull.Item (item_of kind h))) }
-    ensures list { OnOk result (HasList judged.now (O.listed out.new) fields) }
-    ensures memory { OnErr result (O.asks any_protocol fields) }
-{
     match judged {
-        Judged::HandsOut(_, _, _) => out.give_message(alloc, any_protocol, kind, outline, fields),
-        Judged::Malformed(_, _) => {
+        Judged::HandsOut(behind, content, response) => {
+            let kind = kind_at(side, place, &outline);
+            match out.give_message(alloc, any_protocol, kind, &outline, fields) {
+                Ok(()) => Ok(Judged::HandsOut(behind, content, response)),
+                Err(e) => Err(e),
+            }
+        }
+        Judged::Malformed(why, response) => {
             out.keep(fields);
-            Ok(())
+            Ok(Judged::Malformed(why, response))
         }
     }
 }

@@ -1,11 +1,13 @@
 use Rattle.std.proofs.Common.{◌≡◌, ◌∙◌, ap, inl, inr, subst, sym}
-use Rattle.h3_connection.specs.Pulling.{head_or_trailer, with_content}
+use Rattle.h3_connection.specs.Pulling.{head_or_trailer, is_memory, with_content}
 use Rattle.h3_connection.specs.StrictMessages.{broken_rule, if_whole, content_at, response_at}
 use Rattle.h3_connection.specs.declared.event.Pull.TheVariants as pull
 use Rattle.h3_header.specs.HeadRead.{head_by}
 use Rattle.h3_incoming.specs.Answering.{item_of, kind_at, message_at}
-use Rattle.h3_incoming.specs.Judging.{Hands}
-use Rattle.h3_incoming.proofs.JudgeLaws.{handed, hands_item, judged_behind, malformed_by, no_refusal, read_head, read_none}
+use Rattle.h3_incoming.specs.Judging.{judged_as}
+use Rattle.h3_incoming.specs.declared.judge.Judged.TheVariants as judge
+use Rattle.h3_messages.specs.declared.outline.Outline.{Outline}
+use Rattle.h3_incoming.proofs.JudgeLaws.{judged_behind, malformed_by, no_refusal, read_head, read_none}
 use Rattle.h3_messages.specs.Outline.{IsListRead, refusal_by}
 use Rattle.h3_messages.specs.OutlineLaws.{many_fields, never_none, outlined_head, told_outline, told_refusal}
 use Rattle.h3_incoming.proofs.judge.judge_fields.Goals as goal
@@ -32,13 +34,13 @@ returns-in-None-clause-good g c = λ why none.
     let read = subst (λ fs. IsListRead any fs c.read_at-read.result.0) c.fields.ensures c.read_at-read.ensures.list in
     many_fields any c.args.fields c.read_at-read.result.0 c.in-Err.e read c.in-Err.is (no_refusal (refusal_by c.in-Err.e) (sym c.in-None.is ∙ c.malformation_in.ensures))
 
-pub hand_out-requires : goal.hand_out-requires
-hand_out-requires g c =
+pub give_message-requires : goal.give_message-requires
+give_message-requires g c =
     let any = c.args.announced.now.choices.extensions.any_protocol in
     told_outline any c.args.fields c.read_at-read.result.0 c.in-Ok.outline (subst (λ fs. IsListRead any fs c.read_at-read.result.0) c.fields.ensures c.read_at-read.ensures.list) c.in-Ok.is
 
-pub returns-in-Ok-hand_out-clause-judged : goal.returns-in-Ok-hand_out-clause-judged
-returns-in-Ok-hand_out-clause-judged g c = λ id r i replies few at left told.
+pub returns-in-Malformed-clause-judged : goal.returns-in-Malformed-clause-judged
+returns-in-Malformed-clause-judged g c = λ id r i replies few at left told.
     let own = c.args.announced.now in
     let any = own.choices.extensions.any_protocol in
     let side = c.args.side in
@@ -54,25 +56,49 @@ returns-in-Ok-hand_out-clause-judged g c = λ id r i replies few at left told.
     ap (λ p. content_at side own p i.content fields) at ∙ ap (λ l. content_at side own place l fields) left ∙ ap (content_at side own place c.args.content) (sym list) ∙ sym (c.read_at-read.ensures.content) in
     let response : (with_content side own i fields).response ≡ c.read_at-read.result.1.response =
     ap (λ p. response_at side own p i.response fields) at ∙ ap (λ k. response_at side own place k fields) told ∙ ap (response_at side own place c.args.response) (sym list) ∙ sym (c.read_at-read.ensures.response) in
-    let kind = c.kind_at-kind.ensures ∙ ap (λ o. kind_at side place o.status) is in
     read_head side own id r i replies fields place h few head at
     ∙ ap (λ b. head_or_trailer side id (with_content side own i fields) replies b place h) rule
     ∙ c.judge_message-judged.ensures id (with_content side own i fields) replies h is at behind response
     ∙ judged_behind id i (with_content side own i fields).content (with_content side own i fields).response replies (pull.Item (message_at side place h)) c.judge_message-judged.result
-    ∙ handed id i replies _ (pull.Item (message_at side place h)) c.judge_message-judged.result (subst (λ k. Hands c.judge_message-judged.result _ (pull.Item (item_of k h))) kind (c.in-Ok-hand_out.ensures.item h head)))
+    ∙ ap (judged_as id i replies (pull.Item (message_at side place h))) c.in-Malformed.is)
 
-pub returns-in-Ok-hand_out-clause-item : goal.returns-in-Ok-hand_out-clause-item
-returns-in-Ok-hand_out-clause-item g c =
+pub returns-in-Ok-give_message-clause-judged : goal.returns-in-Ok-give_message-clause-judged
+returns-in-Ok-give_message-clause-judged g c = λ id r i replies few at left told.
+    let own = c.args.announced.now in
+    let any = own.choices.extensions.any_protocol in
+    let side = c.args.side in
+    let place = c.args.place in
+    let fields = c.args.fields in
+    let list = c.fields.ensures in
+    let read = subst (λ fs. IsListRead any fs c.read_at-read.result.0) list c.read_at-read.ensures.list in
+    outlined_head (head_by any fields) c.in-Ok.outline (told_outline any fields c.read_at-read.result.0 c.in-Ok.outline read c.in-Ok.is) _ (λ h head is.
+    let rule : if_whole i.content (broken_rule side own place fields) ≡ c.if_whole-broken.result =
+    ap (λ l. if_whole l (broken_rule side own place fields)) left ∙ ap (λ l. if_whole c.args.content (broken_rule side own place l)) (sym list)
+    ∙ ap (if_whole c.args.content) (sym (c.read_at-read.ensures.broken)) ∙ sym c.if_whole-broken.ensures in
+    let behind : (with_content side own i fields).content ≡ c.read_at-read.result.1.content =
+    ap (λ p. content_at side own p i.content fields) at ∙ ap (λ l. content_at side own place l fields) left ∙ ap (content_at side own place c.args.content) (sym list) ∙ sym (c.read_at-read.ensures.content) in
+    let response : (with_content side own i fields).response ≡ c.read_at-read.result.1.response =
+    ap (λ p. response_at side own p i.response fields) at ∙ ap (λ k. response_at side own place k fields) told ∙ ap (response_at side own place c.args.response) (sym list) ∙ sym (c.read_at-read.ensures.response) in
+    let kind = c.kind_at-kind.ensures ∙ ap (λ (o : Outline). kind_at side place o.status) is in
+    read_head side own id r i replies fields place h few head at
+    ∙ ap (λ b. head_or_trailer side id (with_content side own i fields) replies b place h) rule
+    ∙ c.judge_message-judged.ensures id (with_content side own i fields) replies h is at behind response
+    ∙ judged_behind id i (with_content side own i fields).content (with_content side own i fields).response replies (pull.Item (message_at side place h)) c.judge_message-judged.result
+    ∙ ap (judged_as id i replies (pull.Item (message_at side place h))) c.in-HandsOut.is
+    ∙ ap (λ p. judged_as id i replies p (judge.HandsOut c.in-HandsOut.behind c.in-HandsOut.content c.in-HandsOut.response)) (sym (c.in-Ok-give_message.ensures.head h head ∙ ap (λ k. pull.Item (item_of k h)) kind)))
+
+pub returns-in-Ok-give_message-clause-item : goal.returns-in-Ok-give_message-clause-item
+returns-in-Ok-give_message-clause-item g c =
     let any = c.args.announced.now.choices.extensions.any_protocol in
     let read = subst (λ fs. IsListRead any fs c.read_at-read.result.0) c.fields.ensures c.read_at-read.ensures.list in
     outlined_head (head_by any c.args.fields) c.in-Ok.outline (told_outline any c.args.fields c.read_at-read.result.0 c.in-Ok.outline read c.in-Ok.is) _ (λ h head is.
-    hands_item c.judge_message-judged.result _ (item_of c.kind_at-kind.result h) (c.in-Ok-hand_out.ensures.item h head))
+    ap is_memory (c.in-Ok-give_message.ensures.head h head))
 
-pub returns-in-Err-hand_out-clause-memory : goal.returns-in-Err-hand_out-clause-memory
-returns-in-Err-hand_out-clause-memory g c = inr c.in-Err-hand_out.ensures.memory
+pub returns-in-Err-give_message-clause-memory : goal.returns-in-Err-give_message-clause-memory
+returns-in-Err-give_message-clause-memory g c = inr c.in-Err-give_message.ensures.memory
 
-pub returns-in-Err-hand_out-clause-good : goal.returns-in-Err-hand_out-clause-good
-returns-in-Err-hand_out-clause-good g c = λ why none.
+pub returns-in-Err-give_message-clause-good : goal.returns-in-Err-give_message-clause-good
+returns-in-Err-give_message-clause-good g c = λ why none.
     let any = c.args.announced.now.choices.extensions.any_protocol in
     let read = subst (λ fs. IsListRead any fs c.read_at-read.result.0) c.fields.ensures c.read_at-read.ensures.list in
     absurd (never_none (head_by any c.args.fields) c.in-Ok.outline why (told_outline any c.args.fields c.read_at-read.result.0 c.in-Ok.outline read c.in-Ok.is) none)
