@@ -10,7 +10,8 @@ ghost use Rattle.h3_connection.specs.declared.event.Item.TheVariants as item;
 ghost use Rattle.h3_connection.specs.declared.event.Pull.TheVariants as pull;
 ghost use Rattle.h3_qpack.specs.Sizes.{IsLarge, IsBlockWithin, last_value, told_size};
 ghost use Rattle.h3_connection.specs.Announcing.{section_of};
-ghost use Rattle.h3_connection.specs.Pulling.{read_section, whole_head, whole_trailer, head_or_trailer, next_place, is_interim_text, is_client};
+ghost use Rattle.h3_connection.specs.Pulling.{read_section, whole_head, whole_trailer, head_or_trailer, next_place, is_interim_text};
+ghost use Rattle.h3_connection.specs.Pulling.{is_client};
 ghost use Rattle.h3_incoming.specs.Answering.{message_at};
 ghost use Rattle.h3_incoming.specs.Judging.{HasItem, HasList, is_read_outline, judged_as};
 ghost use Rattle.h3_messages.specs.Outline.{outline_of};
@@ -61,8 +62,10 @@ pub(crate) fn judge<O: Answer>(
     block: FieldBlock,
     out: &mut O,
 ) -> Result<Judged, AllocError>
-    ensures judged { IfOk result (λ j. (id : ℕ) (r : DecoderState) (i : Incoming) (replies : List DecoderInstruction) (dyn_ref : Bool) (fields : List Field)
-        → IsBlockWithin (section_of announced.now) (codes ":status") dyn_ref fields decoded block → i.place ≡ place → i.content ≡ content → i.response ≡ response → read_section side announced.now id r i replies fields ≡ judged_as id i replies (O.told out.new) j) }
+    ensures judged { IfOk result (λ j. (id : ℕ) (r : DecoderState) (i : Incoming) (replies : List DecoderInstruction) (dyn_ref : Bool)
+        (fields : List Field)
+        → IsBlockWithin (section_of announced.now) (codes ":status") dyn_ref fields decoded block → i.place ≡ place → i.content ≡ content
+        → i.response ≡ response → read_section side announced.now id r i replies fields ≡ judged_as id i replies (O.told out.new) j) }
     ensures item { IfOk result (λ j. HasItem j (O.told out.new)) }
     ensures list { IfOk result
         (λ j. (dyn_ref : Bool) (fields : List Field)
@@ -90,7 +93,8 @@ fn judge_large<O: Answer>(
     out: &mut O,
 ) -> Judged
     ensures judged { (id : ℕ) (r : DecoderState) (i : Incoming) (replies : List DecoderInstruction) (dyn_ref : Bool) (fields : List Field)
-        → section_of announced.now < told_size fields → IsLarge (codes ":status") dyn_ref fields large → i.place ≡ place → i.content ≡ content → i.response ≡ response
+        → section_of announced.now < told_size fields → IsLarge (codes ":status") dyn_ref fields large → i.place ≡ place
+        → i.content ≡ content → i.response ≡ response
         → read_section side announced.now id r i replies fields ≡ judged_as id i replies (O.told out.new) result }
     ensures item { HasItem result (O.told out.new) }
     ensures none { (fields : List Field) → HasList result (O.listed out.new) fields }
@@ -114,7 +118,8 @@ fn judge_fields<O: Answer>(
     out: &mut O,
 ) -> Result<Judged, AllocError>
     ensures judged { IfOk result (λ j. (id : ℕ) (r : DecoderState) (i : Incoming) (replies : List DecoderInstruction)
-        → told_size fields ≤ section_of announced.now → i.place ≡ place → i.content ≡ content → i.response ≡ response → read_section side announced.now id r i replies fields ≡ judged_as id i replies (O.told out.new) j) }
+        → told_size fields ≤ section_of announced.now → i.place ≡ place → i.content ≡ content → i.response ≡ response
+        → read_section side announced.now id r i replies fields ≡ judged_as id i replies (O.told out.new) j) }
     ensures item { IfOk result (λ j. HasItem j (O.told out.new)) }
     ensures list { IfOk result (λ j. HasList j (O.listed out.new) fields) }
     ensures memory { OnErr result ((24576 < length fields) ⊎ O.asks announced.now.choices.extensions.any_protocol fields) }
@@ -173,7 +178,8 @@ fn judge_message(
     broken: Option<Malformation>,
     outline: &Outline,
 ) -> Judged
-    ensures { (id : ℕ) (i : Incoming) (replies : List DecoderInstruction) (h : Head) → outline.now ≡ outline_of h → i.place ≡ place → i.content ≡ behind → i.response ≡ response
+    ensures { (id : ℕ) (i : Incoming) (replies : List DecoderInstruction) (h : Head) → outline.now ≡ outline_of h → i.place ≡ place
+        → i.content ≡ behind → i.response ≡ response
         → head_or_trailer side id i replies broken place h ≡ judged_as id i replies (pull.Item (message_at side place h)) result }
 {
     match place {
@@ -193,7 +199,8 @@ fn judge_head(
     broken: Option<Malformation>,
     outline: &Outline,
 ) -> Judged
-    ensures { (id : ℕ) (i : Incoming) (replies : List DecoderInstruction) (h : Head) → outline.now ≡ outline_of h → i.place ≡ Place.BeforeHead → i.content ≡ behind → i.response ≡ response
+    ensures { (id : ℕ) (i : Incoming) (replies : List DecoderInstruction) (h : Head) → outline.now ≡ outline_of h
+        → i.place ≡ Place.BeforeHead → i.content ≡ behind → i.response ≡ response
         → whole_head side id i replies broken h ≡ judged_as id i replies (pull.Item (message_at side Place.BeforeHead h)) result }
 {
     if !is_read_by(side, outline) {
@@ -235,7 +242,8 @@ fn judge_trailer(
     broken: Option<Malformation>,
     outline: &Outline,
 ) -> Judged
-    ensures { (id : ℕ) (i : Incoming) (replies : List DecoderInstruction) (h : Head) → outline.now ≡ outline_of h → i.content ≡ behind → i.response ≡ response
+    ensures { (id : ℕ) (i : Incoming) (replies : List DecoderInstruction) (h : Head) → outline.now ≡ outline_of h → i.content ≡ behind
+        → i.response ≡ response
         → whole_trailer id i replies broken h ≡ judged_as id i replies (pull.Item (item.Trailer h)) result }
 {
     if outline.has_pseudo() {

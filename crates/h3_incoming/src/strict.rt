@@ -1,7 +1,8 @@
 //! Which rule of well-formed messages a field list breaks, and how much content follows it, if the endpoint asks for these rules (RFC 9114,
 //! sections 4.1.2 and 4.2 to 4.5).
 ghost use Rattle.std.specs.Prelude.{◌≡◌, ◌≤◌, true, length, option_map};
-ghost use Rattle.h3_connection.specs.StrictMessages.{broken_rule, malformation_by, violation_at, content_behind, content_behind_large, content_at, large_content_at, response_behind, response_at, if_whole};
+ghost use Rattle.h3_connection.specs.StrictMessages.{broken_rule, malformation_by, violation_at, content_behind, content_behind_large};
+ghost use Rattle.h3_connection.specs.StrictMessages.{content_at, large_content_at, response_behind, response_at, if_whole};
 ghost use Rattle.h3_messages.specs.Outline.{IsListRead};
 
 use h3_connection::event::Malformation;

@@ -1,5 +1,6 @@
 //! What the fields that came so far hold of all that the rules ask.
-ghost use Rattle.std.specs.Prelude.{◌≡◌, ◌<◌, ◌≤◌, ◌==◌, ◌||◌, ◌&&◌, not, codes, [], length, slice_index_or, if◌then◌else◌, true, false, Some, None, OnOk, IfOk, IfErr};
+ghost use Rattle.std.specs.Prelude.{◌≡◌, ◌<◌, ◌≤◌, ◌==◌, ◌||◌, ◌&&◌, not, codes, [], length, slice_index_or, if◌then◌else◌, true, false};
+ghost use Rattle.std.specs.Prelude.{Some, None, OnOk, IfOk, IfErr};
 ghost use Rattle.h3_header.specs.BadPart.{refusal_of, AreGood};
 ghost use Rattle.h3_header.specs.HeadRead.{IsNone, head_by, is_name_at};
 ghost use Rattle.h3_header.specs.Reads.{kind_of};

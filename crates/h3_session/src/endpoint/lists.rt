@@ -9,7 +9,8 @@ ghost use Rattle.h3_connection.specs.declared.event.Refusal.TheVariants as refus
 ghost use Rattle.h3_requests.specs.Refused.{body_refused_at};
 ghost use Rattle.h3_session.specs.InvalidFields.{NamesField};
 ghost use Rattle.h3_session.specs.Refused.{head_refused_in, own_head_refused, own_trailer_refused};
-ghost use Rattle.h3_session.specs.SendingLists.{IsJudgedOr, SendsFieldList, SendsTrailerList, SendsJudgedHead, SendsJudgedTrailer, malformed, refusal_after};
+ghost use Rattle.h3_session.specs.SendingLists.{IsJudgedOr, SendsFieldList, SendsTrailerList, SendsJudgedHead, SendsJudgedTrailer};
+ghost use Rattle.h3_session.specs.SendingLists.{malformed, refusal_after};
 ghost use Rattle.h3_messages.specs.InvalidField.{invalid_field};
 ghost use Rattle.h3_session.specs.SentHeads.{IsReadAt};
 ghost use Rattle.h3_messages.specs.Outline.{refusal_by};
@@ -33,14 +34,14 @@ impl Endpoint {
     /// - every call after a connection fault (`Refusal::Closed`),
     /// - a stream that is not open (`NotOpen`), or whose final header section or end was sent (`OutOfOrder`),
     /// - if the endpoint asks for a strict connection, each by a client after the peer's GOAWAY (`GoingAway`),
-    /// - a list that `Header::try_from` refuses (`Malformed` of `Name`, `Value` or `TooMany`); with `Config::with_any_protocol` the value of
-    ///   `:protocol` may be any token of at most 31 bytes,
+    /// - a list that `Header::try_from` refuses (`Malformed` of `Name`, `Value` or `TooMany`); with `Config::with_any_protocol` the value
+    ///   of `:protocol` may be any token of at most 31 bytes,
     /// - a header section of the other side's messages (`WrongSide`),
     /// - if the endpoint asks for strict messages, a list that a strict peer would call malformed (`Malformed`),
     /// - a list whose size is above what the peer's settings allow (`TooLarge`).
     ///
-    /// If an allocation fails, the encoder stream may have gained whole instructions, and the stream is as it was. A list of more than 24,576
-    /// fields takes memory to be judged.
+    /// If an allocation fails, the encoder stream may have gained whole instructions, and the stream is as it was. A list of more than
+    /// 24,576 fields takes memory to be judged.
     pub fn send_fields(&mut self, id: StreamId, fields: &[HeaderField]) -> Result<(), Refusal>
         ensures sends { SendsFieldList self.old self.new id fields.now result }
         ensures names { NamesField (call_refused result) self.new.announced.choices fields.now }
@@ -82,7 +83,8 @@ impl Endpoint {
     /// may be in no message (RFC 9114, 4.2 and 4.3). If there is none and the endpoint asks for strict messages, it is the first with white
     /// space around its value (RFC 9114, 10.3). After such a refusal there always is one. It takes no memory.
     pub fn invalid_field(&self, fields: &[HeaderField]) -> Option<usize>
-        ensures { result ≡ invalid_field self.now.announced.choices.extensions.any_protocol self.now.announced.choices.strict_messages fields.now }
+        ensures { result ≡ invalid_field self.now.announced.choices.extensions.any_protocol self.now.announced.choices.strict_messages
+            fields.now }
     {
         let choices = &self.announced.choices;
         invalid_field(
@@ -95,9 +97,11 @@ impl Endpoint {
     // The place of the message after a list that is sent as a header section, and what the rules make of it, or why the list is not one of
     // this side. If the endpoint asks for strict messages one walk tells both.
     fn judge_head(&self, fields: &[HeaderField]) -> Result<(SendPlace, SentRead), Refusal>
-        ensures ok { IfOk result (λ judged. IsHeadAt self.now.side (head_by self.now.announced.choices.extensions.any_protocol fields.now) judged.0) }
+        ensures ok { IfOk result
+            (λ judged. IsHeadAt self.now.side (head_by self.now.announced.choices.extensions.any_protocol fields.now) judged.0) }
         ensures read { IfOk result (λ judged. IsReadAt judged.0 self.now fields.now judged.1) }
-        ensures err { IfErr result (λ e. e ≢ refusal.OutOfMemory → head_list_refusal self.now.side (head_by self.now.announced.choices.extensions.any_protocol fields.now) ≡ Some e) }
+        ensures err { IfErr result (λ e. e ≢ refusal.OutOfMemory → head_list_refusal self.now.side
+            (head_by self.now.announced.choices.extensions.any_protocol fields.now) ≡ Some e) }
         ensures memory { IfErr result (λ e. e ≡ refusal.OutOfMemory → 24576 < length fields.now) }
     {
         if self.announced.choices.strict_messages && fields.len() <= MOST_NAMES {
@@ -114,9 +118,11 @@ impl Endpoint {
     fn judge_once(&self, fields: &[HeaderField]) -> Result<(SendPlace, SentRead), Refusal>
         requires strict { self.now.announced.choices.strict_messages ≡ true }
         requires few { length fields.now ≤ 24576 }
-        ensures ok { IfOk result (λ judged. IsHeadAt self.now.side (head_by self.now.announced.choices.extensions.any_protocol fields.now) judged.0) }
+        ensures ok { IfOk result
+            (λ judged. IsHeadAt self.now.side (head_by self.now.announced.choices.extensions.any_protocol fields.now) judged.0) }
         ensures read { IfOk result (λ judged. IsReadAt judged.0 self.now fields.now judged.1) }
-        ensures err { IfErr result (λ e. e ≢ refusal.OutOfMemory → head_list_refusal self.now.side (head_by self.now.announced.choices.extensions.any_protocol fields.now) ≡ Some e) }
+        ensures err { IfErr result (λ e. e ≢ refusal.OutOfMemory → head_list_refusal self.now.side
+            (head_by self.now.announced.choices.extensions.any_protocol fields.now) ≡ Some e) }
         ensures memory { IfErr result (λ e. e ≡ refusal.OutOfMemory → 24576 < length fields.now) }
     {
         let list = Fields::of(fields);
@@ -161,8 +167,11 @@ impl Endpoint {
     ) -> Result<(), Refusal>
         requires open { self.old.closed ≡ None }
         requires read { IsReadAt place self.old fields.now read.now }
-        ensures sends { (head : Head) → own_head_refused self.old.announced self.old.side head ≡ None → place ≡ (if is_interim head.status then SendPlace.NothingSent else SendPlace.HeadSent) → SendsJudgedHead self.old self.new id head fields.now result }
-        ensures names { (head : Head) → head_by self.old.announced.choices.extensions.any_protocol fields.now ≡ IsHead head → place ≢ SendPlace.TrailerSent → NamesField (call_refused result) self.old.announced.choices fields.now }
+        ensures sends { (head : Head) → own_head_refused self.old.announced self.old.side head ≡ None
+            → place ≡ (if is_interim head.status then SendPlace.NothingSent else SendPlace.HeadSent)
+            → SendsJudgedHead self.old self.new id head fields.now result }
+        ensures names { (head : Head) → head_by self.old.announced.choices.extensions.any_protocol fields.now ≡ IsHead head
+            → place ≢ SendPlace.TrailerSent → NamesField (call_refused result) self.old.announced.choices fields.now }
     {
         let room = match self.reserve_head(id, None) {
             Ok(room) => room,
@@ -174,8 +183,10 @@ impl Endpoint {
     // A list that reads as a trailer goes out.
     fn send_trailer_list(&mut self, id: StreamId, fields: &[HeaderField]) -> Result<(), Refusal>
         requires { self.old.closed ≡ None }
-        ensures sends { (trailer : Head) → own_trailer_refused self.old.announced trailer ≡ None → SendsJudgedTrailer self.old self.new id trailer fields.now result }
-        ensures names { (trailer : Head) → head_by self.old.announced.choices.extensions.any_protocol fields.now ≡ IsHead trailer → NamesField (call_refused result) self.old.announced.choices fields.now }
+        ensures sends { (trailer : Head) → own_trailer_refused self.old.announced trailer ≡ None
+            → SendsJudgedTrailer self.old self.new id trailer fields.now result }
+        ensures names { (trailer : Head) → head_by self.old.announced.choices.extensions.any_protocol fields.now ≡ IsHead trailer
+            → NamesField (call_refused result) self.old.announced.choices fields.now }
     {
         let read = self.read_trailer(fields);
         let room = match self.reserve_trailer(id, None) {
@@ -240,7 +251,8 @@ fn judge_place(
 
 // The place of the message after a header section, or that it is one of the other side.
 fn place_behind(side: Side, outline: &Outline) -> Result<SendPlace, Refusal>
-    ensures ok { IfOk result (λ place. (is_sent_outline side outline.now ≡ true) × (place ≡ (if is_interim outline.now.status then SendPlace.NothingSent else SendPlace.HeadSent))) }
+    ensures ok { IfOk result (λ place. (is_sent_outline side outline.now ≡ true)
+        × (place ≡ (if is_interim outline.now.status then SendPlace.NothingSent else SendPlace.HeadSent))) }
     ensures err { IfErr result (λ e. (is_sent_outline side outline.now ≡ false) × (e ≡ refusal.WrongSide)) }
 {
     if !is_sent_by(side, outline) {

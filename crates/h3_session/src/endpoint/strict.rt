@@ -72,8 +72,8 @@ impl Endpoint {
         says_tunnel_length(said) && self.requests.awaits_tunnel(id)
     }
 
-    // What a header section is read as: of the request that a client sends, or of the response that a server sends. An endpoint that asks for
-    // no strict messages looks at no field.
+    // What a header section is read as: of the request that a client sends, or of the response that a server sends. An endpoint that asks
+    // for no strict messages looks at no field.
     #[inline(never)]
     #[tactic(auto, using(crate::proofs::SentAnswers::unread_at, crate::proofs::SentAnswers::read_head_at))]
     pub(super) fn read_head(&self, fields: &Fields<'_>) -> SentRead
@@ -104,7 +104,8 @@ impl Endpoint {
     // What a header section says, over which the walk was made.
     #[inline(always)]
     pub(super) fn read_survey(&self, survey: &Survey<'_>) -> SentRead
-        ensures violation { result.violation ≡ violation_of_own_list self.now.side (settings_known self.now.announced self.now.peer.settings) survey.now.fields.now }
+        ensures violation { result.violation ≡ violation_of_own_list self.now.side
+            (settings_known self.now.announced self.now.peer.settings) survey.now.fields.now }
         ensures said { IsSaidBy self.now.side survey.now.fields.now result.said }
     {
         match self.side {
