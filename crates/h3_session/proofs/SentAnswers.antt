@@ -6,7 +6,9 @@ use Rattle.h3_connection.specs.Remembering.{settings_known}
 use Rattle.h3_connection.specs.State.{EndpointState, kept_at}
 use Rattle.h3_connection.specs.StrictMessages.{malformation_by}
 use Rattle.h3_connection.specs.StrictSending.{violation_of_own_head}
+use Rattle.h3_connection.specs.declared.event.Malformation.{Malformation}
 use Rattle.h3_connection.specs.declared.place.SendPlace.{SendPlace}
+use Rattle.h3_connection.specs.declared.setup.Announced.{Announced}
 use Rattle.h3_connection.specs.declared.place.SendPlace.TheVariants.{HeadSent, NothingSent, TrailerSent}
 use Rattle.h3_messages.specs.OwnMessageLaws.{unasked_answer}
 use Rattle.h3_messages.specs.OwnMessages.{awaits_tunnel, or_broken, violation_of_own_response, violation_of_own_trailer}
@@ -40,64 +42,63 @@ pub answer_breaks : (settings : Option (List (ℕ × ℕ))) (known : Option Cont
 answer_breaks settings known fields side read told is h = is ∙ by_said settings known fields read.violation side read.said h.1 h.0
 
 -- what was read of a list is broken on its stream
+silent_breaks : (known : Option Content) (read : SentRead) (told v : Option Violation)
+    → told ≡ or_broken read.violation (says_length_of_tunnel read.said && awaits_tunnel known) ContentLength → read.violation ≡ v → read.said ≡ Nothing → told ≡ v
+silent_breaks known read told v is same none =
+    is ∙ ap (λ w. or_broken w (says_length_of_tunnel read.said && awaits_tunnel known) ContentLength) same
+    ∙ ap (λ q. or_broken v (says_length_of_tunnel q && awaits_tunnel known) ContentLength) none ∙ unasked_answer v _ ContentLength refl
+
+abbrev broken_as : Bool → Option Violation → Option Malformation
+broken_as strict v = if strict then option_map malformation_by v else None
+
+broken_where : (place : SendPlace) (strict : Bool) (s : EndpointState) (id : ℕ) (fields : List Field) (read : SentRead) (told : Option Violation)
+    → told ≡ or_broken read.violation (says_length_of_tunnel read.said && awaits_tunnel (known_in (kept_at s.requests id))) ContentLength
+    → IsReadWhere strict place s.side (settings_known s.announced s.peer.settings) fields read → broken_as strict (violation_behind place s id fields) ≡ option_map malformation_by told
+broken_where NothingSent true s id fields read told is of =
+    ap (option_map malformation_by) (sym (answer_breaks (settings_known s.announced s.peer.settings) (known_in (kept_at s.requests id)) fields s.side read told is of))
+broken_where HeadSent true s id fields read told is of =
+    ap (option_map malformation_by) (sym (answer_breaks (settings_known s.announced s.peer.settings) (known_in (kept_at s.requests id)) fields s.side read told is of))
+broken_where TrailerSent true s id fields read told is of =
+    ap (option_map malformation_by) (sym (silent_breaks (known_in (kept_at s.requests id)) read told (violation_of_own_trailer fields) is of.0 of.1))
+broken_where NothingSent false s id fields read told is of =
+    ap (option_map malformation_by) (sym (silent_breaks (known_in (kept_at s.requests id)) read told None is of.0 of.1))
+broken_where HeadSent false s id fields read told is of =
+    ap (option_map malformation_by) (sym (silent_breaks (known_in (kept_at s.requests id)) read told None is of.0 of.1))
+broken_where TrailerSent false s id fields read told is of =
+    ap (option_map malformation_by) (sym (silent_breaks (known_in (kept_at s.requests id)) read told None is of.0 of.1))
+
 pub read_breaks : (place : SendPlace) (s : EndpointState) (id : ℕ) (fields : List Field) (read : SentRead) (told : Option Violation)
     → told ≡ or_broken read.violation (says_length_of_tunnel read.said && awaits_tunnel (known_in (kept_at s.requests id))) ContentLength → IsReadAt place s fields read
     → broken_behind place s id fields ≡ option_map malformation_by told
-read_breaks place s id fields read told is h = by place s.announced.choices.strict_messages h
-  where
-    settings : Option (List (ℕ × ℕ))
-    settings = settings_known s.announced s.peer.settings
-
-    known : Option Content
-    known = known_in (kept_at s.requests id)
-
-    silent : (v : Option Violation) → read.violation ≡ v → read.said ≡ Nothing → told ≡ v
-    silent v same none =
-        is ∙ ap (λ w. or_broken w (says_length_of_tunnel read.said && awaits_tunnel known) ContentLength) same
-        ∙ ap (λ q. or_broken v (says_length_of_tunnel q && awaits_tunnel known) ContentLength) none ∙ unasked_answer v _ ContentLength refl
-
-    head : IsReadOf s.side settings fields read → option_map malformation_by (violation_of_own_head s.side settings known fields) ≡ option_map malformation_by told
-    head of = ap (option_map malformation_by) (sym (answer_breaks settings known fields s.side read told is of))
-
-    by : (place : SendPlace) (strict : Bool) → IsReadWhere strict place s.side settings fields read
-        → (if strict then option_map malformation_by (violation_behind place s id fields) else None) ≡ option_map malformation_by told
-    by NothingSent true of = head of
-    by HeadSent true of = head of
-    by TrailerSent true of = ap (option_map malformation_by) (sym (silent (violation_of_own_trailer fields) of.0 of.1))
-    by NothingSent false of = ap (option_map malformation_by) (sym (silent None of.0 of.1))
-    by HeadSent false of = ap (option_map malformation_by) (sym (silent None of.0 of.1))
-    by TrailerSent false of = ap (option_map malformation_by) (sym (silent None of.0 of.1))
+read_breaks place s id fields read told is h = broken_where place s.announced.choices.strict_messages s id fields read told is h
 
 -- what a head was told to say is said where rules are asked
+said_so : (side : Side) (own : Announced) (fields : List Field) (said : Said) → own.choices.strict_messages ≡ true → IsSaidBy side fields said → IsSaid side own fields said
+said_so side own fields Nothing is of = absurd of
+said_so side own fields (Request awaited content) is of = (is, of)
+said_so side own fields (Response said) is of = (is, of)
+
+said_none : (side : Side) (own : Announced) (fields : List Field) (said : Said) → own.choices.strict_messages ≡ false → said ≡ Nothing → IsSaid side own fields said
+said_none side own fields said is none = subst (IsSaid side own fields) (sym none) is
+
+says_where : (place : SendPlace) (strict : Bool) (s : EndpointState) (fields : List Field) (read : SentRead) → s.announced.choices.strict_messages ≡ strict → place ≢ TrailerSent
+    → IsReadWhere strict place s.side (settings_known s.announced s.peer.settings) fields read → IsSaid s.side s.announced fields read.said
+says_where NothingSent true s fields read is differs of = said_so s.side s.announced fields read.said is of.1
+says_where HeadSent true s fields read is differs of = said_so s.side s.announced fields read.said is of.1
+says_where TrailerSent true s fields read is differs of = absurd (differs refl)
+says_where NothingSent false s fields read is differs of = said_none s.side s.announced fields read.said is of.1
+says_where HeadSent false s fields read is differs of = said_none s.side s.announced fields read.said is of.1
+says_where TrailerSent false s fields read is differs of = absurd (differs refl)
+
 pub read_says : (place : SendPlace) (s : EndpointState) (fields : List Field) (read : SentRead) → place ≢ TrailerSent → IsReadAt place s fields read → IsSaid s.side s.announced fields read.said
-read_says place s fields read differs h = by place s.announced.choices.strict_messages refl differs h
-  where
-    heads : (said : Said) → s.announced.choices.strict_messages ≡ true → IsSaidBy s.side fields said → IsSaid s.side s.announced fields said
-    heads Nothing is of = absurd of
-    heads (Request awaited content) is of = (is, of)
-    heads (Response said) is of = (is, of)
-
-    silent : (said : Said) → s.announced.choices.strict_messages ≡ false → said ≡ Nothing → IsSaid s.side s.announced fields said
-    silent said is none = subst (IsSaid s.side s.announced fields) (sym none) is
-
-    by : (place : SendPlace) (strict : Bool) → s.announced.choices.strict_messages ≡ strict → place ≢ TrailerSent → IsReadWhere strict place s.side (settings_known s.announced s.peer.settings) fields read
-        → IsSaid s.side s.announced fields read.said
-    by NothingSent true is differs of = heads read.said is of.1
-    by HeadSent true is differs of = heads read.said is of.1
-    by TrailerSent true is differs of = absurd (differs refl)
-    by NothingSent false is differs of = silent read.said is of.1
-    by HeadSent false is differs of = silent read.said is of.1
-    by TrailerSent false is differs of = absurd (differs refl)
+read_says place s fields read differs h = says_where place s.announced.choices.strict_messages s fields read refl differs h
 
 -- what the rules made of a list, where they are asked, and where they are not
 pub read_head_at : (place : SendPlace) (s : EndpointState) (fields : List Field) (read : SentRead) → place ≢ TrailerSent → s.announced.choices.strict_messages ≡ true
     → IsReadOf s.side (settings_known s.announced s.peer.settings) fields read → IsReadAt place s fields read
-read_head_at place s fields read differs is of = by place differs
-  where
-    by : (place : SendPlace) → place ≢ TrailerSent → IsReadAt place s fields read
-    by NothingSent differs = subst (λ b. IsReadWhere b NothingSent s.side (settings_known s.announced s.peer.settings) fields read) (sym is) of
-    by HeadSent differs = subst (λ b. IsReadWhere b HeadSent s.side (settings_known s.announced s.peer.settings) fields read) (sym is) of
-    by TrailerSent differs = absurd (differs refl)
+read_head_at NothingSent s fields read differs is of = subst (λ b. IsReadWhere b NothingSent s.side (settings_known s.announced s.peer.settings) fields read) (sym is) of
+read_head_at HeadSent s fields read differs is of = subst (λ b. IsReadWhere b HeadSent s.side (settings_known s.announced s.peer.settings) fields read) (sym is) of
+read_head_at TrailerSent s fields read differs is of = absurd (differs refl)
 
 pub read_trailer_at : (s : EndpointState) (fields : List Field) (read : SentRead) → s.announced.choices.strict_messages ≡ true → read.violation ≡ violation_of_own_trailer fields → read.said ≡ Nothing
     → IsReadAt TrailerSent s fields read
