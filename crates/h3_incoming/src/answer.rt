@@ -246,7 +246,8 @@ impl Answer for Pull {
         fields: FieldBlock,
     ) -> Result<(), AllocError> {
         h3_header::laws::lists_are_their_value();
-        match Header::of_fields(alloc, &fields.fields(), any_protocol) {
+        let list = fields.fields();
+        match Header::of_fields(alloc, &list, any_protocol) {
             Ok(header) => {
                 put(self, Pull::Item(item_of(kind, header)));
                 Ok(())

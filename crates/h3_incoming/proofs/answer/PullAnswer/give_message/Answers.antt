@@ -8,10 +8,10 @@ use Rattle.h3_incoming.proofs.answer.PullAnswer.give_message.Goals as goal
 
 pub returns-in-Ok-clause-head : goal.returns-in-Ok-clause-head
 returns-in-Ok-clause-head c = λ h is.
-    let read = c.lists_are_their_value.ensures.head _ _ _ (rw c.fields.ensures at c.in-Ok.ensures.ok) in
+    let read = c.lists_are_their_value.ensures.head _ _ _ (rw c.fields-list.ensures at c.in-Ok.ensures.ok) in
     c.put.ensures ∙ ap pull.Item (c.item_of.ensures ∙ ap (item_of c.args.kind) (one_head (head_by c.args.any_protocol c.args.fields) c.in-Ok.header h read is))
 
-pub returns-in-Err-clause-memory : goal.returns-in-Err-clause-memory
-returns-in-Err-clause-memory c =
-    let refused = rw c.fields.ensures at c.in-Err.ensures.err in
+pub returns-clause-memory : goal.returns-clause-memory
+returns-clause-memory c =
+    let refused = rw c.fields-list.ensures at c.in-Err.ensures.err in
     lacks_memory c.args.any_protocol c.args.fields _ c.args.outline.now (λ why is. c.lists_are_their_value.ensures.refused _ _ _ why refused is) c.requires refused
