@@ -54,6 +54,7 @@ else
 fi
 
 python3 scripts/gate/rules.py || bad=1
+python3 scripts/gate/walks.py || bad=1
 python3 scripts/dev/pictures.py || bad=1
 python3 scripts/bench/bench_page.py --check || bad=1
 exit "$bad"

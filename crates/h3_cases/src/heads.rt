@@ -239,7 +239,7 @@ fn counted(told: &mut Told, header: Header) {
     told.then_show(header.into_fields().len());
 }
 
-/// The text of a protocol, and which of the two it is.
+/// The text of a protocol, which of the two it is, and whether it may be sent where any is taken.
 fn protocol(told: &mut Told, words: &[&str]) {
     let word = match words {
         [] => "",
@@ -253,4 +253,5 @@ fn protocol(told: &mut Told, words: &[&str]) {
         }
         Err(_) => told.say("refused"),
     }
+    told.then_show(Protocol::from_token(word).is_ok());
 }

@@ -1,10 +1,8 @@
 -- The first field of which anything is malformed by itself refuses its list.
-use Rattle.std.proofs.Common.{◌≡◌, ℕ, zero, suc, ◌+◌, ◌<◌, ◌≤◌, ◌^◌, nat_le, nat_lt, Bool, true, false, not, ◌&&◌, ◌||◌, bytes_eq, List, [], ◌∷◌, ◌++◌, length, take, get_or, Some, None, refl, ap, sym, subst, ◌∙◌, arith, if◌then◌else◌, length-append, length-take, get_or-take, take_all}
-use Rattle.std.specs.Prelude.{All, slice_get}
+use Rattle.std.proofs.Common.{◌≡◌, ℕ, zero, suc, ◌+◌, ◌<◌, ◌≤◌, ◌^◌, nat_le, nat_lt, Bool, true, false, not, ◌&&◌, ◌||◌, bytes_eq, List, [], ◌∷◌, ◌++◌, length, take, get_or, Some, None, refl, ap, sym, subst, ◌∙◌, arith, if◌then◌else◌, length-append, take_all}
+use Rattle.std.specs.Prelude.{All}
 use Rattle.std.proofs.lemmas.Bool.{lt-leb, ltb-true, ltb-false}
-use Rattle.std.proofs.lemmas.List.{take-take}
 use Rattle.std.proofs.lemmas.List.Sums.{sum_by-cons}
-use Rattle.std.proofs.lemmas.Option.{get_or_from_slice_get, slice_get_within}
 use Rattle.http_header.specs.FieldValue.{FieldValue, plain_value}
 use Rattle.http_header.specs.HeaderMap.{Entry, Entries, append, value_count}
 use Rattle.h3_field.specs.Field.{Field}
@@ -116,21 +114,6 @@ bad_found any fields few i d p is lt good bad =
 pub few_refused : (any : Bool) (fields : List Field) (i : ℕ) (f : Field) (p : BadPart) → length fields ≤ 24576 → i < length fields → All (λ f. bad_part any f ≡ None) (take i fields)
     → bad_part any (get_or fields i f) ≡ Some p → head_by any fields ≡ IsNone (refusal_of p)
 few_refused any fields i f p few lt good bad = bad_found any fields fields i f p (sym (take_all 24576 fields few)) lt good bad
-
-pub bad_at : (any : Bool) (fields : List Field) (i : ℕ) (f : Field) (p : BadPart) → i < 24576 → All (λ f. bad_part any f ≡ None) (take i fields) → slice_get fields i ≡ Some f
-    → bad_part any f ≡ Some p → head_by any fields ≡ IsNone (refusal_of p)
-bad_at any fields i f p low good at bad =
-    first_bad any fields i f p (omega (arith, length-take 24576 fields, slice_get_within fields i f at, low))
-    (subst (λ l. All (λ f. bad_part any f ≡ None) l) (sym (take-take i 24576 fields (omega (arith, low)))) good)
-    (subst (λ f. bad_part any f ≡ Some p) (sym (get_or-take 24576 fields i f low ∙ get_or_from_slice_get fields i f f at)) bad)
-
--- where the fields that were seen are all, or are so many
-pub none_found : (any : Bool) (fields : List Field) (i : ℕ) → ((k : ℕ) → k < 24576 → k < length fields → k < i) → All (λ f. bad_part any f ≡ None) (take i fields) → AreGood any fields
-none_found any fields i all good = λ k d less.
-    let low : k < 24576 = omega (arith, length-take 24576 fields, less) in
-    let inside : k < length fields = omega (arith, length-take 24576 fields, less) in
-    let before : k < i = all k low inside in
-    subst (λ f. bad_part any f ≡ None) (get_or-take i fields k d before ∙ sym (get_or-take 24576 fields k d low)) (good k d (omega (arith, length-take i fields, before, inside)))
 
 -- with room for all of them, fields that are good make a head
 good_from : (any : Bool) (h : Head) (fields : List Field) (n : ℕ) → HasPlaces h n → length fields ≤ n → All (λ f. bad_part any f ≡ None) fields → (k : Head) × (read_from any h fields ≡ IsHead k)

@@ -20,7 +20,7 @@ use http_header::HeaderMap;
 use http_uri::Uri;
 pub use iter::HeaderIter;
 use iter::RegularIter;
-pub use judge::{BadPart, MOST_NAMES, field_kind, first_bad_part};
+pub use judge::{BadPart, MOST_NAMES, field_kind};
 pub use kind::FieldKind;
 use pseudo::{Pseudo, RequestParts};
 use std::alloc::{AllocError, Global};
@@ -314,7 +314,7 @@ impl Header {
     }
 
     /// The same of fields that stay where they are. The value of `:protocol` may be any token of at most 31 bytes, or one of the two names
-    /// alone. If the list is refused because it is out of memory, `first_bad_part` can still say what is malformed of it.
+    /// alone.
     pub fn of_fields(
         alloc: Global,
         fields: &Fields<'_>,

@@ -8,6 +8,4 @@ pub mod headers;
 pub mod laws;
 
 pub use ext::{InvalidProtocol, MOST_PROTOCOL_BYTES, Protocol};
-pub use headers::{
-    BadPart, FieldKind, Header, HeaderError, HeaderIter, MOST_NAMES, field_kind, first_bad_part,
-};
+pub use headers::{BadPart, FieldKind, Header, HeaderError, HeaderIter, MOST_NAMES, field_kind};

@@ -8,14 +8,12 @@ use Rattle.h3_header.specs.Reads.{IsHeadOf, head_of_fields}
 use Rattle.h3_connection.specs.declared.event.Pull.TheVariants as pull
 use Rattle.h3_incoming.specs.Answering.{item_of}
 use Rattle.h3_incoming.specs.FieldsPulls.{list_of, listed_as, pull_of}
-use Rattle.h3_incoming.specs.Outline.{list_read}
 use Rattle.h3_incoming.specs.declared.answer.MessageKind.{MessageKind}
 use Rattle.h3_incoming.specs.declared.answer.MessageKind.TheVariants as kind
 use Rattle.h3_incoming.specs.declared.fields.FieldsPull.TheVariants as answer
-use Rattle.h3_incoming.specs.declared.outline.Outline.{Outline}
-use Rattle.h3_incoming.specs.declared.outline.ListRead.{ListRead}
-use Rattle.h3_incoming.specs.declared.outline.ListRead.TheVariants as read
-use Rattle.h3_incoming.proofs.JudgeLaws.{reads_head}
+use Rattle.h3_messages.specs.Outline.{IsOutlined}
+use Rattle.h3_messages.specs.OutlineLaws.{outlined_head}
+use Rattle.h3_messages.specs.declared.outline.Outline.{Outline}
 
 pub told_of : (k : MessageKind) (fields : List Field) → pull_of (answer.Item (listed_as k fields)) ≡ pull.Item (item_of k (head_of_fields fields))
 told_of kind.Interim fields = refl
@@ -32,6 +30,6 @@ is_this (Some l) fields is = cc
 is_this None fields is = absurd (cc)
 
 -- the status of a list that reads as a head of this outline
-pub status_is : (any : Bool) (fields : List Field) (o : Outline) → ((fs : List Field) (h : Head) → head_by any fs ≡ IsHead h → IsHeadOf any fs h) → read.Head o ≡ list_read (head_by any fields) → o.status ≡ (head_of_fields fields).status
+pub status_is : (any : Bool) (fields : List Field) (o : Outline) → ((fs : List Field) (h : Head) → head_by any fs ≡ IsHead h → IsHeadOf any fs h) → IsOutlined (head_by any fields) o → o.status ≡ (head_of_fields fields).status
 status_is any fields o law is =
-    reads_head (head_by any fields) o is _ (λ h head same. ap (λ (p : Outline). p.status) same ∙ ap (λ (q : Head). q.status) (law fields h head).1)
+    outlined_head (head_by any fields) o is _ (λ h head same. ap (λ (p : Outline). p.status) same ∙ ap (λ (q : Head). q.status) (law fields h head).1)

@@ -1,16 +1,12 @@
 -- What a field section is at its place.
-use Rattle.std.proofs.Common.{◌≡◌, ℕ, ◌<◌, ◌≤◌, false, nat_lt, if◌then◌else◌, List, [], ◌∷◌, inl, inr, refl, ap, sym, ◌∙◌, subst}
+use Rattle.std.proofs.Common.{◌≡◌, ℕ, ◌<◌, ◌≤◌, false, nat_lt, if◌then◌else◌, List, refl, ap, sym, ◌∙◌, subst}
 use Rattle.std.proofs.lemmas.Bool.{lt-ltb, le-ltb}
-use Rattle.std.specs.Prelude.{Option, Some, None, IfSome, Result, Ok, Err, IfOk, codes, Bool}
+use Rattle.std.specs.Prelude.{Option, Some, None, IfSome, option_map, Result, Ok, Err, IfOk, codes, Bool}
 use Rattle.h3_field.specs.Field.{Field}
 use Rattle.h3_field.specs.Instruction.{DecoderInstruction}
 use Rattle.h3_qpack.specs.DecoderState.{DecoderState}
 use Rattle.h3_header.specs.Head.{Head}
-use Rattle.h3_header.specs.HeadRead.{HeadRead, HeadRefusal, IsHead, IsNone, head_by, told}
-use Rattle.h3_header.specs.Reads.{kind_of, with_field, RefusesAt, RefusesOne}
-use Rattle.h3_header.specs.declared.headers.error.HeaderError.{HeaderError}
-use Rattle.h3_header.specs.declared.headers.error.HeaderError.TheVariants as error
-use Rattle.h3_header.specs.declared.headers.kind.FieldKind.{FieldKind}
+use Rattle.h3_header.specs.HeadRead.{HeadRead, HeadRefusal, IsHead, IsNone, head_by}
 use Rattle.h3_proto.specs.declared.stream.Side.{Side}
 use Rattle.h3_connection.specs.declared.event.Item.{Item}
 use Rattle.h3_connection.specs.declared.event.Item.TheVariants as item
@@ -31,47 +27,8 @@ use Rattle.h3_qpack.specs.declared.block_within.BlockWithin.TheVariants as withi
 use Rattle.h3_qpack.specs.declared.block_within.SectionSummary.{SectionSummary}
 use Rattle.h3_incoming.specs.declared.judge.Judged.{Judged}
 use Rattle.h3_incoming.specs.declared.judge.Judged.TheVariants as judge
-use Rattle.h3_incoming.specs.Judging.{HasItem, HasList, Tells, judged_as}
-use Rattle.h3_incoming.specs.Outline.{outline_of, list_read}
-use Rattle.h3_incoming.specs.declared.outline.Outline.{Outline}
-use Rattle.h3_incoming.specs.declared.outline.ListRead.{ListRead}
-use Rattle.h3_incoming.specs.declared.outline.ListRead.TheVariants as read
+use Rattle.h3_incoming.specs.Judging.{HasList, judged_as}
 use Rattle.h3_connection.specs.Pulling.{Pulled, is_memory, malformation_of, malformed, next_place, head_or_trailer, judged, with_content, read_section, decoded, at_section}
-
--- a refusal that tells no malformation is for want of memory
-memory_at : (any : Bool) (at : FieldKind) (h : Head) (f : Field) (e : HeaderError) → RefusesAt any at h f e → told e ≡ None → RefusesAt any at h f error.OutOfMemory
-memory_at any at h f (error.InvalidHeaderName _) why none = absurd (cc)
-memory_at any at h f (error.InvalidHeaderValue _) why none = absurd (cc)
-memory_at any at h f error.TooManyFields why none = absurd (cc)
-memory_at any at h f error.InvalidRequest why none = absurd why
-memory_at any at h f error.MissingMethod why none = absurd why
-memory_at any at h f error.MissingStatus why none = absurd why
-memory_at any at h f error.MissingAuthority why none = absurd why
-memory_at any at h f error.ContradictedAuthority why none = absurd why
-memory_at any at h f error.OutOfMemory why none = why
-
-pub wants_memory : (any : Bool) (h : Head) (fields : List Field) (e : HeaderError) → RefusesOne any h fields e → told e ≡ None → RefusesOne any h fields error.OutOfMemory
-unfolding RefusesOne
-wants_memory any h [] e why none = absurd why
-wants_memory any h (f ∷ fields) e (inl here) none = inl (memory_at any (kind_of f.name) h f e here none)
-wants_memory any h (f ∷ fields) e (inr later) none = inr (later.0, wants_memory any (with_field h f) fields e later.1 none)
-
--- a list is no head where its reading told so, or where it says so itself
-pub tells_none : (any : Bool) (fields : List Field) (e : HeaderError) (why : HeadRefusal) → (told e ≡ Some why → head_by any fields ≡ IsNone why) → Tells any fields e why → head_by any fields ≡ IsNone why
-tells_none any fields e why law (inl here) = law here
-tells_none any fields e why law (inr is) = is
-
--- so it is told to be malformed
-pub refused_reads : (any : Bool) (fields : List Field) (e : HeaderError) (why : HeadRefusal) (r : ListRead) → (told e ≡ Some why → head_by any fields ≡ IsNone why) → Tells any fields e why → r ≡ read.Malformed (malformation_of why)
-    → r ≡ list_read (head_by any fields)
-refused_reads any fields e why r law tells is = is ∙ ap list_read (sym (tells_none any fields e why law tells))
-
-pub refused_never : (any : Bool) (fields : List Field) (e : HeaderError) (why : HeadRefusal) (h : Head) → (told e ≡ Some why → head_by any fields ≡ IsNone why) → Tells any fields e why → head_by any fields ≡ IsHead h → ⊥
-refused_never any fields e why h law tells is = let wrong : IsHead h ≡ IsNone why = sym is ∙ tells_none any fields e why law tells in cc
-
--- a list has one head
-pub one_head : (r : HeadRead) (header h : Head) → r ≡ IsHead header → r ≡ IsHead h → header ≡ h
-one_head r header h is other = cc
 
 -- what is said of the fields that are kept is said of the section
 pub judged_within : {E : Type 0} (result : Result Judged E) (side : Side) (own : Announced) (place : Place) (content : Content) (known : Option Content) (answer : Pull) (block : List Field) (d : SectionSummary) (w : BlockWithin) → w ≡ within.Fields d
@@ -96,23 +53,18 @@ pub judged_behind : (id : ℕ) (i : Incoming) (content : Content) (known : Optio
 judged_behind id i before known replies answer (judge.HandsOut place left told) = refl
 judged_behind id i before known replies answer (judge.Malformed why told) = refl
 
--- an item is no want of memory
-pub has_item : (j : Judged) (answer : Pull) (i : Item) → answer ≡ pull.Item i → HasItem j answer
-has_item (judge.HandsOut place left told) answer i is = ap is_memory is
-has_item (judge.Malformed why told) answer i is = tt
+-- why a list is malformed
+pub malformed_by : (o : Option HeadRefusal) (m : Malformation) → Some m ≡ option_map malformation_of o → (P : Type 0) → ((why : HeadRefusal) → o ≡ Some why → m ≡ malformation_of why → P) → P
+malformed_by (Some why) m is P given = given why refl (cc)
+malformed_by None m is P given = absurd (cc)
 
-pub has_list : (j : Judged) (listed : Option (List Field)) (fields : List Field) → IfSome listed (λ l. l ≡ fields) → HasList j listed fields
-has_list (judge.HandsOut place left told) listed fields h = h
-has_list (judge.Malformed why told) listed fields h = tt
+pub no_refusal : (o : Option HeadRefusal) → None ≡ option_map malformation_of o → o ≡ None
+no_refusal (Some why) is = absurd (cc)
+no_refusal None is = refl
 
--- what a list is told to be says what it reads as
-pub reads_head : (r : HeadRead) (o : Outline) → read.Head o ≡ list_read r → (P : Type 0) → ((h : Head) → r ≡ IsHead h → o ≡ outline_of h → P) → P
-reads_head (IsHead h) o is P given = given h refl (cc)
-reads_head (IsNone why) o is P given = absurd (cc)
-
-pub reads_none : (r : HeadRead) (m : Malformation) → read.Malformed m ≡ list_read r → (P : Type 0) → ((why : HeadRefusal) → r ≡ IsNone why → m ≡ malformation_of why → P) → P
-reads_none (IsNone why) m is P given = given why refl (cc)
-reads_none (IsHead h) m is P given = absurd (cc)
+-- a list has one head
+pub one_head : (r : HeadRead) (header h : Head) → r ≡ IsHead header → r ≡ IsHead h → header ≡ h
+one_head r header h is other = cc
 
 module _ (side : Side) (own : Announced) (id : ℕ) (r : DecoderState) where
   -- a section that is too large

@@ -3,11 +3,9 @@ pub mod PulledFrame
 pub mod PullLaws
 pub mod ResumeLaws
 pub mod JudgeLaws
-pub mod Outlines
 pub mod ListLaws
 pub mod NextFrame
 pub mod FieldsPullLaws
 pub mod BlockPullLaws
-pub mod SurveyLaws
 pub mod SomePieces
 pub mod BodyPieces

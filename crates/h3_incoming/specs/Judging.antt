@@ -1,9 +1,11 @@
 -- What a decoded field section is at its place.
-use Rattle.std.specs.Prelude.{◌≡◌, ◌⊎◌, ℕ, Bool, false, List, Option, Some, IfSome}
+use Rattle.std.specs.Prelude.{◌≡◌, ℕ, Bool, false, List, Option, IfSome}
 use Rattle.h3_field.specs.Field.{Field}
 use Rattle.h3_field.specs.Instruction.{DecoderInstruction}
-use Rattle.h3_header.specs.HeadRead.{HeadRefusal, IsNone, head_by, told}
-use Rattle.h3_header.specs.declared.headers.error.HeaderError.{HeaderError}
+use Rattle.h3_messages.specs.Outline.{is_request_outline, is_response_outline}
+use Rattle.h3_messages.specs.declared.outline.Outline.{Outline}
+use Rattle.h3_proto.specs.declared.stream.Side.{Side}
+use Rattle.h3_proto.specs.declared.stream.Side.TheVariants.{Client, Server}
 use Rattle.h3_connection.specs.Incoming.{Incoming}
 use Rattle.h3_connection.specs.Pulling.{Pulled, is_memory, malformed}
 use Rattle.h3_connection.specs.declared.event.Pull.{Pull}
@@ -26,6 +28,7 @@ abbrev pub HasList : Judged → Option (List Field) → List Field → Type 0
 HasList (judged.HandsOut place expected known) listed fields = IfSome listed (λ l. l ≡ fields)
 HasList (judged.Malformed why known) listed fields = Unit {0}
 
--- The list is no head for this, as its reading told, or as the list says itself.
-abbrev pub Tells : Bool → List Field → HeaderError → HeadRefusal → Type 0
-Tells any fields error why = (told error ≡ Some why) ⊎ (head_by any fields ≡ IsNone why)
+-- a side reads such heads: a client those of responses, and a server those of requests
+abbrev pub is_read_outline : Side → Outline → Bool
+is_read_outline Client o = is_response_outline o
+is_read_outline Server o = is_request_outline o

@@ -7,7 +7,6 @@ pub mod Placing
 pub mod Gives
 pub mod Resuming
 pub mod Beginning
-pub mod Outline
 pub mod Answering
 pub mod FieldsPulls
 pub mod BlockPulls

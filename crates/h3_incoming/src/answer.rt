@@ -1,25 +1,25 @@
 //! What a pull answers, written in one place. In a `Pull` header and trailer sections are `Header`s, and a `BlockPull` has the lists of
 //! fields that came, in memory that serves again. An answer with a `Header` is large: one that is returned is moved from call to call,
 //! and each call clears the room for it.
-ghost use Rattle.std.specs.Prelude.{◌≡◌, Bool, Option, None, List, IfOk, IfSome, OnOk, OnErr, false, []};
+ghost use Rattle.std.specs.Prelude.{◌≡◌, Bool, Option, None, List, IfSome, OnOk, OnErr, false, []};
 ghost use Rattle.h3_field.specs.Field.{Field};
-ghost use Rattle.h3_header.specs.BadPart.{IsHeadUnlessMany};
 ghost use Rattle.h3_header.specs.Head.{Head, trailer_head};
 ghost use Rattle.h3_header.specs.HeadRead.{IsHead, head_by};
 ghost use Rattle.h3_header.specs.Reads.{RefusesOne};
 ghost use Rattle.h3_header.specs.declared.headers.error.HeaderError.TheVariants as error;
+ghost use Rattle.h3_connection.specs.Pulling.{is_interim};
 ghost use Rattle.h3_connection.specs.declared.event.Item.TheVariants as item;
 ghost use Rattle.h3_connection.specs.declared.event.Pull.{Pull};
 ghost use Rattle.h3_connection.specs.declared.event.Pull.TheVariants as pull;
-ghost use Rattle.h3_incoming.specs.Answering.{fault_told, has_header, item_of, kind_at, message_at, plain_pull};
-ghost use Rattle.h3_incoming.specs.Outline.{list_read};
+ghost use Rattle.h3_incoming.specs.Answering.{fault_told, has_header, item_of, kind_at, plain_pull};
+ghost use Rattle.h3_messages.specs.Outline.{IsOutlined};
 
-use crate::outline::{ListRead, Outline, read_refused};
 use bytes::Bytes;
 use h3_connection::event::{Fault, Item, Pull};
 use h3_connection::place::Place;
-use h3_field::{FieldBlock, Fields};
-use h3_header::{Header, HeaderError};
+use h3_field::FieldBlock;
+use h3_header::Header;
+use h3_messages::Outline;
 use h3_proto::stream::Side;
 use h3_proto::webtransport::SessionId;
 use std::alloc::{AllocError, Global};
@@ -74,26 +74,26 @@ pub trait Answer: Drop {
         ensures is { told self.new ≡ plain_pull answer }
         ensures none { listed self.new ≡ None };
 
-    /// Returns what a decoded list is, and writes the header or trailer section that it is at this place, for this side. Of a malformed
-    /// list it only returns why it is malformed. An `Err` says that an allocation failed: only for a list for which such an answer asks for
-    /// memory. It is returned for no malformed list, unless that has more fields than a map has names for. What the list is may be known.
-    /// The value of `:protocol` may be any short token, or one of the two names alone.
+    /// The answer is the header or trailer section of this kind that a list is, whose header has this outline. An `Err` says that an
+    /// allocation failed: only for a list for which such an answer asks for memory. The value of `:protocol` may be any short token, or one
+    /// of the two names alone.
     fn give_message(
         &mut self,
         alloc: Global,
-        side: Side,
-        place: Place,
         any_protocol: bool,
-        known: Option<ListRead>,
+        kind: MessageKind,
+        outline: &Outline,
         fields: FieldBlock,
-    ) -> Result<ListRead, AllocError>
-        requires { IfSome known (λ r. r ≡ list_read (head_by any_protocol fields)) }
-        ensures read { IfOk result (λ r. r ≡ list_read (head_by any_protocol fields)) }
+    ) -> Result<(), AllocError>
+        requires { IsOutlined (head_by any_protocol fields) outline.now }
         ensures head { OnOk result
-            ((h : Head) → head_by any_protocol fields ≡ IsHead h → told self.new ≡ pull.Item (message_at side place h)) }
-        ensures list { OnOk result ((h : Head) → head_by any_protocol fields ≡ IsHead h → IfSome (listed self.new) (λ l. l ≡ fields)) }
-        ensures memory { OnErr result (asks any_protocol fields) }
-        ensures good { OnErr result (IsHeadUnlessMany any_protocol fields) };
+            ((h : Head) → head_by any_protocol fields ≡ IsHead h → told self.new ≡ pull.Item (item_of kind h)) }
+        ensures list { OnOk result (IfSome (listed self.new) (λ l. l ≡ fields)) }
+        ensures memory { OnErr result (asks any_protocol fields) };
+
+    /// The memory of fields that are not handed out may serve again. What the answer is then is not said: the caller gives one after this
+    /// call.
+    fn keep(&mut self, fields: FieldBlock);
 
     /// An empty block for the fields of a section, with the memory of the last answer if that kept one. What the answer is then is not
     /// said: the caller gives one after this call.
@@ -201,8 +201,18 @@ fn head_kind(side: Side, outline: &Outline) -> MessageKind
     ensures { result ≡ kind_at side Place.BeforeHead outline.now.status }
 {
     match side {
-        Side::Client if outline.is_interim() => MessageKind::Interim,
+        Side::Client if is_interim(outline) => MessageKind::Interim,
         Side::Client | Side::Server => MessageKind::Head,
+    }
+}
+
+/// Whether a status from 100 to 199 is there: that of an interim response (RFC 9110, section 15.2).
+pub(crate) fn is_interim(outline: &Outline) -> bool
+    ensures { result ≡ is_interim outline.now.status }
+{
+    match outline.status() {
+        Some(status) => (100..=199).contains(&status.as_u16()),
+        None => false,
     }
 }
 
@@ -213,32 +223,6 @@ fn item_of(kind: MessageKind, header: Header) -> Item
         MessageKind::Interim => Item::Interim(header),
         MessageKind::Head => Item::Head(header),
         MessageKind::Trailer => Item::Trailer(header),
-    }
-}
-
-// The header of the list is made before anything changes.
-fn give_header(
-    out: &mut Pull,
-    alloc: Global,
-    side: Side,
-    place: Place,
-    any_protocol: bool,
-    fields: &Fields<'_>,
-) -> Result<ListRead, AllocError>
-    ensures read { IfOk result (λ r. r ≡ list_read (head_by any_protocol fields.now)) }
-    ensures head { OnOk result ((h : Head) → head_by any_protocol fields.now ≡ IsHead h → out.new ≡ pull.Item (message_at side place h)) }
-    ensures memory { OnErr result (RefusesOne any_protocol (trailer_head []) fields.now HeaderError.OutOfMemory) }
-    ensures good { OnErr result (IsHeadUnlessMany any_protocol fields.now) }
-{
-    h3_header::laws::lists_are_their_value();
-    match Header::of_fields(alloc, fields, any_protocol) {
-        Ok(header) => {
-            let outline = Outline::of(&header);
-            let kind = kind_at(side, place, &outline);
-            put(out, Pull::Item(item_of(kind, header)));
-            Ok(ListRead::Head(outline))
-        }
-        Err(e) => read_refused(fields, any_protocol, &e),
     }
 }
 
@@ -256,13 +240,24 @@ impl Answer for Pull {
     fn give_message(
         &mut self,
         alloc: Global,
-        side: Side,
-        place: Place,
         any_protocol: bool,
-        _known: Option<ListRead>,
+        kind: MessageKind,
+        _outline: &Outline,
         fields: FieldBlock,
-    ) -> Result<ListRead, AllocError> {
-        give_header(self, alloc, side, place, any_protocol, &fields.fields())
+    ) -> Result<(), AllocError> {
+        h3_header::laws::lists_are_their_value();
+        let list = fields.fields();
+        match Header::of_fields(alloc, &list, any_protocol) {
+            Ok(header) => {
+                put(self, Pull::Item(item_of(kind, header)));
+                Ok(())
+            }
+            Err(_) => Err(AllocError),
+        }
+    }
+
+    fn keep(&mut self, fields: FieldBlock) {
+        drop(fields);
     }
 
     fn room(&mut self, alloc: Global) -> FieldBlock {

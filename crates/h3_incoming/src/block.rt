@@ -1,5 +1,5 @@
 //! The answer of a pull whose header and trailer sections are the lists of fields that came, in a block of memory that serves again.
-ghost use Rattle.std.specs.Prelude.{◌≡◌, ◌<◌, List, Option, length, IfSome};
+ghost use Rattle.std.specs.Prelude.{◌≡◌, List, Option, IfSome};
 ghost use Rattle.h3_field.specs.Field.{Field};
 ghost use Rattle.h3_header.specs.Reads.{head_of_fields};
 ghost use Rattle.h3_incoming.specs.Answering.{fault_told, plain_pull};
@@ -7,13 +7,11 @@ ghost use Rattle.h3_incoming.specs.BlockPulls.{fields_kept, told_with, HasStatus
 ghost use Rattle.h3_incoming.specs.FieldsPulls.{list_of, listed_as, plain_answer, pull_of};
 ghost use Rattle.h3_incoming.specs.declared.fields.FieldsPull.TheVariants as answer;
 
-use crate::answer::{Answer, MessageKind, Plain, kind_at};
+use crate::answer::{Answer, MessageKind, Plain};
 use crate::fields::{FieldsItem, FieldsPull};
-use crate::outline::{ListRead, read_unless};
 use h3_connection::event::Fault;
-use h3_connection::place::Place;
 use h3_field::{FieldBlock, Fields};
-use h3_proto::stream::Side;
+use h3_messages::Outline;
 use http::StatusCode;
 use std::alloc::{AllocError, Global};
 use std::marker::Model;
@@ -99,14 +97,6 @@ impl BlockPull {
         self.told = Told::Message(kind, status);
         self.block = block;
     }
-
-    // The answer is that the next item isn't there yet, and the memory of these fields is kept.
-    fn keep(&mut self, block: FieldBlock)
-        ensures { self.new ≡ answer.Pending }
-    {
-        self.told = Told::Plain(Plain::Pending);
-        self.block = block;
-    }
 }
 
 impl Answer for BlockPull {
@@ -114,7 +104,7 @@ impl Answer for BlockPull {
 
     ghost listed = { list_of };
 
-    ghost asks = { λ any fields. 24576 < length fields };
+    ghost asks = { λ any fields. ⊥ };
 
     fn give(&mut self, answer: Plain) {
         self.told = Told::Plain(answer);
@@ -123,29 +113,20 @@ impl Answer for BlockPull {
     #[inline(always)]
     fn give_message(
         &mut self,
-        alloc: Global,
-        side: Side,
-        place: Place,
+        _alloc: Global,
         any_protocol: bool,
-        known: Option<ListRead>,
+        kind: MessageKind,
+        outline: &Outline,
         fields: FieldBlock,
-    ) -> Result<ListRead, AllocError> {
+    ) -> Result<(), AllocError> {
         h3_header::laws::lists_are_their_value();
-        match read_unless(known, alloc, &fields.fields(), any_protocol) {
-            Ok(ListRead::Head(outline)) => {
-                let kind = kind_at(side, place, &outline);
-                self.hold(kind, outline.status(), fields);
-                Ok(ListRead::Head(outline))
-            }
-            Ok(ListRead::Malformed(why)) => {
-                self.keep(fields);
-                Ok(ListRead::Malformed(why))
-            }
-            Err(e) => {
-                self.keep(fields);
-                Err(e)
-            }
-        }
+        self.hold(kind, outline.status(), fields);
+        Ok(())
+    }
+
+    fn keep(&mut self, fields: FieldBlock) {
+        self.told = Told::Plain(Plain::Pending);
+        self.block = fields;
     }
 
     fn room(&mut self, alloc: Global) -> FieldBlock {

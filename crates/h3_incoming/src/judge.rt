@@ -1,5 +1,5 @@
 //! What a decoded field section is at its place of a message (RFC 9114, sections 4.1 to 4.3).
-ghost use Rattle.std.specs.Prelude.{◌≡◌, ◌<◌, ◌≤◌, ℕ, Bool, false, List, Some, None, IfOk, OnErr, option_map, codes};
+ghost use Rattle.std.specs.Prelude.{◌≡◌, ◌<◌, ◌≤◌, ◌⊎◌, ℕ, Bool, false, List, Some, None, IfOk, OnErr, length, option_map, codes};
 ghost use Rattle.h3_field.specs.Field.{Field};
 ghost use Rattle.h3_field.specs.Instruction.{DecoderInstruction};
 ghost use Rattle.h3_qpack.specs.DecoderState.{DecoderState};
@@ -10,19 +10,20 @@ ghost use Rattle.h3_connection.specs.declared.event.Item.TheVariants as item;
 ghost use Rattle.h3_connection.specs.declared.event.Pull.TheVariants as pull;
 ghost use Rattle.h3_qpack.specs.Sizes.{IsLarge, IsBlockWithin, last_value, told_size};
 ghost use Rattle.h3_connection.specs.Announcing.{section_of};
-ghost use Rattle.h3_connection.specs.Pulling.{read_section, whole_head, whole_trailer, head_or_trailer, next_place, is_interim_text, is_client};
+ghost use Rattle.h3_connection.specs.Pulling.{read_section, whole_head, whole_trailer, head_or_trailer, next_place, is_interim_text};
+ghost use Rattle.h3_connection.specs.Pulling.{is_client};
 ghost use Rattle.h3_incoming.specs.Answering.{message_at};
-ghost use Rattle.h3_incoming.specs.Judging.{HasItem, HasList, judged_as};
-ghost use Rattle.h3_incoming.specs.Outline.{outline_of};
+ghost use Rattle.h3_incoming.specs.Judging.{HasItem, HasList, is_read_outline, judged_as};
+ghost use Rattle.h3_messages.specs.Outline.{outline_of};
 
-use crate::answer::{Answer, Plain};
-use crate::outline::{ListRead, Outline};
+use crate::answer::{Answer, Plain, is_interim, kind_at};
+use crate::malformed::malformation_in;
 use crate::strict::{if_whole, large_content_at, read_at};
 use h3_connection::event::Malformation;
 use h3_connection::place::Place;
 use h3_connection::setup::Announced;
 use h3_field::FieldBlock;
-use h3_messages::{Content, is_interim_status};
+use h3_messages::{Content, Outline, is_interim_status};
 use h3_proto::stream::Side;
 use h3_qpack::{BlockWithin, LargeSection};
 use std::alloc::{AllocError, Global};
@@ -56,13 +57,15 @@ pub(crate) fn judge<O: Answer>(
     announced: &Announced,
     place: Place,
     content: Content,
-    known: Option<Content>,
+    response: Option<Content>,
     decoded: BlockWithin,
     block: FieldBlock,
     out: &mut O,
 ) -> Result<Judged, AllocError>
-    ensures judged { IfOk result (λ j. (id : ℕ) (r : DecoderState) (i : Incoming) (replies : List DecoderInstruction) (dyn_ref : Bool) (fields : List Field)
-        → IsBlockWithin (section_of announced.now) (codes ":status") dyn_ref fields decoded block → i.place ≡ place → i.content ≡ content → i.response ≡ known → read_section side announced.now id r i replies fields ≡ judged_as id i replies (O.told out.new) j) }
+    ensures judged { IfOk result (λ j. (id : ℕ) (r : DecoderState) (i : Incoming) (replies : List DecoderInstruction) (dyn_ref : Bool)
+        (fields : List Field)
+        → IsBlockWithin (section_of announced.now) (codes ":status") dyn_ref fields decoded block → i.place ≡ place → i.content ≡ content
+        → i.response ≡ response → read_section side announced.now id r i replies fields ≡ judged_as id i replies (O.told out.new) j) }
     ensures item { IfOk result (λ j. HasItem j (O.told out.new)) }
     ensures list { IfOk result
         (λ j. (dyn_ref : Bool) (fields : List Field)
@@ -70,10 +73,10 @@ pub(crate) fn judge<O: Answer>(
 {
     match decoded {
         BlockWithin::Fields(_) => {
-            judge_fields(alloc, side, announced, place, content, known, block, out)
+            judge_fields(alloc, side, announced, place, content, response, block, out)
         }
         BlockWithin::TooLarge(large) => Ok(judge_large(
-            side, announced, place, content, known, large, out,
+            side, announced, place, content, response, large, out,
         )),
     }
 }
@@ -85,12 +88,13 @@ fn judge_large<O: Answer>(
     announced: &Announced,
     place: Place,
     content: Content,
-    known: Option<Content>,
+    response: Option<Content>,
     large: LargeSection,
     out: &mut O,
 ) -> Judged
     ensures judged { (id : ℕ) (r : DecoderState) (i : Incoming) (replies : List DecoderInstruction) (dyn_ref : Bool) (fields : List Field)
-        → section_of announced.now < told_size fields → IsLarge (codes ":status") dyn_ref fields large → i.place ≡ place → i.content ≡ content → i.response ≡ known
+        → section_of announced.now < told_size fields → IsLarge (codes ":status") dyn_ref fields large → i.place ≡ place
+        → i.content ≡ content → i.response ≡ response
         → read_section side announced.now id r i replies fields ≡ judged_as id i replies (O.told out.new) result }
     ensures item { HasItem result (O.told out.new) }
     ensures none { (fields : List Field) → HasList result (O.listed out.new) fields }
@@ -98,43 +102,70 @@ fn judge_large<O: Answer>(
     let expected = large_content_at(side, announced, place, content, &large.last_value);
     let behind = place_behind(side, place, large.last_value);
     out.give(Plain::TooLarge(large.mem_size));
-    Judged::HandsOut(behind, expected, known)
+    Judged::HandsOut(behind, expected, response)
 }
 
-// A section that is not too large. An allocation fails only for a list for which such an answer asks for memory. It fails for no malformed
-// list, unless that has more fields than a map has names for.
+// A section that is not too large. An allocation fails only for a list that takes memory to be read, or for which such an answer asks for
+// memory. It fails for no malformed list, unless that has more fields than a map has names for.
 fn judge_fields<O: Answer>(
     alloc: Global,
     side: Side,
     announced: &Announced,
     place: Place,
     content: Content,
-    known: Option<Content>,
+    response: Option<Content>,
     fields: FieldBlock,
     out: &mut O,
 ) -> Result<Judged, AllocError>
     ensures judged { IfOk result (λ j. (id : ℕ) (r : DecoderState) (i : Incoming) (replies : List DecoderInstruction)
-        → told_size fields ≤ section_of announced.now → i.place ≡ place → i.content ≡ content → i.response ≡ known → read_section side announced.now id r i replies fields ≡ judged_as id i replies (O.told out.new) j) }
+        → told_size fields ≤ section_of announced.now → i.place ≡ place → i.content ≡ content → i.response ≡ response
+        → read_section side announced.now id r i replies fields ≡ judged_as id i replies (O.told out.new) j) }
     ensures item { IfOk result (λ j. HasItem j (O.told out.new)) }
     ensures list { IfOk result (λ j. HasList j (O.listed out.new) fields) }
-    ensures memory { OnErr result (O.asks announced.now.choices.extensions.any_protocol fields) }
+    ensures memory { OnErr result ((24576 < length fields) ⊎ O.asks announced.now.choices.extensions.any_protocol fields) }
     ensures good { OnErr result (IsHeadUnlessMany announced.now.choices.extensions.any_protocol fields) }
 {
     let any_protocol = announced.choices.extensions.any_protocol;
-    let read = read_at(side, announced, place, content, known, &fields.fields());
-    let strict = read.strict;
-    let broken = if_whole(content, strict.broken);
-    match out.give_message(alloc, side, place, any_protocol, read.list, fields) {
-        Ok(ListRead::Head(outline)) => Ok(judge_message(
-            side,
-            place,
-            strict.content,
-            strict.response,
-            broken,
-            &outline,
-        )),
-        Ok(ListRead::Malformed(why)) => Ok(Judged::Malformed(why, strict.response)),
-        Err(e) => Err(e),
+    let read = read_at(
+        alloc,
+        side,
+        announced,
+        place,
+        content,
+        response,
+        &fields.fields(),
+    );
+    let outline = match read.0 {
+        Ok(outline) => outline,
+        Err(e) => {
+            out.keep(fields);
+            return match malformation_in(e) {
+                Some(why) => Ok(Judged::Malformed(why, read.1.response)),
+                None => Err(AllocError),
+            };
+        }
+    };
+    let broken = if_whole(content, read.1.broken);
+    let judged = judge_message(
+        side,
+        place,
+        read.1.content,
+        read.1.response,
+        broken,
+        &outline,
+    );
+    match judged {
+        Judged::HandsOut(behind, content, response) => {
+            let kind = kind_at(side, place, &outline);
+            match out.give_message(alloc, any_protocol, kind, &outline, fields) {
+                Ok(()) => Ok(Judged::HandsOut(behind, content, response)),
+                Err(e) => Err(e),
+            }
+        }
+        Judged::Malformed(why, response) => {
+            out.keep(fields);
+            Ok(Judged::Malformed(why, response))
+        }
     }
 }
 
@@ -143,17 +174,18 @@ fn judge_message(
     side: Side,
     place: Place,
     behind: Content,
-    known: Option<Content>,
+    response: Option<Content>,
     broken: Option<Malformation>,
     outline: &Outline,
 ) -> Judged
-    ensures { (id : ℕ) (i : Incoming) (replies : List DecoderInstruction) (h : Head) → outline.now ≡ outline_of h → i.place ≡ place → i.content ≡ behind → i.response ≡ known
+    ensures { (id : ℕ) (i : Incoming) (replies : List DecoderInstruction) (h : Head) → outline.now ≡ outline_of h → i.place ≡ place
+        → i.content ≡ behind → i.response ≡ response
         → head_or_trailer side id i replies broken place h ≡ judged_as id i replies (pull.Item (message_at side place h)) result }
 {
     match place {
-        Place::BeforeHead => judge_head(side, behind, known, broken, outline),
+        Place::BeforeHead => judge_head(side, behind, response, broken, outline),
         Place::InBody | Place::AfterTrailer | Place::InSession => {
-            judge_trailer(behind, known, broken, outline)
+            judge_trailer(behind, response, broken, outline)
         }
     }
 }
@@ -163,23 +195,34 @@ fn judge_message(
 fn judge_head(
     side: Side,
     behind: Content,
-    known: Option<Content>,
+    response: Option<Content>,
     broken: Option<Malformation>,
     outline: &Outline,
 ) -> Judged
-    ensures { (id : ℕ) (i : Incoming) (replies : List DecoderInstruction) (h : Head) → outline.now ≡ outline_of h → i.place ≡ Place.BeforeHead → i.content ≡ behind → i.response ≡ known
+    ensures { (id : ℕ) (i : Incoming) (replies : List DecoderInstruction) (h : Head) → outline.now ≡ outline_of h
+        → i.place ≡ Place.BeforeHead → i.content ≡ behind → i.response ≡ response
         → whole_head side id i replies broken h ≡ judged_as id i replies (pull.Item (message_at side Place.BeforeHead h)) result }
 {
-    if !outline.is_read_by(side) {
-        return Judged::Malformed(Malformation::WrongSide, known);
+    if !is_read_by(side, outline) {
+        return Judged::Malformed(Malformation::WrongSide, response);
     }
     if let Some(why) = broken {
-        return Judged::Malformed(why, known);
+        return Judged::Malformed(why, response);
     }
-    if is_client(side) && outline.is_interim() {
-        return Judged::HandsOut(Place::BeforeHead, behind, known);
+    if is_client(side) && is_interim(outline) {
+        return Judged::HandsOut(Place::BeforeHead, behind, response);
     }
-    Judged::HandsOut(Place::InBody, behind, known)
+    Judged::HandsOut(Place::InBody, behind, response)
+}
+
+// Whether a side reads such header sections: a client those of responses, a server those of requests.
+fn is_read_by(side: Side, outline: &Outline) -> bool
+    ensures { result ≡ is_read_outline side outline.now }
+{
+    match side {
+        Side::Client => outline.is_response(),
+        Side::Server => outline.is_request(),
+    }
 }
 
 fn is_client(side: Side) -> bool
@@ -195,20 +238,21 @@ fn is_client(side: Side) -> bool
 // A trailer section, which has no pseudo-header field (RFC 9114, section 4.3).
 fn judge_trailer(
     behind: Content,
-    known: Option<Content>,
+    response: Option<Content>,
     broken: Option<Malformation>,
     outline: &Outline,
 ) -> Judged
-    ensures { (id : ℕ) (i : Incoming) (replies : List DecoderInstruction) (h : Head) → outline.now ≡ outline_of h → i.content ≡ behind → i.response ≡ known
+    ensures { (id : ℕ) (i : Incoming) (replies : List DecoderInstruction) (h : Head) → outline.now ≡ outline_of h → i.content ≡ behind
+        → i.response ≡ response
         → whole_trailer id i replies broken h ≡ judged_as id i replies (pull.Item (item.Trailer h)) result }
 {
     if outline.has_pseudo() {
-        return Judged::Malformed(Malformation::PseudoInTrailer, known);
+        return Judged::Malformed(Malformation::PseudoInTrailer, response);
     }
     if let Some(why) = broken {
-        return Judged::Malformed(why, known);
+        return Judged::Malformed(why, response);
     }
-    Judged::HandsOut(Place::AfterTrailer, behind, known)
+    Judged::HandsOut(Place::AfterTrailer, behind, response)
 }
 
 // RFC 9110 15.2: interim responses, as 103, received

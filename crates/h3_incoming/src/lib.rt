@@ -7,7 +7,7 @@ pub mod block;
 pub mod body_place;
 pub mod fields;
 mod judge;
-pub mod outline;
+pub mod malformed;
 mod replies;
 mod section;
 pub mod stream;

@@ -30,21 +30,6 @@ mod reading;
 mod sections;
 mod unread;
 
-// The places of a message that comes, and the answers of a pull that lead from one to the next. At each place that is not over the message
-// may be given up (`fault`): it is malformed, the peer resets it, or the caller cancels it.
-//
-//   +------------+  a header section   +--------+  a trailer section     +--------------+
-//   | BeforeHead | ------------------> | InBody | ---------------------> | AfterTrailer |
-//   +------------+                     +--------+                        +--------------+
-//     Interim stays  | Session           Body stays  | End                       | End
-//                    v                               v                           |
-//             +-----------+           End       +---------+                      |
-//             | InSession | ------------------> | is_over | <--------------------+
-//             +-----------+                     +---------+
-//               Raw stays
-//
-// A section that is too large leads to the same place as one that is delivered.
-
 /// What came on a request stream, and how much of its message was returned. A contract sees it as the definitions' `Incoming`.
 #[derive(Drop)]
 pub struct IncomingStream {

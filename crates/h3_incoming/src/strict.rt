@@ -1,20 +1,21 @@
 //! Which rule of well-formed messages a field list breaks, and how much content follows it, if the endpoint asks for these rules (RFC 9114,
 //! sections 4.1.2 and 4.2 to 4.5).
-ghost use Rattle.std.specs.Prelude.{◌≡◌, ◌≤◌, option_map, length, true, IfSome};
-ghost use Rattle.h3_header.specs.HeadRead.{head_by};
-ghost use Rattle.h3_connection.specs.StrictMessages.{broken_rule, malformation_by, violation_at, violation_of_head, content_read, content_behind, content_behind_large, content_at, large_content_at, response_of_head, response_behind, response_at, if_whole};
-ghost use Rattle.h3_incoming.specs.Outline.{list_read};
+ghost use Rattle.std.specs.Prelude.{◌≡◌, ◌≤◌, true, length, option_map};
+ghost use Rattle.h3_connection.specs.StrictMessages.{broken_rule, malformation_by, violation_at, content_behind, content_behind_large};
+ghost use Rattle.h3_connection.specs.StrictMessages.{content_at, large_content_at, response_behind, response_at, if_whole};
+ghost use Rattle.h3_messages.specs.Outline.{IsListRead};
 
-use crate::outline::{ListRead, malformation_by, read_survey};
 use h3_connection::event::Malformation;
 use h3_connection::place::Place;
 use h3_connection::setup::Announced;
 use h3_field::Fields;
 use h3_header::MOST_NAMES;
 use h3_messages::{
-    Content, Seen, Survey, Violation, request_by, response_by, trailer_violation_by,
+    Content, ListError, Outline, Seen, Survey, Violation, read_list, request_by, response_by,
+    trailer_violation_by,
 };
 use h3_proto::stream::Side;
+use std::alloc::Global;
 
 /// What the rules of strict messages make of a field list at its place.
 #[derive(Clone, Copy)]
@@ -27,36 +28,30 @@ pub(crate) struct StrictRead {
     pub(crate) response: Option<Content>,
 }
 
-/// What a list is, if the walk that the rules ask for finds that, and what the rules make of it.
-#[derive(Clone, Copy)]
-pub(crate) struct OneRead {
-    pub(crate) list: Option<ListRead>,
-    pub(crate) strict: StrictRead,
-}
-
-/// What a field list says at its place. In front of it such content was left, and this was known of the content of a response. If messages
-/// are strict, one walk also finds what the list is. If a field is malformed, a second walk finds what the list says.
+/// What a field list says at its place, and with which outline it reads as a header. In front of it such content was left, and this was
+/// known of the content of a response. If messages are strict, one walk tells all of it. If a field is malformed, a second walk finds what
+/// the list says.
 #[inline(always)]
 pub(crate) fn read_at(
+    alloc: Global,
     side: Side,
     announced: &Announced,
     place: Place,
     content: Content,
-    known: Option<Content>,
+    response: Option<Content>,
     fields: &Fields<'_>,
-) -> OneRead
-    ensures list { IfSome result.list (λ r. r ≡ list_read (head_by announced.now.choices.extensions.any_protocol fields.now)) }
-    ensures broken { result.strict.broken ≡ broken_rule side announced.now place fields.now }
-    ensures content { result.strict.content ≡ content_at side announced.now place content fields.now }
-    ensures response { result.strict.response ≡ response_at side announced.now place known fields.now }
+) -> (Result<Outline, ListError>, StrictRead)
+    ensures list { IsListRead announced.now.choices.extensions.any_protocol fields.now result.0 }
+    ensures broken { result.1.broken ≡ broken_rule side announced.now place fields.now }
+    ensures content { result.1.content ≡ content_at side announced.now place content fields.now }
+    ensures response { result.1.response ≡ response_at side announced.now place response fields.now }
 {
     if announced.choices.strict_messages && fields.len() <= MOST_NAMES {
-        return read_once(side, announced, place, content, known, fields);
+        return read_once(side, announced, place, content, response, fields);
     }
-    OneRead {
-        list: None,
-        strict: read_strictly(side, announced, place, content, known, fields),
-    }
+    let any_protocol = announced.choices.extensions.any_protocol;
+    let strict = read_strictly(side, announced, place, content, response, fields);
+    (read_list(alloc, fields, any_protocol), strict)
 }
 
 // The same of a list of so few fields that a map has room for all their names, if messages are strict.
@@ -66,30 +61,27 @@ fn read_once(
     announced: &Announced,
     place: Place,
     content: Content,
-    known: Option<Content>,
+    response: Option<Content>,
     fields: &Fields<'_>,
-) -> OneRead
+) -> (Result<Outline, ListError>, StrictRead)
     requires strict { announced.now.choices.strict_messages ≡ true }
     requires few { length fields.now ≤ 24576 }
-    ensures list { IfSome result.list (λ r. r ≡ list_read (head_by announced.now.choices.extensions.any_protocol fields.now)) }
-    ensures broken { result.strict.broken ≡ broken_rule side announced.now place fields.now }
-    ensures content { result.strict.content ≡ content_at side announced.now place content fields.now }
-    ensures response { result.strict.response ≡ response_at side announced.now place known fields.now }
+    ensures list { IsListRead announced.now.choices.extensions.any_protocol fields.now result.0 }
+    ensures broken { result.1.broken ≡ broken_rule side announced.now place fields.now }
+    ensures content { result.1.content ≡ content_at side announced.now place content fields.now }
+    ensures response { result.1.response ≡ response_at side announced.now place response fields.now }
 {
-    let any_protocol = announced.choices.extensions.any_protocol;
     let mut seen = Seen::new();
-    match seen.take_good(fields, any_protocol) {
-        Ok(()) => {
+    match seen.take_good(fields, announced.choices.extensions.any_protocol) {
+        Ok(outline) => {
             let survey = Survey::of(fields, &seen);
-            OneRead {
-                list: read_survey(&survey, any_protocol),
-                strict: survey_at(side, announced, place, content, known, &survey),
-            }
+            let strict = survey_at(side, announced, place, content, response, &survey);
+            (Ok(outline), strict)
         }
-        Err(part) => OneRead {
-            list: Some(ListRead::Malformed(malformation_by(part))),
-            strict: read_strictly(side, announced, place, content, known, fields),
-        },
+        Err(part) => {
+            let strict = read_strictly(side, announced, place, content, response, fields);
+            (Err(ListError::Malformed(part)), strict)
+        }
     }
 }
 
@@ -99,30 +91,24 @@ fn read_strictly(
     announced: &Announced,
     place: Place,
     content: Content,
-    known: Option<Content>,
+    response: Option<Content>,
     fields: &Fields<'_>,
 ) -> StrictRead
     ensures broken { result.broken ≡ broken_rule side announced.now place fields.now }
     ensures content { result.content ≡ content_at side announced.now place content fields.now }
-    ensures response { result.response ≡ response_at side announced.now place known fields.now }
+    ensures response { result.response ≡ response_at side announced.now place response fields.now }
 {
     if !announced.choices.strict_messages {
         return StrictRead {
             broken: None,
             content,
-            response: known,
+            response,
         };
     }
     let mut seen = Seen::new();
     seen.take_all(fields);
-    survey_at(
-        side,
-        announced,
-        place,
-        content,
-        known,
-        &Survey::of(fields, &seen),
-    )
+    let survey = Survey::of(fields, &seen);
+    survey_at(side, announced, place, content, response, &survey)
 }
 
 // What a list says at its place, over which the walk was made.
@@ -132,53 +118,38 @@ fn survey_at(
     announced: &Announced,
     place: Place,
     content: Content,
-    known: Option<Content>,
+    response: Option<Content>,
     survey: &Survey<'_>,
 ) -> StrictRead
     ensures broken { result.broken ≡ option_map malformation_by (violation_at side announced.now place survey.now.fields.now) }
     ensures content { result.content ≡ content_behind side place content survey.now.fields.now }
-    ensures response { result.response ≡ response_behind side place known survey.now.fields.now }
+    ensures response { result.response ≡ response_behind side place response survey.now.fields.now }
 {
     match place {
-        Place::BeforeHead => read_head(side, announced, content, known, survey),
+        // a client reads responses, and a server requests
+        Place::BeforeHead => match side {
+            Side::Client => {
+                let head = response_by(content, survey);
+                StrictRead {
+                    broken: told(head.violation),
+                    content: head.content,
+                    response,
+                }
+            }
+            Side::Server => {
+                let head = request_by(survey, announced.extended_connect());
+                StrictRead {
+                    broken: told(head.violation),
+                    content: head.content.until_answered(),
+                    response: Some(head.awaited),
+                }
+            }
+        },
         Place::InBody | Place::AfterTrailer | Place::InSession => StrictRead {
             broken: told(trailer_violation_by(survey)),
             content,
-            response: known,
+            response,
         },
-    }
-}
-
-// What a header section says: a client reads responses, and a server requests.
-#[inline(always)]
-fn read_head(
-    side: Side,
-    announced: &Announced,
-    awaited: Content,
-    known: Option<Content>,
-    survey: &Survey<'_>,
-) -> StrictRead
-    ensures broken { result.broken ≡ option_map malformation_by (violation_of_head side announced.now survey.now.fields.now) }
-    ensures content { result.content ≡ content_read side awaited survey.now.fields.now }
-    ensures response { result.response ≡ response_of_head side known survey.now.fields.now }
-{
-    match side {
-        Side::Client => {
-            let head = response_by(awaited, survey);
-            StrictRead {
-                broken: told(head.violation),
-                content: head.content,
-                response: known,
-            }
-        }
-        Side::Server => {
-            let head = request_by(survey, announced.extended_connect());
-            StrictRead {
-                broken: told(head.violation),
-                content: head.content.until_answered(),
-                response: Some(head.awaited),
-            }
-        }
     }
 }
 

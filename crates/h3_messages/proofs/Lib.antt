@@ -1,6 +1,7 @@
 pub mod ContentRows
 pub mod KindNames
 pub mod Names
+pub mod Outlines
 pub mod OwnRows
 pub mod Pushes
 pub mod RequestRows

@@ -2,6 +2,8 @@ pub mod Content
 pub mod KindLaws
 pub mod Known
 pub mod Messages
+pub mod Outline
+pub mod OutlineLaws
 pub mod OwnMessageLaws
 pub mod OwnMessages
 pub mod FlagLaws

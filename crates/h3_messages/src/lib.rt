@@ -2,7 +2,8 @@
 //! content a message has. A list is judged before it becomes a `Header`, since a `Header` keeps neither the order of its
 //! fields nor repeats of pseudo-header fields. Names and values have the grammar that `Header::try_from` asks.
 //!
-//! Nothing here takes memory, and no list is refused for its length.
+//! Nothing here takes memory, but for a list of more than 24,576 fields, whose names a map has to tell apart. No list is refused for its
+//! length by these rules.
 #![tactic(auto)]
 
 pub mod content;
@@ -12,8 +13,10 @@ mod invalid;
 mod known;
 pub mod laws;
 mod name_set;
+pub mod outline;
 pub mod own;
 mod pseudo;
+pub mod reading;
 mod regular;
 mod request;
 mod response;
@@ -27,7 +30,9 @@ pub mod violation;
 pub use content::{Asked, Content, is_interim_status};
 pub use head::{RequestRead, ResponseRead, request_by, response_by};
 pub use invalid::invalid_field;
+pub use outline::Outline;
 pub use own::{OwnResponseRead, or_broken, own_request_by, own_response_by, own_trailer_violation};
+pub use reading::{ListError, read_list};
 pub use response::trailer_violation_by;
 pub use response_said::ResponseSaid;
 pub use seen::Seen;

@@ -1,13 +1,16 @@
 //! What the fields that came so far hold of all that the rules ask.
-ghost use Rattle.std.specs.Prelude.{◌≡◌, ◌<◌, ◌≤◌, ◌==◌, ◌||◌, ◌&&◌, not, codes, [], length, slice_index_or, if◌then◌else◌, true, false, Some, None, OnOk, IfErr};
+ghost use Rattle.std.specs.Prelude.{◌≡◌, ◌<◌, ◌≤◌, ◌==◌, ◌||◌, ◌&&◌, not, codes, [], length, slice_index_or, if◌then◌else◌, true, false};
+ghost use Rattle.std.specs.Prelude.{Some, None, OnOk, IfOk, IfErr};
 ghost use Rattle.h3_header.specs.BadPart.{refusal_of, AreGood};
 ghost use Rattle.h3_header.specs.HeadRead.{IsNone, head_by, is_name_at};
 ghost use Rattle.h3_header.specs.Reads.{kind_of};
 ghost use Rattle.h3_messages.specs.Known.{place, known_of};
 ghost use Rattle.h3_messages.specs.Messages.{is_pseudo, is_word};
+ghost use Rattle.h3_messages.specs.Outline.{IsOutlined};
 
 use crate::known::Known;
 use crate::name_set::NameSet;
+use crate::outline::Outline;
 use crate::slot::Slot;
 use crate::text::{byte_at, has_space_around, is_word};
 use h3_field::{FieldRef, Fields};
@@ -84,24 +87,30 @@ impl<'a> Seen<'a> {
 
     /// Takes each field of the list, if nothing is malformed of any by itself, or else answers the first part that is. No field was taken
     /// before. `:protocol` may be any token of at most 31 bytes, or one of the two names alone. The kind that this tells of a field is the
-    /// name of a pseudo-header field, which is compared with no other.
+    /// name of a pseudo-header field, which is compared with no other. It answers the outline of the header that the list is.
     #[inline(never)]
-    pub fn take_good(&mut self, fields: &Fields<'a>, any_protocol: bool) -> Result<(), BadPart>
+    pub fn take_good(&mut self, fields: &Fields<'a>, any_protocol: bool) -> Result<Outline, BadPart>
         requires none { IsSeen [] self.old }
         requires few { length fields.now ≤ 24576 }
         ensures seen { OnOk result (IsSeen fields.now self.new) }
         ensures good { OnOk result (AreGood any_protocol fields.now) }
+        ensures outline { IfOk result (IsOutlined (head_by any_protocol fields.now)) }
         ensures err { IfErr result (λ part. head_by any_protocol fields.now ≡ IsNone (refusal_of part)) }
     {
+        h3_header::laws::lists_are_their_value();
         h3_header::laws::fields_are_judged_alone();
+        let mut outline = Outline::empty();
         'fields: for place in 0..fields.len() {
             let field = fields.get(place);
             match field_kind(&field, any_protocol) {
-                Ok(kind) => self.take_of(kind, &field),
+                Ok(kind) => {
+                    outline = outline.with(kind, &field);
+                    self.take_of(kind, &field);
+                }
                 Err(part) => return Err(part),
             }
         }
-        Ok(())
+        Ok(outline)
     }
 
     // One field more, of this kind, whose name may stand there.

@@ -1,12 +1,11 @@
 //! What the rules ask of a list, by one walk over it.
-ghost use Rattle.std.specs.Prelude.{◌≡◌, not, codes, true, false, IfSome, IfNone};
+ghost use Rattle.std.specs.Prelude.{◌≡◌, not};
 ghost use Rattle.std.specs.List.{list_any};
 ghost use Rattle.h3_messages.specs.Known.{text};
-ghost use Rattle.h3_messages.specs.Messages.{holds, repeats, value_of, is_pseudo, pseudo_first, is_te_wrong, has_space_around};
+ghost use Rattle.h3_messages.specs.Messages.{holds, repeats, value_of, pseudo_first, is_te_wrong, has_space_around};
 ghost use Rattle.h3_messages.specs.Survey.{IsSeen, is_unknown_pseudo};
 
 use crate::known::Known;
-use crate::pseudo::has_pseudo;
 use crate::seen::Seen;
 use h3_field::Fields;
 
@@ -74,38 +73,5 @@ impl<'a> Survey<'a> {
         ensures { result ≡ list_any has_space_around self.now.fields.now }
     {
         self.seen.has_spaced_value
-    }
-
-    /// Whether a field is `:method`.
-    pub fn has_method(&self) -> bool
-        ensures { result ≡ holds (codes ":method") self.now.fields.now }
-    {
-        self.holds(Known::Method)
-    }
-
-    /// Whether a field is a pseudo-header field.
-    pub fn has_pseudo(&self) -> bool
-        ensures { result ≡ list_any is_pseudo self.now.fields.now }
-    {
-        has_pseudo(self)
-    }
-
-    /// Whether two fields or more are `:status`.
-    pub fn repeats_status(&self) -> bool
-        ensures { result ≡ repeats (codes ":status") self.now.fields.now }
-    {
-        self.repeats(Known::Status)
-    }
-
-    /// The value of the first `:status`, or none.
-    pub fn status(&self) -> Option<&'a [u8]>
-        ensures some { IfSome result
-            (λ text. (holds (codes ":status") self.now.fields.now ≡ true) × (text.now ≡ value_of (codes ":status") self.now.fields.now)) }
-        ensures none { IfNone result (holds (codes ":status") self.now.fields.now ≡ false) }
-    {
-        if self.holds(Known::Status) {
-            return Some(self.value_of(Known::Status));
-        }
-        None
     }
 }

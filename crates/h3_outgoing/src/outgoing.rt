@@ -22,17 +22,6 @@ use h3_priority::priority::Priority;
 use std::alloc::{AllocError, Global};
 use std::marker::Model;
 
-// The places of a message that is sent, and the calls that lead from one to the next. Up to the end that is taken, `reset` may follow.
-//
-//   +-------------+  send_head  +----------+  send_trailer  +-------------+
-//   | NothingSent | ----------> | HeadSent | -------------> | TrailerSent |
-//   +-------------+             +----------+                +-------------+
-//     send_head of an interim     send_body stays  | finish        | finish
-//     response stays                               v               |
-//                                           +-------------+        |
-//                                           | is_finished | <------+
-//                                           +-------------+
-
 /// A request stream at its sender. Its frames wait in order. A short section waits in the frame itself, a longer one in the block in which
 /// it was written. A body that was passed waits as the payload itself, and one that the caller holds as its length. Only a short section is
 /// copied. A contract sees the pieces that wait.

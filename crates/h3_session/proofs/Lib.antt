@@ -54,6 +54,7 @@ pub mod TakingAll
 pub mod LentFrames
 pub mod WellSentLists
 pub mod SentAnswers
+pub mod JudgedPlaces
 pub mod Lacking
 pub mod MemoryTells
 pub mod MemoryUnchanged

@@ -1,7 +1,10 @@
 -- What a list of fields is in the place of a head or a trailer, or why it is none there.
-use Rattle.std.specs.Prelude.{◌≡◌, if◌then◌else◌, Option, Some, None}
+use Rattle.std.specs.Prelude.{◌≡◌, Bool, if◌then◌else◌, Option, Some, None}
 use Rattle.h3_header.specs.HeadRead.{HeadRead, IsHead, IsNone}
+use Rattle.h3_messages.specs.Outline.{is_request_outline, is_response_outline}
+use Rattle.h3_messages.specs.declared.outline.Outline.{Outline}
 use Rattle.h3_proto.specs.declared.stream.Side.{Side}
+use Rattle.h3_proto.specs.declared.stream.Side.TheVariants.{Client, Server}
 use Rattle.h3_connection.specs.Pulling.{is_interim}
 use Rattle.h3_connection.specs.declared.event.Refusal.{Refusal}
 use Rattle.h3_connection.specs.declared.place.SendPlace.{SendPlace}
@@ -26,3 +29,8 @@ IsHeadAt side (IsNone why) place = ⊥
 abbrev pub IsTrailer : HeadRead → Type 0
 IsTrailer (IsHead trailer) = pseudo_refused trailer ≡ None
 IsTrailer (IsNone why) = ⊥
+
+-- a request of a client, and a response of a server
+abbrev pub is_sent_outline : Side → Outline → Bool
+is_sent_outline Client o = is_request_outline o
+is_sent_outline Server o = is_response_outline o

@@ -1,10 +1,14 @@
 -- What a head that is sent says of content, as one walk over its list tells it.
-use Rattle.std.specs.Prelude.{◌≡◌, ℕ, Bool, true, false, List, Option}
+use Rattle.std.specs.Prelude.{◌≡◌, ℕ, Bool, true, false, List, Option, None}
 use Rattle.h3_field.specs.Field.{Field}
 use Rattle.h3_messages.specs.Content.{awaited_by}
-use Rattle.h3_messages.specs.OwnMessages.{content_of_own_request, violation_of_own_request, violation_of_own_response}
+use Rattle.h3_messages.specs.OwnMessages.{content_of_own_request, violation_of_own_request, violation_of_own_response, violation_of_own_trailer}
 use Rattle.h3_messages.specs.ResponseSaid.{response_said}
+use Rattle.h3_connection.specs.Remembering.{settings_known}
+use Rattle.h3_connection.specs.State.{EndpointState}
 use Rattle.h3_connection.specs.StrictSending.{peer_connects}
+use Rattle.h3_connection.specs.declared.place.SendPlace.{SendPlace}
+use Rattle.h3_connection.specs.declared.place.SendPlace.TheVariants.{HeadSent, NothingSent, TrailerSent}
 use Rattle.h3_connection.specs.declared.setup.Announced.{Announced}
 use Rattle.h3_proto.specs.declared.stream.Side.{Side}
 use Rattle.h3_proto.specs.declared.stream.Side.TheVariants.{Client, Server}
@@ -38,3 +42,13 @@ violation_of_own_list Server settings fields = violation_of_own_response fields
 -- a walk told of a head the rule that its list breaks, and what it says, by the peer's settings
 abbrev pub IsReadOf : Side → Option (List (ℕ × ℕ)) → List Field → SentRead → Type 0
 IsReadOf side settings fields read = (read.violation ≡ violation_of_own_list side settings fields) × IsSaidBy side fields read.said
+
+-- What a list was told to break and to say, in the place of a head or of a trailer, by whether rules are asked.
+abbrev pub IsReadWhere : Bool → SendPlace → Side → Option (List (ℕ × ℕ)) → List Field → SentRead → Type 0
+IsReadWhere false place side settings fields read = (read.violation ≡ None) × (read.said ≡ Nothing)
+IsReadWhere true TrailerSent side settings fields read = (read.violation ≡ violation_of_own_trailer fields) × (read.said ≡ Nothing)
+IsReadWhere true HeadSent side settings fields read = IsReadOf side settings fields read
+IsReadWhere true NothingSent side settings fields read = IsReadOf side settings fields read
+
+abbrev pub IsReadAt : SendPlace → EndpointState → List Field → SentRead → Type 0
+IsReadAt place s fields read = IsReadWhere s.announced.choices.strict_messages place s.side (settings_known s.announced s.peer.settings) fields read

@@ -1,7 +1,7 @@
 //! What is malformed of a field list, told without memory.
-ghost use Rattle.std.specs.Prelude.{◌≡◌, IfSome, IfNone, IfOk, IfErr};
-ghost use Rattle.h3_header.specs.BadPart.{bad_part, refusal_of, AreGood, IsHeadUnlessMany};
-ghost use Rattle.h3_header.specs.HeadRead.{IsNone, head_by, is_name_at, is_value_at};
+ghost use Rattle.std.specs.Prelude.{◌≡◌, IfOk, IfErr};
+ghost use Rattle.h3_header.specs.BadPart.{bad_part};
+ghost use Rattle.h3_header.specs.HeadRead.{is_name_at, is_value_at};
 ghost use Rattle.h3_header.specs.Reads.{kind_of};
 ghost use Rattle.h3_header.specs.HeadTests.{is_code_text, is_protocol_by, is_protocol_text};
 
@@ -10,7 +10,7 @@ use crate::ext::{Protocol, is_short_token};
 use crate::grammar::{
     is_authority, is_field_value, is_header_name, is_path_input, is_scheme, is_token,
 };
-use h3_field::{FieldRef, Fields};
+use h3_field::FieldRef;
 use http::StatusCode;
 
 /// So many names a `HeaderMap` has room for: whether a list of no more fields is a header's is decided without memory.
@@ -23,33 +23,6 @@ pub enum BadPart {
     Name,
     /// Its value.
     Value,
-}
-
-/// What is malformed of a list, by the first of its first 24,576 fields of which anything is. `:protocol` may be any token of at most 31
-/// bytes, or one of the two names alone. `Header::try_from`, which takes the names, refuses the list for that, unless an allocation fails
-/// first. It takes no memory, and makes no text. None: each of these fields is good by itself, and a list of no more fields is a header's.
-pub fn first_bad_part(fields: &Fields<'_>, any_protocol: bool) -> Option<BadPart>
-    ensures some { IfSome result (λ part. head_by any_protocol fields.now ≡ IsNone (refusal_of part)) }
-    ensures none { IfNone result (AreGood any_protocol fields.now) }
-    ensures many { IfNone result (IsHeadUnlessMany any_protocol fields.now) }
-{
-    let few = fields.len().min(MOST_NAMES);
-    'fields: for place in 0..few {
-        if let Some(part) = bad_part(&fields.get(place), any_protocol) {
-            return Some(part);
-        }
-    }
-    None
-}
-
-// What is malformed of a field: its name, else its value.
-fn bad_part(field: &FieldRef<'_>, any_protocol: bool) -> Option<BadPart>
-    ensures { result ≡ bad_part any_protocol field.now }
-{
-    match field_kind(field, any_protocol) {
-        Ok(_) => None,
-        Err(part) => Some(part),
-    }
 }
 
 /// The kind of a field of which nothing is malformed by itself, or else what is: its name, else its value (RFC 9114, 4.2 and 4.3). The

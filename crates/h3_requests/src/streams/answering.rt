@@ -32,11 +32,11 @@ impl RequestStreams {
     }
 }
 
-// The content after the header section of a response that says so much, if this is known of what was asked.
-fn content_behind(known: Option<Content>, said: ResponseSaid) -> Content
-    ensures { (fields : List Field) → said ≡ response_said fields → result ≡ content_of_response_to known fields }
+// The content after the header section of a response that says so much, if its client awaits this, or what it asked is not known.
+fn content_behind(response: Option<Content>, said: ResponseSaid) -> Content
+    ensures { (fields : List Field) → said ≡ response_said fields → result ≡ content_of_response_to response fields }
 {
-    let Some(awaited) = known else {
+    let Some(awaited) = response else {
         return if said.opens_tunnel {
             Content::Tunnel
         } else {

@@ -130,11 +130,11 @@ fn takes_no_response(stream: &IncomingStream) -> bool
     stream.ended() || stream.was_reset() || stream.fault().is_some()
 }
 
-// Whether this is known, and is a tunnel.
-fn is_tunnel(known: Option<Content>) -> bool
-    ensures { result ≡ awaits_tunnel known }
+// Whether this is awaited of a response, and is a tunnel.
+fn is_tunnel(response: Option<Content>) -> bool
+    ensures { result ≡ awaits_tunnel response }
 {
-    match known {
+    match response {
         Some(content) => matches!(content, Content::Tunnel),
         None => false,
     }

@@ -1,5 +1,6 @@
 //! The header sections and trailers that an endpoint sends.
-ghost use Rattle.std.specs.Prelude.{◌≡◌, ◌≢◌, ◌<◌, ◌≤◌, ◌+◌, ◌^◌, ℕ, List, Some, None, IfOk, IfErr, IfSome, IfNone, OnOk, OnErr, drop, length, unwrap_or, if◌then◌else◌};
+ghost use Rattle.std.specs.Prelude.{◌≡◌, ◌≢◌, ◌<◌, ◌≤◌, ◌+◌, ◌^◌, ℕ, List, Some, None, IfOk, IfErr, IfSome, IfNone, OnOk, OnErr, drop};
+ghost use Rattle.std.specs.Prelude.{length, unwrap_or, if◌then◌else◌};
 ghost use Rattle.h3_field.specs.Field.{Field, section_size};
 ghost use Rattle.h3_qpack.specs.EncoderHistory.{EncoderHistory};
 ghost use Rattle.h3_qpack.specs.EncoderState.{encoder_state};
@@ -17,9 +18,10 @@ ghost use Rattle.h3_connection.specs.State.{StandsFor, kept_at};
 ghost use Rattle.h3_connection.specs.declared.event.Refusal.TheVariants.{OutOfMemory};
 ghost use Rattle.h3_connection.specs.declared.place.SendPlace.TheVariants.{TrailerSent};
 ghost use Rattle.h3_requests.specs.Refused.{body_refused_at, early_trailer_at};
-ghost use Rattle.h3_session.specs.Refused.{broken_behind, head_refused_in, own_head_refused, own_trailer_refused, protocol_refused, side_refused, pseudo_refused, size_refused, refused_behind};
+ghost use Rattle.h3_session.specs.Refused.{broken_behind, head_refused_in, own_head_refused, own_trailer_refused, protocol_refused};
+ghost use Rattle.h3_session.specs.Refused.{side_refused, pseudo_refused, size_refused, refused_behind};
 ghost use Rattle.h3_session.specs.SendingFields.{Encodes, StopsEncoding, Queues, Remembers, SendsFields, IsJudged, asking};
-ghost use Rattle.h3_session.specs.SentHeads.{IsReadOf, IsSaid};
+ghost use Rattle.h3_session.specs.SentHeads.{IsReadAt, IsSaid};
 
 use super::Endpoint;
 use super::strict::{Said, SentRead};
@@ -27,7 +29,7 @@ use h3_coding::varint::VarInt;
 use h3_connection::event::{Malformation, Refusal};
 use h3_connection::place::SendPlace;
 use h3_connection::setup::Announced;
-use h3_field::{HeaderField, section_size};
+use h3_field::{Fields, HeaderField, section_size};
 use h3_header::Header;
 use h3_outgoing::EncodedSection;
 use h3_proto::frame::SettingId;
@@ -80,11 +82,13 @@ impl Endpoint {
         let Ok(fields) = head.fields(self.alloc) else {
             return Err(Refusal::OutOfMemory);
         };
-        self.send_head_section(room, fields.as_slice(), place_behind(head), None)
+        let list = fields.as_slice();
+        let read = self.read_head(&Fields::of(list));
+        self.send_head_section(room, list, place_behind(head), &read)
     }
 
-    // Room for the frame of a header section on a stream that takes one, unless the peer is going away or `later` refuses it. The streams are
-    // found as they were.
+    // Room for the frame of a header section on a stream that takes one, unless the peer is going away or `later` refuses it. The streams
+    // are found as they were.
     #[tactic(auto, using(crate::proofs::SendingRefusals::later_twice))]
     pub(super) fn reserve_head(
         &mut self,
@@ -120,7 +124,9 @@ impl Endpoint {
         let Ok(fields) = trailer.fields(self.alloc) else {
             return Err(Refusal::OutOfMemory);
         };
-        self.send_trailer_section(room, fields.as_slice())
+        let list = fields.as_slice();
+        let read = self.read_trailer(list);
+        self.send_trailer_section(room, list, &read)
     }
 
     // Room for the frame of a trailer on a stream that takes one, unless `later` refuses it. The streams are found as they were.
@@ -131,27 +137,28 @@ impl Endpoint {
     ) -> Result<SectionRoom, Refusal>
         ensures room { IfOk result (λ room. room ≡ id) }
         ensures rest { self.new ≡ record self.old { requests = self.new.requests } }
-        ensures taken { OnOk result (or_later (body_refused_at (kept_at self.old.requests id)) (or_later later (early_trailer_at (kept_at self.old.requests id))) ≡ None) }
-        ensures why { IfErr result (λ r. r ≡ unwrap_or (or_later (body_refused_at (kept_at self.old.requests id)) (or_later later (early_trailer_at (kept_at self.old.requests id)))) OutOfMemory) }
+        ensures taken { OnOk result (or_later (body_refused_at (kept_at self.old.requests id))
+            (or_later later (early_trailer_at (kept_at self.old.requests id))) ≡ None) }
+        ensures why { IfErr result (λ r. r ≡ unwrap_or (or_later (body_refused_at (kept_at self.old.requests id))
+            (or_later later (early_trailer_at (kept_at self.old.requests id)))) OutOfMemory) }
         ensures same { AllSame self.old.requests self.new.requests }
     {
         self.requests.reserve_trailer(id, later)
     }
 
-    // Sends the fields of a header section so, and remembers what they say of content. A walk over them may have told what the rules make
-    // of them.
+    // Sends the fields of a header section that were read so, and remembers what they say of content.
     pub(super) fn send_head_section(
         &mut self,
         room: SectionRoom,
         fields: &[HeaderField],
         place: SendPlace,
-        known: Option<SentRead>,
+        read: &SentRead,
     ) -> Result<(), Refusal>
-        requires { IfSome known (IsReadOf self.old.side (settings_known self.old.announced self.old.peer.settings) fields.now) }
+        requires { IsReadAt place self.old fields.now read.now }
         ensures { place ≢ TrailerSent → SendsFields (asking room fields.now) self.old self.new room fields.now place (call_refused result) }
     {
         let id = room.id();
-        let said = match self.read_sent(id, fields, place, known) {
+        let said = match self.judge_read(id, read) {
             Ok(said) => said,
             Err(why) => return Err(Refusal::Malformed(why)),
         };
@@ -181,10 +188,12 @@ impl Endpoint {
         &mut self,
         room: SectionRoom,
         fields: &[HeaderField],
+        read: &SentRead,
     ) -> Result<(), Refusal>
+        requires { IsReadAt TrailerSent self.old fields.now read.now }
         ensures { SendsFields (λ e. e) self.old self.new room fields.now TrailerSent (call_refused result) }
     {
-        match self.read_sent(room.id(), fields, SendPlace::TrailerSent, None) {
+        match self.judge_read(room.id(), read) {
             Ok(_) => self.send_section(room, fields, SendPlace::TrailerSent),
             Err(why) => Err(Refusal::Malformed(why)),
         }
@@ -217,15 +226,15 @@ impl Endpoint {
         id: StreamId,
         fields: &[HeaderField],
         place: SendPlace,
-        known: Option<SentRead>,
+        read: &SentRead,
     ) -> Result<(), Refusal>
-        requires { IfSome known (IsReadOf self.now.side (settings_known self.now.announced self.now.peer.settings) fields.now) }
+        requires { IsReadAt place self.now fields.now read.now }
         ensures fits { OnOk result (refused_behind self.now id place fields.now ≡ None) }
         ensures kept { OnOk result (broken_behind place self.now id fields.now ≡ None) }
         ensures unbroken { IfErr result (λ refusal. refusal ≡ Refusal.OutOfMemory → broken_behind place self.now id fields.now ≡ None) }
         ensures err { IfErr result (λ refusal. refusal ≢ Refusal.OutOfMemory → refused_behind self.now id place fields.now ≡ Some refusal) }
     {
-        if let Err(why) = self.read_sent(id, fields, place, known) {
+        if let Err(why) = self.judge_read(id, read) {
             return Err(Refusal::Malformed(why));
         }
         match self.judge_size(fields) {
@@ -239,7 +248,8 @@ impl Endpoint {
     #[tactic(auto, using(crate::proofs::Costs::cost_is, crate::proofs::Costs::many_fields))]
     fn judge_size(&self, fields: &[HeaderField]) -> Result<u64, Refusal>
         ensures ok { IfOk result (λ sum. IsJudged self.now fields.now sum) }
-        ensures err { IfErr result (λ refusal. refusal ≢ Refusal.OutOfMemory → size_refused (settings_known self.now.announced self.now.peer.settings) fields.now ≡ Some refusal) }
+        ensures err { IfErr result (λ refusal. refusal ≢ Refusal.OutOfMemory
+            → size_refused (settings_known self.now.announced self.now.peer.settings) fields.now ≡ Some refusal) }
         ensures memory { IfErr result (λ refusal. refusal ≡ Refusal.OutOfMemory → 2 ^ 56 ≤ self.now.sent + fields_cost fields.now + 64) }
     {
         let Some(size) = size_of(fields) else {
@@ -255,9 +265,11 @@ impl Endpoint {
     }
 
     // RFC 9114 4.2.2: size of a section, sent
-    // Whether fields of this size are more than the peer's settings allow. Before these came, and if none are remembered, every size is allowed.
+    // Whether fields of this size are more than the peer's settings allow. Before these came, and if none are remembered, every size is
+    // allowed.
     fn is_too_large(&self, size: u64) -> bool
-        ensures { (fields : List Field) → size ≡ section_size fields → result ≡ is_too_large (settings_known self.now.announced self.now.peer.settings) fields }
+        ensures { (fields : List Field) → size ≡ section_size fields → result ≡ is_too_large
+            (settings_known self.now.announced self.now.peer.settings) fields }
     {
         match self.announced.settings_known(self.streams.peer.settings()) {
             Some(settings) => {
@@ -303,8 +315,10 @@ fn encode(
     fields: &[HeaderField],
 ) -> Result<(EncodedSection, usize), AllocError>
     requires { section_size fields.now < 2 ^ 62 }
-    ensures ok { IfOk result (λ r. (s : EncoderHistory) → streams.old.encoding.encoder ≡ encoder_state s → Encodes s room.now fields.now r.0 r.1 streams.old streams.new) }
-    ensures err { OnErr result ((s : EncoderHistory) → streams.old.encoding.encoder ≡ encoder_state s → StopsEncoding s room.now fields.now streams.old streams.new) }
+    ensures ok { IfOk result (λ r. (s : EncoderHistory) → streams.old.encoding.encoder ≡ encoder_state s
+        → Encodes s room.now fields.now r.0 r.1 streams.old streams.new) }
+    ensures err { OnErr result ((s : EncoderHistory) → streams.old.encoding.encoder ≡ encoder_state s
+        → StopsEncoding s room.now fields.now streams.old streams.new) }
 {
     let id = room.id();
     let Ok(mut block) = block_for(kept, fields) else {
@@ -344,8 +358,10 @@ fn encode_into(
     requires small { section_size fields.now < 2 ^ 62 }
     requires empty { length block.old.items ≡ 9 }
     requires there { id ≡ _room.now }
-    ensures ok { IfOk result (λ count. (s : EncoderHistory) → streams.old.encoding.encoder ≡ encoder_state s → Encodes s id fields.now (drop 9 block.new.items) count streams.old streams.new) }
-    ensures err { OnErr result ((s : EncoderHistory) → streams.old.encoding.encoder ≡ encoder_state s → StopsEncoding s id fields.now streams.old streams.new) }
+    ensures ok { IfOk result (λ count. (s : EncoderHistory) → streams.old.encoding.encoder ≡ encoder_state s
+        → Encodes s id fields.now (drop 9 block.new.items) count streams.old streams.new) }
+    ensures err { OnErr result ((s : EncoderHistory) → streams.old.encoding.encoder ≡ encoder_state s
+        → StopsEncoding s id fields.now streams.old streams.new) }
 {
     streams
         .encoding
@@ -354,7 +370,8 @@ fn encode_into(
 
 /// Takes back the newest section of a stream: it is one then that ended early, after all its fields.
 fn withdraw(streams: &mut ConnectionStreams, id: StreamId, count: usize)
-    ensures { (s : EncoderHistory) (fields : List Field) (section : List ℕ) (before : StreamsState) → Encodes s id fields section count before streams.old → StopsEncoding s id fields before streams.new }
+    ensures { (s : EncoderHistory) (fields : List Field) (section : List ℕ) (before : StreamsState)
+        → Encodes s id fields section count before streams.old → StopsEncoding s id fields before streams.new }
 {
     sections_leave_their_counts();
     streams.encoding.withdraw(id, count);

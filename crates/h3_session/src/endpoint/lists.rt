@@ -1,8 +1,7 @@
 //! Lists of fields that an endpoint sends as they are, with no header made of them.
-ghost use Rattle.std.specs.Prelude.{◌≡◌, ◌≢◌, ◌<◌, ◌≤◌, true, false, None, Some, IfOk, IfErr, IfSome, OnOk, length, if◌then◌else◌};
+ghost use Rattle.std.specs.Prelude.{◌≡◌, ◌≢◌, ◌<◌, ◌≤◌, true, false, None, Some, IfOk, IfErr, OnOk, length, if◌then◌else◌};
 ghost use Rattle.h3_header.specs.Head.{Head};
-ghost use Rattle.h3_header.specs.HeadRead.{IsHead, head_by};
-ghost use Rattle.h3_connection.specs.Remembering.{settings_known};
+ghost use Rattle.h3_header.specs.HeadRead.{HeadRefusal, IsHead, head_by};
 ghost use Rattle.h3_connection.specs.Answers.{call_refused};
 ghost use Rattle.h3_connection.specs.Pulling.{is_interim};
 ghost use Rattle.h3_connection.specs.State.{kept_at};
@@ -10,11 +9,12 @@ ghost use Rattle.h3_connection.specs.declared.event.Refusal.TheVariants as refus
 ghost use Rattle.h3_requests.specs.Refused.{body_refused_at};
 ghost use Rattle.h3_session.specs.InvalidFields.{NamesField};
 ghost use Rattle.h3_session.specs.Refused.{head_refused_in, own_head_refused, own_trailer_refused};
-ghost use Rattle.h3_session.specs.SendingLists.{IsJudgedOr, SendsFieldList, SendsTrailerList, SendsJudgedHead, SendsJudgedTrailer, refusal_after};
-ghost use Rattle.h3_incoming.specs.Outline.{is_sent_outline, list_read};
+ghost use Rattle.h3_session.specs.SendingLists.{IsJudgedOr, SendsFieldList, SendsTrailerList, SendsJudgedHead, SendsJudgedTrailer};
+ghost use Rattle.h3_session.specs.SendingLists.{malformed, refusal_after};
 ghost use Rattle.h3_messages.specs.InvalidField.{invalid_field};
-ghost use Rattle.h3_session.specs.SentHeads.{IsReadOf};
-ghost use Rattle.h3_session.specs.JudgedLists.{head_list_refusal, trailer_list_refusal, IsHeadAt, IsTrailer};
+ghost use Rattle.h3_session.specs.SentHeads.{IsReadAt};
+ghost use Rattle.h3_messages.specs.Outline.{refusal_by};
+ghost use Rattle.h3_session.specs.JudgedLists.{head_list_refusal, is_sent_outline, trailer_list_refusal, IsHeadAt, IsTrailer};
 
 use super::Endpoint;
 use super::heads::place_of;
@@ -23,10 +23,8 @@ use h3_connection::event::{Malformation, Refusal};
 use h3_connection::place::SendPlace;
 use h3_field::{Fields, HeaderField};
 use h3_header::MOST_NAMES;
-use h3_incoming::outline::{
-    ListRead, Outline, malformation_by, read_list, read_survey, read_unless,
-};
-use h3_messages::{Seen, Survey, invalid_field};
+use h3_incoming::malformed::{malformation_by, malformation_in};
+use h3_messages::{ListError, Outline, Seen, Survey, invalid_field, read_list};
 use h3_proto::stream::{Side, StreamId};
 use std::alloc::Global;
 
@@ -36,14 +34,14 @@ impl Endpoint {
     /// - every call after a connection fault (`Refusal::Closed`),
     /// - a stream that is not open (`NotOpen`), or whose final header section or end was sent (`OutOfOrder`),
     /// - if the endpoint asks for a strict connection, each by a client after the peer's GOAWAY (`GoingAway`),
-    /// - a list that `Header::try_from` refuses (`Malformed` of `Name`, `Value` or `TooMany`); with `Config::with_any_protocol` the value of
-    ///   `:protocol` may be any token of at most 31 bytes,
+    /// - a list that `Header::try_from` refuses (`Malformed` of `Name`, `Value` or `TooMany`); with `Config::with_any_protocol` the value
+    ///   of `:protocol` may be any token of at most 31 bytes,
     /// - a header section of the other side's messages (`WrongSide`),
     /// - if the endpoint asks for strict messages, a list that a strict peer would call malformed (`Malformed`),
     /// - a list whose size is above what the peer's settings allow (`TooLarge`).
     ///
-    /// If an allocation fails, the encoder stream may have gained whole instructions, and the stream is as it was. A list of more than 24,576
-    /// fields takes memory to be judged.
+    /// If an allocation fails, the encoder stream may have gained whole instructions, and the stream is as it was. A list of more than
+    /// 24,576 fields takes memory to be judged.
     pub fn send_fields(&mut self, id: StreamId, fields: &[HeaderField]) -> Result<(), Refusal>
         ensures sends { SendsFieldList self.old self.new id fields.now result }
         ensures names { NamesField (call_refused result) self.new.announced.choices fields.now }
@@ -55,7 +53,7 @@ impl Endpoint {
             Ok(judged) => judged,
             Err(later) => return Err(self.refusal_of_head(id, later)),
         };
-        self.send_head_at(id, fields, place, read)
+        self.send_head_at(id, fields, place, &read)
     }
 
     /// Sends a trailer on a stream, as `send_trailer` does, but as the list that it is given as. Refused are first every call after a
@@ -85,7 +83,8 @@ impl Endpoint {
     /// may be in no message (RFC 9114, 4.2 and 4.3). If there is none and the endpoint asks for strict messages, it is the first with white
     /// space around its value (RFC 9114, 10.3). After such a refusal there always is one. It takes no memory.
     pub fn invalid_field(&self, fields: &[HeaderField]) -> Option<usize>
-        ensures { result ≡ invalid_field self.now.announced.choices.extensions.any_protocol self.now.announced.choices.strict_messages fields.now }
+        ensures { result ≡ invalid_field self.now.announced.choices.extensions.any_protocol self.now.announced.choices.strict_messages
+            fields.now }
     {
         let choices = &self.announced.choices;
         invalid_field(
@@ -95,47 +94,45 @@ impl Endpoint {
         )
     }
 
-    // The place of the message after a list that is sent as a header section, or why the list is not one of this side. If the endpoint asks
-    // for strict messages the walk that tells it tells also what the rules make of it.
-    fn judge_head(&self, fields: &[HeaderField]) -> Result<(SendPlace, Option<SentRead>), Refusal>
-        ensures ok { IfOk result (λ judged. IsHeadAt self.now.side (head_by self.now.announced.choices.extensions.any_protocol fields.now) judged.0) }
-        ensures read { IfOk result (λ judged. IfSome judged.1 (IsReadOf self.now.side (settings_known self.now.announced self.now.peer.settings) fields.now)) }
-        ensures err { IfErr result (λ e. e ≢ refusal.OutOfMemory → head_list_refusal self.now.side (head_by self.now.announced.choices.extensions.any_protocol fields.now) ≡ Some e) }
+    // The place of the message after a list that is sent as a header section, and what the rules make of it, or why the list is not one of
+    // this side. If the endpoint asks for strict messages one walk tells both.
+    fn judge_head(&self, fields: &[HeaderField]) -> Result<(SendPlace, SentRead), Refusal>
+        ensures ok { IfOk result
+            (λ judged. IsHeadAt self.now.side (head_by self.now.announced.choices.extensions.any_protocol fields.now) judged.0) }
+        ensures read { IfOk result (λ judged. IsReadAt judged.0 self.now fields.now judged.1) }
+        ensures err { IfErr result (λ e. e ≢ refusal.OutOfMemory → head_list_refusal self.now.side
+            (head_by self.now.announced.choices.extensions.any_protocol fields.now) ≡ Some e) }
         ensures memory { IfErr result (λ e. e ≡ refusal.OutOfMemory → 24576 < length fields.now) }
     {
         if self.announced.choices.strict_messages && fields.len() <= MOST_NAMES {
             return self.judge_once(fields);
         }
         let any = self.announced.choices.extensions.any_protocol;
-        match judge_place(None, self.alloc, self.side, fields, any) {
-            Ok(place) => Ok((place, None)),
+        match judge_place(self.alloc, self.side, fields, any) {
+            Ok(place) => Ok((place, self.read_head(&Fields::of(fields)))),
             Err(e) => Err(e),
         }
     }
 
     // The same by one walk, of a list of so few fields that a map has room for all their names.
-    fn judge_once(&self, fields: &[HeaderField]) -> Result<(SendPlace, Option<SentRead>), Refusal>
-        requires { length fields.now ≤ 24576 }
-        ensures ok { IfOk result (λ judged. IsHeadAt self.now.side (head_by self.now.announced.choices.extensions.any_protocol fields.now) judged.0) }
-        ensures read { IfOk result (λ judged. IfSome judged.1 (IsReadOf self.now.side (settings_known self.now.announced self.now.peer.settings) fields.now)) }
-        ensures err { IfErr result (λ e. e ≢ refusal.OutOfMemory → head_list_refusal self.now.side (head_by self.now.announced.choices.extensions.any_protocol fields.now) ≡ Some e) }
+    fn judge_once(&self, fields: &[HeaderField]) -> Result<(SendPlace, SentRead), Refusal>
+        requires strict { self.now.announced.choices.strict_messages ≡ true }
+        requires few { length fields.now ≤ 24576 }
+        ensures ok { IfOk result
+            (λ judged. IsHeadAt self.now.side (head_by self.now.announced.choices.extensions.any_protocol fields.now) judged.0) }
+        ensures read { IfOk result (λ judged. IsReadAt judged.0 self.now fields.now judged.1) }
+        ensures err { IfErr result (λ e. e ≢ refusal.OutOfMemory → head_list_refusal self.now.side
+            (head_by self.now.announced.choices.extensions.any_protocol fields.now) ≡ Some e) }
         ensures memory { IfErr result (λ e. e ≡ refusal.OutOfMemory → 24576 < length fields.now) }
     {
-        let any = self.announced.choices.extensions.any_protocol;
         let list = Fields::of(fields);
         let mut seen = Seen::new();
-        if let Err(part) = seen.take_good(&list, any) {
-            return Err(Refusal::Malformed(malformation_by(part)));
-        }
-        let survey = Survey::of(&list, &seen);
-        match judge_place(
-            read_survey(&survey, any),
-            self.alloc,
-            self.side,
-            fields,
-            any,
-        ) {
-            Ok(place) => Ok((place, Some(self.read_survey(&survey)))),
+        let outline = match seen.take_good(&list, self.announced.choices.extensions.any_protocol) {
+            Ok(outline) => outline,
+            Err(part) => return Err(Refusal::Malformed(malformation_by(part))),
+        };
+        match place_behind(self.side, &outline) {
+            Ok(place) => Ok((place, self.read_survey(&Survey::of(&list, &seen)))),
             Err(e) => Err(e),
         }
     }
@@ -166,12 +163,15 @@ impl Endpoint {
         id: StreamId,
         fields: &[HeaderField],
         place: SendPlace,
-        read: Option<SentRead>,
+        read: &SentRead,
     ) -> Result<(), Refusal>
         requires open { self.old.closed ≡ None }
-        requires read { IfSome read (IsReadOf self.old.side (settings_known self.old.announced self.old.peer.settings) fields.now) }
-        ensures sends { (head : Head) → own_head_refused self.old.announced self.old.side head ≡ None → place ≡ (if is_interim head.status then SendPlace.NothingSent else SendPlace.HeadSent) → SendsJudgedHead self.old self.new id head fields.now result }
-        ensures names { (head : Head) → head_by self.old.announced.choices.extensions.any_protocol fields.now ≡ IsHead head → place ≢ SendPlace.TrailerSent → NamesField (call_refused result) self.old.announced.choices fields.now }
+        requires read { IsReadAt place self.old fields.now read.now }
+        ensures sends { (head : Head) → own_head_refused self.old.announced self.old.side head ≡ None
+            → place ≡ (if is_interim head.status then SendPlace.NothingSent else SendPlace.HeadSent)
+            → SendsJudgedHead self.old self.new id head fields.now result }
+        ensures names { (head : Head) → head_by self.old.announced.choices.extensions.any_protocol fields.now ≡ IsHead head
+            → place ≢ SendPlace.TrailerSent → NamesField (call_refused result) self.old.announced.choices fields.now }
     {
         let room = match self.reserve_head(id, None) {
             Ok(room) => room,
@@ -183,16 +183,19 @@ impl Endpoint {
     // A list that reads as a trailer goes out.
     fn send_trailer_list(&mut self, id: StreamId, fields: &[HeaderField]) -> Result<(), Refusal>
         requires { self.old.closed ≡ None }
-        ensures sends { (trailer : Head) → own_trailer_refused self.old.announced trailer ≡ None → SendsJudgedTrailer self.old self.new id trailer fields.now result }
-        ensures names { (trailer : Head) → head_by self.old.announced.choices.extensions.any_protocol fields.now ≡ IsHead trailer → NamesField (call_refused result) self.old.announced.choices fields.now }
+        ensures sends { (trailer : Head) → own_trailer_refused self.old.announced trailer ≡ None
+            → SendsJudgedTrailer self.old self.new id trailer fields.now result }
+        ensures names { (trailer : Head) → head_by self.old.announced.choices.extensions.any_protocol fields.now ≡ IsHead trailer
+            → NamesField (call_refused result) self.old.announced.choices fields.now }
     {
+        let read = self.read_trailer(fields);
         let room = match self.reserve_trailer(id, None) {
             Ok(room) => room,
             Err(refusal) => {
-                return Err(self.judged_or(id, refusal, fields, SendPlace::TrailerSent, None));
+                return Err(self.judged_or(id, refusal, fields, SendPlace::TrailerSent, &read));
             }
         };
-        self.send_trailer_section(room, fields)
+        self.send_trailer_section(room, fields, &read)
     }
 
     // Why a list is not sent for which no room was made: it is at hand, so its own refusal comes before out of memory.
@@ -202,54 +205,70 @@ impl Endpoint {
         refusal: Refusal,
         fields: &[HeaderField],
         place: SendPlace,
-        known: Option<SentRead>,
+        read: &SentRead,
     ) -> Refusal
-        requires { IfSome known (IsReadOf self.now.side (settings_known self.now.announced self.now.peer.settings) fields.now) }
+        requires { IsReadAt place self.now fields.now read.now }
         ensures { IsJudgedOr self.now id place fields.now refusal result }
     {
         if refusal != Refusal::OutOfMemory {
             return refusal;
         }
-        match self.judge_list(id, fields, place, known) {
+        match self.judge_list(id, fields, place, read) {
             Ok(_) => Refusal::OutOfMemory,
             Err(why) => why,
         }
     }
 }
 
-// The place of the message after a list that is sent as a header section, or why the list is not one of this side. What the list reads as
-// may be known.
-#[inline(always)]
+// Why a list is refused that reads as no header.
+fn refusal_of(e: ListError) -> Refusal
+    ensures why { (why : HeadRefusal) → refusal_by e ≡ Some why → result ≡ malformed why }
+    ensures none { refusal_by e ≡ None → result ≡ refusal.OutOfMemory }
+    ensures memory { result ≡ refusal.OutOfMemory → refusal_by e ≡ None }
+{
+    match malformation_in(e) {
+        Some(why) => Refusal::Malformed(why),
+        None => Refusal::OutOfMemory,
+    }
+}
+
+// The place of the message after a list that is sent as a header section, or why the list is not one of this side.
 fn judge_place(
-    known: Option<ListRead>,
     alloc: Global,
     side: Side,
     fields: &[HeaderField],
     any_protocol: bool,
 ) -> Result<SendPlace, Refusal>
-    requires { IfSome known (λ read. read ≡ list_read (head_by any_protocol fields.now)) }
     ensures ok { IfOk result (IsHeadAt side (head_by any_protocol fields.now)) }
     ensures err { IfErr result (λ e. e ≢ refusal.OutOfMemory → head_list_refusal side (head_by any_protocol fields.now) ≡ Some e) }
     ensures memory { IfErr result (λ e. e ≡ refusal.OutOfMemory → 24576 < length fields.now) }
 {
-    let Ok(read) = read_unless(known, alloc, &Fields::of(fields), any_protocol) else {
-        return Err(Refusal::OutOfMemory);
-    };
-    match read {
-        ListRead::Malformed(why) => Err(Refusal::Malformed(why)),
-        ListRead::Head(outline) => place_behind(side, &outline),
+    match read_list(alloc, &Fields::of(fields), any_protocol) {
+        Ok(outline) => place_behind(side, &outline),
+        Err(e) => Err(refusal_of(e)),
     }
 }
 
 // The place of the message after a header section, or that it is one of the other side.
 fn place_behind(side: Side, outline: &Outline) -> Result<SendPlace, Refusal>
-    ensures ok { IfOk result (λ place. (is_sent_outline side outline.now ≡ true) × (place ≡ (if is_interim outline.now.status then SendPlace.NothingSent else SendPlace.HeadSent))) }
+    ensures ok { IfOk result (λ place. (is_sent_outline side outline.now ≡ true)
+        × (place ≡ (if is_interim outline.now.status then SendPlace.NothingSent else SendPlace.HeadSent))) }
     ensures err { IfErr result (λ e. (is_sent_outline side outline.now ≡ false) × (e ≡ refusal.WrongSide)) }
 {
-    if !outline.is_sent_by(side) {
+    if !is_sent_by(side, outline) {
         return Err(Refusal::WrongSide);
     }
     Ok(place_of(outline.status()))
+}
+
+// Whether a side sends such header sections: a client those of requests, a server those of responses.
+fn is_sent_by(side: Side, outline: &Outline) -> bool
+    ensures { result ≡ is_sent_outline side outline.now }
+{
+    match side {
+        Side::Client => outline.is_request(),
+        Side::Server => outline.is_response(),
+    }
 }
 
 // Why a list is no trailer.
@@ -258,12 +277,9 @@ fn judge_trailer(alloc: Global, fields: &[HeaderField], any_protocol: bool) -> R
     ensures err { IfErr result (λ e. e ≢ refusal.OutOfMemory → trailer_list_refusal (head_by any_protocol fields.now) ≡ Some e) }
     ensures memory { IfErr result (λ e. e ≡ refusal.OutOfMemory → 24576 < length fields.now) }
 {
-    let Ok(read) = read_list(alloc, &Fields::of(fields), any_protocol) else {
-        return Err(Refusal::OutOfMemory);
-    };
-    match read {
-        ListRead::Malformed(why) => Err(Refusal::Malformed(why)),
-        ListRead::Head(outline) => without_pseudo(&outline),
+    match read_list(alloc, &Fields::of(fields), any_protocol) {
+        Ok(outline) => without_pseudo(&outline),
+        Err(e) => Err(refusal_of(e)),
     }
 }
 

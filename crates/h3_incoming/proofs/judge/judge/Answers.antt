@@ -6,7 +6,7 @@ use Rattle.h3_incoming.proofs.JudgeLaws.{judged_within, listed_within}
 use Rattle.h3_incoming.proofs.judge.judge.Goals as goal
 
 pub returns-in-Fields-clause-judged : goal.returns-in-Fields-clause-judged
-returns-in-Fields-clause-judged g c = judged_within _ c.args.side c.args.announced.now c.args.place c.args.content c.args.known _ c.args.block _ c.args.decoded c.in-Fields.is c.judge_fields.ensures.judged
+returns-in-Fields-clause-judged g c = judged_within _ c.args.side c.args.announced.now c.args.place c.args.content c.args.response _ c.args.block _ c.args.decoded c.in-Fields.is c.judge_fields.ensures.judged
 
 pub returns-in-Fields-clause-list : goal.returns-in-Fields-clause-list
 returns-in-Fields-clause-list g c = listed_within _ (section_of c.args.announced.now) _ c.args.block _ c.args.decoded c.in-Fields.is c.judge_fields.ensures.list

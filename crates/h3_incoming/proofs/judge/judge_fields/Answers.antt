@@ -1,48 +1,104 @@
-use Rattle.std.proofs.Common.{◌≡◌, ◌∙◌, ap, sym}
-use Rattle.h3_connection.specs.Pulling.{head_or_trailer, with_content}
+use Rattle.std.proofs.Common.{◌≡◌, ◌∙◌, ap, inl, inr, subst, sym}
+use Rattle.h3_connection.specs.Pulling.{head_or_trailer, is_memory, with_content}
 use Rattle.h3_connection.specs.StrictMessages.{broken_rule, if_whole, content_at, response_at}
 use Rattle.h3_connection.specs.declared.event.Pull.TheVariants as pull
 use Rattle.h3_header.specs.HeadRead.{head_by}
-use Rattle.h3_incoming.specs.Answering.{message_at}
+use Rattle.h3_incoming.specs.Answering.{item_of, kind_at, message_at}
 use Rattle.h3_incoming.specs.Judging.{judged_as}
-use Rattle.h3_incoming.proofs.JudgeLaws.{read_head, read_none, reads_head, reads_none, has_item, has_list, judged_behind}
+use Rattle.h3_incoming.specs.declared.judge.Judged.TheVariants as judge
+use Rattle.h3_messages.specs.declared.outline.Outline.{Outline}
+use Rattle.h3_incoming.proofs.JudgeLaws.{judged_behind, malformed_by, no_refusal, read_head, read_none}
+use Rattle.h3_messages.specs.Outline.{IsListRead, refusal_by}
+use Rattle.h3_messages.specs.OutlineLaws.{many_fields, never_none, outlined_head, told_outline, told_refusal}
 use Rattle.h3_incoming.proofs.judge.judge_fields.Goals as goal
 
-pub returns-in-Ok-Head-clause-judged : goal.returns-in-Ok-Head-clause-judged
-returns-in-Ok-Head-clause-judged g c = λ id r i replies few at left told.
+pub returns-in-Some-clause-judged : goal.returns-in-Some-clause-judged
+returns-in-Some-clause-judged g c = λ id r i replies few at left told.
     let own = c.args.announced.now in
+    let any = own.choices.extensions.any_protocol in
+    let list = c.fields.ensures in
+    let read = subst (λ fs. IsListRead any fs c.read_at-read.result.0) list c.read_at-read.ensures.list in
+    let response = c.read_at-read.ensures.response ∙ ap (response_at c.args.side own c.args.place c.args.response) list in
+    malformed_by (refusal_by c.in-Err.e) c.in-Some.why (sym c.in-Some.is ∙ c.malformation_in.ensures) _ (λ why some is.
+    read_none c.args.side own id r i replies c.args.fields c.args.place c.args.response c.read_at-read.result.1.response c.in-Some.why why few (told_refusal any c.args.fields c.read_at-read.result.0 c.in-Err.e read c.in-Err.is why some) is at told response)
+
+pub returns-in-None-clause-memory : goal.returns-in-None-clause-memory
+returns-in-None-clause-memory g c =
+    let any = c.args.announced.now.choices.extensions.any_protocol in
+    let read = subst (λ fs. IsListRead any fs c.read_at-read.result.0) c.fields.ensures c.read_at-read.ensures.list in
+    inl (many_fields any c.args.fields c.read_at-read.result.0 c.in-Err.e read c.in-Err.is (no_refusal (refusal_by c.in-Err.e) (sym c.in-None.is ∙ c.malformation_in.ensures)))
+
+pub returns-in-None-clause-good : goal.returns-in-None-clause-good
+returns-in-None-clause-good g c = λ why none.
+    let any = c.args.announced.now.choices.extensions.any_protocol in
+    let read = subst (λ fs. IsListRead any fs c.read_at-read.result.0) c.fields.ensures c.read_at-read.ensures.list in
+    many_fields any c.args.fields c.read_at-read.result.0 c.in-Err.e read c.in-Err.is (no_refusal (refusal_by c.in-Err.e) (sym c.in-None.is ∙ c.malformation_in.ensures))
+
+pub give_message-requires : goal.give_message-requires
+give_message-requires g c =
+    let any = c.args.announced.now.choices.extensions.any_protocol in
+    told_outline any c.args.fields c.read_at-read.result.0 c.in-Ok.outline (subst (λ fs. IsListRead any fs c.read_at-read.result.0) c.fields.ensures c.read_at-read.ensures.list) c.in-Ok.is
+
+pub returns-in-Malformed-clause-judged : goal.returns-in-Malformed-clause-judged
+returns-in-Malformed-clause-judged g c = λ id r i replies few at left told.
+    let own = c.args.announced.now in
+    let any = own.choices.extensions.any_protocol in
     let side = c.args.side in
     let place = c.args.place in
     let fields = c.args.fields in
     let list = c.fields.ensures in
-    reads_head (head_by own.choices.extensions.any_protocol fields) c.in-Ok-Head.outline (rw c.in-Ok-Head.field-0-is at c.in-Ok-Head.ensures.read) _ (λ h head is.
+    let read = subst (λ fs. IsListRead any fs c.read_at-read.result.0) list c.read_at-read.ensures.list in
+    outlined_head (head_by any fields) c.in-Ok.outline (told_outline any fields c.read_at-read.result.0 c.in-Ok.outline read c.in-Ok.is) _ (λ h head is.
     let rule : if_whole i.content (broken_rule side own place fields) ≡ c.if_whole-broken.result =
     ap (λ l. if_whole l (broken_rule side own place fields)) left ∙ ap (λ l. if_whole c.args.content (broken_rule side own place l)) (sym list)
     ∙ ap (if_whole c.args.content) (sym (c.read_at-read.ensures.broken)) ∙ sym c.if_whole-broken.ensures in
-    let behind : (with_content side own i fields).content ≡ c.read_at-read.result.strict.content =
+    let behind : (with_content side own i fields).content ≡ c.read_at-read.result.1.content =
     ap (λ p. content_at side own p i.content fields) at ∙ ap (λ l. content_at side own place l fields) left ∙ ap (content_at side own place c.args.content) (sym list) ∙ sym (c.read_at-read.ensures.content) in
-    let response : (with_content side own i fields).response ≡ c.read_at-read.result.strict.response =
-    ap (λ p. response_at side own p i.response fields) at ∙ ap (λ k. response_at side own place k fields) told ∙ ap (response_at side own place c.args.known) (sym list) ∙ sym (c.read_at-read.ensures.response) in
+    let response : (with_content side own i fields).response ≡ c.read_at-read.result.1.response =
+    ap (λ p. response_at side own p i.response fields) at ∙ ap (λ k. response_at side own place k fields) told ∙ ap (response_at side own place c.args.response) (sym list) ∙ sym (c.read_at-read.ensures.response) in
     read_head side own id r i replies fields place h few head at
     ∙ ap (λ b. head_or_trailer side id (with_content side own i fields) replies b place h) rule
-    ∙ c.judge_message.ensures id (with_content side own i fields) replies h is at behind response
-    ∙ judged_behind id i (with_content side own i fields).content (with_content side own i fields).response replies (pull.Item (message_at side place h)) c.judge_message.result
-    ∙ ap (λ p. judged_as id i replies p c.judge_message.result) (sym (c.in-Ok-Head.ensures.head h head)))
+    ∙ c.judge_message-judged.ensures id (with_content side own i fields) replies h is at behind response
+    ∙ judged_behind id i (with_content side own i fields).content (with_content side own i fields).response replies (pull.Item (message_at side place h)) c.judge_message-judged.result
+    ∙ ap (judged_as id i replies (pull.Item (message_at side place h))) c.in-Malformed.is)
 
-pub returns-in-Ok-Head-clause-item : goal.returns-in-Ok-Head-clause-item
-returns-in-Ok-Head-clause-item g c =
-    reads_head (head_by c.args.announced.now.choices.extensions.any_protocol c.args.fields) c.in-Ok-Head.outline (rw c.in-Ok-Head.field-0-is at c.in-Ok-Head.ensures.read) _ (λ h head is.
-    has_item c.judge_message.result _ (message_at c.args.side c.args.place h) (c.in-Ok-Head.ensures.head h head))
-
-pub returns-in-Ok-Head-clause-list : goal.returns-in-Ok-Head-clause-list
-returns-in-Ok-Head-clause-list g c =
-    reads_head (head_by c.args.announced.now.choices.extensions.any_protocol c.args.fields) c.in-Ok-Head.outline (rw c.in-Ok-Head.field-0-is at c.in-Ok-Head.ensures.read) _ (λ h head is.
-    has_list c.judge_message.result _ c.args.fields (c.in-Ok-Head.ensures.list h head))
-
-pub returns-in-Ok-Malformed-clause-judged : goal.returns-in-Ok-Malformed-clause-judged
-returns-in-Ok-Malformed-clause-judged g c = λ id r i replies few at left told.
+pub returns-in-Ok-give_message-clause-judged : goal.returns-in-Ok-give_message-clause-judged
+returns-in-Ok-give_message-clause-judged g c = λ id r i replies few at left told.
     let own = c.args.announced.now in
+    let any = own.choices.extensions.any_protocol in
     let side = c.args.side in
-    let response = c.read_at-read.ensures.response ∙ ap (response_at side own c.args.place c.args.known) c.fields.ensures in
-    reads_none (head_by c.args.announced.now.choices.extensions.any_protocol c.args.fields) c.in-Ok-Malformed.why (rw c.in-Ok-Malformed.field-0-is at c.in-Ok-Malformed.ensures.read) _ (λ why none is.
-    read_none side own id r i replies c.args.fields c.args.place c.args.known c.read_at-read.result.strict.response c.in-Ok-Malformed.why why few none is at told response)
+    let place = c.args.place in
+    let fields = c.args.fields in
+    let list = c.fields.ensures in
+    let read = subst (λ fs. IsListRead any fs c.read_at-read.result.0) list c.read_at-read.ensures.list in
+    outlined_head (head_by any fields) c.in-Ok.outline (told_outline any fields c.read_at-read.result.0 c.in-Ok.outline read c.in-Ok.is) _ (λ h head is.
+    let rule : if_whole i.content (broken_rule side own place fields) ≡ c.if_whole-broken.result =
+    ap (λ l. if_whole l (broken_rule side own place fields)) left ∙ ap (λ l. if_whole c.args.content (broken_rule side own place l)) (sym list)
+    ∙ ap (if_whole c.args.content) (sym (c.read_at-read.ensures.broken)) ∙ sym c.if_whole-broken.ensures in
+    let behind : (with_content side own i fields).content ≡ c.read_at-read.result.1.content =
+    ap (λ p. content_at side own p i.content fields) at ∙ ap (λ l. content_at side own place l fields) left ∙ ap (content_at side own place c.args.content) (sym list) ∙ sym (c.read_at-read.ensures.content) in
+    let response : (with_content side own i fields).response ≡ c.read_at-read.result.1.response =
+    ap (λ p. response_at side own p i.response fields) at ∙ ap (λ k. response_at side own place k fields) told ∙ ap (response_at side own place c.args.response) (sym list) ∙ sym (c.read_at-read.ensures.response) in
+    let kind = c.kind_at-kind.ensures ∙ ap (λ (o : Outline). kind_at side place o.status) is in
+    read_head side own id r i replies fields place h few head at
+    ∙ ap (λ b. head_or_trailer side id (with_content side own i fields) replies b place h) rule
+    ∙ c.judge_message-judged.ensures id (with_content side own i fields) replies h is at behind response
+    ∙ judged_behind id i (with_content side own i fields).content (with_content side own i fields).response replies (pull.Item (message_at side place h)) c.judge_message-judged.result
+    ∙ ap (judged_as id i replies (pull.Item (message_at side place h))) c.in-HandsOut.is
+    ∙ ap (λ p. judged_as id i replies p (judge.HandsOut c.in-HandsOut.behind c.in-HandsOut.content c.in-HandsOut.response)) (sym (c.in-Ok-give_message.ensures.head h head ∙ ap (λ k. pull.Item (item_of k h)) kind)))
+
+pub returns-in-Ok-give_message-clause-item : goal.returns-in-Ok-give_message-clause-item
+returns-in-Ok-give_message-clause-item g c =
+    let any = c.args.announced.now.choices.extensions.any_protocol in
+    let read = subst (λ fs. IsListRead any fs c.read_at-read.result.0) c.fields.ensures c.read_at-read.ensures.list in
+    outlined_head (head_by any c.args.fields) c.in-Ok.outline (told_outline any c.args.fields c.read_at-read.result.0 c.in-Ok.outline read c.in-Ok.is) _ (λ h head is.
+    ap is_memory (c.in-Ok-give_message.ensures.head h head))
+
+pub returns-in-Err-give_message-clause-memory : goal.returns-in-Err-give_message-clause-memory
+returns-in-Err-give_message-clause-memory g c = inr c.in-Err-give_message.ensures.memory
+
+pub returns-in-Err-give_message-clause-good : goal.returns-in-Err-give_message-clause-good
+returns-in-Err-give_message-clause-good g c = λ why none.
+    let any = c.args.announced.now.choices.extensions.any_protocol in
+    let read = subst (λ fs. IsListRead any fs c.read_at-read.result.0) c.fields.ensures c.read_at-read.ensures.list in
+    absurd (never_none (head_by any c.args.fields) c.in-Ok.outline why (told_outline any c.args.fields c.read_at-read.result.0 c.in-Ok.outline read c.in-Ok.is) none)

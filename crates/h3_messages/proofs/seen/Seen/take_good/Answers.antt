@@ -1,11 +1,13 @@
-use Rattle.std.proofs.Common.{◌≡◌, ◌≤◌, true, None, Some, length, sym, subst, ◌∙◌, arith, take_all}
+use Rattle.std.proofs.Common.{◌≡◌, ◌+◌, ◌≤◌, true, None, Some, length, drop, fold, ap, sym, subst, ◌∙◌, arith, take_all}
 use Rattle.std.specs.Prelude.{All}
 use Rattle.std.proofs.lemmas.List.Elements.{All-more}
 use Rattle.std.proofs.lemmas.Option.{get_or_from_slice_get, slice_get_within}
 use Rattle.h3_header.specs.BadPart.{bad_part}
-use Rattle.h3_header.specs.HeadRead.{is_name_at}
+use Rattle.h3_header.specs.HeadRead.{head_by, is_name_at}
 use Rattle.h3_header.specs.Reads.{kind_of}
 use Rattle.h3_messages.specs.KindLaws.{name_is_good}
+use Rattle.h3_messages.specs.Outline.{IsOutlined, empty_outline, outlined, outlined_by}
+use Rattle.h3_messages.proofs.Outlines.{all_good, last_outline, next_outline, short_head, status_is_good}
 use Rattle.h3_messages.proofs.Surveys.{seen_at}
 use Rattle.h3_messages.proofs.seen.Seen.take_good.Goals as goal
 
@@ -24,6 +26,11 @@ take_of-requires-clause-good c =
     let good = name_is_good c.args.any_protocol (kind_of field.name) field c.in-Ok.ensures.ok.1 in
     subst (λ k. is_name_at k field.name ≡ true) (sym c.in-Ok.ensures.ok.0) good
 
+pub with-outline-requires : goal.with-outline-requires
+with-outline-requires c is =
+    let field = c.get-field.result in
+    status_is_good c.args.any_protocol field c.in-Ok.ensures.ok.1 (sym c.in-Ok.ensures.ok.0 ∙ is)
+
 pub fields-preserved : goal.fields-preserved
 fields-preserved c =
     let any = c.args.any_protocol in
@@ -31,9 +38,12 @@ fields-preserved c =
     let i = c.fields.place in
     let field = c.get-field.result in
     let same = get_or_from_slice_get fields i field field c.get-field.ensures in
-    let inside = slice_get_within fields i field c.get-field.ensures in (
+    let inside = slice_get_within fields i field c.get-field.ensures in
+    let one : c.with-outline.result ≡ outlined c.fields.outline field = c.with-outline.ensures ∙ ap (λ k. outlined_by k c.fields.outline field) c.in-Ok.ensures.ok.0 in (
       seen_at fields i field _ _ c.get-field.ensures c.fields.invariant.0 c.take_of.ensures,
       All-more (λ f. bad_part any f ≡ None) fields i field inside c.fields.invariant.1 (subst (λ f. bad_part any f ≡ None) (sym same) c.in-Ok.ensures.ok.1),
+      ap (λ o. fold outlined o (drop (i + 1) fields)) one
+          ∙ next_outline fields i field c.fields.outline (fold outlined empty_outline fields) inside same c.fields.invariant.2,
     )
 
 pub returns-clause-good : goal.returns-clause-good
@@ -42,3 +52,12 @@ returns-clause-good c =
     let fields = c.args.fields.now in
     let past : length fields ≤ c.fields.place = omega arith in
     subst (All (λ f. bad_part any f ≡ None)) (take_all c.fields.place fields past ∙ sym (take_all 24576 fields c.requires.few)) c.fields.invariant.1
+
+pub returns-clause-outline : goal.returns-clause-outline
+returns-clause-outline c =
+    let any = c.args.any_protocol in
+    let fields = c.args.fields.now in
+    let i = c.fields.place in
+    let good = all_good any fields i (omega arith) c.requires.few c.fields.invariant.1 in
+    subst (IsOutlined (head_by any fields)) (sym (last_outline fields i c.fields.outline (fold outlined empty_outline fields) (omega arith) c.fields.invariant.2))
+    (short_head any fields (c.lists_are_their_value.ensures.is_head any) c.requires.few (c.fields_are_judged_alone.ensures.head any fields good))

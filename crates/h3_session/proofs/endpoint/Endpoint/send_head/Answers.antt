@@ -22,5 +22,9 @@ returns-in_default-fields c =
 
 pub returns : goal.returns
 returns c =
-    head_sent c.args.self.now c.reserve_head.new.self c.send_head_section.new.self c.args.id c.args.head.now c.head_refusal-later.result c.as_slice.result.now (head_fields c.args.head.now) c.place_behind.result c.send_head_section.result (ap (λ (s : EndpointState). s.closed) (sym c.self.view_is) ∙ c.in_default.is) (c.head_refusal-later.ensures ∙ ap (λ (s : EndpointState). own_head_refused s.announced s.side c.args.head.now) c.self.view_is)
-    c.reserve_head.ensures.rest c.reserve_head.ensures.same c.in-Ok.ensures.taken (c.as_slice.ensures.value ∙ c.in-Ok-fields.ensures.value) c.place_behind.ensures ((rw c.in-Ok.ensures.room at c.send_head_section.ensures) (before_trailer (is_interim c.args.head.now.status) c.place_behind.result c.place_behind.ensures))
+    head_sent c.args.self.now c.reserve_head.new.self c.send_head_section.new.self c.args.id c.args.head.now c.head_refusal-later.result c.as_slice-list.result.now (head_fields c.args.head.now) c.place_behind.result c.send_head_section.result (ap (λ (s : EndpointState). s.closed) (sym c.self.view_is) ∙ c.in_default.is) (c.head_refusal-later.ensures ∙ ap (λ (s : EndpointState). own_head_refused s.announced s.side c.args.head.now) c.self.view_is)
+    c.reserve_head.ensures.rest c.reserve_head.ensures.same c.in-Ok.ensures.taken (c.as_slice-list.ensures.value ∙ c.in-Ok-fields.ensures.value) c.place_behind.ensures ((rw c.in-Ok.ensures.room at c.send_head_section.ensures) (before_trailer (is_interim c.args.head.now.status) c.place_behind.result c.place_behind.ensures))
+
+pub send_head_section-requires : goal.send_head_section-requires
+send_head_section-requires c =
+    rw c.of.ensures at (c.read_head-read.ensures c.place_behind.result (before_trailer (is_interim c.args.head.now.status) c.place_behind.result c.place_behind.ensures))

@@ -4,6 +4,7 @@ use Rattle.h3_session.specs.SendingFields.{asking}
 use Rattle.h3_session.proofs.InvalidFields.{head_judged_names, section_names}
 use Rattle.h3_session.proofs.Remembering.{before_trailer}
 use Rattle.h3_session.proofs.SendingHeads.{head_judged, head_sent_judged}
+use Rattle.h3_session.proofs.SentAnswers.{read_alike}
 use Rattle.h3_session.proofs.endpoint.Endpoint.send_head_at.Goals as goal
 
 pub returns-in-Err-clause-sends : goal.returns-in-Err-clause-sends
@@ -24,3 +25,9 @@ pub returns-clause-names : goal.returns-clause-names
 returns-clause-names c = λ head reads behind.
     section_names c.args.self.now c.reserve_head.new.self c.args.fields.now c.args.place c.reserve_head.ensures.rest head reads (asking c.in-Ok.room c.args.fields.now) c.send_head_section.new.self c.in-Ok.room _
     (c.send_head_section.ensures behind)
+
+pub judged_or-requires : goal.judged_or-requires
+judged_or-requires c = read_alike c.args.place c.args.self.now c.reserve_head.new.self c.args.fields.now c.args.read.now c.reserve_head.ensures.rest c.requires.read
+
+pub send_head_section-requires : goal.send_head_section-requires
+send_head_section-requires c = read_alike c.args.place c.args.self.now c.reserve_head.new.self c.args.fields.now c.args.read.now c.reserve_head.ensures.rest c.requires.read

@@ -20,5 +20,5 @@ returns-in_default-fields c =
 
 pub returns : goal.returns
 returns c =
-    trailer_sent c.args.self.now c.reserve_trailer.new.self c.send_trailer_section.new.self c.args.id c.args.trailer.now c.trailer_refusal-later.result c.as_slice.result.now (head_fields c.args.trailer.now) c.send_trailer_section.result (ap (λ (s : EndpointState). s.closed) (sym c.self.view_is) ∙ c.in_default.is) (c.trailer_refusal-later.ensures ∙ ap (λ (s : EndpointState). own_trailer_refused s.announced c.args.trailer.now) c.self.view_is)
-    c.reserve_trailer.ensures.rest c.reserve_trailer.ensures.same c.in-Ok.ensures.taken (c.as_slice.ensures.value ∙ c.in-Ok-fields.ensures.value) (rw c.in-Ok.ensures.room at c.send_trailer_section.ensures)
+    trailer_sent c.args.self.now c.reserve_trailer.new.self c.send_trailer_section.new.self c.args.id c.args.trailer.now c.trailer_refusal-later.result c.as_slice-list.result.now (head_fields c.args.trailer.now) c.send_trailer_section.result (ap (λ (s : EndpointState). s.closed) (sym c.self.view_is) ∙ c.in_default.is) (c.trailer_refusal-later.ensures ∙ ap (λ (s : EndpointState). own_trailer_refused s.announced c.args.trailer.now) c.self.view_is)
+    c.reserve_trailer.ensures.rest c.reserve_trailer.ensures.same c.in-Ok.ensures.taken (c.as_slice-list.ensures.value ∙ c.in-Ok-fields.ensures.value) (rw c.in-Ok.ensures.room at c.send_trailer_section.ensures)

@@ -2,6 +2,7 @@ use Rattle.std.proofs.Common.{None, refl, sym}
 use Rattle.h3_connection.specs.declared.place.SendPlace.TheVariants.{TrailerSent}
 use Rattle.h3_session.proofs.InvalidFields.{section_names, trailer_judged_names}
 use Rattle.h3_session.proofs.SendingHeads.{trailer_judged, trailer_sent_judged}
+use Rattle.h3_session.proofs.SentAnswers.{read_alike}
 use Rattle.h3_session.proofs.endpoint.Endpoint.send_trailer_list.Goals as goal
 
 pub returns-in-Err-clause-sends : goal.returns-in-Err-clause-sends
@@ -22,3 +23,9 @@ pub returns-clause-names : goal.returns-clause-names
 returns-clause-names c = λ trailer reads.
     section_names c.args.self.now c.reserve_trailer.new.self c.args.fields.now TrailerSent c.reserve_trailer.ensures.rest trailer reads (λ e. e) c.send_trailer_section.new.self c.in-Ok.room _
     c.send_trailer_section.ensures
+
+pub judged_or-requires : goal.judged_or-requires
+judged_or-requires c = read_alike TrailerSent c.args.self.now c.reserve_trailer.new.self c.args.fields.now c.read_trailer-read.result c.reserve_trailer.ensures.rest c.read_trailer-read.ensures
+
+pub send_trailer_section-requires : goal.send_trailer_section-requires
+send_trailer_section-requires c = read_alike TrailerSent c.args.self.now c.reserve_trailer.new.self c.args.fields.now c.read_trailer-read.result c.reserve_trailer.ensures.rest c.read_trailer-read.ensures
