@@ -1,9 +1,9 @@
 //! A piece of a body that is read where it lies, in bytes that are lent to the call alone.
-ghost use Rattle.std.specs.Prelude.{◌≡◌, ◌-◌, ◌<◌, ◌≤◌, ◌^◌, [], None, true, drop, length, if◌then◌else◌, IfSome, IsNone, Some};
+ghost use Rattle.std.specs.Prelude.{◌≡◌, ◌-◌, ◌<◌, ◌≤◌, ◌^◌, [], None, true, false, drop, length, if◌then◌else◌, IfSome, IsNone, Some};
 ghost use Rattle.h3_coding.specs.Varint.{varint_at};
 ghost use Rattle.h3_connection.specs.Incoming.{is_body};
 ghost use Rattle.h3_messages.specs.Content.{left_behind};
-ghost use Rattle.h3_incoming.specs.BodyPlaces.{body_place, data_at, keeps_nothing, piece_at, place_behind, ReadsPiece};
+ghost use Rattle.h3_incoming.specs.BodyPlaces.{BeginsData, BeginsPayload, body_place, data_at, keeps_nothing, piece_at, place_behind, ReadsPiece};
 
 use super::IncomingStream;
 use crate::body_place::BodyPlace;
@@ -32,6 +32,42 @@ impl IncomingStream {
             return self.read_payload(bytes);
         }
         self.begin_payload(alloc, bytes)
+    }
+
+    /// Reads the type and length of a DATA frame where they lie in bytes that came and end with them. The stream is then as after a delivery
+    /// of the bytes, and a pull that waits for more of them (`Pending`). Nothing is copied. It is so where nothing of the stream is kept,
+    /// in a body whose content may be as long. Otherwise the answer is `false`, and nothing has changed.
+    #[tactic(auto, using(crate::proofs::BodyPieces::head_begins))]
+    pub fn begin_body(&mut self, alloc: Global, bytes: &[u8]) -> bool
+        ensures begins { result ≡ true → BeginsData self.old self.new bytes.now }
+        ensures waits { self.new.waits_for ≡ self.old.waits_for }
+        ensures none { result ≡ false → self.new ≡ self.old }
+    {
+        if self.body_left > 0 || !self.keeps_nothing() {
+            return false;
+        }
+        self.begin_alone(alloc, bytes)
+    }
+
+    // The same of a stream with nothing kept.
+    fn begin_alone(&mut self, alloc: Global, bytes: &[u8]) -> bool
+        requires clear { keeps_nothing self.old ≡ true }
+        ensures some { result ≡ true → BeginsPayload self.old self.new bytes.now }
+        ensures waits { self.new.waits_for ≡ self.old.waits_for }
+        ensures none { result ≡ false → self.new ≡ self.old }
+    {
+        let Place::InBody = self.place else {
+            return false;
+        };
+        let Some((size, head)) = data_at(bytes) else {
+            return false;
+        };
+        let content = self.content.left_behind(size as u64);
+        if size == 0 || head < bytes.len() || content.is_exceeded() {
+            return false;
+        }
+        self.go_on_with(alloc, size, content);
+        true
     }
 
     // Whether nothing of it is kept, more may come, and what came of its content is not too much.
