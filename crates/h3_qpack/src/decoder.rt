@@ -303,7 +303,11 @@ impl Decoder {
                 }
                 Err(_) => None,
             },
-            NameRef::Dynamic(index) => match relative(&self.entries, self.entries.inserted(), index) {
+            NameRef::Dynamic(index) => match relative(
+                &self.entries,
+                self.entries.inserted(),
+                index,
+            ) {
                 Ok(entry) => {
                     let field = entry.with_short_value(value)?;
                     Some(field)

@@ -390,11 +390,13 @@ impl DynamicTable {
         }
     }
 
-    /// Keeps the mark of a field that was written as a literal, if the encoder is economical and the field may be indexed.
+    /// Keeps the mark of a field that was written as a literal, if the encoder is economical, its table may have entries, and the field may
+    /// be indexed.
     pub(crate) fn note(&mut self, field: &FieldRef<'_>)
         ensures { self.new ≡ noted self.old field.now }
     {
-        if self.choices.economical && !field.is_never_indexed() {
+        let keeps_marks = self.choices.economical && self.entries.capacity() > 0;
+        if keeps_marks && !field.is_never_indexed() {
             self.marks.add(field.value());
         }
     }

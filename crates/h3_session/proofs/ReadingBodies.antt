@@ -231,8 +231,7 @@ module _ (s : EndpointState) (requests : Streams RequestState) (id : ℕ) (bytes
   delivers_all = record {
     receives = record {
       done = λ e h memory.
-          let is = arrived s id bytes r.before closed none kind r.there r.begins.clear e h in
-          (
+          let is = arrived s id bytes r.before closed none kind r.there r.begins.clear e h in (
             ap (λ (x : Option Refusal × EndpointHistory). x.0) (sym is),
             subst (λ (x : Option Refusal × EndpointHistory). StandsFor between x.1) (sym is) (stands_receiving s e between.requests id r.before stored h r.there refl to_stored),
           );
@@ -271,8 +270,7 @@ module _ (s : EndpointState) (requests : Streams RequestState) (id : ℕ) (bytes
     delivers = delivers_all;
     pulls = record {
       done = λ e h memory.
-          let is = pending_behind e h in
-          (
+          let is = pending_behind e h in (
             ap (λ (x : Pull × EndpointHistory). x.0) (sym is),
             subst (λ (x : Pull × EndpointHistory). StandsFor (record s { requests = requests }) x.1) (sym is)
                 (stands_receiving between e requests id stored (record r.before { incoming = r.after }) h to_stored.here refl on_from_there),
