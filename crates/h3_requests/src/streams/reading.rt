@@ -52,7 +52,8 @@ impl RequestStreams {
         ensures begins { result ≡ true → BeginsDataAt limit inserted self.old self.new id bytes.now }
         ensures none { result ≡ false → AllSame self.old self.new }
     {
-        if self.blocked.above(inserted) as u64 > limit {
+        let waiting = self.blocked.above(inserted) as u64;
+        if waiting > limit {
             return false;
         }
         let Some(stream) = self.streams.get_mut(id) else {
