@@ -3,7 +3,7 @@ use Rattle.std.proofs.Common.{◌≡◌, ℕ, zero, suc, ◌+◌, ◌-◌, ◌<�
 use Rattle.std.specs.Prelude.{Option, Some, None, IfSome, is_some, min}
 use Rattle.std.specs.List.{concat}
 use Rattle.std.proofs.lemmas.Bool.{and_parts, eqb-true, le-leb}
-use Rattle.std.proofs.lemmas.List.{length-take-le, drop-take, take-append-drop, take-append-le, take-take, take_all}
+use Rattle.std.proofs.lemmas.List.{length-take-le, drop_all, drop-take, take-append-drop, take-append-le, take-take, take_all}
 use Rattle.h3_coding.specs.Begins.{Begins}
 use Rattle.h3_coding.specs.Varint.{varint_at}
 use Rattle.h3_coding.specs.VarintLaws.{begins, of_front}
@@ -39,6 +39,10 @@ use Rattle.h3_incoming.proofs.FrontLaws.{finds_frame, found_now, within_frame, w
 use Rattle.h3_incoming.proofs.PullLaws.{none_there, some_left, pull_of_payload, pull_of_frame, between_frame}
 use Rattle.h3_connection.specs.StrictConnection.{kinds_of}
 use Rattle.h3_wire.specs.declared.frame.kinds.FrameKinds.{FrameKinds}
+
+-- No byte stands behind all of them.
+pub nothing_behind : (bytes : List ℕ) (size count : ℕ) → data_at bytes ≡ Some (size, drop count bytes) → length bytes ≤ count → data_at bytes ≡ Some (size, [])
+nothing_behind bytes size count at past = at ∙ ap (λ l. Some (size, l)) (drop_all count bytes past)
 
 -- What a receiver is of which nothing is kept.
 record IsClear (i : Incoming) : Type 0 where
@@ -274,10 +278,10 @@ module _ (i : Incoming) (bytes : List ℕ) (clear : keeps_nothing i ≡ true) (n
           ∙ take-append-le (length head) head more (omega arith) ∙ take_all (length head) head (omega arith)
 
   -- The head alone: the pull waits for the payload.
-  begins_of : (new : Incoming) → i.body_left ≡ 0 → BeginsPayload i new bytes → BeginsData i new bytes
-  begins_of new closed b =
+  pub head_begins : (new : Incoming) (size : ℕ) → i.body_left ≡ 0 → BeginsPayload size i new bytes → BeginsData i new bytes
+  head_begins new size closed b =
       let c = clear_is i clear in
-      let d = has_head b.size [] b.head in
+      let d = has_head size [] b.head in
       let left_pieces : without (length d.head) ((d.head ++ []) ∷ []) ≡ [] =
       without-past (length d.head) (d.head ++ []) [] d.some (omega (arith, length-append d.head [])) ∙ without_none (length d.head - length (d.head ++ [])) in
       record {
@@ -285,13 +289,10 @@ module _ (i : Incoming) (bytes : List ℕ) (clear : keeps_nothing i ≡ true) (n
         clear = clear;
         pulls = λ side own id r.
             ap (λ l. pull_stream side own id r (kept i l)) d.parts
-            ∙ past_head b.size [] [] [] d closed b.body b.some refl left_pieces side own id r
-            ∙ in_none id (begun_payload (record i { unread = [] }) b.size) b.within c.open_still refl
+            ∙ past_head size [] [] [] d closed b.body b.some refl left_pieces side own id r
+            ∙ in_none id (begun_payload (record i { unread = [] }) size) b.within c.open_still refl
             ∙ ap (λ x. just pull.Pending x) (sym b.begun);
       }
-
-  pub head_begins : (new : Incoming) (b : Bool) → i.body_left ≡ 0 → (b ≡ true → BeginsPayload i new bytes) → b ≡ true → BeginsData i new bytes
-  head_begins new b closed begins is = begins_of new closed (begins is)
 
   by_content : (size : ℕ) (rest : List ℕ) (p : BodyPlace) (b : Bool) → is_exceeded (left_behind i.content size) ≡ b
       → Some p ≡ (if b then None else piece_at (length bytes - length rest) size (length rest))

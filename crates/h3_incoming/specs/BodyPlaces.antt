@@ -66,9 +66,8 @@ pub record ReadsPiece (old new : Incoming) (bytes : List ℕ) (p : BodyPlace) : 
   pub some : 0 < p.len
   pub pulls : (side : Side) (own : Announced) (id : ℕ) (r : DecoderState) → pull_stream side own id r (kept old (front_to p bytes)) ≡ just (body_pulled p bytes) new
 
--- The bytes are a DATA frame's type and length, its payload is not empty nor longer than the content may be, and it is under way then.
-pub record BeginsPayload (old new : Incoming) (bytes : List ℕ) : Type 0 where
-  pub size : ℕ
+-- The bytes are the type and length of a DATA frame with so many bytes, some and no more than the content may have. They are under way then.
+pub record BeginsPayload (size : ℕ) (old new : Incoming) (bytes : List ℕ) : Type 0 where
   pub head : data_at bytes ≡ Some (size, [])
   pub body : is_body old.place ≡ true
   pub some : 0 < size

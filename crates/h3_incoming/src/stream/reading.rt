@@ -46,28 +46,29 @@ impl IncomingStream {
         if self.body_left > 0 || !self.keeps_nothing() {
             return false;
         }
-        self.begin_alone(alloc, bytes)
+        match self.begin_alone(alloc, bytes) {
+            Some(_) => true,
+            None => false,
+        }
     }
 
-    // The same of a stream with nothing kept.
-    fn begin_alone(&mut self, alloc: Global, bytes: &[u8]) -> bool
+    // The same of a stream with nothing kept: how long the payload is.
+    fn begin_alone(&mut self, alloc: Global, bytes: &[u8]) -> Option<usize>
         requires clear { keeps_nothing self.old ≡ true }
-        ensures some { result ≡ true → BeginsPayload self.old self.new bytes.now }
+        ensures some { IfSome result (λ size. BeginsPayload size self.old self.new bytes.now) }
         ensures waits { self.new.waits_for ≡ self.old.waits_for }
-        ensures none { result ≡ false → self.new ≡ self.old }
+        ensures none { IsNone result → self.new ≡ self.old }
     {
         let Place::InBody = self.place else {
-            return false;
+            return None;
         };
-        let Some((size, head)) = data_at(bytes) else {
-            return false;
-        };
+        let size = length_alone(bytes)?;
         let content = self.content.left_behind(size as u64);
-        if size == 0 || head < bytes.len() || content.is_exceeded() {
-            return false;
+        if size == 0 || content.is_exceeded() {
+            return None;
         }
         self.go_on_with(alloc, size, content);
-        true
+        Some(size)
     }
 
     // Whether nothing of it is kept, more may come, and what came of its content is not too much.
@@ -157,6 +158,18 @@ fn data_at(bytes: &[u8]) -> Option<(usize, usize)>
     }
     let (size, of_size) = number_at(&bytes[of_kind..])?;
     Some((size as usize, of_kind + of_size))
+}
+
+// The length of the DATA frame whose type and length the bytes are.
+#[tactic(auto, using(crate::proofs::BodyPieces::nothing_behind))]
+fn length_alone(bytes: &[u8]) -> Option<usize>
+    ensures { IfSome result (λ size. data_at bytes.now ≡ Some (size, [])) }
+{
+    let found = data_at(bytes)?;
+    if found.1 < bytes.len() {
+        return None;
+    }
+    Some(found.0)
 }
 
 // The number that the bytes begin with (RFC 9000, section 16), and how many of them it has.
