@@ -1,6 +1,6 @@
 -- What a read of bytes comes to, by the calls that it makes.
 use Rattle.std.proofs.Common.{◌≡◌, ℕ, ◌<◌, ◌==◌, ◌&&◌, Bool, true, false, List, [], ◌∷◌, length, take, refl, sym, ap, subst, ◌∙◌, arith}
-use Rattle.std.specs.Prelude.{nat_lt, ◌^◌, ◌≤◌, Ok}
+use Rattle.std.specs.Prelude.{nat_lt, ◌^◌, Ok}
 use Rattle.std.proofs.lemmas.Bool.{eqb-true}
 use Rattle.h3_connection.specs.Calls.{AllSame, IsSame}
 use Rattle.h3_connection.specs.ReceivingContracts.{Delivers, PullsNext}
@@ -154,6 +154,11 @@ copies_behind v u w id bytes fin n before given used same last events copies =
       same = same_twice v.endpoint u.endpoint copies.start same copies.same;
       reads = subst (λ s. ReadsCopied s w id bytes fin n before given used) start_is copies.reads;
     }
+
+pub copies_from : (v u w : Seen) (id : ℕ) (bytes : List ℕ) (fin : ℕ) (n : Told) (before given : PulledItem) (used : ℕ) → IsSame v.endpoint u.endpoint → u.last ≡ v.last → u.events ≡ v.events
+    → ReadsCopied u w id bytes fin n before given used → CopiesNext v w id bytes fin n before given used
+copies_from v u w id bytes fin n before given used same last events reads =
+    copies_behind v u w id bytes fin n before given used same last events (record { start = u.endpoint; same = same_itself u.endpoint; reads = reads })
 
 -- The type and length of a DATA frame are all that came, and were read: they are delivered, and the pull behind them waits for more.
 pub begun_copies : (v w : Seen) (id : ℕ) (bytes : List ℕ) (fin : ℕ) (before given : PulledItem) → fin ≡ 0 → BeginsBody v.endpoint w.endpoint id bytes → w.last ≡ answer.Pending → w.events ≡ v.events

@@ -14,7 +14,7 @@ use Rattle.h3_connection.specs.Listeners.{Decoding}
 use Rattle.h3_connection.specs.declared.setup.Announced.{Announced}
 use Rattle.h3_connection.specs.Keeping.{arrives, arrives_behind, pulls, pulls_behind, read_arrival}
 use Rattle.h3_connection.specs.Pulling.{just, pull_stream}
-use Rattle.h3_connection.specs.Sending.{if_too_many, within_limit, pulled, pull_request, pull_at, pull_unless}
+use Rattle.h3_connection.specs.Sending.{after_answer, if_too_many, within_limit, pulled, pull_request, pull_at, pull_unless}
 use Rattle.h3_connection.specs.ReceivingContracts.{Delivers}
 use Rattle.h3_connection.specs.StandsLaws.{part_set, stands_receiving}
 use Rattle.h3_connection.specs.State.{EndpointState, RequestState, StandsFor, kept_at}
@@ -126,17 +126,18 @@ module _ (s : EndpointState) (id : ℕ) (bytes : List ℕ) (before : RequestStat
 replied_none : (f : EndpointHistory) → replied f [] ≡ f
 replied_none f = ap (λ l. let x : EndpointHistory = record f { own = record f.own { replies = l } } in x) (append-nil f.own.replies)
 
-pulls_once : (f : EndpointHistory) (id : ℕ) (i after : Incoming) (answer : Pull) → f.closed ≡ None → f.kept ≡ [] → kind_of f.side id ≡ Request → stream_at f.incoming id ≡ Some i
+pulls_once : (f : EndpointHistory) (id : ℕ) (i after : Incoming) (answer : Pull) → ((g : EndpointHistory) → after_answer answer g ≡ (answer, g)) → f.closed ≡ None → f.kept ≡ [] → kind_of f.side id ≡ Request → stream_at f.incoming id ≡ Some i
     → pull_stream f.side f.announced id f.decoding.decoder i ≡ just answer after
     → nat_lt f.announced.limits.blocked (heads_waiting f.decoding.decoder (set_stream f.incoming id after)) ≡ false
     → pulls f id ≡ (answer, with_incoming f id after)
-pulls_once f id i after answer closed none kind there is few =
+pulls_once f id i after answer stays closed none kind there is few =
     ap (λ l. pulls_behind l f id) none
     ∙ ap (λ c. pull_unless c f (pull_at f id (kind_of f.side id))) closed
     ∙ ap (pull_at f id) kind
     ∙ ap (pull_request f id) there
     ∙ ap (λ q. pulled f id (within_limit f id q)) is
     ∙ ap (λ b. pulled f id (if_too_many b (just answer after))) few
+    ∙ stays (replied (with_incoming f id after) [])
     ∙ ap (λ g. (answer, g)) (replied_none (with_incoming f id after))
 
 -- the streams that wait are counted alike
@@ -171,7 +172,7 @@ module _ (s : EndpointState) (requests : Streams RequestState) (id : ℕ) (bytes
 
   pub pulled_is : pulls middle id ≡ (body_pulled p bytes, after_all)
   pulled_is =
-      pulls_once middle id delivered r.after (body_pulled p bytes) (sym h.closed ∙ closed) (sym h.kept ∙ none) (ap (λ side. kind_of side id) (sym h.side) ∙ kind)
+      pulls_once middle id delivered r.after (body_pulled p bytes) (λ g. refl) (sym h.closed ∙ closed) (sym h.kept ∙ none) (ap (λ side. kind_of side id) (sym h.side) ∙ kind)
       (set-here e.incoming id delivered) (r.reads.pulls e.side e.announced id e.decoding.decoder) few_e
       ∙ ap (λ f. (body_pulled p bytes, f)) set_twice
 
@@ -260,7 +261,7 @@ module _ (s : EndpointState) (requests : Streams RequestState) (id : ℕ) (bytes
 
   pending_behind : (e : EndpointHistory) → StandsFor between e → pulls e id ≡ (pull.Pending, with_incoming e id r.after)
   pending_behind e h =
-      pulls_once e id stored.incoming r.after pull.Pending (sym h.closed ∙ closed) (sym h.kept ∙ none) (ap (λ side. kind_of side id) (sym h.side) ∙ kind)
+      pulls_once e id stored.incoming r.after pull.Pending (λ g. refl) (sym h.closed ∙ closed) (sym h.kept ∙ none) (ap (λ side. kind_of side id) (sym h.side) ∙ kind)
       (some_there between e id stored h to_stored.here) (r.begins.pulls e.side e.announced id e.decoding.decoder) (few_there between e id r.after h (few_still e h))
 
   begins_here : BeginsBody s (record s { requests = requests }) id bytes
