@@ -2,20 +2,27 @@
 use Rattle.std.proofs.Common.{◌≡◌, ℕ, ◌<◌, ◌==◌, ◌&&◌, Bool, true, false, List, [], ◌∷◌, length, take, refl, sym, ap, subst, ◌∙◌, arith}
 use Rattle.std.specs.Prelude.{nat_lt, ◌^◌, Ok}
 use Rattle.std.proofs.lemmas.Bool.{eqb-true}
-use Rattle.h3_connection.specs.ReceivingContracts.{Delivers}
+use Rattle.h3_connection.specs.Calls.{AllSame, IsSame}
+use Rattle.h3_connection.specs.ReceivingContracts.{Delivers, PullsNext}
 use Rattle.h3_connection.specs.State.{EndpointState}
+use Rattle.h3_connection.specs.StreamSets.{Streams}
 use Rattle.h3_connection.specs.Shutdown.{is_rejected_in}
 use Rattle.h3_connection.specs.declared.event.Pull.TheVariants as pull
-use Rattle.h3_incoming.specs.FieldsPulls.{pull_of}
+use Rattle.h3_incoming.specs.FieldsPulls.{list_of, pull_of}
 use Rattle.h3_incoming.specs.declared.fields.FieldsItem.TheVariants as listed
 use Rattle.h3_incoming.specs.declared.fields.FieldsPull.{FieldsPull}
 use Rattle.h3_incoming.specs.declared.fields.FieldsPull.TheVariants as answer
+use Rattle.h3_session.specs.Listing.{ListsNext}
+use Rattle.h3_session.specs.ReadingBodies.{BeginsBody}
 use Rattle.h3_session.specs.declared.endpoint.events.EventsSeen.{EventsSeen}
 use Rattle.h3_c.specs.declared.items.PulledItem.{PulledItem}
 use Rattle.h3_c.specs.declared.numbers.Told.{Told}
 use Rattle.h3_c.specs.Exported.{OnStream, Pulls, UnlessRejected}
 use Rattle.h3_c.specs.Seen.{Seen}
-use Rattle.h3_c.specs.Reads.{ends_with, RefusesEnd, TakesBytes, TakesEnd}
+use Rattle.h3_c.specs.Items.{plain, shown}
+use Rattle.h3_c.specs.Numbers.{ok}
+use Rattle.h3_c.specs.Reads.{ends_with, CopiesNext, ReadsCopied, RefusesEnd, TakesBytes, TakesEnd}
+use Rattle.h3_c.specs.Reads.ReadsCopied.{pulled}
 
 pub takes_none : (e : EndpointState) (id : ℕ) (bytes : List ℕ) → length bytes ≡ 0 → TakesBytes e e id bytes
 takes_none e id [] h = refl
@@ -81,4 +88,92 @@ goes_on goes id stream n u v w same is below taken does = record {
     refused = λ rejected. absurd (let never : false ≡ true = sym taken ∙ rejected in cc);
   };
   unknown = λ above. absurd (omega (arith, below, above));
+}
+
+-- Nothing has changed, and then nothing.
+pub same_itself : (s : EndpointState) → IsSame s s
+same_itself s = record {
+  rest = record {
+    side = refl;
+    announced = refl;
+    closed = refl;
+    control_on = refl;
+    encoder_on = refl;
+    decoder_on = refl;
+    peer = refl;
+    decoding = refl;
+    encoding = refl;
+    own = refl;
+    last_goaway = refl;
+    kept = refl;
+    sent = refl;
+    order = refl;
+    unidirectional = record { each = λ q. refl };
+  };
+  next_id = refl;
+  requests = record { each = λ q. refl };
+}
+
+each_same : {X : Type 0} (one two three : Streams X) → AllSame one two → AllSame two three → AllSame one three
+each_same one two three first second = record { each = λ q. second.each q ∙ first.each q }
+
+same_twice : (one two three : EndpointState) → IsSame one two → IsSame two three → IsSame one three
+same_twice one two three first second =
+    let a = first.rest in
+    let b = second.rest in
+    record {
+      rest = record {
+        side = b.side ∙ a.side;
+        announced = b.announced ∙ a.announced;
+        closed = b.closed ∙ a.closed;
+        control_on = b.control_on ∙ a.control_on;
+        encoder_on = b.encoder_on ∙ a.encoder_on;
+        decoder_on = b.decoder_on ∙ a.decoder_on;
+        peer = b.peer ∙ a.peer;
+        decoding = b.decoding ∙ a.decoding;
+        encoding = b.encoding ∙ a.encoding;
+        own = b.own ∙ a.own;
+        last_goaway = b.last_goaway ∙ a.last_goaway;
+        kept = b.kept ∙ a.kept;
+        sent = b.sent ∙ a.sent;
+        order = b.order ∙ a.order;
+        unidirectional = each_same _ _ _ a.unidirectional b.unidirectional;
+      };
+      next_id = second.next_id ∙ first.next_id;
+      requests = each_same _ _ _ first.requests second.requests;
+    }
+
+-- what is read of an endpoint at which nothing changed
+pub copies_behind : (v u w : Seen) (id : ℕ) (bytes : List ℕ) (fin : ℕ) (n : Told) (before given : PulledItem) (used : ℕ) → IsSame v.endpoint u.endpoint → u.last ≡ v.last → u.events ≡ v.events
+    → CopiesNext u w id bytes fin n before given used → CopiesNext v w id bytes fin n before given used
+copies_behind v u w id bytes fin n before given used same last events copies =
+    let start_is : record u { endpoint = copies.start } ≡ record v { endpoint = copies.start } =
+    ap (λ l. let x : Seen = record { endpoint = copies.start; last = l; events = u.events } in x) last ∙ ap (λ l. let x : Seen = record { endpoint = copies.start; last = v.last; events = l } in x) events in
+    record {
+      start = copies.start;
+      same = same_twice v.endpoint u.endpoint copies.start same copies.same;
+      reads = subst (λ s. ReadsCopied s w id bytes fin n before given used) start_is copies.reads;
+    }
+
+pub copies_from : (v u w : Seen) (id : ℕ) (bytes : List ℕ) (fin : ℕ) (n : Told) (before given : PulledItem) (used : ℕ) → IsSame v.endpoint u.endpoint → u.last ≡ v.last → u.events ≡ v.events
+    → ReadsCopied u w id bytes fin n before given used → CopiesNext v w id bytes fin n before given used
+copies_from v u w id bytes fin n before given used same last events reads =
+    copies_behind v u w id bytes fin n before given used same last events (record { start = u.endpoint; same = same_itself u.endpoint; reads = reads })
+
+-- The type and length of a DATA frame are all that came, and were read: they are delivered, and the pull behind them waits for more.
+pub begun_copies : (v w : Seen) (id : ℕ) (bytes : List ℕ) (fin : ℕ) (before given : PulledItem) → fin ≡ 0 → BeginsBody v.endpoint w.endpoint id bytes → w.last ≡ answer.Pending → w.events ≡ v.events
+    → given ≡ plain 9 → CopiesNext v w id bytes fin ok before given (length bytes)
+begun_copies v w id bytes fin before given no_fin b last events is = record {
+  start = v.endpoint;
+  same = same_itself v.endpoint;
+  reads = pulled b.middle b.middle (omega arith) (λ some. some)
+      (subst (TakesBytes v.endpoint b.middle id) (sym (take_whole bytes)) (takes_some v.endpoint b.middle id bytes b.some b.delivers))
+      (subst (λ n. TakesEnd (ends_with n bytes (length bytes)) (length bytes == 0) b.middle b.middle id) (sym no_fin) refl)
+      (record {
+        done = refl;
+        pulled = subst (λ (x : FieldsPull). PullsNext b.middle w.endpoint id (pull_of x)) (sym last) b.pulls;
+        list = subst (λ (x : FieldsPull). ListsNext b.middle id (list_of x)) (sym last) (λ e h. tt);
+        given_so = is ∙ ap shown (sym last);
+        events = events;
+      });
 }

@@ -125,7 +125,8 @@ fn show_message(kind: MessageKind, status: u32, fields: &FieldBlock, item: &mut 
     };
 }
 
-fn plain_shown(said: &Plain) -> PulledItem
+/// What a pull answered, as C sees it, if that has no fields.
+pub(crate) fn plain_shown(said: &Plain) -> PulledItem
     ensures { result ≡ shown (plain_answer said.now) }
 {
     match said {

@@ -1,6 +1,7 @@
 -- What the calls of instructions read and write.
 use Rattle.std.specs.Prelude.{◌≡◌, ◌<◌, ◌≤◌, ◌^◌, ℕ, List, length, Option, Some, None, Result, Ok, Err}
 use Rattle.h3_field.specs.Reading.{Reading, Whole, Unfinished, Bad}
+use Rattle.h3_field.specs.Field.{Field}
 use Rattle.h3_field.specs.StringLiteral.{huffman_text}
 use Rattle.h3_field.specs.Instruction.{EncoderInstruction, DecoderInstruction}
 use Rattle.h3_field.specs.Instruction.{EncoderInstruction as to_decoder, DecoderInstruction as to_encoder}
@@ -10,6 +11,7 @@ use Rattle.h3_field.specs.ShapeAnswer.{Place, error_at, TakeMemory, IsRefused}
 use Rattle.h3_field.specs.declared.prefix_int.Error.TheVariants.{Overflow}
 use Rattle.h3_field.specs.declared.parse_error.ParseError.{ParseError}
 use Rattle.h3_field.specs.declared.parse_error.ParseError.TheVariants.{Integer}
+use Rattle.h3_field.specs.declared.block.literal.NameRef as name_ref
 use Rattle.h3_field.specs.declared.stream.EncoderInstruction as encoder_kind
 use Rattle.h3_field.specs.declared.stream.DecoderInstruction as decoder_kind
 use Rattle.h3_field.specs.declared.stream.insertion.InsertWithNameRef as named
@@ -27,6 +29,14 @@ named_insertion (named.TheVariants.Dynamic index value) = to_decoder.InsertWithE
 
 abbrev pub literal_insertion : InsertWithoutNameRef → EncoderInstruction
 literal_insertion i = to_decoder.InsertLiteral (huffman_text i.name.items) (huffman_text i.value.items)
+
+-- the same of a name and a value, and of a field
+abbrev pub short_named_insertion : List ℕ → name_ref.NameRef → EncoderInstruction
+short_named_insertion value (name_ref.TheVariants.Static index) = to_decoder.InsertWithStaticName index (huffman_text value)
+short_named_insertion value (name_ref.TheVariants.Dynamic index) = to_decoder.InsertWithEntryName index (huffman_text value)
+
+abbrev pub field_insertion : Field → EncoderInstruction
+field_insertion f = to_decoder.InsertLiteral (huffman_text f.name) (huffman_text f.value)
 
 abbrev pub duplication : Duplicate → EncoderInstruction
 duplication i = to_decoder.Duplicate i.0

@@ -8,6 +8,7 @@ ghost use Rattle.h3_field.specs.StringReading.{string};
 use crate::cursor::SliceCursor;
 use crate::field::HeaderField;
 use crate::fields::{FieldRef, Fields};
+use crate::first_room::reserve_some;
 use crate::prefix_string::{self, Payload, take_payload};
 use std::alloc::{AllocError, Global};
 use std::marker::Model;
@@ -207,6 +208,7 @@ fn put_field(bytes: &mut Vec<u8>, field: &FieldRef<'_>) -> Result<FieldPlace, Al
     ensures flag { IfOk result (λ place. place.never_indexed ≡ field.now.never_indexed) }
     ensures err { OnErr result (bytes.new.items ≡ bytes.old.items) }
 {
+    reserve_some(bytes)?;
     let start = bytes.len();
     bytes.extend_from_slice(field.name())?;
     let middle = bytes.len();
@@ -242,6 +244,9 @@ fn put_payload(
 ) -> Result<FieldPlace, prefix_string::Error>
     ensures { PutsField name.now never_indexed value.now bytes.old.items bytes.new.items result }
 {
+    if reserve_some(bytes).is_err() {
+        return Err(refusal_of(value));
+    }
     let start = bytes.len();
     if bytes.extend_from_slice(name).is_err() {
         return Err(refusal_of(value));

@@ -1,9 +1,9 @@
 -- A piece of a body that is read where it lies is what a delivery and a pull hand out.
-use Rattle.std.proofs.Common.{◌≡◌, ℕ, ◌+◌, ◌-◌, ◌<◌, ◌≤◌, ◌==◌, ◌&&◌, ◌||◌, Bool, true, false, not, nat_lt, if◌then◌else◌, List, [], ◌∷◌, ◌++◌, length, take, drop, refl, ap, sym, ◌∙◌, subst, arith, length-append, append-nil, append_assoc}
+use Rattle.std.proofs.Common.{◌≡◌, ℕ, zero, suc, ◌+◌, ◌-◌, ◌<◌, ◌≤◌, ◌==◌, ◌&&◌, ◌||◌, Bool, true, false, not, nat_lt, if◌then◌else◌, List, [], ◌∷◌, ◌++◌, length, take, drop, refl, ap, sym, ◌∙◌, subst, arith, length-append, append-nil, append_assoc}
 use Rattle.std.specs.Prelude.{Option, Some, None, IfSome, is_some, min}
 use Rattle.std.specs.List.{concat}
 use Rattle.std.proofs.lemmas.Bool.{and_parts, eqb-true, le-leb}
-use Rattle.std.proofs.lemmas.List.{length-take-le, drop-take, take-append-drop, take-append-le, take-take, take_all}
+use Rattle.std.proofs.lemmas.List.{length-take-le, drop_all, drop-take, take-append-drop, take-append-le, take-take, take_all}
 use Rattle.h3_coding.specs.Begins.{Begins}
 use Rattle.h3_coding.specs.Varint.{varint_at}
 use Rattle.h3_coding.specs.VarintLaws.{begins, of_front}
@@ -14,8 +14,8 @@ use Rattle.h3_wire.specs.Frames.{Whole, frame_by}
 use Rattle.h3_wire.specs.Fronts.{IsKnown}
 use Rattle.h3_wire.specs.Known.{known_by}
 use Rattle.h3_wire.specs.KnownLaws.{known-other}
-use Rattle.h3_wire.specs.PieceLaws.{without-within}
-use Rattle.h3_wire.specs.Pieces.{chunk_of, with_piece}
+use Rattle.h3_wire.specs.PieceLaws.{without-past, without-within}
+use Rattle.h3_wire.specs.Pieces.{chunk_of, with_piece, without}
 use Rattle.h3_wire.specs.declared.proto.frame.Frame.TheVariants as frame
 use Rattle.h3_messages.specs.Content.{left_behind, is_exceeded}
 use Rattle.h3_proto.specs.declared.stream.Side.{Side}
@@ -32,13 +32,17 @@ use Rattle.h3_connection.specs.declared.event.StreamFault.{StreamFault}
 use Rattle.h3_connection.specs.declared.place.Place.{Place}
 use Rattle.h3_connection.specs.declared.place.Place.TheVariants.{BeforeHead, InBody, AfterTrailer, InSession}
 use Rattle.h3_connection.specs.declared.setup.Announced.{Announced}
-use Rattle.h3_incoming.specs.BodyPlaces.{data_at, length_of_data, keeps_nothing, piece_at, place_behind, ReadsPiece}
+use Rattle.h3_incoming.specs.BodyPlaces.{BeginsData, BeginsPayload, data_at, length_of_data, keeps_nothing, piece_at, place_behind, ReadsPiece}
 use Rattle.h3_incoming.specs.Placing.{is_session}
 use Rattle.h3_incoming.specs.declared.body_place.BodyPlace.{BodyPlace}
 use Rattle.h3_incoming.proofs.FrontLaws.{finds_frame, found_now, within_frame, within_now}
 use Rattle.h3_incoming.proofs.PullLaws.{none_there, some_left, pull_of_payload, pull_of_frame, between_frame}
 use Rattle.h3_connection.specs.StrictConnection.{kinds_of}
 use Rattle.h3_wire.specs.declared.frame.kinds.FrameKinds.{FrameKinds}
+
+-- No byte stands behind all of them.
+pub nothing_behind : (bytes : List ℕ) (size count : ℕ) → data_at bytes ≡ Some (size, drop count bytes) → length bytes ≤ count → data_at bytes ≡ Some (size, [])
+nothing_behind bytes size count at past = at ∙ ap (λ l. Some (size, l)) (drop_all count bytes past)
 
 -- What a receiver is of which nothing is kept.
 record IsClear (i : Incoming) : Type 0 where
@@ -93,6 +97,17 @@ in_one id i piece within open_still one few =
     ap (λ b. if b then malformed id malformation.ContentLength i [] else in_payload i) within
     ∙ ap (λ b. if b && nat_lt (length (concat i.unread)) i.body_left then connection_fault frame_error i else body_of i (chunk_of i.body_left i.unread)) open_still
     ∙ ap (λ u. body_of i (chunk_of i.body_left u)) one ∙ ap (body_of i) (one_chunk i.body_left piece few)
+
+-- of which nothing came yet
+in_none : (id : ℕ) (i : Incoming) → is_exceeded i.content ≡ false → i.ended ≡ false → i.unread ≡ [] → at_payload id i ≡ just pull.Pending i
+in_none id i within open_still none =
+    ap (λ b. if b then malformed id malformation.ContentLength i [] else in_payload i) within
+    ∙ ap (λ b. if b && nat_lt (length (concat i.unread)) i.body_left then connection_fault frame_error i else body_of i (chunk_of i.body_left i.unread)) open_still
+    ∙ ap (λ u. body_of i (chunk_of i.body_left u)) none
+
+without_none : (n : ℕ) → without n [] ≡ []
+without_none zero = refl
+without_none (suc n) = refl
 
 -- In the payload that is under way.
 module _ (i : Incoming) (bytes : List ℕ) (clear : keeps_nothing i ≡ true) (none : i.unread ≡ []) where
@@ -186,6 +201,43 @@ module _ (i : Incoming) (bytes : List ℕ) (clear : keeps_nothing i ≡ true) (n
   some_size : (in_body : Bool) (size : ℕ) → 0 < size → (in_body && (size == 0)) ≡ false
   some_size in_body size h = not_true (in_body && (size == 0)) (λ e. let none = eqb-true size 0 (and_parts in_body (size == 0) e).1 in omega (arith, none, h))
 
+  drop_head : (head more : List ℕ) → drop (length head) (head ++ more) ≡ more
+  drop_head [] more = refl
+  drop_head (x ∷ head) more = drop_head head more
+
+  -- With the head and a piece of the payload a pull comes to the payload, of which these pieces are there.
+  past_head : (size : ℕ) (rest piece : List ℕ) (pieces : List (List ℕ)) → (d : HasHead size rest) → i.body_left ≡ 0 → is_body i.place ≡ true → 0 < size
+      → concat pieces ≡ piece → without (length d.head) ((d.head ++ piece) ∷ []) ≡ pieces
+      → (side : Side) (own : Announced) (id : ℕ) (r : DecoderState)
+      → pull_stream side own id r (kept i (d.head ++ piece)) ≡ at_payload id (begun_payload (record i { unread = pieces }) size)
+  past_head size rest piece pieces d closed body left joined_pieces left_pieces side own id r =
+      let c = clear_is i clear in
+      let fr = d.head ++ piece in
+      let j : Incoming = record i { unread = fr ∷ [] } in
+      let k : Incoming = record i { unread = pieces } in
+      let f = frame.Data (record { 0 = size }) in
+      let kinds = kinds_of own in
+      let limit = own.choices.unfinished_limit in
+      let at_front : frame_by kinds fr ≡ Whole f piece = d.whole kinds piece in
+      let at_known : frame_by kinds (known_by kinds fr) ≡ Whole f piece = ap (frame_by kinds) (known-other kinds fr (subst IsKnown (sym at_front) tt)) ∙ at_front in
+      let not_empty : (is_body i.place && (size == 0)) ≡ false = some_size (is_body i.place) size left in
+      let joined_is : concat (fr ∷ []) ≡ fr = append-nil fr in
+      let found : frame_by kinds (skipped kinds (is_body i.place) (concat (fr ∷ []))) ≡ Whole f (concat pieces) =
+      ap (λ l. frame_by kinds (skipped kinds (is_body i.place) l)) joined_is ∙ found_now kinds (is_body i.place) f fr piece (finds_frame kinds (is_body i.place) fr piece f at_known not_empty)
+      ∙ ap (λ l. Whole f l) (sym joined_pieces) in
+      let passes : Passes j k = record {
+        same = refl;
+        rest = (length d.head, omega (arith, ap length joined_is, length-append d.head piece), sym left_pieces);
+      } in
+      ap (pull_stream side own id r) (kept_is i fr c.fault none (omega (arith, length-append d.head piece, d.some)))
+      ∙ pull_of_frame side own id r j c.fault c.goes_on c.message c.section closed
+      ∙ between_frame side own id r j k f passes found
+      (ap (λ l. is_excessive_by kinds limit (skipped kinds (is_body i.place) l)) joined_is
+      ∙ within_now kinds limit (is_body i.place) f fr
+      (within_frame kinds limit (is_body i.place) fr piece f at_known not_empty
+      (not_true (is_excessive_by kinds limit (known_by kinds fr)) (no_data kinds limit (known_by kinds fr) piece (record { 0 = size }) at_known))))
+      ∙ at_data side own id r k i.place size body
+
   begun_of : (size len : ℕ) (rest : List ℕ) → HasHead size rest → i.body_left ≡ 0 → is_body i.place ≡ true → is_exceeded (left_behind i.content size) ≡ false
       → 0 < size → 0 < len → len ≤ size → len ≤ length rest → (new : Incoming)
       → new ≡ record i { unread = []; body_left = size - len; content = left_behind i.content size }
@@ -204,26 +256,9 @@ module _ (i : Incoming) (bytes : List ℕ) (clear : keeps_nothing i ≡ true) (n
       ∙ ap (λ l. l ++ piece) (head_taken d.head rest len d.parts) in
       let piece_is : drop (length bytes - length rest) (take (length bytes - length rest + len) bytes) ≡ piece =
       ap (drop (length bytes - length rest)) front_is ∙ ap (λ n. drop n fr) offset_is ∙ drop_head d.head piece in
-      let j : Incoming = record i { unread = fr ∷ [] } in
       let k : Incoming = record i { unread = piece ∷ [] } in
-      let f = frame.Data (record { 0 = size }) in
-      let at_front : (kinds : FrameKinds) → frame_by kinds fr ≡ Whole f piece = λ kinds. d.whole kinds piece in
-      let at_known : (kinds : FrameKinds) → frame_by kinds (known_by kinds fr) ≡ Whole f piece =
-      λ kinds. ap (frame_by kinds) (known-other kinds fr (subst IsKnown (sym (at_front kinds)) tt)) ∙ at_front kinds in
-      let not_empty : (is_body i.place && (size == 0)) ≡ false = some_size (is_body i.place) size left in
-      let joined_is : concat (fr ∷ []) ≡ fr = append-nil fr in
-      let found : (kinds : FrameKinds) → frame_by kinds (skipped kinds (is_body i.place) (concat (fr ∷ []))) ≡ Whole f (concat (piece ∷ [])) = λ kinds.
-      ap (λ l. frame_by kinds (skipped kinds (is_body i.place) l)) joined_is ∙ found_now kinds (is_body i.place) f fr piece (finds_frame kinds (is_body i.place) fr piece f (at_known kinds) not_empty)
-      ∙ ap (λ l. Whole f l) (sym (append-nil piece)) in
-      let passes : Passes j k = record {
-        same = refl;
-        rest = (
-          length d.head,
-          omega (arith, ap length joined_is, length-append d.head piece),
-          ap (λ l. l ∷ []) (sym (drop_head d.head piece))
-              ∙ sym (without-within (length d.head) fr [] d.some (omega (arith, length-append d.head piece, piece_size, some))),
-        );
-      } in
+      let left_pieces : without (length d.head) (fr ∷ []) ≡ piece ∷ [] =
+      without-within (length d.head) fr [] d.some (omega (arith, length-append d.head piece, piece_size, some)) ∙ ap (λ l. l ∷ []) (drop_head d.head piece) in
       let new_is : record (begun_payload k size) { unread = []; body_left = size - length piece } ≡ new =
       ap (λ n. let x : Incoming = record i { unread = []; body_left = size - n; content = left_behind i.content size } in x) piece_size ∙ sym is in
       record {
@@ -231,27 +266,33 @@ module _ (i : Incoming) (bytes : List ℕ) (clear : keeps_nothing i ≡ true) (n
         some = some;
         pulls = λ side own id r.
             ap (λ l. pull_stream side own id r (kept i l)) front_is
-            ∙ ap (pull_stream side own id r) (kept_is i fr c.fault none (omega (arith, length-append d.head piece, d.some)))
-            ∙ pull_of_frame side own id r j c.fault c.goes_on c.message c.section closed
-            ∙ between_frame side own id r j k f passes (found (kinds_of own))
-            (ap (λ l. is_excessive_by (kinds_of own) own.choices.unfinished_limit (skipped (kinds_of own) (is_body i.place) l)) joined_is
-            ∙ within_now (kinds_of own) own.choices.unfinished_limit (is_body i.place) f fr
-            (within_frame (kinds_of own) own.choices.unfinished_limit (is_body i.place) fr piece f (at_known (kinds_of own)) not_empty
-            (not_true (is_excessive_by (kinds_of own) own.choices.unfinished_limit (known_by (kinds_of own) fr)) (no_data (kinds_of own) own.choices.unfinished_limit (known_by (kinds_of own) fr) piece (record { 0 = size }) (at_known (kinds_of own))))))
-            ∙ at_data side own id r k i.place size body
+            ∙ past_head size rest piece (piece ∷ []) d closed body left (append-nil piece) left_pieces side own id r
             ∙ in_one id (begun_payload k size) piece within c.open_still refl (omega (arith, piece_size, few))
             ∙ ap (λ x. just (pull.Item (item.Body piece)) x) new_is
             ∙ ap (λ l. just (pull.Item (item.Body l)) new) (sym piece_is);
       }
     where
-      drop_head : (head more : List ℕ) → drop (length head) (head ++ more) ≡ more
-      drop_head [] more = refl
-      drop_head (x ∷ head) more = drop_head head more
-
       head_taken : (head more : List ℕ) (n : ℕ) → bytes ≡ head ++ more → take (length head) (take (length head + n) bytes) ≡ head
       head_taken head more n e =
           take-take (length head) (length head + n) bytes (omega arith) ∙ ap (take (length head)) e
           ∙ take-append-le (length head) head more (omega arith) ∙ take_all (length head) head (omega arith)
+
+  -- The head alone: the pull waits for the payload.
+  pub head_begins : (new : Incoming) (size : ℕ) → i.body_left ≡ 0 → BeginsPayload size i new bytes → BeginsData i new bytes
+  head_begins new size closed b =
+      let c = clear_is i clear in
+      let d = has_head size [] b.head in
+      let left_pieces : without (length d.head) ((d.head ++ []) ∷ []) ≡ [] =
+      without-past (length d.head) (d.head ++ []) [] d.some (omega (arith, length-append d.head [])) ∙ without_none (length d.head - length (d.head ++ [])) in
+      record {
+        some = omega (arith, ap length d.parts, length-append d.head [], d.some);
+        clear = clear;
+        pulls = λ side own id r.
+            ap (λ l. pull_stream side own id r (kept i l)) d.parts
+            ∙ past_head size [] [] [] d closed b.body b.some refl left_pieces side own id r
+            ∙ in_none id (begun_payload (record i { unread = [] }) size) b.within c.open_still refl
+            ∙ ap (λ x. just pull.Pending x) (sym b.begun);
+      }
 
   by_content : (size : ℕ) (rest : List ℕ) (p : BodyPlace) (b : Bool) → is_exceeded (left_behind i.content size) ≡ b
       → Some p ≡ (if b then None else piece_at (length bytes - length rest) size (length rest))

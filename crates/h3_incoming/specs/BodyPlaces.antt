@@ -1,5 +1,5 @@
 -- Where a piece of a body lies in bytes that came, where nothing before them is kept.
-use Rattle.std.specs.Prelude.{◌≡◌, ℕ, ◌+◌, ◌-◌, ◌<◌, ◌≤◌, ◌==◌, Bool, not, ◌&&◌, ◌||◌, min, nat_lt, List, length, take, drop, if◌then◌else◌, Option, Some, None, is_some}
+use Rattle.std.specs.Prelude.{◌≡◌, ℕ, ◌+◌, ◌-◌, ◌<◌, ◌≤◌, ◌==◌, Bool, not, ◌&&◌, ◌||◌, false, true, min, nat_lt, List, [], length, take, drop, if◌then◌else◌, Option, Some, None, is_some}
 use Rattle.std.specs.List.{concat}
 use Rattle.h3_coding.specs.Varint.{varint_at}
 use Rattle.h3_messages.specs.Content.{left_behind, is_exceeded}
@@ -65,3 +65,18 @@ pub record ReadsPiece (old new : Incoming) (bytes : List ℕ) (p : BodyPlace) : 
   pub within : p.offset + p.len ≤ length bytes
   pub some : 0 < p.len
   pub pulls : (side : Side) (own : Announced) (id : ℕ) (r : DecoderState) → pull_stream side own id r (kept old (front_to p bytes)) ≡ just (body_pulled p bytes) new
+
+-- The bytes are the type and length of a DATA frame with so many bytes, some and no more than the content may have. They are under way then.
+pub record BeginsPayload (size : ℕ) (old new : Incoming) (bytes : List ℕ) : Type 0 where
+  pub head : data_at bytes ≡ Some (size, [])
+  pub body : is_body old.place ≡ true
+  pub some : 0 < size
+  pub within : is_exceeded (left_behind old.content size) ≡ false
+  pub begun : new ≡ record old { unread = []; body_left = size; content = left_behind old.content size }
+
+-- The bytes are a DATA frame's type and length, with none of its payload behind them. What stands after them is what a delivery of them leaves
+-- and a pull, which has nothing to hand out yet.
+pub record BeginsData (old new : Incoming) (bytes : List ℕ) : Type 0 where
+  pub some : 0 < length bytes
+  pub clear : keeps_nothing old ≡ true
+  pub pulls : (side : Side) (own : Announced) (id : ℕ) (r : DecoderState) → pull_stream side own id r (kept old bytes) ≡ just pull.Pending new

@@ -1,5 +1,5 @@
 //! A frame of a message that waits.
-ghost use Rattle.std.specs.Prelude.{◌≡◌, ◌≤◌, ◌^◌, ◌<◌, ◌-◌, length, drop};
+ghost use Rattle.std.specs.Prelude.{◌≡◌, ◌≤◌, ◌^◌, ◌<◌, ◌-◌, length, drop, IfSome};
 ghost use Rattle.h3_connection.specs.WaitingPieces.{frame_piece, without_first};
 ghost use Rattle.h3_wire.specs.Outgoing.{all_of, first_part};
 ghost use Rattle.h3_outgoing.specs.Held.{Fronts, FrontsAt, front_of, held, past_of};
@@ -100,6 +100,17 @@ impl Frame {
         }
     }
 
+    /// What is left of the payload of a body that was passed to send, if its type and length were sent.
+    pub(crate) fn body(&self) -> Option<&Bytes>
+        ensures { IfSome result (λ body. body.now ≡ front_of (first_part self.now)) }
+    {
+        match &self.form {
+            Form::Data(frame) => unsent_body(frame),
+            Form::Headers(_) => None,
+            Form::Held(_) => None,
+        }
+    }
+
     /// Copies what is left into a buffer from a place on: up to a payload that the caller holds, and as much as fits. Returns the place
     /// after it, how many bytes of that payload follow, and whether nothing more is to be copied after this frame.
     #[inline(always)]
@@ -144,6 +155,19 @@ impl Frame {
             Form::Held(frame) => frame.advance(count),
         }
     }
+}
+
+// What is left of the payload, if type and length were sent.
+#[tactic(auto, using(crate::specs::HeldLaws::front_bytes))]
+fn unsent_body(frame: &MessageBuf<Bytes>) -> Option<&Bytes>
+    ensures { IfSome result (λ body. body.now ≡ front_of (first_part frame.now)) }
+{
+    let Some(body) = frame.unsent_payload() else {
+        return None;
+    };
+    // (for the proof: none of its bytes is one that the caller holds)
+    let _bytes = as_bytes(body.as_slice());
+    Some(body)
 }
 
 // Copies what is left of a DATA frame to the front of a buffer: its type and length, and then its payload.

@@ -1,13 +1,14 @@
 //! The frames that wait on a stream.
-ghost use Rattle.std.specs.Prelude.{◌≡◌, ◌+◌, ◌-◌, ◌*◌, ◌<◌, ◌≤◌, ◌^◌, ◌++◌, [], ◌∷◌, ◌==◌, true, length, drop, min, max, All, OnOk, OnErr};
+ghost use Rattle.std.specs.Prelude.{◌≡◌, ◌+◌, ◌-◌, ◌*◌, ◌<◌, ◌≤◌, ◌^◌, ◌++◌, [], ◌∷◌, ◌==◌, true, length, drop, min, max, All, IfSome, MatchOption, OnOk, OnErr};
 ghost use Rattle.std.specs.VecDeque.{deque_len, deque_capacity};
-ghost use Rattle.h3_wire.specs.Outgoing.{all_of};
+ghost use Rattle.h3_wire.specs.Outgoing.{all_of, first_part};
 ghost use Rattle.h3_connection.specs.WaitingPieces.{bytes_of, lent, without_front};
 ghost use Rattle.h3_outgoing.specs.Copied.{Filled, Puts};
 ghost use Rattle.h3_outgoing.specs.Held.{AreApart, FrontsAt, front_of, past_of};
 ghost use Rattle.h3_outgoing.specs.Queue.{at_most_one, has_own_place};
 
 use crate::frame::Frame;
+use bytes::Bytes;
 use std::alloc::{AllocError, Global};
 use std::collections::VecDeque;
 use std::marker::Model;
@@ -126,16 +127,32 @@ impl WaitingFrames {
     pub(crate) fn first_part(&self) -> &[u8]
         ensures { result.now ≡ front_of (lent self.now.frames) }
     {
-        if let Some(frame) = &self.first {
-            return frame.first_part();
-        }
-        if let Some(frame) = &self.second {
-            return frame.first_part();
-        }
-        match self.later.front() {
+        match self.first() {
             Some(frame) => frame.first_part(),
             None => &[],
         }
+    }
+
+    /// The same bytes, if they are what is left of the payload of a body that was passed to send.
+    pub(crate) fn first_body(&self) -> Option<&Bytes>
+        ensures { IfSome result (λ body. body.now ≡ front_of (lent self.now.frames)) }
+    {
+        let frame = self.first()?;
+        let body = frame.body()?;
+        Some(body)
+    }
+
+    // The first frame.
+    fn first(&self) -> Option<&Frame>
+        ensures { MatchOption result (self.now.frames ≡ []) (λ frame. first_part frame.now ≡ lent self.now.frames) }
+    {
+        if let Some(frame) = &self.first {
+            return Some(frame);
+        }
+        if let Some(frame) = &self.second {
+            return Some(frame);
+        }
+        self.later.front()
     }
 
     /// Copies the first bytes to the front of `out`, over frames too, up to a payload that the caller holds and as many as fit. Returns how

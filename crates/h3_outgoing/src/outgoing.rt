@@ -1,5 +1,5 @@
 //! What is sent on a request stream: the place in its message, and the frames that wait.
-ghost use Rattle.std.specs.Prelude.{◌≡◌, ◌==◌, ◌+◌, ◌<◌, ◌≤◌, ◌^◌, ◌++◌, length, take, drop, true, false, OnOk, OnErr, IfErr, IsTrue};
+ghost use Rattle.std.specs.Prelude.{◌≡◌, ◌==◌, ◌+◌, ◌<◌, ◌≤◌, ◌^◌, ◌++◌, length, take, drop, true, false, OnOk, OnErr, IfErr, IfSome, IsTrue};
 ghost use Rattle.h3_connection.specs.WaitingPieces.{bytes_of, lent};
 ghost use Rattle.h3_connection.specs.State.{nothing_waits};
 ghost use Rattle.h3_connection.specs.StrictSending.{early_trailer, passes_content};
@@ -271,6 +271,14 @@ impl OutgoingStream {
         ensures { result.now ≡ front_of (lent self.now.pieces) }
     {
         self.frames.first_part()
+    }
+
+    /// The same as the `Bytes` in which a body was passed to send: a clone of it copies nothing. None: they are a frame's type and length,
+    /// a field section, or a payload that the caller holds.
+    pub fn outgoing_body(&self) -> Option<&Bytes>
+        ensures { IfSome result (λ body. body.now ≡ front_of (lent self.now.pieces)) }
+    {
+        self.frames.first_body()
     }
 
     /// Appends the first `count` bytes that wait, at most all, over frames too. They keep waiting. A refusal appends nothing: an allocation

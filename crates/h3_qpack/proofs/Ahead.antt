@@ -17,7 +17,7 @@ use Rattle.h3_table.specs.declared.entries.Match.TheVariants as what
 use Rattle.h3_qpack.specs.Marks.{with_mark}
 use Rattle.h3_qpack.specs.EncoderHistory.{EncoderHistory, blocks_out}
 use Rattle.h3_qpack.specs.EncoderState.{EncoderState, encoder_state}
-use Rattle.h3_qpack.specs.SectionEncoding.{Draft, draining, held, any_equal, is_usable, is_worth_to, unless_never, marked, marks_after, entry_name_line, evictions_by, finds_room, is_new, is_insertable_ahead, insertion, add_ahead, write_field, insert_ahead, add_field}
+use Rattle.h3_qpack.specs.SectionEncoding.{Draft, draining, held, any_equal, is_usable, is_worth_to, unless_never, keeps_marks, marked, marks_after, entry_name_line, evictions_by, finds_room, is_new, is_insertable_ahead, insertion, add_ahead, write_field, insert_ahead, add_field}
 use Rattle.h3_qpack.specs.Drafting.{IsDraftState, IsDraftedWith, IsDrafted, IsSmall, IsChosen, IsLiteral, IsPossible, IsPutAhead, MayInsertAhead, is_worth_in, equal_in, noted, is_literal, line_for, section_after, encoder_state_with, instructions_after, insertion_for}
 use Rattle.h3_qpack.specs.declared.section.Section.{Section}
 use Rattle.h3_qpack.specs.declared.section.Choice.{Choice}
@@ -110,8 +110,8 @@ few_of : (s : EncoderHistory) (d : Draft) (marks : List ℕ) (t : EncoderState) 
 few_of s d marks t section k small = subst (λ n. n < 2 ^ 62) (ap (λ (u : EncoderState). u.table.inserted) k.stores) small.few
 
 -- a line more
-marks_more : (s : EncoderHistory) (lines : List FieldLine) (l : FieldLine) → marks_after s (lines ++ l ∷ []) ≡ marked s.choices.economical (marks_after s lines) l
-marks_more s lines l = fold_push (marked s.choices.economical) s.marks lines l
+marks_more : (s : EncoderHistory) (lines : List FieldLine) (l : FieldLine) → marks_after s (lines ++ l ∷ []) ≡ marked (keeps_marks s) (marks_after s lines) l
+marks_more s lines l = fold_push (marked (keeps_marks s)) s.marks lines l
 
 -- A line that is no literal leaves no mark.
 plain_marks : (s : EncoderHistory) (d : Draft) (f : Field) (c : Choice) → is_literal c ≡ false → marks_after s (drafted s d f c).lines ≡ marks_after s d.lines
@@ -124,10 +124,10 @@ plain_marks s d f choice.Literal e = absurd (cc)
 
 -- the marks behind a literal
 abbrev with_literal : EncoderHistory → List ℕ → Field → List ℕ
-with_literal s marks f = if s.choices.economical && not f.never_indexed then with_mark marks f.value else marks
+with_literal s marks f = if keeps_marks s && not f.never_indexed then with_mark marks f.value else marks
 
-marked_literal : (economical n : Bool) (marks value : List ℕ)
-    → unwrap_or (option_map (λ v. if economical then with_mark marks v else marks) (unless_never n value)) marks ≡ (if economical && not n then with_mark marks value else marks)
+marked_literal : (keeps n : Bool) (marks value : List ℕ)
+    → unwrap_or (option_map (λ v. if keeps then with_mark marks v else marks) (unless_never n value)) marks ≡ (if keeps && not n then with_mark marks value else marks)
 marked_literal true true marks value = refl
 marked_literal true false marks value = refl
 marked_literal false true marks value = refl
@@ -137,14 +137,14 @@ literal_marks : (s : EncoderHistory) (d : Draft) (f : Field) (c : Choice) → is
 literal_marks s d f (choice.Static index) e = absurd (cc)
 literal_marks s d f (choice.Entry number) e = absurd (cc)
 literal_marks s d f (choice.Insertion after searched) e = absurd (cc)
-literal_marks s d f (choice.StaticName index) e = marks_more s d.lines (line.StaticName index (coded s.choices.shortest_strings f.value) f.never_indexed) ∙ marked_literal s.choices.economical f.never_indexed (marks_after s d.lines) f.value
+literal_marks s d f (choice.StaticName index) e = marks_more s d.lines (line.StaticName index (coded s.choices.shortest_strings f.value) f.never_indexed) ∙ marked_literal (keeps_marks s) f.never_indexed (marks_after s d.lines) f.value
 literal_marks s d f (choice.EntryName number) e = marks_more s d.lines (entry_name_line (length s.inserted) number (coded s.choices.shortest_strings f.value) f.never_indexed) ∙ either_line (nat_le number (length s.inserted))
   where
-    either_line : (b : Bool) → marked s.choices.economical (marks_after s d.lines) (if b then line.RelativeName (length s.inserted - number) (coded s.choices.shortest_strings f.value) f.never_indexed else line.PostBaseName (number - length s.inserted - 1) (coded s.choices.shortest_strings f.value) f.never_indexed)
+    either_line : (b : Bool) → marked (keeps_marks s) (marks_after s d.lines) (if b then line.RelativeName (length s.inserted - number) (coded s.choices.shortest_strings f.value) f.never_indexed else line.PostBaseName (number - length s.inserted - 1) (coded s.choices.shortest_strings f.value) f.never_indexed)
         ≡ with_literal s (marks_after s d.lines) f
-    either_line true = marked_literal s.choices.economical f.never_indexed (marks_after s d.lines) f.value
-    either_line false = marked_literal s.choices.economical f.never_indexed (marks_after s d.lines) f.value
-literal_marks s d f choice.Literal e = marks_more s d.lines (line.Literal (coded s.choices.shortest_strings f.name) (coded s.choices.shortest_strings f.value) f.never_indexed) ∙ marked_literal s.choices.economical f.never_indexed (marks_after s d.lines) f.value
+    either_line true = marked_literal (keeps_marks s) f.never_indexed (marks_after s d.lines) f.value
+    either_line false = marked_literal (keeps_marks s) f.never_indexed (marks_after s d.lines) f.value
+literal_marks s d f choice.Literal e = marks_more s d.lines (line.Literal (coded s.choices.shortest_strings f.name) (coded s.choices.shortest_strings f.value) f.never_indexed) ∙ marked_literal (keeps_marks s) f.never_indexed (marks_after s d.lines) f.value
 
 -- The line is all of the field.
 line_alone : (s : EncoderHistory) (d : Draft) (t : EncoderState) (section : Section) (f : Field) (c : Choice) (lines start instruction_bytes : List ℕ) → IsDrafted s d t section lines start instruction_bytes

@@ -1,4 +1,5 @@
--- A section on a stream whose cancellation was read: it is written as static lines, and nothing else changes.
+-- A section on a stream whose cancellation was read, and one of an encoder whose table may have no entry: it is written as static lines,
+-- and nothing else changes.
 use Rattle.std.proofs.Common.{Less, Equal, Greater, ◌⊎◌, inl, inr, ◌≡◌, ℕ, ◌+◌, ◌-◌, ◌^◌, ◌<◌, ◌≤◌, Bool, true, false, not, is_none, bytes_eq, ◌&&◌, ◌||◌, max, List, [], ◌∷◌, ◌++◌, length, map, filter, fold, refl, sym, ◌∙◌, ap, arith, nat_lt, nat_le, cond, append_assoc, append-nil, flat_map, if◌then◌else◌, Option, Some, None, option_map, unwrap_or}
 use Rattle.std.specs.Prelude.{◌==◌}
 use Rattle.std.specs.List.{AllByRecursion, list_all, list_any}
@@ -21,7 +22,7 @@ use Rattle.h3_qpack.specs.EncoderHistory.{EncoderHistory, blocks_out, referenced
 use Rattle.h3_table.specs.Cancellations.{counts_as_canceled}
 use Rattle.h3_qpack.specs.EncoderState.{EncoderState, encoder_state, was_canceled_in}
 use Rattle.h3_qpack.proofs.EncoderStates.{tracked_state}
-use Rattle.h3_qpack.specs.SectionEncoding.{Draft, add_line, add_literal, add_ahead, write_indexed, write_field, add_field, unnamed, held, found, found_name, any_equal, is_usable, is_worth_to, literal_value, marked, marks_after, entry_name_line, evictions_by, finds_room, is_insertable, is_new, is_insertable_ahead, guarded_fields, draft_of, required_insert_count, encoded_section, instructions_for, having_inserted, sent_section}
+use Rattle.h3_qpack.specs.SectionEncoding.{Draft, add_line, add_literal, add_ahead, write_indexed, write_field, add_field, unnamed, held, found, found_name, any_equal, is_usable, is_worth_to, literal_value, keeps_marks, marked, marks_after, entry_name_line, evictions_by, finds_room, is_insertable, is_new, is_insertable_ahead, guarded_fields, draft_of, required_insert_count, encoded_section, instructions_for, having_inserted, sent_section}
 use Rattle.h3_field.specs.StaticLines.{literal_line_by, line_or_literal_by, static_line_by}
 use Rattle.h3_qpack.specs.StaticSections.{chosen_line, static_section}
 use Rattle.h3_qpack.specs.declared.encoder_choices.EncoderChoices.{EncoderChoices}
@@ -50,9 +51,10 @@ canceled_more stream other (id ∷ ids) = by_order (nat_lt stream id) (stream ==
         rw same (twice (id == other) (list_any (λ k. k == other) ids))
     by_order false false e h = rw h (swapped (id == other) (stream == other) (list_any (λ k. k == other) ids))
 
--- No section may be blocked, no entry is there, and none is inserted for later sections: the encoder is not economical, or none fits.
+-- No entry is there. None is inserted: no section may be blocked, or none fits. And none is inserted for later sections: the encoder is
+-- not economical, or none fits.
 pub record NamesNone (s : EncoderHistory) : Type 0 where
-  pub limit : s.limit ≡ 0
+  pub unblocked : (s.limit ≡ 0) ⊎ (s.capacity ≡ 0)
   pub unsaved : (s.choices.economical ≡ false) ⊎ (s.capacity ≡ 0)
   pub evicted : evictions s.capacity s.inserted ≡ length s.inserted
 
@@ -65,14 +67,6 @@ not_below n = grind (arith, common_steps)
 
 not_above : (n most : ℕ) → n < 1 + most → nat_lt most n ≡ false
 not_above n most h = grind (arith, common_steps, h)
-
-not_insertable : (s : EncoderHistory) (lines : List FieldLine) (f : Field) → NamesNone s → is_insertable s (with_lines s lines) f ≡ false
-not_insertable s lines f h =
-    let d = with_lines s lines in
-    first (nat_lt (blocks_out s) s.limit) (is_worth_to s (not (is_none (held s d f))) (marks_after s d.lines) d f) (finds_room s d f) (ap (λ limit. nat_lt (blocks_out s) limit) h.limit ∙ not_below (blocks_out s))
-  where
-    first : (a b c : Bool) → a ≡ false → (a && b && c) ≡ false
-    first a b c h = rw h refl
 
 too_large : (size capacity : ℕ) → capacity ≡ 0 → 32 ≤ size → nat_le size capacity ≡ false
 too_large size capacity none some = grind (arith, common_steps, none, some)
@@ -90,6 +84,27 @@ no_room s d f none =
     third false a false c d h = refl
     third true false false c d h = refl
     third true true false c d h = refl
+
+not_insertable : (s : EncoderHistory) (lines : List FieldLine) (f : Field) → NamesNone s → is_insertable s (with_lines s lines) f ≡ false
+not_insertable s lines f h = by_reason h.unblocked
+  where
+    first : (a b c : Bool) → a ≡ false → (a && b && c) ≡ false
+    first a b c h = rw h refl
+
+    third : (a b c : Bool) → c ≡ false → (a && b && c) ≡ false
+    third a b true h = absurd (cc)
+    third true true false h = refl
+    third true false false h = refl
+    third false b false h = refl
+
+    by_reason : ((s.limit ≡ 0) ⊎ (s.capacity ≡ 0)) → is_insertable s (with_lines s lines) f ≡ false
+    by_reason (inl none) =
+        let d = with_lines s lines in
+        first (nat_lt (blocks_out s) s.limit) (is_worth_to s (not (is_none (held s d f))) (marks_after s d.lines) d f) (finds_room s d f)
+        (ap (λ limit. nat_lt (blocks_out s) limit) none ∙ not_below (blocks_out s))
+    by_reason (inr none) =
+        let d = with_lines s lines in
+        third (nat_lt (blocks_out s) s.limit) (is_worth_to s (not (is_none (held s d f))) (marks_after s d.lines) d f) (finds_room s d f) (no_room s d f none)
 
 pub not_ahead : (s : EncoderHistory) (marks : List ℕ) (d : Draft) (f : Field) → (s.choices.economical ≡ false) ⊎ (s.capacity ≡ 0) → is_insertable_ahead s marks d f ≡ false
 not_ahead s marks d f (inl plain) = rw plain refl
@@ -199,7 +214,20 @@ minus_none : (n : ℕ) → n - 0 ≡ n
 minus_none n = omega arith
 
 pub names_none : (s : EncoderHistory) → NamesNone (without_table s)
-names_none s = record { limit = refl; unsaved = inr refl; evicted = ap (λ fs. length s.inserted - length fs) (nothing_fits s.inserted) ∙ minus_none (length s.inserted) }
+names_none s = record { unblocked = inl refl; unsaved = inr refl; evicted = ap (λ fs. length s.inserted - length fs) (nothing_fits s.inserted) ∙ minus_none (length s.inserted) }
+
+-- An encoder whose table may have no entry names none.
+bare_names_none : (s : EncoderHistory) → s.capacity ≡ 0 → NamesNone s
+bare_names_none s none =
+    record {
+      unblocked = inr none;
+      unsaved = inr none;
+      evicted = ap (λ capacity. evictions capacity s.inserted) none ∙ ap (λ fs. length s.inserted - length fs) (nothing_fits s.inserted) ∙ minus_none (length s.inserted);
+    }
+
+-- what is written on the stream names none
+abbrev pub WritesNone : EncoderHistory → ℕ → Type 0
+WritesNone s stream = (was_canceled s stream ≡ true) ⊎ (s.capacity ≡ 0)
 
 pub on_canceled : (s : EncoderHistory) (stream : ℕ) → was_canceled s stream ≡ true → writing_on s stream ≡ without_table s
 on_canceled s stream e = rw e refl
@@ -212,6 +240,22 @@ on_static s stream fields e = ap (λ by. draft_of by fields) (on_canceled s stre
 
 pub on_bytes : (s : EncoderHistory) (stream : ℕ) (fields : List Field) → was_canceled s stream ≡ true → encoded_section (writing_on s stream) fields ≡ static_section s.choices fields
 on_bytes s stream fields e = ap (λ by. encoded_section by fields) (on_canceled s stream e) ∙ section_is_static (without_table s) fields (names_none s)
+
+none_static : (s : EncoderHistory) (stream : ℕ) (fields : List Field) → WritesNone s stream → draft_of (writing_on s stream) fields ≡ with_lines s (map (static_line_by s.choices.shortest_strings) (guarded_fields s fields))
+none_static s stream fields (inl e) = on_static s stream fields e
+none_static s stream fields (inr none) = by_test (was_canceled s stream)
+  where
+    by_test : (b : Bool) → draft_of (if b then without_table s else s) fields ≡ with_lines s (map (static_line_by s.choices.shortest_strings) (guarded_fields s fields))
+    by_test true = draft_is_static (without_table s) fields (names_none s)
+    by_test false = draft_is_static s fields (bare_names_none s none)
+
+none_bytes : (s : EncoderHistory) (stream : ℕ) (fields : List Field) → WritesNone s stream → encoded_section (writing_on s stream) fields ≡ static_section s.choices fields
+none_bytes s stream fields (inl e) = on_bytes s stream fields e
+none_bytes s stream fields (inr none) = by_test (was_canceled s stream)
+  where
+    by_test : (b : Bool) → encoded_section (if b then without_table s else s) fields ≡ static_section s.choices fields
+    by_test true = section_is_static (without_table s) fields (names_none s)
+    by_test false = section_is_static s fields (bare_names_none s none)
 
 -- and so are its choices, but for the economy
 chosen_on : (s : EncoderHistory) (stream : ℕ) (fields : List Field) → static_section (writing_on s stream).choices fields ≡ static_section s.choices fields
@@ -241,6 +285,23 @@ on_announced s stream fields above = by_test (was_canceled s stream) refl
 pub canceled_state : (s : EncoderHistory) (t : EncoderState) (stream : ℕ) (b : Bool) → t ≡ encoder_state s → b ≡ was_canceled_in t stream → was_canceled s stream ≡ b
 canceled_state s t stream b e is = ap (counts_as_canceled s.canceled stream) (tracked_state stream s.tracked) ∙ sym (is ∙ ap (λ u. was_canceled_in u stream) e)
 
+-- and whether a section names none
+pub none_state : (s : EncoderHistory) (t : EncoderState) (stream : ℕ) → t ≡ encoder_state s → ((t.table.capacity == 0) || was_canceled_in t stream) ≡ true → WritesNone s stream
+none_state s t stream same is = by_test (t.table.capacity == 0) refl is
+  where
+    by_test : (b : Bool) → (t.table.capacity == 0) ≡ b → (b || was_canceled_in t stream) ≡ true → WritesNone s stream
+    by_test true zero is =
+        let none : t.table.capacity ≡ 0 = grind (arith, common_steps, zero) in
+        inr (sym (ap (λ (u : EncoderState). u.table.capacity) same) ∙ none)
+    by_test false some is = inl (canceled_state s t stream true same (sym is))
+
+pub some_state : (s : EncoderHistory) (t : EncoderState) (stream : ℕ) → t ≡ encoder_state s → ((t.table.capacity == 0) || was_canceled_in t stream) ≡ false → was_canceled s stream ≡ false
+some_state s t stream same is = by_test (t.table.capacity == 0) is
+  where
+    by_test : (b : Bool) → (b || was_canceled_in t stream) ≡ false → was_canceled s stream ≡ false
+    by_test true is = absurd (cc)
+    by_test false is = canceled_state s t stream false same (sym is)
+
 none_waits : (known : ℕ) (counts : List ℕ) → filter (λ c. nat_lt known c) (counts ++ 0 ∷ []) ≡ filter (λ c. nat_lt known c) counts
 none_waits known counts =
     let none : filter (λ c. nat_lt known c) (0 ∷ []) ≡ [] = rw (not_below known) refl in
@@ -268,6 +329,23 @@ plain_lines marks (l ∷ lines) = ap (λ m. fold (marked false) m lines) (one (l
 pub on_marks : (s : EncoderHistory) (stream : ℕ) (lines : List FieldLine) → was_canceled s stream ≡ true → marks_after (writing_on s stream) lines ≡ s.marks
 on_marks s stream lines e = ap (λ b. marks_after (if b then without_table s else s) lines) e ∙ plain_lines s.marks lines
 
+-- Nor does one of an encoder whose table may have no entry.
+keeps_none : (s : EncoderHistory) → s.capacity ≡ 0 → keeps_marks s ≡ false
+keeps_none s none = last s.choices.economical (nat_lt 0 s.capacity) (ap (λ capacity. nat_lt 0 capacity) none ∙ not_below 0)
+  where
+    last : (a b : Bool) → b ≡ false → (a && b) ≡ false
+    last a true h = absurd (cc)
+    last true false h = refl
+    last false false h = refl
+
+none_marks : (s : EncoderHistory) (stream : ℕ) (lines : List FieldLine) → WritesNone s stream → marks_after (writing_on s stream) lines ≡ s.marks
+none_marks s stream lines (inl e) = on_marks s stream lines e
+none_marks s stream lines (inr none) = by_test (was_canceled s stream)
+  where
+    by_test : (b : Bool) → marks_after (if b then without_table s else s) lines ≡ s.marks
+    by_test true = plain_lines s.marks lines
+    by_test false = ap (λ keeps. fold (marked keeps) s.marks lines) (keeps_none s none) ∙ plain_lines s.marks lines
+
 begun_marks : (s : EncoderHistory) (b : Bool) → (if b then without_table s else s).marks ≡ s.marks
 begun_marks s true = refl
 begun_marks s false = refl
@@ -277,21 +355,24 @@ pub none_inserted : (s : EncoderHistory) (stream : ℕ) → having_inserted s st
 none_inserted s stream =
     ap (λ fs. record s { inserted = fs; marks = (writing_on s stream).marks }) (on_inserted s stream) ∙ ap (λ m. record s { marks = m }) (begun_marks s (was_canceled s stream))
 
--- A section on a canceled stream is not tracked, and inserts nothing.
-pub canceled_kept : (s : EncoderHistory) (stream : ℕ) (fields : List Field) → was_canceled s stream ≡ true → encoder_state s ≡ encoder_state (sent_section s stream fields)
-canceled_kept s stream fields e =
-    sym (ap (λ d. encoder_state (sent_draft s (writing_on s stream) stream d)) (on_static s stream fields e)
-    ∙ rw (none_waits s.known_received s.required_insert_counts, append-nil s.tracked, on_marks s stream (map (static_line_by s.choices.shortest_strings) (guarded_fields s fields)) e) refl)
+-- A section that names none is not tracked, and inserts nothing.
+none_kept : (s : EncoderHistory) (stream : ℕ) (fields : List Field) → WritesNone s stream → encoder_state s ≡ encoder_state (sent_section s stream fields)
+none_kept s stream fields none =
+    sym (ap (λ d. encoder_state (sent_draft s (writing_on s stream) stream d)) (none_static s stream fields none)
+    ∙ rw (none_waits s.known_received s.required_insert_counts, append-nil s.tracked, none_marks s stream (map (static_line_by s.choices.shortest_strings) (guarded_fields s fields)) none) refl)
 
-pub canceled_sent : (s : EncoderHistory) (stream : ℕ) (fields : List Field) (t : EncoderState) (before block start : List ℕ) → was_canceled s stream ≡ true → t ≡ encoder_state s
+pub canceled_kept : (s : EncoderHistory) (stream : ℕ) (fields : List Field) → was_canceled s stream ≡ true → encoder_state s ≡ encoder_state (sent_section s stream fields)
+canceled_kept s stream fields e = none_kept s stream fields (inl e)
+
+pub none_sent : (s : EncoderHistory) (stream : ℕ) (fields : List Field) (t : EncoderState) (before block start : List ℕ) → WritesNone s stream → t ≡ encoder_state s
     → block ≡ before ++ static_section t.choices fields → AllByRecursion IsFieldOfBytes fields → IsSent s stream fields 0 t before block start start
-canceled_sent s stream fields t before block start e same is are_bytes =
-    let static = on_static s stream fields e in
+none_sent s stream fields t before block start none same is are_bytes =
+    let static = none_static s stream fields none in
     record {
-      stores = same ∙ canceled_kept s stream fields e;
+      stores = same ∙ none_kept s stream fields none;
       count_is = ap required_insert_count (sym static);
       are_bytes = are_bytes;
-      encoded_is = is ∙ ap (λ (u : EncoderState). before ++ static_section u.choices fields) same ∙ ap (λ bytes. before ++ bytes) (sym (on_bytes s stream fields e));
+      encoded_is = is ∙ ap (λ (u : EncoderState). before ++ static_section u.choices fields) same ∙ ap (λ bytes. before ++ bytes) (sym (none_bytes s stream fields none));
       instructions_are = sym (append-nil start) ∙ ap (λ (d : Draft). start ++ flat_map encoder_bytes d.instructions) (sym static);
     }
 
@@ -310,7 +391,7 @@ abbrev pub InsertsNothing : EncoderHistory → Type 0
 InsertsNothing s = (s.limit ≡ 0) × ((s.choices.economical ≡ false) ⊎ (s.capacity ≡ 0))
 
 early_names_none : (s : EncoderHistory) → InsertsNothing s → s.inserted ≡ [] → NamesNone s
-early_names_none s none empty = record { limit = none.0; unsaved = none.1; evicted = ap (λ fs. evictions s.capacity fs) empty ∙ ap (λ fs. length fs) (sym empty) }
+early_names_none s none empty = record { unblocked = inl none.0; unsaved = none.1; evicted = ap (λ fs. evictions s.capacity fs) empty ∙ ap (λ fs. length fs) (sym empty) }
 
 on_none : (s : EncoderHistory) (stream : ℕ) → InsertsNothing s → s.inserted ≡ [] → NamesNone (writing_on s stream)
 on_none s stream none empty = by_test (was_canceled s stream)

@@ -1,12 +1,13 @@
 -- An instruction at the front of some bytes, and the field that it inserts.
 use Rattle.std.proofs.Common.{◌≡◌, inl, inr, ℕ, ◌<◌, ◌≤◌, nat_le, true, false, List, length, Option, Some, None, Ok, Err, refl, ap, sym, ◌∙◌, subst, arith}
-use Rattle.h3_field.specs.Field.{Field}
+use Rattle.h3_field.specs.Field.{Field, plain_field}
 use Rattle.h3_field.specs.Reading.{Reading, Whole, Unfinished, Bad}
 use Rattle.h3_field.specs.Instruction.{EncoderInstruction, huffman_instruction}
 use Rattle.h3_field.specs.CodingLaws.{told_instruction}
 use Rattle.h3_field.specs.ReadBack.{HasInstruction}
 use Rattle.h3_field.specs.InstructionReading.{InstructionForm, Says, instruction}
-use Rattle.h3_field.specs.InstructionAnswer.{AnswersInstruction}
+use Rattle.h3_field.specs.InstructionAnswer.{AnswersInstruction, short_named_insertion}
+use Rattle.h3_field.specs.declared.block.literal.NameRef as name_ref
 use Rattle.h3_field.specs.ShapeAnswer.{Place, error_at}
 use Rattle.h3_qpack.proofs.LinesAt.{bad_at}
 use Rattle.h3_field.specs.ValueLaws.{one_instruction_said}
@@ -75,6 +76,14 @@ begins_insertion place h says read old new o i f shorter e is answer inserts nam
       plain = plain;
       less = shorter old new told.1.form (sym e ∙ told.1.whole);
     }
+
+-- a name and a value are an insertion, and so is a field without the flag, of itself
+pub named_inserts : (value : List ℕ) (name : name_ref.NameRef) → is_insertion (short_named_insertion value name) ≡ true
+named_inserts value (name_ref.TheVariants.Static index) = refl
+named_inserts value (name_ref.TheVariants.Dynamic index) = refl
+
+pub plain_field_is : (f : Field) → f.never_indexed ≡ false → Some (plain_field f.name f.value) ≡ Some f
+plain_field_is f plain = ap (λ flag. let x : Field = record { name = f.name; value = f.value; never_indexed = flag } in Some x) (sym plain)
 
 -- an insertion that was read and names no field
 pub begins_no_insertion : {I : Type 0} (place : Place) (h : TableState) (says : I → EncoderInstruction) (read : Reading InstructionForm) (old new : List ℕ) (o : Option I) (i : I) → instruction old ≡ read

@@ -34,4 +34,4 @@ inserts_all s d f plain = rw plain (and_true (nat_lt (blocks_out s) s.limit))
 
 -- It leaves no mark.
 pub marks_nothing : (s : EncoderHistory) (lines : List FieldLine) → s.choices.economical ≡ false → marks_after s lines ≡ s.marks
-marks_nothing s lines plain = ap (λ b. fold (marked b) s.marks lines) plain ∙ plain_lines s.marks lines
+marks_nothing s lines plain = ap (λ b. fold (marked (b && nat_lt 0 s.capacity)) s.marks lines) plain ∙ plain_lines s.marks lines

@@ -169,9 +169,9 @@ abbrev pub encoder_state_with : EncoderState → Field → Choice → EncoderSta
 encoder_state_with t f (choice.Insertion after searched) = record t { table = with_entry t.table f }
 encoder_state_with t f other = t
 
--- what is kept behind the field: a literal that may be indexed leaves its mark with an economical encoder
+-- what is kept behind the field: a literal that may be indexed leaves its mark with an economical encoder whose table may have entries
 abbrev pub noted : EncoderState → Field → EncoderState
-noted t f = record t { marks = if t.choices.economical && not f.never_indexed then with_mark t.marks f.value else t.marks }
+noted t f = record t { marks = if t.choices.economical && nat_lt 0 t.table.capacity && not f.never_indexed then with_mark t.marks f.value else t.marks }
 
 -- the instructions for it
 abbrev pub instructions_after : EncoderState → Field → Choice → List EncoderInstruction

@@ -32,7 +32,7 @@ pub record EncoderHistory : Type 0 where
   -- an acknowledgment tells of the insertions that its section needs (RFC 9204, section 2.1.4); else increments alone tell of any
   pub counts_acknowledgments : Bool
   pub choices : EncoderChoices
-  -- marks of the last values that it wrote as literals while it was economical, the newest first
+  -- marks of the last values that it wrote as literals while it was economical and its table could have entries, the newest first
   pub marks : List ℕ
 
 -- by default it chooses nothing

@@ -7,7 +7,7 @@ use Rattle.h3_field.specs.Line.{FieldLine}
 use Rattle.h3_field.specs.Line.FieldLine.{StaticField, RelativeField, PostBaseField, StaticName, RelativeName, PostBaseName, Literal}
 use Rattle.h3_qpack.specs.Marks.{with_mark}
 use Rattle.h3_qpack.specs.EncoderHistory.{EncoderHistory, blocks_out, was_canceled, writing_on}
-use Rattle.h3_qpack.specs.SectionEncoding.{Draft, held, found, found_name, any_equal, literal_value, marked, marks_after, is_worth_to, finds_room, is_insertable, is_new, is_insertable_ahead, entry_name_line, add_line, add_literal, add_inserted, add_ahead, write_indexed, insert_ahead, add_field, first_draft, draft_as_given, guarded_fields, draft_of, required_insert_count, instructions_for, having_inserted, sent_section}
+use Rattle.h3_qpack.specs.SectionEncoding.{Draft, held, found, found_name, any_equal, literal_value, keeps_marks, marked, marks_after, is_worth_to, finds_room, is_insertable, is_new, is_insertable_ahead, entry_name_line, add_line, add_literal, add_inserted, add_ahead, write_indexed, insert_ahead, add_field, first_draft, draft_as_given, guarded_fields, draft_of, required_insert_count, instructions_for, having_inserted, sent_section}
 use Rattle.h3_qpack.specs.Secrets.{shown, without_secret, without_secrets, shown_text, line_hiding, line_without_secret, draft_hiding, hidden}
 
 -- A line with the bit N leaves no mark.
@@ -24,11 +24,11 @@ value_seen empty (PostBaseName index value false) = refl
 value_seen empty (Literal name value true) = refl
 value_seen empty (Literal name value false) = refl
 
-marks_seen : (empty : Text) (economical : Bool) (marks : List ℕ) (lines : List FieldLine) → fold (marked economical) marks (map (line_hiding empty) lines) ≡ fold (marked economical) marks lines
-marks_seen empty economical marks [] = refl
-marks_seen empty economical marks (l ∷ lines) =
-    ap (λ o. fold (marked economical) (unwrap_or (option_map (λ value. if economical then with_mark marks value else marks) o) marks) (map (line_hiding empty) lines)) (value_seen empty l)
-    ∙ marks_seen empty economical (marked economical marks l) lines
+marks_seen : (empty : Text) (keeps : Bool) (marks : List ℕ) (lines : List FieldLine) → fold (marked keeps) marks (map (line_hiding empty) lines) ≡ fold (marked keeps) marks lines
+marks_seen empty keeps marks [] = refl
+marks_seen empty keeps marks (l ∷ lines) =
+    ap (λ o. fold (marked keeps) (unwrap_or (option_map (λ value. if keeps then with_mark marks value else marks) o) marks) (map (line_hiding empty) lines)) (value_seen empty l)
+    ∙ marks_seen empty keeps (marked keeps marks l) lines
 
 -- a line more
 lines_seen : (empty : Text) (lines : List FieldLine) (l : FieldLine) → map (line_hiding empty) lines ++ line_hiding empty l ∷ [] ≡ map (line_hiding empty) (lines ++ l ∷ [])
@@ -77,7 +77,7 @@ literal_seen s d f =
 -- What is inserted does not rest on the lines but by their marks.
 insertable_seen : (s : EncoderHistory) (d : Draft) (f : Field) → is_insertable s (draft_hiding (hidden s) d) f ≡ is_insertable s d f
 insertable_seen s d f =
-    ap (λ marks. nat_lt (blocks_out s) s.limit && is_worth_to s (not (is_none (held s d f))) marks d f && finds_room s d f) (marks_seen (hidden s) s.choices.economical s.marks d.lines)
+    ap (λ marks. nat_lt (blocks_out s) s.limit && is_worth_to s (not (is_none (held s d f))) marks d f && finds_room s d f) (marks_seen (hidden s) (keeps_marks s) s.marks d.lines)
 
 inserted_seen : (s : EncoderHistory) (d : Draft) (f : Field) → add_inserted s (draft_hiding (hidden s) d) f ≡ draft_hiding (hidden s) (add_inserted s d f)
 inserted_seen s d f = ap (λ ls. record (add_inserted s d f) { lines = ls }) (lines_seen (hidden s) d.lines (PostBaseField (length d.inserted - length s.inserted)))
@@ -135,7 +135,7 @@ field_seen s d f = by_flag f.name f.value f.never_indexed
         ∙ ap (draft_hiding (hidden s)) (sym (never_ahead s (marks_after s d.lines) (add_literal s d f) name value))
     by_flag name value false =
         let f : Field = record { name = name; value = value; never_indexed = false } in
-        ap (λ marks. insert_ahead s marks (write_indexed s (draft_hiding (hidden s) d) f) f) (marks_seen (hidden s) s.choices.economical s.marks d.lines)
+        ap (λ marks. insert_ahead s marks (write_indexed s (draft_hiding (hidden s) d) f) f) (marks_seen (hidden s) (keeps_marks s) s.marks d.lines)
         ∙ ap (λ e. insert_ahead s (marks_after s d.lines) e f) (indexed_seen s d f (literal_seen s d f))
         ∙ ahead_seen s (marks_after s d.lines) (write_indexed s d f) f
 
@@ -199,7 +199,7 @@ kept_alike s kept fields others e same =
     sym (seen (draft_of s fields)) ∙ ap (λ (d : Draft). kept d (marks_after s d.lines)) (drafts_alike s fields others e) ∙ seen (draft_of s others)
   where
     seen : (d : Draft) → kept (draft_hiding (hidden s) d) (marks_after s (map (line_hiding (hidden s)) d.lines)) ≡ kept d (marks_after s d.lines)
-    seen d = ap (λ marks. kept (draft_hiding (hidden s) d) marks) (marks_seen (hidden s) s.choices.economical s.marks d.lines) ∙ same d (marks_after s d.lines)
+    seen d = ap (λ marks. kept (draft_hiding (hidden s) d) marks) (marks_seen (hidden s) (keeps_marks s) s.marks d.lines) ∙ same d (marks_after s d.lines)
 
 -- the encoder after the section
 pub sent_alike : (s : EncoderHistory) (stream : ℕ) (fields others : List Field) → without_secrets s fields ≡ without_secrets s others → sent_section s stream fields ≡ sent_section s stream others

@@ -67,11 +67,15 @@ literal_value (Literal name value n) = unless_never n value.bytes
 
 -- the marks behind a further line
 abbrev pub marked : Bool → List ℕ → FieldLine → List ℕ
-marked economical marks line = unwrap_or (option_map (λ value. if economical then with_mark marks value else marks) (literal_value line)) marks
+marked keeps marks line = unwrap_or (option_map (λ value. if keeps then with_mark marks value else marks) (literal_value line)) marks
+
+-- Marks are kept by an economical encoder whose table may have entries.
+abbrev pub keeps_marks : EncoderHistory → Bool
+keeps_marks s = s.choices.economical && nat_lt 0 s.capacity
 
 -- the marks behind the lines of a section
 abbrev pub marks_after : EncoderHistory → List FieldLine → List ℕ
-marks_after s lines = fold (marked s.choices.economical) s.marks lines
+marks_after s lines = fold (marked (keeps_marks s)) s.marks lines
 
 -- Worth an entry is what an encoder inserts that is not economical. Else it is a field whose entry drains, one with which nothing would
 -- drain, the first of its name, and one whose value was among the last literals.

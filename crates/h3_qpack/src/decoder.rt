@@ -1,19 +1,20 @@
 //! A decoder with its dynamic table (RFC 9204, sections 2.2 and 4).
-ghost use Rattle.std.specs.Prelude.{◌≡◌, ◌≢◌, ◌≤◌, ◌<◌, ◌^◌, ℕ, ◌-◌, List, [], true, false, length, min, nat_lt, drop, IfOk, IfErr, OnOk, OnErr, ◌++◌};
+ghost use Rattle.std.specs.Prelude.{◌≡◌, ◌≢◌, ◌≤◌, ◌<◌, ◌^◌, ℕ, ◌-◌, List, [], Some, true, false, length, min, nat_lt, drop, IfOk, IfErr, IfNone, IfSome, OnOk, OnErr, ◌++◌};
 ghost use Rattle.h3_field.specs.Instruction.{decoder_bytes};
 ghost use Rattle.h3_field.specs.Instruction.DecoderInstruction.{Acknowledge, CancelStream};
 ghost use Rattle.h3_field.specs.Reading.{Unfinished};
+ghost use Rattle.h3_field.specs.InstructionAnswer.{short_named_insertion};
 ghost use Rattle.h3_field.specs.InstructionReading.{instruction};
 ghost use Rattle.h3_qpack.specs.Increments.{increment_for};
 ghost use Rattle.h3_field.specs.Field.{Field, section_size};
 ghost use Rattle.h3_field.specs.declared.decoder_error.DecoderError.TheVariants.{OutOfMemory};
 ghost use Rattle.h3_field.specs.Shapes.{begins};
-ghost use Rattle.h3_qpack.specs.DecoderState.{DecoderState, announcing, checking, greatest_capacity};
+ghost use Rattle.h3_qpack.specs.DecoderState.{DecoderState, announcing, checking, greatest_capacity, insertion_of};
 ghost use Rattle.h3_qpack.specs.Meaning.{HasPrefix, MeansFields, names_no_entry, table_for};
 ghost use Rattle.h3_qpack.specs.DecodedSection.{decode_section, fields_in, with_fields, IsRefusalOf, Fields};
 ghost use Rattle.h3_qpack.specs.Sizes.{IsBlockWithin};
 ghost use Rattle.h3_qpack.specs.SectionAnswers.{MayAskMemory, IsRefusal, IsReasonFor};
-ghost use Rattle.h3_qpack.specs.InstructionAnswers.{AnswersInsertionRead, AnswersOne};
+ghost use Rattle.h3_qpack.specs.InstructionAnswers.{AnswersInsertionRead, AnswersOne, BeginsInsertion};
 ghost use Rattle.h3_qpack.specs.Instructions.{HasRead, BeginsBad};
 ghost use Rattle.h3_qpack.specs.Hearing.{heard, hear};
 
@@ -21,14 +22,14 @@ use crate::block_within::{BlockWithin, SectionSummary};
 use crate::dynamic::DynamicTable;
 use crate::lines::{Lines, relative, relative_name_room};
 use crate::reserved::{INCREMENT_LEN, put_increment};
-use h3_field::block::HeaderPrefix;
+use h3_field::block::{HeaderPrefix, NameRef};
 use h3_field::dynamic::Error;
 use h3_field::static_::StaticTable;
 use h3_field::stream::{
     Duplicate, DynamicTableSizeUpdate, EncoderInstruction, HeaderAck, InsertWithNameRef,
     InsertWithoutNameRef, StreamCancel,
 };
-use h3_field::{Decoded, DecoderError, FieldBlock, HeaderField, SliceCursor};
+use h3_field::{Decoded, DecoderError, FieldBlock, HeaderField, ShortString, SliceCursor};
 use h3_table::entries::{Entries, MAX_CAPACITY, MOST_INSERTIONS};
 use std::alloc::{AllocError, Global};
 use std::borrow::CowSlice;
@@ -264,6 +265,67 @@ impl Decoder {
         requires own { begins 128 255 buf.old ≡ true }
         ensures { AnswersInsertionRead self.now.table buf.old buf.new result }
     {
+        match self.read_short_named(buf) {
+            Some(field) => Ok(Some(field)),
+            None => self.read_long_named(buf),
+        }
+    }
+
+    /// The same, if the field takes no memory. None: it may take some, or no insertion is read. Then nothing is taken.
+    fn read_short_named(&self, buf: &mut SliceCursor<'_>) -> Option<HeaderField>
+        requires some { 0 < length buf.old }
+        requires own { begins 128 255 buf.old ≡ true }
+        ensures some { IfSome result (λ f. BeginsInsertion self.now.table buf.old f buf.new) }
+        ensures none { IfNone result (buf.new ≡ buf.old) }
+    {
+        let mut ahead = SliceCursor::new(buf.chunk());
+        let mut value = ShortString::new();
+        let Some(name) = InsertWithNameRef::decode_short(&mut ahead, &mut value) else {
+            return None;
+        };
+        let Some(field) = self.short_named(name, value.as_slice()) else {
+            return None;
+        };
+        *buf = ahead;
+        Some(field)
+    }
+
+    /// The field of the name of an entry and a value, if it takes no memory.
+    fn short_named(&self, name: NameRef, value: &[u8]) -> Option<HeaderField>
+        ensures names { IfSome result (λ f. insertion_of self.now.table (short_named_insertion value.now name) ≡ Some f) }
+        ensures plain { IfSome result (λ f. f.never_indexed ≡ false) }
+    {
+        match name {
+            NameRef::Static(index) => match StaticTable::get_name(index) {
+                Ok(name) => {
+                    let field = HeaderField::short_with_static_name(name, value)?;
+                    Some(field)
+                }
+                Err(_) => None,
+            },
+            NameRef::Dynamic(index) => match relative(
+                &self.entries,
+                self.entries.inserted(),
+                index,
+            ) {
+                Ok(entry) => {
+                    let field = entry.with_short_value(value)?;
+                    Some(field)
+                }
+                Err(_) => None,
+            },
+        }
+    }
+
+    /// The same with memory for the value.
+    fn read_long_named(
+        &self,
+        buf: &mut SliceCursor<'_>,
+    ) -> Result<Option<HeaderField>, DecoderError>
+        requires some { 0 < length buf.old }
+        requires own { begins 128 255 buf.old ≡ true }
+        ensures { AnswersInsertionRead self.now.table buf.old buf.new result }
+    {
         let newest = self.entries.inserted();
         let spare = relative_name_room(&self.entries, newest, 6, usize::MAX, buf);
         match InsertWithNameRef::decode_with_room(self.alloc, buf, spare) {
@@ -289,6 +351,21 @@ impl Decoder {
 
     /// The field of an insertion with a literal name.
     fn read_literal(&self, buf: &mut SliceCursor<'_>) -> Result<Option<HeaderField>, DecoderError>
+        requires some { 0 < length buf.old }
+        requires own { begins 64 127 buf.old ≡ true }
+        ensures { AnswersInsertionRead self.now.table buf.old buf.new result }
+    {
+        match InsertWithoutNameRef::decode_short(buf) {
+            Some(field) => Ok(Some(field)),
+            None => self.read_long_literal(buf),
+        }
+    }
+
+    /// The same with memory for both.
+    fn read_long_literal(
+        &self,
+        buf: &mut SliceCursor<'_>,
+    ) -> Result<Option<HeaderField>, DecoderError>
         requires some { 0 < length buf.old }
         requires own { begins 64 127 buf.old ≡ true }
         ensures { AnswersInsertionRead self.now.table buf.old buf.new result }

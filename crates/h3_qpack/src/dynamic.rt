@@ -1,5 +1,5 @@
 //! The dynamic table with what its encoder goes by (RFC 9204, sections 2.1 and 3.2).
-ghost use Rattle.std.specs.Prelude.{◌≡◌, ℕ, ◌+◌, ◌-◌, ◌^◌, ◌<◌, ◌≤◌, List, [], length, min, max, true, false, None, IfSome, IfNone, ◌==◌, IfOk, IfErr, OnErr, OnOk};
+ghost use Rattle.std.specs.Prelude.{◌≡◌, ℕ, ◌+◌, ◌-◌, ◌^◌, ◌<◌, ◌≤◌, List, [], length, min, max, true, false, None, IfSome, IfNone, ◌==◌, ◌||◌, IfOk, IfErr, OnErr, OnOk};
 ghost use Rattle.std.specs.List.{list_any};
 ghost use Rattle.h3_table.specs.Cancellations.{none_canceled};
 ghost use Rattle.h3_field.specs.Field.{Field, field_size, section_size};
@@ -390,11 +390,13 @@ impl DynamicTable {
         }
     }
 
-    /// Keeps the mark of a field that was written as a literal, if the encoder is economical and the field may be indexed.
+    /// Keeps the mark of a field that was written as a literal, if the encoder is economical, its table may have entries, and the field may
+    /// be indexed.
     pub(crate) fn note(&mut self, field: &FieldRef<'_>)
         ensures { self.new ≡ noted self.old field.now }
     {
-        if self.choices.economical && !field.is_never_indexed() {
+        let keeps_marks = self.choices.economical && self.entries.capacity() > 0;
+        if keeps_marks && !field.is_never_indexed() {
             self.marks.add(field.value());
         }
     }
@@ -566,6 +568,17 @@ impl DynamicTable {
             return true;
         }
         self.canceled.is_below(stream) && !self.tracking.has(stream)
+    }
+
+    /// Whether what is written on the stream names no entry and inserts none: the table may have none, or the stream counts as canceled.
+    #[inline(always)]
+    pub(crate) fn names_none(&self, stream: u64) -> bool
+        ensures { result ≡ ((self.now.table.capacity == 0) || was_canceled_in self.now stream) }
+    {
+        if self.entries.capacity() == 0 {
+            return true;
+        }
+        self.is_canceled(stream)
     }
 
     /// Keeps that a cancellation of the stream was read, and releases all its tracked sections. If an allocation fails nothing changes. No

@@ -339,7 +339,7 @@ impl Encoder {
             ((s : EncoderHistory) → self.old ≡ encoder_state s
             → IsCutOff s (writing_on s stream) fields.now self.new encoder_buf.old.items encoder_buf.new.items) }
     {
-        if self.table.is_canceled(stream) {
+        if self.table.names_none(stream) {
             put_static_section(self.table.choices(), fields, block)?;
             return Ok(0);
         }

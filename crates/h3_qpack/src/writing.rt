@@ -27,7 +27,7 @@ use h3_field::block::{
 };
 use h3_field::static_::StaticTable;
 use h3_field::stream::{Duplicate, InsertWithNameRef, InsertWithoutNameRef};
-use h3_field::{EncoderError, FieldRef, Fields};
+use h3_field::{EncoderError, FieldRef, Fields, reserve_some};
 use h3_table::entries::Match;
 use std::alloc::AllocError;
 
@@ -95,6 +95,7 @@ fn put_entry(
     ensures err { OnErr result ((table.new ≡ table.old) × (encoder_buf.new.items ≡ encoder_buf.old.items)) }
 {
     let static_index = StaticTable::find_name(field.name());
+    reserve_some(encoder_buf)?;
     let start = encoder_buf.len();
     put_insertion(table, searched, field, static_index, after, encoder_buf)?;
     if table.insert(field, after).is_err() {

@@ -6,12 +6,12 @@ use Rattle.h3_blocked.specs.declared.counts.Blocked.{Blocked}
 use Rattle.h3_connection.specs.Incoming.{Incoming}
 use Rattle.h3_connection.specs.State.{RequestState, kept_at}
 use Rattle.h3_connection.specs.StreamSets.{Streams}
-use Rattle.h3_incoming.specs.BodyPlaces.{body_place, ReadsPiece}
+use Rattle.h3_incoming.specs.BodyPlaces.{BeginsData, body_place, ReadsPiece}
 use Rattle.h3_incoming.specs.declared.body_place.BodyPlace.{BodyPlace}
 use Rattle.h3_requests.specs.Counted.{AreCounted}
 use Rattle.h3_requests.specs.Lending.{Writes}
 use Rattle.h3_requests.specs.Limited.{AreReceivers}
-use Rattle.h3_requests.specs.ReadingBodies.{are_too_many, place_at, place_unless, ReadsPieceAt}
+use Rattle.h3_requests.specs.ReadingBodies.{are_too_many, BeginsDataAt, place_at, place_unless, ReadsPieceAt}
 use Rattle.h3_requests.proofs.Counts.{kept_there, waits, waits_then}
 
 -- too many streams wait, by the counts and by the receivers of a history
@@ -49,6 +49,22 @@ piece_there counts model s n limit inserted id before after bytes (Some p) same 
       there = there;
       place = sym is;
       reads = reads;
+      sets = writes.0 (ap is_some found);
+      few = λ receivers are. ap (nat_lt limit) (waits_then counts counts s receivers id before after h are there replaces inserted) ∙ few;
+    })
+
+pub begins_there : {under_way : Option RequestState} (counts : Blocked) (model s n : Streams RequestState) (limit inserted id : ℕ) (before : RequestState) (after : Incoming) (bytes : List ℕ) (b : Bool) → s ≡ model
+    → AreCounted counts s → Writes s n under_way id (record before { incoming = after }) → under_way ≡ Some before → nat_lt limit (above inserted counts) ≡ false
+    → (b ≡ true → BeginsData before.incoming after bytes) → after.waits_for ≡ before.incoming.waits_for → b ≡ true → BeginsDataAt limit inserted model n id bytes
+begins_there counts model s n limit inserted id before after bytes b same h writes found few begins waits_so is =
+    let there : kept_at s id ≡ Some before = kept_there s n id before (record before { incoming = after }) writes found in
+    let replaces : Replaces counts counts before.incoming.waits_for after.waits_for = subst (λ w. Replaces counts counts before.incoming.waits_for w) (sym waits_so) (λ m. refl) in
+    subst (λ l. BeginsDataAt limit inserted l n id bytes) same
+    (record {
+      before = before;
+      after = after;
+      there = there;
+      begins = begins is;
       sets = writes.0 (ap is_some found);
       few = λ receivers are. ap (nat_lt limit) (waits_then counts counts s receivers id before after h are there replaces inserted) ∙ few;
     })

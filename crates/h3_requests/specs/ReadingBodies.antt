@@ -4,7 +4,7 @@ use Rattle.h3_connection.specs.Calls.{Sets}
 use Rattle.h3_connection.specs.Incoming.{Incoming}
 use Rattle.h3_connection.specs.State.{RequestState, kept_at}
 use Rattle.h3_connection.specs.StreamSets.{Streams, set_stream}
-use Rattle.h3_incoming.specs.BodyPlaces.{body_place, ReadsPiece}
+use Rattle.h3_incoming.specs.BodyPlaces.{BeginsData, body_place, ReadsPiece}
 use Rattle.h3_incoming.specs.declared.body_place.BodyPlace.{BodyPlace}
 use Rattle.h3_requests.specs.Limited.{AreReceivers}
 
@@ -27,5 +27,14 @@ pub record ReadsPieceAt (limit inserted : ℕ) (old new : Streams RequestState) 
   pub there : kept_at old id ≡ Some before
   pub place : body_place before.incoming bytes ≡ Some p
   pub reads : ReadsPiece before.incoming after bytes p
+  pub sets : Sets old new id (record before { incoming = after })
+  pub few : (receivers : Streams Incoming) → AreReceivers receivers old → are_too_many limit inserted (set_stream receivers id after) ≡ false
+
+-- The type and length of a DATA frame are read of the stream, the other streams stay, and not too many wait.
+pub record BeginsDataAt (limit inserted : ℕ) (old new : Streams RequestState) (id : ℕ) (bytes : List ℕ) : Type 0 where
+  pub before : RequestState
+  pub after : Incoming
+  pub there : kept_at old id ≡ Some before
+  pub begins : BeginsData before.incoming after bytes
   pub sets : Sets old new id (record before { incoming = after })
   pub few : (receivers : Streams Incoming) → AreReceivers receivers old → are_too_many limit inserted (set_stream receivers id after) ≡ false

@@ -1,13 +1,15 @@
 -- A piece of a body that is read where it lies in bytes that come.
-use Rattle.std.specs.Prelude.{◌≡◌, ℕ, ◌+◌, ◌<◌, ◌≤◌, Bool, true, false, List, [], ◌∷◌, length, Option, Some, None}
+use Rattle.std.specs.Prelude.{◌≡◌, ℕ, ◌+◌, ◌<◌, ◌≤◌, Bool, true, false, List, [], ◌∷◌, length, Option, Some, None, Ok}
 use Rattle.h3_connection.specs.declared.arrival.Arrival.{Arrival}
 use Rattle.h3_connection.specs.declared.arrival.Arrival.TheVariants.{BytesCame}
 use Rattle.h3_connection.specs.Endpoint.{EndpointHistory, Kind, kind_of}
 use Rattle.h3_connection.specs.Endpoint.Kind.{Request}
 use Rattle.h3_connection.specs.Incoming.{Incoming}
 use Rattle.h3_connection.specs.Keeping.{arrives, pulls}
+use Rattle.h3_connection.specs.ReceivingContracts.{Delivers, PullsNext}
 use Rattle.h3_connection.specs.State.{EndpointState, StandsFor}
 use Rattle.h3_connection.specs.StreamSets.{stream_at}
+use Rattle.h3_connection.specs.declared.event.Pull.TheVariants as pull
 use Rattle.h3_incoming.specs.BodyPlaces.{body_place, body_pulled, front_to}
 use Rattle.h3_incoming.specs.declared.body_place.BodyPlace.{BodyPlace}
 use Rattle.h3_requests.specs.ReadingBodies.{are_too_many}
@@ -49,3 +51,11 @@ pub record ReadsBody (old new : EndpointState) (id : ℕ) (bytes : List ℕ) (p 
   pub accepted : (e : EndpointHistory) → StandsFor old e → (arrives e (BytesCame id (front_to p bytes))).0 ≡ None
   pub pulled : (e : EndpointHistory) → StandsFor old e → (pulls (came e id (front_to p bytes)) id).0 ≡ body_pulled p bytes
   pub stands : (e : EndpointHistory) → StandsFor old e → StandsFor new (pulls (came e id (front_to p bytes)) id).1
+
+-- `begin_body`: the bytes are accepted, and what stands then is what a delivery of them leaves and the pull behind it, which has nothing to
+-- hand out yet.
+pub record BeginsBody (old new : EndpointState) (id : ℕ) (bytes : List ℕ) : Type 0 where
+  pub middle : EndpointState
+  pub some : 0 < length bytes
+  pub delivers : Delivers old middle id bytes (Ok tt)
+  pub pulls : PullsNext middle new id pull.Pending

@@ -1,5 +1,6 @@
 //! An index of the entries of a dynamic table: chains of those with one slot, the newest first.
 ghost use Rattle.std.specs.Prelude.{◌≡◌, ◌<◌, ◌≤◌, ◌+◌, ◌++◌, ◌∷◌, [], ℕ, List, length, drop, slice_index_or, OnOk};
+ghost use Rattle.std.specs.VecDeque.{deque_len, deque_capacity};
 ghost use Rattle.h3_table.specs.Index.{IsIndexed, HasRoom};
 ghost use Rattle.h3_table.specs.Slots.{name_slot, field_slot};
 
@@ -12,7 +13,18 @@ use std::collections::VecDeque;
 const SLOTS: usize = 256;
 
 /// For so many entries memory is taken at once.
-pub(crate) const AHEAD: usize = 16;
+const AHEAD: usize = 16;
+
+/// Takes memory for a number more, if there is none.
+pub(crate) fn reserve_number(numbers: &mut VecDeque<usize>) -> Result<(), AllocError>
+    ensures items { numbers.new.items ≡ numbers.old.items }
+    ensures ok { OnOk result (deque_len numbers.new < deque_capacity numbers.new) }
+{
+    if numbers.len() < numbers.capacity() {
+        return Ok(());
+    }
+    numbers.reserve(AHEAD)
+}
 
 /// The slot of a name: of its length and two of its bytes, so that a long name costs no more.
 pub fn slot_of_name(name: &[u8]) -> usize
@@ -83,7 +95,7 @@ impl Index {
         ensures ok { OnOk result (HasRoom self.new) }
     {
         fill(&mut self.heads)?;
-        self.links.reserve(AHEAD)
+        reserve_number(&mut self.links)
     }
 
     /// Adds an entry, for which there is memory.

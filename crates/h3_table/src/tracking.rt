@@ -6,7 +6,7 @@ ghost use Rattle.h3_table.specs.InOrder.{put_last};
 ghost use Rattle.h3_table.specs.Tracking.{TrackingState, is_of, reference_count, is_free_to, newest_named, without_oldest_of, without_newest_of, without_all_of};
 
 use crate::alone::TrackedSections;
-use crate::index::AHEAD;
+use crate::index::reserve_number;
 use std::alloc::{AllocError, Global};
 use std::collections::VecDeque;
 use std::marker::Model;
@@ -121,7 +121,7 @@ impl Tracking {
         ensures unnamed { OnOk result (reference_count (self.old.made + 1) self.old.sections ≡ 0) }
         ensures err { OnErr result (self.new ≡ self.old) }
     {
-        self.references.reserve(AHEAD)?;
+        reserve_number(&mut self.references)?;
         self.references.push_back_reserved(0);
         Ok(())
     }

@@ -34,11 +34,14 @@ impl Model for OwnStreams {
     ghost view = { λ o. record { control = o.control; encoder = o.encoder; decoder = o.decoder } };
 }
 
+/// Room for what a control stream usually begins with.
+const START_ROOM: usize = 64;
+
 /// What a control stream begins with: its type, and the SETTINGS frame.
 fn control_start(alloc: Global, settings: &Settings) -> Result<Vec<u8>, AllocError>
     ensures { IfOk result (λ bytes. bytes.items ≡ control_encoding settings.now) }
 {
-    let mut bytes = Vec::new(alloc);
+    let mut bytes = Vec::with_capacity(alloc, START_ROOM)?;
     let len = settings.payload_len() as u64;
     let Ok(()) = bytes.write(StreamType::CONTROL) else {
         return Err(AllocError);

@@ -1,13 +1,15 @@
 //! What came and is read where it lies.
-ghost use Rattle.std.specs.Prelude.{◌≡◌, ◌<◌, ◌≤◌, ◌^◌, true, length, Err, IfErr, OnOk};
+ghost use Rattle.std.specs.Prelude.{◌≡◌, ◌<◌, ◌≤◌, ◌^◌, true, false, length, Err, IfErr, OnOk};
+ghost use Rattle.h3_connection.specs.Calls.{IsSame};
 ghost use Rattle.h3_connection.specs.Shutdown.{is_rejected_in};
 ghost use Rattle.h3_incoming.specs.declared.fields.FieldsPull.TheVariants as answer;
+ghost use Rattle.h3_session.specs.ReadingBodies.{BeginsBody};
 ghost use Rattle.h3_c.specs.Exported.{OnStream, UnlessRejected};
 ghost use Rattle.h3_c.specs.Numbers.{delivery_told};
-ghost use Rattle.h3_c.specs.Reads.{ends_with, is_after_end, is_kept, place_shown, taken_of, EndsThere, ReadsCopied, ReadsNext, RefusesEnd, StopsAt, TakesBytes, TakesEnd};
+ghost use Rattle.h3_c.specs.Reads.{ends_with, is_after_end, is_kept, place_shown, taken_of, CopiesNext, EndsThere, ReadsCopied, ReadsNext, RefusesEnd, StopsAt, TakesBytes, TakesEnd};
 
 use super::Connection;
-use crate::items::PulledItem;
+use crate::items::{PulledItem, plain_shown};
 use crate::numbers::{OK, Told, delivered, or_memory};
 use bytes::Bytes;
 use h3_coding::coding::BufExt;
@@ -16,6 +18,9 @@ use h3_incoming::answer::{Plain, pause};
 use h3_incoming::{BlockPull, BodyPlace, Told as PulledTold};
 use h3_proto::stream::StreamId;
 use std::alloc::Global;
+
+/// How many bytes a frame's type and length have at most (RFC 9114, section 7.1).
+const LONGEST_HEAD: usize = 16;
 
 impl Connection {
     /// Bytes came on a stream, and with `fin` its end: the next item, and how many of the bytes were used for it.
@@ -38,12 +43,49 @@ impl Connection {
             Err(told) => return told,
         };
         let Some(place) = self.endpoint.read_body(stream, bytes) else {
-            return self.read_copied(alloc, stream, bytes, fin, used, item);
+            return self.read_on(alloc, stream, bytes, fin, used, item);
         };
         *used = place.offset + place.len;
         *item = placed(place);
         hold_none(&mut self.last);
         OK
+    }
+
+    // The same of bytes in which no piece of a body lies.
+    fn read_on(
+        &mut self,
+        alloc: Global,
+        id: StreamId,
+        bytes: &[u8],
+        fin: u32,
+        used: &mut usize,
+        item: &mut PulledItem,
+    ) -> Told
+        requires { used.old ≡ 0 }
+        ensures { CopiesNext self.old self.new id bytes.now fin result item.old item.new used.new }
+    {
+        if !self.begin(id, bytes, fin) {
+            return self.read_copied(alloc, id, bytes, fin, used, item);
+        }
+        *used = bytes.len();
+        hold_none(&mut self.last);
+        *item = plain_shown(&Plain::Pending);
+        OK
+    }
+
+    // The type and length of a DATA frame are read where they lie, if they are all that came.
+    #[tactic(auto, using(crate::proofs::Reading::same_itself))]
+    fn begin(&mut self, id: StreamId, bytes: &[u8], fin: u32) -> bool
+        ensures last { self.new.last ≡ self.old.last }
+        ensures events { self.new.events ≡ self.old.events }
+        ensures no_fin { result ≡ true → fin ≡ 0 }
+        ensures begins { result ≡ true → BeginsBody self.old.endpoint self.new.endpoint id bytes.now }
+        ensures same { result ≡ false → IsSame self.old.endpoint self.new.endpoint }
+    {
+        if fin > 0 || bytes.len() > LONGEST_HEAD {
+            return false;
+        }
+        self.endpoint.begin_body(id, bytes)
     }
 
     // The same, by a delivery of a front of the bytes and a pull.

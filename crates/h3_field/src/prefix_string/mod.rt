@@ -123,8 +123,8 @@ pub fn decode(alloc: Global, size: u8, buf: &mut SliceCursor<'_>) -> Result<Vec<
     }
 }
 
-/// The longest string that is encoded in one pass.
-const SHORT: usize = 63;
+/// The longest string that is encoded in one pass: as it stands, its length takes one byte.
+const SHORT: usize = 126;
 
 /// The longest string that is encoded into an array of its own: its length most often takes one byte, whatever `size` is.
 const VERY_SHORT: usize = 8;
@@ -165,7 +165,7 @@ fn put_by_way_of(
     requires least { 2 ≤ size }
     requires most { size ≤ 8 }
     requires flags { flags < 2 ^ (8 - size) }
-    requires short { length value.now ≤ 63 }
+    requires short { length value.now ≤ 126 }
     requires room { 4 * length value.now + 4 ≤ length room.old }
     ensures ok { OnOk result (buf.new.items ≡ buf.old.items ++ string_literal size flags (coded shortest value.now)) }
     ensures err { OnErr result (take (length buf.old.items) buf.new.items ≡ buf.old.items) }
@@ -203,7 +203,7 @@ fn put_empty(
 /// Writes the length of a short string, and the string as it stands, to the front of `out`, and returns how many bytes they are.
 #[inline(always)]
 fn write_plain(value: &[u8], out: &mut [u8]) -> usize
-    requires short { length value.now ≤ 63 }
+    requires short { length value.now ≤ 126 }
     requires room { length value.now + 1 ≤ length out.old }
     ensures within { result ≤ length out.new }
     ensures literal { take result out.new ≡ string_literal 8 0 (plain_text value.now) }
@@ -218,7 +218,7 @@ fn write_plain(value: &[u8], out: &mut [u8]) -> usize
 /// bytes they are. None: the length takes more than one byte.
 #[inline(always)]
 fn write_value(value: &[u8], shortest: bool, out: &mut [u8]) -> Option<usize>
-    requires short { length value.now ≤ 63 }
+    requires short { length value.now ≤ 126 }
     requires room { 4 * length value.now + 5 ≤ length out.old }
     ensures within { IfSome result (λ count. count ≤ length out.new) }
     ensures literal { IfSome result (λ count. take count out.new ≡ string_literal 8 0 (coded shortest value.now)) }
@@ -236,7 +236,7 @@ fn write_value(value: &[u8], shortest: bool, out: &mut [u8]) -> Option<usize>
 
 /// Appends a short string with no flags. It is encoded in its final place. A refusal may leave a part of it.
 fn put_value(value: &[u8], shortest: bool, buf: &mut Vec<u8>) -> Result<(), AllocError>
-    requires short { length value.now ≤ 63 }
+    requires short { length value.now ≤ 126 }
     ensures ok { OnOk result (buf.new.items ≡ buf.old.items ++ string_literal 8 0 (coded shortest value.now)) }
     ensures err { OnErr result (take (length buf.old.items) buf.new.items ≡ buf.old.items) }
 {
@@ -258,7 +258,7 @@ fn write_name(size: u8, flags: u8, value: &[u8], shortest: bool, out: &mut [u8])
     requires least { 2 ≤ size }
     requires most { size ≤ 8 }
     requires flags { flags < 2 ^ (8 - size) }
-    requires short { length value.now ≤ 63 }
+    requires short { length value.now ≤ 126 }
     requires room { 4 * length value.now + 6 ≤ length out.old }
     ensures within { IfSome result (λ count. count ≤ length out.new) }
     ensures literal { IfSome result (λ count. take count out.new ≡ string_literal size flags (coded shortest value.now)) }
@@ -287,7 +287,7 @@ fn put_name(
     requires least { 2 ≤ size }
     requires most { size ≤ 8 }
     requires flags { flags < 2 ^ (8 - size) }
-    requires short { length value.now ≤ 63 }
+    requires short { length value.now ≤ 126 }
     ensures ok { OnOk result (buf.new.items ≡ buf.old.items ++ string_literal size flags (coded shortest value.now)) }
     ensures err { OnErr result (take (length buf.old.items) buf.new.items ≡ buf.old.items) }
 {
@@ -313,7 +313,7 @@ fn put_short(
     requires least { 2 ≤ size }
     requires most { size ≤ 8 }
     requires flags { flags < 2 ^ (8 - size) }
-    requires short { length value.now ≤ 63 }
+    requires short { length value.now ≤ 126 }
     ensures ok { OnOk result (buf.new.items ≡ buf.old.items ++ string_literal size flags (coded shortest value.now)) }
     ensures err { OnErr result (take (length buf.old.items) buf.new.items ≡ buf.old.items) }
 {

@@ -1,24 +1,28 @@
 //! Instructions of an encoder, on its stream to a decoder (RFC 9204, section 4.3).
-ghost use Rattle.std.specs.Prelude.{◌≡◌, ◌<◌, ◌^◌, ◌++◌, true, false, length, slice_index, IfOk, IfSome, OnOk, OnErr, Err};
+ghost use Rattle.std.specs.Prelude.{◌≡◌, ◌<◌, ◌^◌, ◌++◌, true, false, length, slice_index, IfOk, IfNone, IfSome, OnOk, OnErr, Ok, Err, Some};
 ghost use Rattle.std.specs.Result.{IsOkUnless};
 ghost use Rattle.h3_field.specs.StringLiteral.{coded};
 ghost use Rattle.h3_field.specs.Instruction.{encoder_bytes};
 ghost use Rattle.h3_field.specs.Instruction.{EncoderInstruction as instruction};
 ghost use Rattle.h3_field.specs.Ends.{IsEndOf};
 ghost use Rattle.h3_field.specs.Room.{HasRoom, inserted_value};
-ghost use Rattle.h3_field.specs.ShapeAnswer.{AtString, behind};
+ghost use Rattle.h3_field.specs.ShapeAnswer.{AtInteger, AtString, behind};
 ghost use Rattle.h3_field.specs.IntegerReading.{integer};
 ghost use Rattle.h3_field.specs.Shapes.{begins};
 ghost use Rattle.h3_field.specs.InstructionReading.{name_reference, literal_name};
-ghost use Rattle.h3_field.specs.InstructionAnswer.{AnswersInstruction, IsSendable, named_insertion, literal_insertion};
+ghost use Rattle.h3_field.specs.InstructionAnswer.{AnswersInstruction, IsSendable, field_insertion, named_insertion, literal_insertion, short_named_insertion};
 ghost use Rattle.h3_field.specs.declared.parse_error.ParseError.TheVariants.{InvalidPrefix};
 ghost use Rattle.h3_field.specs.declared.prefix_string.Error.TheVariants.{OutOfMemory};
 ghost use Rattle.h3_field.specs.declared.stream.insertion.InsertWithNameRef.TheVariants as named_ref;
 
+use crate::block::NameRef;
 use crate::cursor::SliceCursor;
+use crate::field::HeaderField;
 use crate::parse_error::ParseError;
+use crate::prefix_string::ShortString;
 use crate::shapes::{
-    other_first, put_index_and_string, put_two_strings, take_index_and_string, take_two_strings,
+    other_first, put_index_and_string, put_two_strings, take_index_and_short,
+    take_index_and_string, take_short_field, take_two_strings,
 };
 use crate::{prefix_int, prefix_string};
 use std::alloc::Global;
@@ -90,6 +94,24 @@ impl InsertWithNameRef {
             Err(ParseError::Integer(prefix_int::Error::UnexpectedEnd)) => Ok(None),
             Err(ParseError::String(prefix_string::Error::UnexpectedEnd)) => Ok(None),
             Err(e) => Err(e),
+        }
+    }
+
+    /// Takes the instruction from the front, and reads its value into `value`, with no memory: the name that it refers to. None: the value
+    /// may be long, or the instruction is not whole, or it is refused. Then nothing is taken.
+    pub fn decode_short(buf: &mut SliceCursor<'_>, value: &mut ShortString) -> Option<NameRef>
+        ensures some { IfSome result
+            (λ name. AnswersInstruction (short_named_insertion value.new) AtInteger (name_reference buf.old) buf.old buf.new (Ok (Some name))) }
+        ensures none { IfNone result (buf.new ≡ buf.old) }
+    {
+        let Some(head) = take_index_and_short(6, buf, value) else {
+            return None;
+        };
+        let index = head.index as usize;
+        if head.flags % 2 == 1 {
+            Some(NameRef::Static(index))
+        } else {
+            Some(NameRef::Dynamic(index))
         }
     }
 
@@ -184,6 +206,20 @@ impl InsertWithoutNameRef {
             Err(ParseError::String(prefix_string::Error::UnexpectedEnd)) => Ok(None),
             Err(e) => Err(e),
         }
+    }
+
+    /// Takes the instruction from the front as a field that takes no memory. None: the field may be long, or the instruction is not whole,
+    /// or it is refused. Then nothing is taken.
+    pub fn decode_short(buf: &mut SliceCursor<'_>) -> Option<HeaderField>
+        ensures some { IfSome result (λ field. AnswersInstruction field_insertion AtString (literal_name buf.old) buf.old buf.new (Ok (Some field))) }
+        ensures plain { IfSome result (λ field. field.never_indexed ≡ false) }
+        ensures none { IfNone result (buf.new ≡ buf.old) }
+    {
+        let Some(field) = take_short_field(6, buf) else {
+            return None;
+        };
+        // what stands above the name's length is no bit N
+        Some(field.with_never_indexed(false))
     }
 
     /// Appends the instruction. A refusal appends nothing.

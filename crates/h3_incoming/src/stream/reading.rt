@@ -1,9 +1,9 @@
 //! A piece of a body that is read where it lies, in bytes that are lent to the call alone.
-ghost use Rattle.std.specs.Prelude.{◌≡◌, ◌-◌, ◌<◌, ◌≤◌, ◌^◌, [], None, true, drop, length, if◌then◌else◌, IfSome, IsNone, Some};
+ghost use Rattle.std.specs.Prelude.{◌≡◌, ◌-◌, ◌<◌, ◌≤◌, ◌^◌, [], None, true, false, drop, length, if◌then◌else◌, IfSome, IsNone, Some};
 ghost use Rattle.h3_coding.specs.Varint.{varint_at};
 ghost use Rattle.h3_connection.specs.Incoming.{is_body};
 ghost use Rattle.h3_messages.specs.Content.{left_behind};
-ghost use Rattle.h3_incoming.specs.BodyPlaces.{body_place, data_at, keeps_nothing, piece_at, place_behind, ReadsPiece};
+ghost use Rattle.h3_incoming.specs.BodyPlaces.{BeginsData, BeginsPayload, body_place, data_at, keeps_nothing, piece_at, place_behind, ReadsPiece};
 
 use super::IncomingStream;
 use crate::body_place::BodyPlace;
@@ -32,6 +32,43 @@ impl IncomingStream {
             return self.read_payload(bytes);
         }
         self.begin_payload(alloc, bytes)
+    }
+
+    /// Reads the type and length of a DATA frame where they lie in bytes that came and end with them. The stream is then as after a delivery
+    /// of the bytes, and a pull that waits for more of them (`Pending`). Nothing is copied. It is so where nothing of the stream is kept,
+    /// in a body whose content may be as long. Otherwise the answer is `false`, and nothing has changed.
+    #[tactic(auto, using(crate::proofs::BodyPieces::head_begins))]
+    pub fn begin_body(&mut self, alloc: Global, bytes: &[u8]) -> bool
+        ensures begins { result ≡ true → BeginsData self.old self.new bytes.now }
+        ensures waits { self.new.waits_for ≡ self.old.waits_for }
+        ensures none { result ≡ false → self.new ≡ self.old }
+    {
+        if self.body_left > 0 || !self.keeps_nothing() {
+            return false;
+        }
+        match self.begin_alone(alloc, bytes) {
+            Some(_) => true,
+            None => false,
+        }
+    }
+
+    // The same of a stream with nothing kept: how long the payload is.
+    fn begin_alone(&mut self, alloc: Global, bytes: &[u8]) -> Option<usize>
+        requires clear { keeps_nothing self.old ≡ true }
+        ensures some { IfSome result (λ size. BeginsPayload size self.old self.new bytes.now) }
+        ensures waits { self.new.waits_for ≡ self.old.waits_for }
+        ensures none { IsNone result → self.new ≡ self.old }
+    {
+        let Place::InBody = self.place else {
+            return None;
+        };
+        let size = length_alone(bytes)?;
+        let content = self.content.left_behind(size as u64);
+        if size == 0 || content.is_exceeded() {
+            return None;
+        }
+        self.go_on_with(alloc, size, content);
+        Some(size)
     }
 
     // Whether nothing of it is kept, more may come, and what came of its content is not too much.
@@ -121,6 +158,18 @@ fn data_at(bytes: &[u8]) -> Option<(usize, usize)>
     }
     let (size, of_size) = number_at(&bytes[of_kind..])?;
     Some((size as usize, of_kind + of_size))
+}
+
+// The length of the DATA frame whose type and length the bytes are.
+#[tactic(auto, using(crate::proofs::BodyPieces::nothing_behind))]
+fn length_alone(bytes: &[u8]) -> Option<usize>
+    ensures { IfSome result (λ size. data_at bytes.now ≡ Some (size, [])) }
+{
+    let found = data_at(bytes)?;
+    if found.1 < bytes.len() {
+        return None;
+    }
+    Some(found.0)
 }
 
 // The number that the bytes begin with (RFC 9000, section 16), and how many of them it has.

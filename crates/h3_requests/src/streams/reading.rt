@@ -1,11 +1,11 @@
 //! A piece of a body that is read where it lies.
-ghost use Rattle.std.specs.Prelude.{◌≡◌, IfSome, IsNone};
+ghost use Rattle.std.specs.Prelude.{◌≡◌, true, false, IfSome, IsNone};
 ghost use Rattle.h3_connection.specs.Incoming.{Incoming};
 ghost use Rattle.h3_connection.specs.Calls.{AllSame};
 ghost use Rattle.h3_connection.specs.State.{kept_at};
 ghost use Rattle.h3_connection.specs.StreamSets.{Streams};
 ghost use Rattle.h3_requests.specs.Limited.{AreReceivers};
-ghost use Rattle.h3_requests.specs.ReadingBodies.{are_too_many, place_unless, ReadsPieceAt};
+ghost use Rattle.h3_requests.specs.ReadingBodies.{are_too_many, BeginsDataAt, place_unless, ReadsPieceAt};
 
 use super::RequestStreams;
 use h3_incoming::BodyPlace;
@@ -37,5 +37,28 @@ impl RequestStreams {
             return None;
         };
         stream.incoming.read_body(alloc, bytes)
+    }
+
+    /// Reads the type and length of a DATA frame where they lie in bytes that came on a stream, as `IncomingStream::begin_body` does, with
+    /// one look-up. It also returns `false`, which changes nothing, if more than `limit` streams wait for more insertions than these.
+    pub fn begin_body(
+        &mut self,
+        alloc: Global,
+        limit: u64,
+        inserted: usize,
+        id: StreamId,
+        bytes: &[u8],
+    ) -> bool
+        ensures begins { result ≡ true → BeginsDataAt limit inserted self.old self.new id bytes.now }
+        ensures none { result ≡ false → AllSame self.old self.new }
+    {
+        let waiting = self.blocked.above(inserted) as u64;
+        if waiting > limit {
+            return false;
+        }
+        let Some(stream) = self.streams.get_mut(id) else {
+            return false;
+        };
+        stream.incoming.begin_body(alloc, bytes)
     }
 }

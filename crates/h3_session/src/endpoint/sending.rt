@@ -335,6 +335,19 @@ impl Endpoint {
         }
     }
 
+    /// The same bytes as the `Bytes` in which a body was passed to `send_body`, as what is left of it: a clone copies nothing. None: first
+    /// wait bytes of the endpoint's own, as a frame's type and length or a field section, or a payload that the caller holds. `outgoing`
+    /// lends these of its own.
+    #[tactic(auto, using(crate::proofs::Taking::lends_request, crate::proofs::Taking::lends_all))]
+    pub fn outgoing_body(&self, id: StreamId) -> Option<&Bytes>
+        ensures lends { HoldsNone self.now id → IfSome result (λ body. LendsOutgoing self.now id body.now) }
+        ensures front { IfSome result (λ body. LendsFront self.now id body.now) }
+    {
+        let stream = self.sender(id)?;
+        let body = stream.outgoing_body()?;
+        Some(body)
+    }
+
     /// How many bytes wait on a stream.
     #[tactic(auto, using(crate::proofs::Taking::shows_request, crate::proofs::Taking::shows_own))]
     pub fn waiting(&self, id: StreamId) -> usize

@@ -105,7 +105,9 @@ impl FrameDecoder {
     /// it. Without a whole frame, and at an error, only unknown frames are taken. If a call
     /// answered no frame, the next one must find the bytes that it left, and may find more after
     /// them. After an allocation failed the call can be made again; a frame that was refused stays
-    /// at the front and is refused again.
+    /// at the front and is refused again. (It stands in its callers, so that a frame in the first piece
+    /// is read without room for the largest.)
+    #[inline(always)]
     pub fn decode(
         &mut self,
         alloc: Global,
@@ -122,6 +124,7 @@ impl FrameDecoder {
     }
 
     /// The same if frames of these kinds are known. What is expected of the front has to be expected of it whichever are known.
+    #[inline(always)]
     pub(super) fn decode_by(
         &mut self,
         alloc: Global,

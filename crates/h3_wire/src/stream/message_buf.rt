@@ -1,5 +1,5 @@
 //! The frames of a message that are to be sent.
-ghost use Rattle.std.specs.Prelude.{◌≡◌, ◌-◌, ◌<◌, ◌≤◌, ◌^◌, [], length, drop};
+ghost use Rattle.std.specs.Prelude.{◌≡◌, ◌-◌, ◌<◌, ◌≤◌, ◌^◌, [], length, drop, IfSome};
 ghost use Rattle.bytes.specs.Unread.{IsChunkOf};
 ghost use Rattle.h3_wire.specs.Encoded.{head_encoding};
 ghost use Rattle.h3_wire.specs.Outgoing.{all_of, first_part};
@@ -82,6 +82,16 @@ impl<B: Piece> MessageBuf<B> {
             return self.head.from(self.position);
         }
         self.payload.bytes()
+    }
+
+    /// The payload, if all of type and length was sent. It is what is to be sent first then.
+    pub fn unsent_payload(&self) -> Option<&B>
+        ensures { IfSome result (λ payload. B.unread payload.now ≡ first_part self.now) }
+    {
+        if self.position < self.head.len() {
+            return None;
+        }
+        Some(&self.payload)
     }
 
     /// What is left of the payload, which is sent after type and length.

@@ -1,14 +1,14 @@
 -- A read of bytes that came.
 use Rattle.std.proofs.Common.{◌+◌, Some, None, refl}
 use Rattle.h3_c.specs.Reads.{ReadsNext}
-use Rattle.h3_c.proofs.Reading.{goes_on}
+use Rattle.h3_c.proofs.Reading.{copies_behind, goes_on}
 use Rattle.h3_c.proofs.connection.Connection.read.Goals as goal
 
 pub returns-in_default-clause-reads : goal.returns-in_default-clause-reads
 returns-in_default-clause-reads c =
-    goes_on (λ v i. ReadsNext v c.read_copied.new.self i c.args.bytes.now c.args.fin c.read_copied.result c.args.item.now c.read_copied.new.item c.read_copied.new.used)
-    c.args.id c.in-Ok.stream c.read_copied.result _ c.args.self.now c.read_copied.new.self c.self.view_is c.in-Ok.ensures.ok.0 c.in-Ok.ensures.ok.1 c.in-Ok.ensures.ok.2
-    (record { place = None; is_next = c.in_default.ensures.place; reads = record { start = c.read_body.new.self; same = c.in_default.ensures.none refl; reads = c.read_copied.ensures } })
+    goes_on (λ v i. ReadsNext v c.read_on.new.self i c.args.bytes.now c.args.fin c.read_on.result c.args.item.now c.read_on.new.item c.read_on.new.used)
+    c.args.id c.in-Ok.stream c.read_on.result _ c.args.self.now c.read_on.new.self c.self.view_is c.in-Ok.ensures.ok.0 c.in-Ok.ensures.ok.1 c.in-Ok.ensures.ok.2
+    (record { place = None; is_next = c.in_default.ensures.place; reads = copies_behind _ _ _ _ _ _ _ _ _ _ (c.in_default.ensures.none refl) refl refl c.read_on.ensures })
 
 pub returns-clause-reads : goal.returns-clause-reads
 returns-clause-reads c =

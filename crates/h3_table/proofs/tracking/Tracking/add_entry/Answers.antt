@@ -21,7 +21,7 @@ below evicted count (t ∷ ts) h = (omega (arith, h.0.1), below evicted count ts
 pub invariant_of-self-2 : goal.invariant_of-self-2
 invariant_of-self-2 c =
     let i = c.self.invariant in
-    let is = c.push_back_reserved.ensures.items ∙ ap (λ ns. ns ++ 0 ∷ []) c.in_ok-reserve.ensures.items in
+    let is = c.push_back_reserved.ensures.items ∙ ap (λ ns. ns ++ 0 ∷ []) c.in_ok-reserve_number.ensures.items in
     let more = longer c.self.inside.references.items _ is in
     record {
       counts = counted c.self.inside.evicted c.self.inside.references.items _ c.self.inside.sections i.counts is (below _ _ _ i.there);

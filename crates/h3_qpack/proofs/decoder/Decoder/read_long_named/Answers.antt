@@ -9,7 +9,7 @@ use Rattle.h3_field.specs.StaticTableLaws.{static_none}
 use Rattle.h3_field.specs.ShorterLaws.{name_reference_less}
 use Rattle.h3_field.specs.ReadBackLaws.{instruction_named}
 use Rattle.h3_qpack.proofs.InsertionsAt.{begins_insertion, begins_no_insertion, refused}
-use Rattle.h3_qpack.proofs.decoder.Decoder.read_named.Goals as goal
+use Rattle.h3_qpack.proofs.decoder.Decoder.read_long_named.Goals as goal
 
 pub returns-in-Ok : goal.returns-in-Ok
 returns-in-Ok c =
