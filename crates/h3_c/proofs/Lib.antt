@@ -17,10 +17,14 @@ pub mod CarriedOver
 pub mod ProgramCalls
 pub mod ProgramRuns
 pub mod UnheardUpdates
+pub mod Views
+pub mod ViewsReading
+pub mod ViewsSending
+pub mod ViewsSteps
+pub mod ViewsMemory
 pub mod Unordered
-pub mod UnorderedReading
 pub mod UnorderedSteps
-pub mod UnorderedMemory
+pub mod Grows
 pub mod QuietCalls
 pub mod MadeHandles
 pub mod ProgramMoves

@@ -27,10 +27,6 @@ pub record Ran (ends : Ends) (g : Handles) (events : List Event) (answers : List
   pub client_stands : StandsFor g.client.endpoint new.client
   pub server_stands : StandsFor g.server.endpoint new.server
 
-abbrev pub AreOfC : List Event → Type 0
-AreOfC [] = Unit {0}
-AreOfC (e ∷ events) = IsOfC e × AreOfC events
-
 -- They answered this event by the calls that it names; or some, whatever they stood for; or nothing of which a schedule speaks has changed; or one
 -- behind the other.
 pub data Moves : Handles → Handles → List Event → List Answer → Type 0 where

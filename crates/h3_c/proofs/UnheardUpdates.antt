@@ -14,7 +14,7 @@ use Rattle.h3_wire.specs.declared.proto.frame.Frame.{Frame}
 use Rattle.h3_wire.specs.declared.proto.frame.Frame.TheVariants as frame
 use Rattle.h3_connection.specs.Codes.{excessive_load, id_error}
 use Rattle.h3_connection.specs.Lasts.{last_id}
-use Rattle.h3_connection.specs.PeerReading.{Peer, PeerFound, at_front, is_above, is_below, is_no_element, is_no_goaway, read_frame, read_goaway, read_max_push, read_peer, read_priority, read_update, read_within, unless_excessive, unless_fault, with_unread}
+use Rattle.h3_connection.specs.PeerReading.{Peer, PeerFound, at_front, having_frame, is_above, is_below, is_no_element, is_no_goaway, read_frame, read_goaway, read_max_push, read_peer, read_priority, read_update, read_within, unless_excessive, unless_fault, with_unread}
 use Rattle.h3_connection.specs.Updates.{no_updates}
 
 abbrev pub unheard : Peer → Peer
@@ -74,7 +74,8 @@ goes_unheard go later (p, None) = later p
 
 front_unheard : (go : Peer → PeerFound) → ((p : Peer) → go (unheard p) ≡ so_heard (go p)) → (side : Side) (p : Peer) (bytes : List ℕ) (f : Front) → at_front go side (unheard p) bytes f ≡ so_heard (at_front go side p bytes f)
 front_unheard go later side p bytes (Whole f rest) =
-    ap (λ x. unless_fault x go) (frame_unheard side (with_unread p rest) p.settings f) ∙ goes_unheard go later (read_frame side (with_unread p rest) p.settings f)
+    let q = having_frame p f bytes rest in
+    ap (λ x. unless_fault x go) (frame_unheard side q p.settings f) ∙ goes_unheard go later (read_frame side q p.settings f)
 front_unheard go later side p bytes (Unknown kind rest) = refl
 front_unheard go later side p bytes (Refused e) = refl
 front_unheard go later side p bytes (Unfinished least) = refl
