@@ -1,6 +1,6 @@
 -- What an endpoint writes comes behind what it wrote, and no call but `advance` takes any of it.
 use Rattle.std.proofs.Common.{arith, ◌≡◌, ◌⊎◌, inl, inr, ℕ, ◌+◌, ◌*◌, Bool, true, false, if◌then◌else◌, List, [], ◌∷◌, ◌++◌, flat_map, refl, sym, ap, subst, ◌∙◌, Option, Some, None, append_assoc, append-nil}
-use Rattle.std.specs.Prelude.{◌==◌, ◌||◌, drop, fold, is_some, not, unwrap_or}
+use Rattle.std.specs.Prelude.{◌<◌, ◌==◌, ◌||◌, drop}
 use Rattle.std.proofs.lemmas.Bool.{eqb-true}
 use Rattle.h3_coding.specs.Encodings.{encoding}
 use Rattle.h3_field.specs.Instruction.{DecoderInstruction, EncoderInstruction, decoder_bytes, encoder_bytes}
@@ -59,11 +59,12 @@ pub record PartsGrow (o p : Out) : Type 0 where
   pub taken : p.taken ≡ o.taken
   pub text : p.is_reset ≡ false → (o.is_reset ≡ false) × More (part_bytes o) (part_bytes p)
 
-abbrev pub StreamGrows : Side → ℕ → Option Out → Option Out → Type 0
-StreamGrows side id None None = Unit {0}
-StreamGrows side id None (Some p) = (p.taken ≡ 0) × (is_own side id ≡ false)
-StreamGrows side id (Some o) (Some p) = PartsGrow o p
-StreamGrows side id (Some o) None = ⊥
+-- A client opens requests in order: `next` is the id behind them.
+abbrev pub StreamGrows : Side → ℕ → ℕ → Option Out → Option Out → Type 0
+StreamGrows side next id None None = Unit {0}
+StreamGrows side next id None (Some p) = (p.taken ≡ 0) × (is_own side id ≡ false) × ((side ≡ Server) ⊎ (id < next))
+StreamGrows side next id (Some o) (Some p) = PartsGrow o p
+StreamGrows side next id (Some o) None = ⊥
 
 -- of what it writes on its own streams
 pub record OwnGrows (o p : Own) : Type 0 where
@@ -84,7 +85,7 @@ pub record Grows (e f : EndpointHistory) : Type 0 where
   pub announced : f.announced ≡ e.announced
   pub next : (f.next_id ≡ e.next_id) ⊎ (f.next_id ≡ e.next_id + 4)
   pub own : OwnGrows e.own f.own
-  pub streams : (id : ℕ) → StreamGrows e.side id (stream_at e.outgoing id) (stream_at f.outgoing id)
+  pub streams : (id : ℕ) → StreamGrows e.side f.next_id id (stream_at e.outgoing id) (stream_at f.outgoing id)
 
 -- nothing
 pub own_same : (o : Own) → OwnGrows o o
@@ -135,25 +136,25 @@ goaways_grow o goaways = record (own_same o) { goaways = goaways; goaways_is = r
 pub same_parts : (o : Out) → PartsGrow o o
 same_parts o = record { taken = refl; text = λ open. (open, nothing_more (part_bytes o)) }
 
-pub stream_same : (side : Side) (id : ℕ) (o : Option Out) → StreamGrows side id o o
-stream_same side id None = tt
-stream_same side id (Some o) = same_parts o
+pub stream_same : (side : Side) (next id : ℕ) (o : Option Out) → StreamGrows side next id o o
+stream_same side next id None = tt
+stream_same side next id (Some o) = same_parts o
 
 -- A stream that is set, where it was there.
-pub set_grows : (side : Side) (streams : Streams Out) (id : ℕ) (o p : Out) → stream_at streams id ≡ Some o → PartsGrow o p → (i : ℕ) → StreamGrows side i (stream_at streams i) (stream_at (set_stream streams id p) i)
-set_grows side streams id o p at grows i =
-    by_id id i (λ b. StreamGrows side i (stream_at streams i) (stream_at (set_stream streams id p) i))
-    (λ same. subst (λ j. StreamGrows side j (stream_at streams j) (stream_at (set_stream streams id p) j)) same
-    (subst (λ x. StreamGrows side id x (stream_at (set_stream streams id p) id)) (sym at) (subst (λ x. StreamGrows side id (Some o) x) (sym (set-here streams id p)) grows)))
-    (λ differs. subst (λ x. StreamGrows side i (stream_at streams i) x) (sym (set-other streams id i p differs)) (stream_same side i (stream_at streams i)))
+pub set_grows : (side : Side) (next : ℕ) (streams : Streams Out) (id : ℕ) (o p : Out) → stream_at streams id ≡ Some o → PartsGrow o p → (i : ℕ) → StreamGrows side next i (stream_at streams i) (stream_at (set_stream streams id p) i)
+set_grows side next streams id o p at grows i =
+    by_id id i (λ b. StreamGrows side next i (stream_at streams i) (stream_at (set_stream streams id p) i))
+    (λ same. subst (λ j. StreamGrows side next j (stream_at streams j) (stream_at (set_stream streams id p) j)) same
+    (subst (λ x. StreamGrows side next id x (stream_at (set_stream streams id p) id)) (sym at) (subst (λ x. StreamGrows side next id (Some o) x) (sym (set-here streams id p)) grows)))
+    (λ differs. subst (λ x. StreamGrows side next i (stream_at streams i) x) (sym (set-other streams id i p differs)) (stream_same side next i (stream_at streams i)))
 
 -- A stream that was not there.
-pub new_grows : (side : Side) (streams : Streams Out) (id : ℕ) → stream_at streams id ≡ None → is_own side id ≡ false → (i : ℕ) → StreamGrows side i (stream_at streams i) (stream_at (set_stream streams id nothing_sent) i)
-new_grows side streams id at other i =
-    by_id id i (λ b. StreamGrows side i (stream_at streams i) (stream_at (set_stream streams id nothing_sent) i))
-    (λ same. subst (λ j. StreamGrows side j (stream_at streams j) (stream_at (set_stream streams id nothing_sent) j)) same
-    (subst (λ x. StreamGrows side id x (stream_at (set_stream streams id nothing_sent) id)) (sym at) (subst (λ x. StreamGrows side id None x) (sym (set-here streams id nothing_sent)) (refl, other))))
-    (λ differs. subst (λ x. StreamGrows side i (stream_at streams i) x) (sym (set-other streams id i nothing_sent differs)) (stream_same side i (stream_at streams i)))
+pub new_grows : (side : Side) (next : ℕ) (streams : Streams Out) (id : ℕ) → stream_at streams id ≡ None → is_own side id ≡ false → id < next → (i : ℕ) → StreamGrows side next i (stream_at streams i) (stream_at (set_stream streams id nothing_sent) i)
+new_grows side next streams id at other below i =
+    by_id id i (λ b. StreamGrows side next i (stream_at streams i) (stream_at (set_stream streams id nothing_sent) i))
+    (λ same. subst (λ j. StreamGrows side next j (stream_at streams j) (stream_at (set_stream streams id nothing_sent) j)) same
+    (subst (λ x. StreamGrows side next id x (stream_at (set_stream streams id nothing_sent) id)) (sym at) (subst (λ x. StreamGrows side next id None x) (sym (set-here streams id nothing_sent)) (refl, other, inr below))))
+    (λ differs. subst (λ x. StreamGrows side next i (stream_at streams i) x) (sym (set-other streams id i nothing_sent differs)) (stream_same side next i (stream_at streams i)))
 
 -- A request stream is none of the own ones.
 pub request_is_none : (side : Side) (id : ℕ) → kind_of side id ≡ Request → is_own side id ≡ false

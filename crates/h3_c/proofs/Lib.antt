@@ -25,6 +25,9 @@ pub mod ViewsMemory
 pub mod Unordered
 pub mod UnorderedSteps
 pub mod Grows
+pub mod ReadsGrow
+pub mod Flights
+pub mod Landings
 pub mod QuietCalls
 pub mod MadeHandles
 pub mod ProgramMoves

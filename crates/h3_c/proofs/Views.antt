@@ -130,6 +130,16 @@ seen_as ((q, y) ∷ streams) f g id o p at is others =
     (λ i x other. ap (λ y. if i == q then nothing_sent else y) (others i x other))))
     at
 
+-- or one that is not there
+pub seen_absent : (streams : Streams Out) (f g : ℕ → Out → Out) (id : ℕ) → stream_at streams id ≡ None → ((i : ℕ) (x : Out) → (i == id) ≡ false → f i x ≡ g i x) → streams_seen streams f ≡ streams_seen streams g
+seen_absent [] f g id at others = refl
+seen_absent ((q, y) ∷ streams) f g id at others =
+    by_id q id (λ b. (if b then Some y else stream_at streams id) ≡ None → streams_seen ((q, y) ∷ streams) f ≡ streams_seen ((q, y) ∷ streams) g)
+    (λ same here. absurd (let never : Some y ≡ None = here in cc))
+    (λ differs behind. ap (λ x. (q, x) ∷ streams_seen streams (but f q)) (others q y differs)
+    ∙ ap (λ l. (q, g q y) ∷ l) (seen_absent streams (but f q) (but g q) id behind (λ i x other. ap (λ y. if i == q then nothing_sent else y) (others i x other))))
+    at
+
 -- It is seen of one of which nothing is known of what sends first as of itself.
 pub seen_plainly : (streams : Streams Out) (f g : ℕ → Out → Out) → ((i : ℕ) (x : Out) → f i (g i x) ≡ f i x) → streams_seen (streams_seen streams g) f ≡ streams_seen streams f
 seen_plainly [] f g alike = refl
