@@ -134,7 +134,7 @@ pub goaways_grow : (o : Own) (goaways : List ℕ) → OwnGrows o (record o { goa
 goaways_grow o goaways = record (own_same o) { goaways = goaways; goaways_is = refl }
 
 pub same_parts : (o : Out) → PartsGrow o o
-same_parts o = record { taken = refl; text = λ open. (open, nothing_more (part_bytes o)) }
+same_parts o = record { taken = refl; text = λ goes. (goes, nothing_more (part_bytes o)) }
 
 pub stream_same : (side : Side) (next id : ℕ) (o : Option Out) → StreamGrows side next id o o
 stream_same side next id None = tt

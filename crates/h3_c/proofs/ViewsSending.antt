@@ -118,11 +118,13 @@ module _ (T : View) (K : Keeps T) where
   reset_call_seen e id same =
       done_so (sender.reset_refusal (seen T e) id) (sender.reset_refusal e id) e _ (with_outgoing e id (with_reset (outgoing_at e id))) same (changed e id with_reset (λ o. K.with_reset id o))
 
-  pub sent_off_seen : (e : EndpointHistory) (id : ℕ) → is_sent_off (T.out id (outgoing_at e id)) ≡ is_sent_off (outgoing_at e id) → sender.reset_refusal (seen T e) id ≡ sender.reset_refusal e id
-  sent_off_seen e id same =
+  pub stop_seen : (e : EndpointHistory) (id : ℕ) → sender.reset_refusal (seen T e) id ≡ unless_closed e (refusal_to_stop (is_critical_id e id) (is_open e id) (is_sent_off (T.out id (outgoing_at e id))))
+  stop_seen e id =
       ap (λ b. unless_closed e (refusal_to_stop (is_critical_id e id) b (is_sent_off (outgoing_at (seen T e) id)))) (open_seen T K e id)
       ∙ ap (λ o. unless_closed e (refusal_to_stop (is_critical_id e id) (is_open e id) (is_sent_off o))) (outgoing_seen T K e id)
-      ∙ ap (λ b. unless_closed e (refusal_to_stop (is_critical_id e id) (is_open e id) b)) same
+
+  pub sent_off_seen : (e : EndpointHistory) (id : ℕ) → is_sent_off (T.out id (outgoing_at e id)) ≡ is_sent_off (outgoing_at e id) → sender.reset_refusal (seen T e) id ≡ sender.reset_refusal e id
+  sent_off_seen e id same = stop_seen e id ∙ ap (λ b. unless_closed e (refusal_to_stop (is_critical_id e id) (is_open e id) b)) same
 
   pub cancel_seen : (e : EndpointHistory) (id : ℕ) → sender.cancel (seen T e) id ≡ so_done (sender.cancel e id)
   cancel_seen e id = does_seen (sender.cancel_refusal e id) e _
