@@ -24,7 +24,7 @@ lagging side carried = record {
   decoder = λ n. n - length (carried (decoder_id side));
 }
 
-none_less : (n : ℕ) → 0 - n ≡ 0
+pub none_less : (n : ℕ) → 0 - n ≡ 0
 none_less n = omega arith
 
 pub keeps_lagging : (side : Side) (carried : ℕ → List ℕ) → Keeps (lagging side carried)

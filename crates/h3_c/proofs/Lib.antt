@@ -28,6 +28,9 @@ pub mod Grows
 pub mod ReadsGrow
 pub mod Flights
 pub mod Landings
+pub mod SendsGrow
+pub mod Comings
+pub mod ProgramGives
 pub mod QuietCalls
 pub mod MadeHandles
 pub mod ProgramMoves

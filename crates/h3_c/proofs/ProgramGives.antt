@@ -7,6 +7,7 @@ use Rattle.h3_proto.specs.declared.stream.Side.TheVariants.{Client, Server}
 use Rattle.h3_connection.specs.Answers.{delivery_refused}
 use Rattle.h3_connection.specs.Arrivals.{stream_of}
 use Rattle.h3_connection.specs.Endpoint.{EndpointHistory, bytes_waiting}
+use Rattle.h3_connection.specs.Keeping.{arrives, pulls}
 use Rattle.h3_connection.specs.Order.{default_precedence}
 use Rattle.h3_connection.specs.Outgoing.{Outgoing as Out}
 use Rattle.h3_connection.specs.OwnIds.{control_id, decoder_id, encoder_id, is_own, other}
@@ -18,23 +19,30 @@ use Rattle.h3_connection.specs.StreamSets.{stream_at}
 use Rattle.h3_connection.specs.declared.arrival.Arrival.{Arrival}
 use Rattle.h3_connection.specs.declared.arrival.Arrival.TheVariants.{BytesCame, EndCame, ResetCame}
 use Rattle.h3_connection.specs.declared.event.DeliverError.{DeliverError}
+use Rattle.h3_connection.specs.declared.event.Item.TheVariants as found
+use Rattle.h3_connection.specs.declared.event.Pull.{Pull}
+use Rattle.h3_connection.specs.declared.event.Pull.TheVariants as pull
 use Rattle.h3_world.specs.Delivering.{reset_code}
-use Rattle.h3_world.specs.Ends.{Ends, delivery, end_at, with_end}
+use Rattle.h3_world.specs.Ends.{Ends, delivery, end_at, was_listed, with_end}
 use Rattle.h3_world.specs.declared.event.Answer.{Answer}
 use Rattle.h3_world.specs.declared.event.Answer.TheVariants as answer
 use Rattle.h3_world.specs.declared.event.Event.{Event}
 use Rattle.h3_world.specs.declared.event.Event.TheVariants as event
+use Rattle.h3_world.specs.declared.lists.ListItem.TheVariants as listed
+use Rattle.h3_world.specs.declared.lists.ListPull.TheVariants as list
+use Rattle.h3_memory.specs.Refused.{EndsStep}
 use Rattle.h3_session.specs.Running.{answer_of, is_stored}
 use Rattle.h3_c.specs.Programs.{Handles, carrying, handle_at}
 use Rattle.h3_c.specs.Seen.{Seen}
-use Rattle.h3_c.proofs.Comings.{Came, ComesTo, bytes_step, came_seen, comes, end_step, left_if, reset_step, told_so}
+use Rattle.h3_c.proofs.Comings.{IsDone, Came, ComesTo, bytes_step, came_seen, comes, end_step, left_if, reset_step, told_so}
 use Rattle.h3_c.proofs.Flights.{Carries, IsUnreset, Took, carried_waits, carries_grown, drop_joined, keeps_lagging, lagging, own_lags, take_joined, takes_on}
 use Rattle.h3_c.proofs.Grows.{own_taken, own_text, waits_own}
 use Rattle.h3_c.proofs.Landings.{Landed, Leaves, landed_on}
 use Rattle.h3_c.proofs.ProgramMoves.{Left, Moves, LeavesSo, Stand, StaysAt, keep_lagging, views_of}
-use Rattle.h3_c.proofs.ReadsGrow.{reads_grow}
+use Rattle.h3_c.proofs.ReadsGrow.{arrives_reads, pulls_reads_of_none, reads_grow, reads_then}
 use Rattle.h3_c.proofs.Unordered.{waits_of}
 use Rattle.h3_c.proofs.Views.{Keeps, View, at_seen, by_id, open_seen, seen, seen_alike}
+use Rattle.h3_c.proofs.ViewsMemory.{step_seen}
 use Rattle.h3_c.proofs.ViewsSteps.{both_seen}
 
 -- so much is carried of one stream
@@ -149,6 +157,11 @@ abbrev pub given_to : Side → Handles → Seen → ℕ → List ℕ → Handles
 given_to Client h s id bytes = record { client = h.client; server = s; carried = carrying h.carried Client id bytes }
 given_to Server h s id bytes = record { client = s; server = h.server; carried = carrying h.carried Server id bytes }
 
+-- or of which as much is carried as before
+abbrev pub read_by : Side → Handles → Seen → Handles
+read_by Client h s = record { client = h.client; server = s; carried = h.carried }
+read_by Server h s = record { client = s; server = h.server; carried = h.carried }
+
 abbrev Told : Result Unit DeliverError → Answer → Answer
 Told result success = answer_of success (delivery_refused result)
 
@@ -205,10 +218,10 @@ module _ (h : Handles) (s : Seen) (id : ℕ) where
       })
 
   -- **The end comes.**
-  pub end_given : (from : Side) (bytes : List ℕ) (result : Result Unit DeliverError) → h.carried from id ≡ [] → bytes ≡ []
+  pub end_given : (from : Side) (result : Result Unit DeliverError) → h.carried from id ≡ []
       → ((e : EndpointHistory) → StandsFor (handle_at h from).endpoint e → (has_outgoing e id ≡ true) × (is_finished e id ≡ true) × (waiting e id ≡ 0)) → DeliversEnd (handle_at h (other from)).endpoint s.endpoint id result
-      → Moves h (given_to from h s id bytes) (event.DeliverEnd from id ∷ []) (Told result answer.Done ∷ [])
-  end_given Client bytes result none is there delivers = LeavesSo (λ ends stand.
+      → Moves h (read_by from h s) (event.DeliverEnd from id ∷ []) (Told result answer.Done ∷ [])
+  end_given Client result none there delivers = LeavesSo (λ ends stand.
       let w = ends.client in
       let r = ends.server in
       let about = there w stand.client in
@@ -217,14 +230,13 @@ module _ (h : Handles) (s : Seen) (id : ℕ) where
       let step = end_step V Client id result (seen (lagging Server (h.carried Server)) came.after) (has_there Client (h.carried Client) w stand.client_carries id ∙ about.0)
           (finished_there Client (h.carried Client) w stand.client_carries id ∙ about.1) (ap (λ l. length l) (waits_there Client (h.carried Client) w stand.client_carries id none) ∙ about.2)
           (came_seen (lagging Server (h.carried Server)) (keeps_lagging Server (h.carried Server)) r (EndCame id) result came.after came.came) in
-      let u = kept_on Client (h.carried Client) w stand.client_carries id bytes (none ∙ sym is) in
       record {
         new = record { client = w; server = came.after };
         of = (tt, tt);
-        run = (_, step, sym (ends_of _ _ _ _ u.1 refl));
-        stand = record { client = stand.client; server = came.stands; client_carries = u.0; server_carries = carries_grown Server (h.carried Server) r came.after stand.server_carries (reads_grow h.server.endpoint r came.after stand.server came.reads) };
+        run = (_, step, refl);
+        stand = record { client = stand.client; server = came.stands; client_carries = stand.client_carries; server_carries = carries_grown Server (h.carried Server) r came.after stand.server_carries (reads_grow h.server.endpoint r came.after stand.server came.reads) };
       })
-  end_given Server bytes result none is there delivers = LeavesSo (λ ends stand.
+  end_given Server result none there delivers = LeavesSo (λ ends stand.
       let w = ends.server in
       let r = ends.client in
       let about = there w stand.server in
@@ -233,19 +245,18 @@ module _ (h : Handles) (s : Seen) (id : ℕ) where
       let step = end_step V Server id result (seen (lagging Client (h.carried Client)) came.after) (has_there Server (h.carried Server) w stand.server_carries id ∙ about.0)
           (finished_there Server (h.carried Server) w stand.server_carries id ∙ about.1) (ap (λ l. length l) (waits_there Server (h.carried Server) w stand.server_carries id none) ∙ about.2)
           (came_seen (lagging Client (h.carried Client)) (keeps_lagging Client (h.carried Client)) r (EndCame id) result came.after came.came) in
-      let u = kept_on Server (h.carried Server) w stand.server_carries id bytes (none ∙ sym is) in
       record {
         new = record { client = came.after; server = w };
         of = (tt, tt);
-        run = (_, step, sym (ends_of _ _ _ _ refl u.1));
-        stand = record { client = came.stands; server = stand.server; client_carries = carries_grown Client (h.carried Client) r came.after stand.client_carries (reads_grow h.client.endpoint r came.after stand.client came.reads); server_carries = u.0 };
+        run = (_, step, refl);
+        stand = record { client = came.stands; server = stand.server; client_carries = carries_grown Client (h.carried Client) r came.after stand.client_carries (reads_grow h.client.endpoint r came.after stand.client came.reads); server_carries = stand.server_carries };
       })
 
   -- **The reset comes.**
-  pub reset_given : (from : Side) (bytes : List ℕ) (result : Result Unit DeliverError) → h.carried from id ≡ bytes
+  pub reset_given : (from : Side) (result : Result Unit DeliverError)
       → ((e : EndpointHistory) → StandsFor (handle_at h from).endpoint e → (has_outgoing e id ≡ true) × (is_reset e id ≡ true)) → DeliversReset (handle_at h (other from)).endpoint s.endpoint id reset_code result
-      → Moves h (given_to from h s id bytes) (event.DeliverReset from id ∷ []) (Told result answer.Done ∷ [])
-  reset_given Client bytes result is there delivers = LeavesSo (λ ends stand.
+      → Moves h (read_by from h s) (event.DeliverReset from id ∷ []) (Told result answer.Done ∷ [])
+  reset_given Client result there delivers = LeavesSo (λ ends stand.
       let w = ends.client in
       let r = ends.server in
       let about = there w stand.client in
@@ -254,14 +265,13 @@ module _ (h : Handles) (s : Seen) (id : ℕ) where
       let step = reset_step V Client id result (seen (lagging Server (h.carried Server)) came.after) (has_there Client (h.carried Client) w stand.client_carries id ∙ about.0)
           (reset_there Client (h.carried Client) w stand.client_carries id ∙ about.1)
           (came_seen (lagging Server (h.carried Server)) (keeps_lagging Server (h.carried Server)) r (ResetCame id reset_code) result came.after came.came) in
-      let u = kept_on Client (h.carried Client) w stand.client_carries id bytes is in
       record {
         new = record { client = w; server = came.after };
         of = (tt, tt);
-        run = (_, step, sym (ends_of _ _ _ _ u.1 refl));
-        stand = record { client = stand.client; server = came.stands; client_carries = u.0; server_carries = carries_grown Server (h.carried Server) r came.after stand.server_carries (reads_grow h.server.endpoint r came.after stand.server came.reads) };
+        run = (_, step, refl);
+        stand = record { client = stand.client; server = came.stands; client_carries = stand.client_carries; server_carries = carries_grown Server (h.carried Server) r came.after stand.server_carries (reads_grow h.server.endpoint r came.after stand.server came.reads) };
       })
-  reset_given Server bytes result is there delivers = LeavesSo (λ ends stand.
+  reset_given Server result there delivers = LeavesSo (λ ends stand.
       let w = ends.server in
       let r = ends.client in
       let about = there w stand.server in
@@ -270,13 +280,95 @@ module _ (h : Handles) (s : Seen) (id : ℕ) where
       let step = reset_step V Server id result (seen (lagging Client (h.carried Client)) came.after) (has_there Server (h.carried Server) w stand.server_carries id ∙ about.0)
           (reset_there Server (h.carried Server) w stand.server_carries id ∙ about.1)
           (came_seen (lagging Client (h.carried Client)) (keeps_lagging Client (h.carried Client)) r (ResetCame id reset_code) result came.after came.came) in
-      let u = kept_on Server (h.carried Server) w stand.server_carries id bytes is in
       record {
         new = record { client = came.after; server = w };
         of = (tt, tt);
-        run = (_, step, sym (ends_of _ _ _ _ refl u.1));
-        stand = record { client = came.stands; server = stand.server; client_carries = carries_grown Client (h.carried Client) r came.after stand.client_carries (reads_grow h.client.endpoint r came.after stand.client came.reads); server_carries = u.0 };
+        run = (_, step, refl);
+        stand = record { client = came.stands; server = stand.server; client_carries = carries_grown Client (h.carried Client) r came.after stand.client_carries (reads_grow h.client.endpoint r came.after stand.client came.reads); server_carries = stand.server_carries };
       })
+
+-- As much is carried of each stream.
+pub rest_given : (h : Handles) (from : Side) (id : ℕ) (bytes : List ℕ) → h.carried from id ≡ bytes → Moves h (record h { carried = carrying h.carried from id bytes }) [] []
+rest_given h Client id bytes is = LeavesSo (λ ends stand.
+    let u = kept_on Client (h.carried Client) ends.client stand.client_carries id bytes is in
+    record { new = ends; of = tt; run = sym (ends_of _ _ _ _ u.1 refl); stand = record { client = stand.client; server = stand.server; client_carries = u.0; server_carries = stand.server_carries } })
+rest_given h Server id bytes is = LeavesSo (λ ends stand.
+    let u = kept_on Server (h.carried Server) ends.server stand.server_carries id bytes is in
+    record { new = ends; of = tt; run = sym (ends_of _ _ _ _ refl u.1); stand = record { client = stand.client; server = stand.server; client_carries = stand.client_carries; server_carries = u.0 } })
+
+-- **A piece of a body comes, and is handed out.**
+hands_piece : (ends : Ends) (side : Side) (id : ℕ) (piece : List ℕ) (x : Pull × EndpointHistory) → x.0 ≡ pull.Item (found.Body piece)
+    → was_listed ends side id x ≡ (answer.Listed (list.Item (listed.Body piece)), with_end ends side x.1)
+hands_piece ends side id piece (p, e) is = ap (λ q. was_listed ends side id (q, e)) is
+
+pub record HandsPiece (r s : EndpointState) (id : ℕ) (bytes piece : List ℕ) (e : EndpointHistory) : Type 0 where
+  pub accepted : (arrives e (BytesCame id bytes)).0 ≡ None
+  pub kept : (arrives e (BytesCame id bytes)).1.kept ≡ []
+  pub pulled : (pulls (arrives e (BytesCame id bytes)).1 id).0 ≡ pull.Item (found.Body piece)
+  pub stands : StandsFor s (pulls (arrives e (BytesCame id bytes)).1 id).1
+
+pub piece_given : (h : Handles) (s : Seen) (id : ℕ) (from : Side) (bytes rest piece : List ℕ) → h.carried from id ≡ bytes ++ rest
+    → ((e : EndpointHistory) → StandsFor (handle_at h from).endpoint e → (has_outgoing e id ≡ true) × (is_reset e id ≡ false))
+    → ((e : EndpointHistory) → StandsFor (handle_at h (other from)).endpoint e → HandsPiece (handle_at h (other from)).endpoint s.endpoint id bytes piece e)
+    → Moves h (given_to from h s id rest) (event.Deliver from id (length bytes) ∷ event.PullFields (other from) id ∷ []) (answer.Delivered (length bytes) ∷ answer.Listed (list.Item (listed.Body piece)) ∷ [])
+piece_given h s id Client bytes rest piece is there hands = LeavesSo (λ ends stand.
+    let w = ends.client in
+    let r = ends.server in
+    let about = there w stand.client in
+    let f = fronts Client (h.carried Client) w stand.client_carries id bytes rest is about.1 in
+    let p = hands r stand.server in
+    let x = arrives r (BytesCame id bytes) in
+    let V = both_seen (views_of h.carried) ends in
+    let step = bytes_step V Client id bytes (Ok tt) (seen (lagging Server (h.carried Server)) x.1) (has_there Client (h.carried Client) w stand.client_carries id ∙ about.0) f.0 f.1
+        (came_seen (lagging Server (h.carried Server)) (keeps_lagging Server (h.carried Server)) r (BytesCame id bytes) (Ok tt) x.1 (IsDone tt p.accepted)) in
+    let u = wrote Client (h.carried Client) w stand.client_carries id bytes rest is about.1 true in
+    let mid : Ends = record { client = w; server = x.1 } in
+    let last : Ends = record { client = w; server = (pulls x.1 id).1 } in
+    let views = views_of (carrying h.carried Client id rest) in
+    let pulling = told_so mid last (event.PullFields Server id) (answer.Listed (list.Item (listed.Body piece))) refl (hands_piece mid Server id piece (pulls x.1 id) p.pulled) in
+    let then = step_seen views (keep_lagging (carrying h.carried Client id rest)) mid last (event.PullFields Server id) (answer.Listed (list.Item (listed.Body piece))) tt tt tt pulling in
+    let first = subst (λ new. EndsStep V (event.Deliver Client id (length bytes)) (answer.Delivered (length bytes)) new) (ends_of _ _ _ _ u.is refl) step in
+    record {
+      new = last;
+      of = (tt, (tt, tt));
+      run = (both_seen views mid, first, (both_seen views last, then, refl));
+      stand = record {
+        client = stand.client;
+        server = p.stands;
+        client_carries = u.carries;
+        server_carries = carries_grown Server (h.carried Server) r (pulls x.1 id).1 stand.server_carries
+            (reads_grow h.server.endpoint r (pulls x.1 id).1 stand.server (reads_then r x.1 (pulls x.1 id).1 (arrives_reads r (BytesCame id bytes) stand.server.reached) (pulls_reads_of_none x.1 id p.kept)));
+      };
+    })
+piece_given h s id Server bytes rest piece is there hands = LeavesSo (λ ends stand.
+    let w = ends.server in
+    let r = ends.client in
+    let about = there w stand.server in
+    let f = fronts Server (h.carried Server) w stand.server_carries id bytes rest is about.1 in
+    let p = hands r stand.client in
+    let x = arrives r (BytesCame id bytes) in
+    let V = both_seen (views_of h.carried) ends in
+    let step = bytes_step V Server id bytes (Ok tt) (seen (lagging Client (h.carried Client)) x.1) (has_there Server (h.carried Server) w stand.server_carries id ∙ about.0) f.0 f.1
+        (came_seen (lagging Client (h.carried Client)) (keeps_lagging Client (h.carried Client)) r (BytesCame id bytes) (Ok tt) x.1 (IsDone tt p.accepted)) in
+    let u = wrote Server (h.carried Server) w stand.server_carries id bytes rest is about.1 true in
+    let mid : Ends = record { client = x.1; server = w } in
+    let last : Ends = record { client = (pulls x.1 id).1; server = w } in
+    let views = views_of (carrying h.carried Server id rest) in
+    let pulling = told_so mid last (event.PullFields Client id) (answer.Listed (list.Item (listed.Body piece))) refl (hands_piece mid Client id piece (pulls x.1 id) p.pulled) in
+    let then = step_seen views (keep_lagging (carrying h.carried Server id rest)) mid last (event.PullFields Client id) (answer.Listed (list.Item (listed.Body piece))) tt tt tt pulling in
+    let first = subst (λ new. EndsStep V (event.Deliver Server id (length bytes)) (answer.Delivered (length bytes)) new) (ends_of _ _ _ _ refl u.is) step in
+    record {
+      new = last;
+      of = (tt, (tt, tt));
+      run = (both_seen views mid, first, (both_seen views last, then, refl));
+      stand = record {
+        client = p.stands;
+        server = stand.server;
+        client_carries = carries_grown Client (h.carried Client) r (pulls x.1 id).1 stand.client_carries
+            (reads_grow h.client.endpoint r (pulls x.1 id).1 stand.client (reads_then r x.1 (pulls x.1 id).1 (arrives_reads r (BytesCame id bytes) stand.client.reached) (pulls_reads_of_none x.1 id p.kept)));
+        server_carries = u.carries;
+      };
+    })
 
 -- **Nothing is left.**
 short_step : (ends : Ends) (from : Side) (id : ℕ) → has_outgoing (end_at ends from) id ≡ true → waiting (end_at ends from) id ≡ 0 → delivery ends from id 1 ≡ (answer.Short 0, ends)

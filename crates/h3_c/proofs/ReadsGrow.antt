@@ -375,6 +375,9 @@ pulls_reads_behind (k ∷ kept) e id there =
 pub pulls_reads : (e : EndpointHistory) (id : ℕ) → IsReached e → Reads e (pulls e id).1
 pulls_reads e id reached = pulls_reads_behind e.kept e id (kept_there e e.kept reached.kept)
 
+pub pulls_reads_of_none : (e : EndpointHistory) (id : ℕ) → e.kept ≡ [] → Reads e (pulls e id).1
+pulls_reads_of_none e id none = pulls_reads_behind e.kept e id (subst (λ l. AreThere e l) (sym none) tt)
+
 -- What is read up to some point, where memory was refused.
 opens_as : (k : Kind) (e : EndpointHistory) (id : ℕ) → kind_of e.side id ≡ k → IsThere e id → Reads e (opened_as k e id)
 opens_as Request e id is there = opens e id is there

@@ -180,7 +180,7 @@ body_grows e id bytes = does_grows _ e _ (λ none.
 finish_grows : (e : EndpointHistory) (id : ℕ) → Grows e (sender.finish e id).1
 finish_grows e id = does_grows _ e _ (λ none. writes e id with_finish (λ o. same_text o (with_finish o) refl refl (λ goes. goes)) (open_first (is_open e id) _ (closed_none e.closed _ none)))
 
-reset_grows : (e : EndpointHistory) (id : ℕ) → Grows e (sender.reset e id).1
+pub reset_grows : (e : EndpointHistory) (id : ℕ) → Grows e (sender.reset e id).1
 reset_grows e id = does_grows _ e _ (λ none.
     writes e id with_reset (λ o. same_text o (with_reset o) refl refl (λ goes. absurd (let never : true ≡ false = goes in cc))) (open_second (is_critical_id e id) (is_open e id) _ (closed_none e.closed _ none)))
 
@@ -216,15 +216,15 @@ four_apart n m is Client = two
     two = grind (arith, common_steps, is)
 four_apart n m is Server = grind (arith, common_steps, is)
 
-opens_grow : (e : EndpointHistory) → Stood e → Grows e (sender.open_request e).1
-opens_grow e at = does_grows (sender.open_refusal e) e _ (λ none.
+pub opens_grow : (e : EndpointHistory) (side : Side) (carried : ℕ → List ℕ) → Carries side carried e → Grows e (sender.open_request e).1
+opens_grow e side carried k = does_grows (sender.open_refusal e) e _ (λ none.
     let client = client_opens e.side (last_id e.peer.goaways) e.next_id (closed_none e.closed _ none) in
     record {
       side = refl;
       announced = refl;
       next = inr refl;
       own = own_same e.own;
-      streams = new_grows e.side (e.next_id + 4) e.outgoing e.next_id (at.carries.fresh (sym at.carries.side_is ∙ client) e.next_id (omega arith)) (four_apart e.next_id at.carries.next at.carries.next_is e.side) (omega arith);
+      streams = new_grows e.side (e.next_id + 4) e.outgoing e.next_id (k.fresh (sym k.side_is ∙ client) e.next_id (omega arith)) (four_apart e.next_id k.next k.next_is e.side) (omega arith);
     })
 
 -- both ends
@@ -251,8 +251,8 @@ module _ (ends : Ends) (stood : (side : Side) → Stood (end_at ends side)) wher
   done_grows side success x grows = subst (λ new. BothGrow ends new) (sym (done_end ends side success x)) (one_grows ends side x.1 grows)
 
   opened_so : (side : Side) → BothGrow ends (answered ends (event.OpenRequest side)).1
-  opened_so Client = done_grows Client (answer.Opened ends.client.next_id) (sender.open_request ends.client) (opens_grow ends.client (stood Client))
-  opened_so Server = done_grows Server (answer.Opened ends.server.next_id) (sender.open_request ends.server) (opens_grow ends.server (stood Server))
+  opened_so Client = done_grows Client (answer.Opened ends.client.next_id) (sender.open_request ends.client) (opens_grow ends.client (stood Client).side (stood Client).carried (stood Client).carries)
+  opened_so Server = done_grows Server (answer.Opened ends.server.next_id) (sender.open_request ends.server) (opens_grow ends.server (stood Server).side (stood Server).carried (stood Server).carries)
 
   answered_grows : (e : Event) → IsOfC e → IsCall e → BothGrow ends (answered ends e).1
   answered_grows (event.OpenRequest side) of call = opened_so side
