@@ -15,7 +15,7 @@ use Rattle.h3_outgoing.specs.HeldLaws.{front_in, front_out, front_within}
 use Rattle.h3_c.specs.Bits.{bit}
 use Rattle.h3_c.specs.Exported.{CopiesOut, OnStream}
 use Rattle.h3_c.specs.Numbers.{argument, ok}
-use Rattle.h3_c.specs.Programs.{Shows, Tells, goes_on, has_ended, is_empty, was_reset}
+use Rattle.h3_c.specs.Programs.{Shows, Tells, GoesOn, HasEnded, IsEmpty, WasReset}
 use Rattle.h3_c.specs.Seen.{Seen}
 use Rattle.h3_c.specs.Showing.{IsStream}
 use Rattle.h3_c.specs.declared.state.StreamState.{StreamState}
@@ -100,24 +100,24 @@ bit_false false n is none = refl
 pub tells_stream : (v : Seen) (id : ℕ) (tells : StreamState → Type 0) (t : Tells v id tells) → (id < 2 ^ 62) × ((e : EndpointHistory) → StandsFor v.endpoint e → IsStream e id t.state)
 tells_stream v id tells t = let k = known_id id v v _ t.call.1 in (k.0, k.1.1)
 
-pub goes_told : (v : Seen) (id : ℕ) → Tells v id goes_on → (e : EndpointHistory) → StandsFor v.endpoint e → (has_outgoing e id ≡ true) × (is_reset e id ≡ false)
+pub goes_told : (v : Seen) (id : ℕ) → Tells v id GoesOn → (e : EndpointHistory) → StandsFor v.endpoint e → (has_outgoing e id ≡ true) × (is_reset e id ≡ false)
 goes_told v id t e h =
-    let s = (tells_stream v id goes_on t).1 e h in
+    let s = (tells_stream v id GoesOn t).1 e h in
     (bit_true (has_outgoing e id) t.state.has_outgoing s.has_outgoing t.told.0, bit_false (is_reset e id) t.state.is_reset s.is_reset t.told.1)
 
-pub ended_told : (v : Seen) (id : ℕ) → Tells v id has_ended → (e : EndpointHistory) → StandsFor v.endpoint e → (has_outgoing e id ≡ true) × (is_finished e id ≡ true) × (waiting e id ≡ 0)
+pub ended_told : (v : Seen) (id : ℕ) → Tells v id HasEnded → (e : EndpointHistory) → StandsFor v.endpoint e → (has_outgoing e id ≡ true) × (is_finished e id ≡ true) × (waiting e id ≡ 0)
 ended_told v id t e h =
-    let s = (tells_stream v id has_ended t).1 e h in
+    let s = (tells_stream v id HasEnded t).1 e h in
     let finished = bit_true (is_finished e id) t.state.is_finished s.is_finished t.told.0 in
     (ends_there e id finished, finished, sym s.waiting ∙ t.told.1)
 
-pub reset_told : (v : Seen) (id : ℕ) → Tells v id was_reset → (e : EndpointHistory) → StandsFor v.endpoint e → (has_outgoing e id ≡ true) × (is_reset e id ≡ true)
+pub reset_told : (v : Seen) (id : ℕ) → Tells v id WasReset → (e : EndpointHistory) → StandsFor v.endpoint e → (has_outgoing e id ≡ true) × (is_reset e id ≡ true)
 reset_told v id t e h =
-    let s = (tells_stream v id was_reset t).1 e h in
+    let s = (tells_stream v id WasReset t).1 e h in
     let was = bit_true (is_reset e id) t.state.is_reset s.is_reset t.told in
     (resets_there e id was, was)
 
-pub empty_told : (v : Seen) (id : ℕ) → Tells v id is_empty → (e : EndpointHistory) → StandsFor v.endpoint e → (has_outgoing e id ≡ true) × (waiting e id ≡ 0)
+pub empty_told : (v : Seen) (id : ℕ) → Tells v id IsEmpty → (e : EndpointHistory) → StandsFor v.endpoint e → (has_outgoing e id ≡ true) × (waiting e id ≡ 0)
 empty_told v id t e h =
-    let s = (tells_stream v id is_empty t).1 e h in
+    let s = (tells_stream v id IsEmpty t).1 e h in
     (bit_true (has_outgoing e id) t.state.has_outgoing s.has_outgoing t.told.0, sym s.waiting ∙ t.told.1)

@@ -190,7 +190,7 @@ module _ (h : Handles) (s : Seen) (id : ℕ) where
       let came = comes h.server.endpoint s.endpoint (BytesCame id bytes) result r stand.server delivers.receives delivers.behind in
       let V = both_seen (views_of h.carried) ends in
       let step = bytes_step V Client id bytes result (seen (lagging Server (h.carried Server)) came.after) (has_there Client (h.carried Client) w stand.client_carries id ∙ about.0) f.0 f.1
-          (came_seen (lagging Server (h.carried Server)) (keeps_lagging Server (h.carried Server)) r (BytesCame id bytes) result came.after came.came) in
+      (came_seen (lagging Server (h.carried Server)) (keeps_lagging Server (h.carried Server)) r (BytesCame id bytes) result came.after came.came) in
       let u = wrote Client (h.carried Client) w stand.client_carries id bytes rest is about.1 (is_stored result) in
       let new : Ends = record { client = w; server = came.after } in
       record {
@@ -207,7 +207,7 @@ module _ (h : Handles) (s : Seen) (id : ℕ) where
       let came = comes h.client.endpoint s.endpoint (BytesCame id bytes) result r stand.client delivers.receives delivers.behind in
       let V = both_seen (views_of h.carried) ends in
       let step = bytes_step V Server id bytes result (seen (lagging Client (h.carried Client)) came.after) (has_there Server (h.carried Server) w stand.server_carries id ∙ about.0) f.0 f.1
-          (came_seen (lagging Client (h.carried Client)) (keeps_lagging Client (h.carried Client)) r (BytesCame id bytes) result came.after came.came) in
+      (came_seen (lagging Client (h.carried Client)) (keeps_lagging Client (h.carried Client)) r (BytesCame id bytes) result came.after came.came) in
       let u = wrote Server (h.carried Server) w stand.server_carries id bytes rest is about.1 (is_stored result) in
       let new : Ends = record { client = came.after; server = w } in
       record {
@@ -228,8 +228,8 @@ module _ (h : Handles) (s : Seen) (id : ℕ) where
       let came = comes h.server.endpoint s.endpoint (EndCame id) result r stand.server delivers.receives delivers.behind in
       let V = both_seen (views_of h.carried) ends in
       let step = end_step V Client id result (seen (lagging Server (h.carried Server)) came.after) (has_there Client (h.carried Client) w stand.client_carries id ∙ about.0)
-          (finished_there Client (h.carried Client) w stand.client_carries id ∙ about.1) (ap (λ l. length l) (waits_there Client (h.carried Client) w stand.client_carries id none) ∙ about.2)
-          (came_seen (lagging Server (h.carried Server)) (keeps_lagging Server (h.carried Server)) r (EndCame id) result came.after came.came) in
+      (finished_there Client (h.carried Client) w stand.client_carries id ∙ about.1) (ap (λ l. length l) (waits_there Client (h.carried Client) w stand.client_carries id none) ∙ about.2)
+      (came_seen (lagging Server (h.carried Server)) (keeps_lagging Server (h.carried Server)) r (EndCame id) result came.after came.came) in
       record {
         new = record { client = w; server = came.after };
         of = (tt, tt);
@@ -243,8 +243,8 @@ module _ (h : Handles) (s : Seen) (id : ℕ) where
       let came = comes h.client.endpoint s.endpoint (EndCame id) result r stand.client delivers.receives delivers.behind in
       let V = both_seen (views_of h.carried) ends in
       let step = end_step V Server id result (seen (lagging Client (h.carried Client)) came.after) (has_there Server (h.carried Server) w stand.server_carries id ∙ about.0)
-          (finished_there Server (h.carried Server) w stand.server_carries id ∙ about.1) (ap (λ l. length l) (waits_there Server (h.carried Server) w stand.server_carries id none) ∙ about.2)
-          (came_seen (lagging Client (h.carried Client)) (keeps_lagging Client (h.carried Client)) r (EndCame id) result came.after came.came) in
+      (finished_there Server (h.carried Server) w stand.server_carries id ∙ about.1) (ap (λ l. length l) (waits_there Server (h.carried Server) w stand.server_carries id none) ∙ about.2)
+      (came_seen (lagging Client (h.carried Client)) (keeps_lagging Client (h.carried Client)) r (EndCame id) result came.after came.came) in
       record {
         new = record { client = came.after; server = w };
         of = (tt, tt);
@@ -263,8 +263,8 @@ module _ (h : Handles) (s : Seen) (id : ℕ) where
       let came = comes h.server.endpoint s.endpoint (ResetCame id reset_code) result r stand.server delivers.receives delivers.behind in
       let V = both_seen (views_of h.carried) ends in
       let step = reset_step V Client id result (seen (lagging Server (h.carried Server)) came.after) (has_there Client (h.carried Client) w stand.client_carries id ∙ about.0)
-          (reset_there Client (h.carried Client) w stand.client_carries id ∙ about.1)
-          (came_seen (lagging Server (h.carried Server)) (keeps_lagging Server (h.carried Server)) r (ResetCame id reset_code) result came.after came.came) in
+      (reset_there Client (h.carried Client) w stand.client_carries id ∙ about.1)
+      (came_seen (lagging Server (h.carried Server)) (keeps_lagging Server (h.carried Server)) r (ResetCame id reset_code) result came.after came.came) in
       record {
         new = record { client = w; server = came.after };
         of = (tt, tt);
@@ -278,8 +278,8 @@ module _ (h : Handles) (s : Seen) (id : ℕ) where
       let came = comes h.client.endpoint s.endpoint (ResetCame id reset_code) result r stand.client delivers.receives delivers.behind in
       let V = both_seen (views_of h.carried) ends in
       let step = reset_step V Server id result (seen (lagging Client (h.carried Client)) came.after) (has_there Server (h.carried Server) w stand.server_carries id ∙ about.0)
-          (reset_there Server (h.carried Server) w stand.server_carries id ∙ about.1)
-          (came_seen (lagging Client (h.carried Client)) (keeps_lagging Client (h.carried Client)) r (ResetCame id reset_code) result came.after came.came) in
+      (reset_there Server (h.carried Server) w stand.server_carries id ∙ about.1)
+      (came_seen (lagging Client (h.carried Client)) (keeps_lagging Client (h.carried Client)) r (ResetCame id reset_code) result came.after came.came) in
       record {
         new = record { client = came.after; server = w };
         of = (tt, tt);
@@ -320,7 +320,7 @@ piece_given h s id Client bytes rest piece is there hands = LeavesSo (λ ends st
     let x = arrives r (BytesCame id bytes) in
     let V = both_seen (views_of h.carried) ends in
     let step = bytes_step V Client id bytes (Ok tt) (seen (lagging Server (h.carried Server)) x.1) (has_there Client (h.carried Client) w stand.client_carries id ∙ about.0) f.0 f.1
-        (came_seen (lagging Server (h.carried Server)) (keeps_lagging Server (h.carried Server)) r (BytesCame id bytes) (Ok tt) x.1 (IsDone tt p.accepted)) in
+    (came_seen (lagging Server (h.carried Server)) (keeps_lagging Server (h.carried Server)) r (BytesCame id bytes) (Ok tt) x.1 (IsDone tt p.accepted)) in
     let u = wrote Client (h.carried Client) w stand.client_carries id bytes rest is about.1 true in
     let mid : Ends = record { client = w; server = x.1 } in
     let last : Ends = record { client = w; server = (pulls x.1 id).1 } in
@@ -349,7 +349,7 @@ piece_given h s id Server bytes rest piece is there hands = LeavesSo (λ ends st
     let x = arrives r (BytesCame id bytes) in
     let V = both_seen (views_of h.carried) ends in
     let step = bytes_step V Server id bytes (Ok tt) (seen (lagging Client (h.carried Client)) x.1) (has_there Server (h.carried Server) w stand.server_carries id ∙ about.0) f.0 f.1
-        (came_seen (lagging Client (h.carried Client)) (keeps_lagging Client (h.carried Client)) r (BytesCame id bytes) (Ok tt) x.1 (IsDone tt p.accepted)) in
+    (came_seen (lagging Client (h.carried Client)) (keeps_lagging Client (h.carried Client)) r (BytesCame id bytes) (Ok tt) x.1 (IsDone tt p.accepted)) in
     let u = wrote Server (h.carried Server) w stand.server_carries id bytes rest is about.1 true in
     let mid : Ends = record { client = x.1; server = w } in
     let last : Ends = record { client = (pulls x.1 id).1; server = w } in

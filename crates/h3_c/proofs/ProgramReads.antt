@@ -61,18 +61,18 @@ pair Server v r carried = record { client = r; server = v; carried = carried }
 abbrev Carried : Type 0
 Carried = Side → ℕ → List ℕ
 
-abbrev pub GoesOn : Seen → ℕ → Type 0
-GoesOn v id = (e : EndpointHistory) → StandsFor v.endpoint e → (has_outgoing e id ≡ true) × (is_reset e id ≡ false)
+abbrev pub StillSends : Seen → ℕ → Type 0
+StillSends v id = (e : EndpointHistory) → StandsFor v.endpoint e → (has_outgoing e id ≡ true) × (is_reset e id ≡ false)
 
-abbrev pub HasEnded : Seen → ℕ → Type 0
-HasEnded v id = (e : EndpointHistory) → StandsFor v.endpoint e → (has_outgoing e id ≡ true) × (is_finished e id ≡ true) × (waiting e id ≡ 0)
+abbrev pub SentAll : Seen → ℕ → Type 0
+SentAll v id = (e : EndpointHistory) → StandsFor v.endpoint e → (has_outgoing e id ≡ true) × (is_finished e id ≡ true) × (waiting e id ≡ 0)
 
-bytes_move : (from : Side) (id : ℕ) (v r s : Seen) (c : Carried) (bytes rest : List ℕ) (result : Result Unit DeliverError) → c from id ≡ bytes ++ rest → GoesOn v id → Delivers r.endpoint s.endpoint id bytes result
+bytes_move : (from : Side) (id : ℕ) (v r s : Seen) (c : Carried) (bytes rest : List ℕ) (result : Result Unit DeliverError) → c from id ≡ bytes ++ rest → StillSends v id → Delivers r.endpoint s.endpoint id bytes result
     → Moves (pair from v r c) (pair from v s (carrying c from id ((if is_stored result then [] else bytes) ++ rest))) (event.Deliver from id (length bytes) ∷ []) (answer_of (answer.Delivered (length bytes)) (delivery_refused result) ∷ [])
 bytes_move Client id v r s c bytes rest result is goes delivers = bytes_given (pair Client v r c) s id Client bytes rest result is goes delivers
 bytes_move Server id v r s c bytes rest result is goes delivers = bytes_given (pair Server v r c) s id Server bytes rest result is goes delivers
 
-end_moves : (from : Side) (id : ℕ) (v r s : Seen) (c : Carried) (result : Result Unit DeliverError) → c from id ≡ [] → HasEnded v id → DeliversEnd r.endpoint s.endpoint id result
+end_moves : (from : Side) (id : ℕ) (v r s : Seen) (c : Carried) (result : Result Unit DeliverError) → c from id ≡ [] → SentAll v id → DeliversEnd r.endpoint s.endpoint id result
     → Moves (pair from v r c) (pair from v s c) (event.DeliverEnd from id ∷ []) (answer_of answer.Done (delivery_refused result) ∷ [])
 end_moves Client id v r s c result none ended delivers = end_given (pair Client v r c) s id Client result none ended delivers
 end_moves Server id v r s c result none ended delivers = end_given (pair Server v r c) s id Server result none ended delivers
@@ -143,7 +143,7 @@ pub record ReadMade (from : Side) (id : ℕ) (bytes : List ℕ) (fin used : ℕ)
   pub comes : ComesOfRead from id bytes fin used item n s events answers
   pub moves : Moves (pair from v r c) (pair from v s (carrying c from id (drop used bytes ++ rest))) events answers
 
-module _ (from : Side) (id : ℕ) (bytes : List ℕ) (fin used : ℕ) (item : PulledItem) (n : Told) (v r s : Seen) (c : Side → ℕ → List ℕ) (rest : List ℕ) (first : c from id ≡ bytes ++ rest) (goes : GoesOn v id) (ended : ends_with fin bytes used ≡ true → (drop used bytes ++ rest ≡ []) × HasEnded v id) where
+module _ (from : Side) (id : ℕ) (bytes : List ℕ) (fin used : ℕ) (item : PulledItem) (n : Told) (v r s : Seen) (c : Side → ℕ → List ℕ) (rest : List ℕ) (first : c from id ≡ bytes ++ rest) (goes : StillSends v id) (ended : ends_with fin bytes used ≡ true → (drop used bytes ++ rest ≡ []) × SentAll v id) where
   abbrev Goal : Type 0
   Goal = ReadMade from id bytes fin used item n v r s c rest
 
@@ -290,7 +290,7 @@ came_kept e id bytes none kind =
     let found_is : (bytes_at e id bytes (kind_of e.side id)).0.kept ≡ e.kept = ap (λ k. (bytes_at e id bytes k).0.kept) kind ∙ opened_kept e id (stream_at e.incoming id) in
     ap (λ l. (arrives_behind l e (BytesCame id bytes)).1.kept) none ∙ taken_kept e.closed (delivery_refusal e id) e (bytes_at e id bytes (kind_of e.side id)) found_is ∙ none
 
-pieces_move : (from : Side) (id used : ℕ) (bytes rest front piece : List ℕ) (v r s : Seen) (c : Carried) → c from id ≡ bytes ++ rest → front ≡ take used bytes → used ≤ length bytes → GoesOn v id
+pieces_move : (from : Side) (id used : ℕ) (bytes rest front piece : List ℕ) (v r s : Seen) (c : Carried) → c from id ≡ bytes ++ rest → front ≡ take used bytes → used ≤ length bytes → StillSends v id
     → ((e : EndpointHistory) → StandsFor r.endpoint e → HandsPiece r.endpoint s.endpoint id front piece e)
     → Moves (pair from v r c) (pair from v s (carrying c from id (drop used bytes ++ rest))) (event.Deliver from id used ∷ event.PullFields (other from) id ∷ []) (answer.Delivered used ∷ answer.Listed (list.Item (listed.Body piece)) ∷ [])
 pieces_move from id used bytes rest front piece v r s c first is few goes hands =
@@ -304,8 +304,8 @@ pieces_move from id used bytes rest front piece v r s c first is few goes hands 
     by Server at = piece_given (pair Server v r c) s id Server front (drop used bytes ++ rest) piece at goes hands
 
 -- **So is each read.**
-pub read_made : (from : Side) (id : ℕ) (bytes : List ℕ) (fin used : ℕ) (before item : PulledItem) (n : Told) (v r s : Seen) (c : Side → ℕ → List ℕ) (rest : List ℕ) → id < 2 ^ 62 → c from id ≡ bytes ++ rest → GoesOn v id
-    → (ends_with fin bytes used ≡ true → (drop used bytes ++ rest ≡ []) × HasEnded v id) → ReadsOn r s id bytes fin n before item used → ReadMade from id bytes fin used item n v r s c rest
+pub read_made : (from : Side) (id : ℕ) (bytes : List ℕ) (fin used : ℕ) (before item : PulledItem) (n : Told) (v r s : Seen) (c : Side → ℕ → List ℕ) (rest : List ℕ) → id < 2 ^ 62 → c from id ≡ bytes ++ rest → StillSends v id
+    → (ends_with fin bytes used ≡ true → (drop used bytes ++ rest ≡ []) × SentAll v id) → ReadsOn r s id bytes fin n before item used → ReadMade from id bytes fin used item n v r s c rest
 read_made from id bytes fin used before item n v r s c rest known first goes ended reads_on = by (is_rejected_in r.endpoint id) refl
   where
     placed : (p : BodyPlace) → ((e : EndpointHistory) → StandsFor r.endpoint e → Some p ≡ place_next e id bytes) → ReadsPlaced r s id bytes p n item used → ReadMade from id bytes fin used item n v r s c rest

@@ -22,7 +22,7 @@ use Rattle.h3_memory.specs.Refused.{EndsRun}
 use Rattle.h3_session.specs.Running.{answer_of, is_stored}
 use Rattle.h3_c.specs.Exported.{Calls, DeliversOn}
 use Rattle.h3_c.specs.Numbers.{ok, rejected}
-use Rattle.h3_c.specs.Programs.{Act, AreMade, Bytes, Call, Comes, Empty, End, Gives, Handles, Happen, Happens, HasNone, IsEvent, IsRead, IsRefused, Nothing, Read, Reset, StandFor, Take, Takes, Tells, Then, carrying, event_of, handle_at, has_ended, is_taken}
+use Rattle.h3_c.specs.Programs.{Act, AreMade, Bytes, Call, Comes, Empty, End, Gives, Handles, Happen, Happens, HasNone, IsEvent, IsRead, IsRefused, Nothing, Read, Reset, StandFor, Take, Takes, Tells, Then, carrying, event_of, handle_at, HasEnded, is_taken}
 use Rattle.h3_c.specs.Reads.{taken_of}
 use Rattle.h3_c.specs.Seen.{Seen}
 use Rattle.h3_c.specs.declared.numbers.Told.{Told}
@@ -162,7 +162,7 @@ act_made law (Read from id bytes fin used before item n) h g ends stand (gives, 
     let v = handle_at h from in
     let s = handle_at g (other from) in
     let made = read_made from id bytes fin used before item n v (handle_at h (other from)) s h.carried gives.rest (tells_stream v id _ tells).0 gives.first (goes_told v id tells)
-        (λ ends_so. let none = ended ends_so in (sym (carried_here g (drop used bytes ++ gives.rest) gives.carried) ∙ none.0, ended_told v id (subst (λ x. Tells x id has_ended) gives.there none.1))) gives.given in
+    (λ ends_so. let none = ended ends_so in (sym (carried_here g (drop used bytes ++ gives.rest) gives.carried) ∙ none.0, ended_told v id (subst (λ x. Tells x id HasEnded) gives.there none.1))) gives.given in
     at_ends law ends stand (made_moves (Read from id bytes fin used before item n) h g _ made.events made.answers (given_is from h g id (drop used bytes ++ gives.rest) gives.there gives.carried) (IsRead refl made.comes)
     (subst (λ x. Moves h x made.events made.answers) (pair_given from h s id (drop used bytes ++ gives.rest)) (subst (λ x. Moves x (pair from v s (carrying h.carried from id (drop used bytes ++ gives.rest))) made.events made.answers) (pair_is from h) made.moves)))
   where

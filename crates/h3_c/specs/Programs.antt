@@ -112,17 +112,17 @@ pub record Gives (from : Side) (id : ℕ) (bytes : List ℕ) (used : ℕ) (call 
   pub carried : g.carried ≡ carrying h.carried from id (drop used bytes ++ rest)
 
 -- Bytes come of a stream that was not reset, its end behind all of them, and its reset if it was reset.
-abbrev pub goes_on : StreamState → Type 0
-goes_on state = (state.has_outgoing ≡ 1) × (state.is_reset ≡ 0)
+abbrev pub GoesOn : StreamState → Type 0
+GoesOn state = (state.has_outgoing ≡ 1) × (state.is_reset ≡ 0)
 
-abbrev pub has_ended : StreamState → Type 0
-has_ended state = (state.is_finished ≡ 1) × (state.waiting ≡ 0)
+abbrev pub HasEnded : StreamState → Type 0
+HasEnded state = (state.is_finished ≡ 1) × (state.waiting ≡ 0)
 
-abbrev pub was_reset : StreamState → Type 0
-was_reset state = state.is_reset ≡ 1
+abbrev pub WasReset : StreamState → Type 0
+WasReset state = state.is_reset ≡ 1
 
-abbrev pub is_empty : StreamState → Type 0
-is_empty state = (state.has_outgoing ≡ 1) × (state.waiting ≡ 0)
+abbrev pub IsEmpty : StreamState → Type 0
+IsEmpty state = (state.has_outgoing ≡ 1) × (state.waiting ≡ 0)
 
 -- nothing is carried, and this is told
 abbrev pub NothingLeft : Side → ℕ → (StreamState → Type 0) → Handles → Type 0
@@ -137,12 +137,12 @@ abbrev pub Happens : Act → Handles → Handles → Type 0
 Happens (Call side call) h g =
     (is_left_out call (handle_at h side) ≡ false) × GivesBytes call × Does call (handle_at h side) (handle_at g side) × (handle_at g (other side) ≡ handle_at h (other side)) × (g.carried ≡ h.carried)
 Happens (Take from id bytes) h g = Takes from id bytes h g
-Happens (Bytes from id bytes n) h g = Gives from id bytes (taken_of (is_taken n) (length bytes)) (Deliver id bytes n) h g × Tells (handle_at h from) id goes_on
+Happens (Bytes from id bytes n) h g = Gives from id bytes (taken_of (is_taken n) (length bytes)) (Deliver id bytes n) h g × Tells (handle_at h from) id GoesOn
 Happens (Read from id bytes fin used before item n) h g =
-    Gives from id bytes used (ReadOfC id bytes fin used before item n) h g × Tells (handle_at h from) id goes_on × (ends_with fin bytes used ≡ true → NothingLeft from id has_ended g)
-Happens (End from id n) h g = Gives from id [] 0 (DeliverEnd id n) h g × NothingLeft from id has_ended h
-Happens (Reset from id n) h g = Gives from id [] 0 (DeliverReset id reset_code n) h g × Tells (handle_at h from) id was_reset
-Happens (Empty from id) h g = NothingLeft from id is_empty h × (g ≡ h)
+    Gives from id bytes used (ReadOfC id bytes fin used before item n) h g × Tells (handle_at h from) id GoesOn × (ends_with fin bytes used ≡ true → NothingLeft from id HasEnded g)
+Happens (End from id n) h g = Gives from id [] 0 (DeliverEnd id n) h g × NothingLeft from id HasEnded h
+Happens (Reset from id n) h g = Gives from id [] 0 (DeliverReset id reset_code n) h g × Tells (handle_at h from) id WasReset
+Happens (Empty from id) h g = NothingLeft from id IsEmpty h × (g ≡ h)
 
 -- **Two programs do this, in this order.**
 abbrev pub Happen : Handles → List Act → Handles → Type 0
