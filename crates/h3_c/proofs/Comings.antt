@@ -101,7 +101,8 @@ plain_if false r h = none_so r h
 plain_request : (side : Side) (i : Option Incoming) (r : Refusal) → request_refusal side i ≡ Some r → IsPlain r
 plain_request Client None r h = plain_so refusal.NotOpen r refl h
 plain_request Server None r h = none_so r h
-plain_request side (Some i) r h = plain_if (i.ended || i.was_reset) r h
+plain_request Client (Some i) r h = plain_if (i.ended || i.was_reset) r h
+plain_request Server (Some i) r h = plain_if (i.ended || i.was_reset) r h
 
 plain_opened : (side : Side) (r : Refusal) → server_opened_refusal side ≡ Some r → IsPlain r
 plain_opened Client r h = none_so r h
@@ -160,11 +161,11 @@ abbrev pub left_if : Bool → Ends → Side → ℕ → ℕ → Ends
 left_if stored ends from id count = if stored then handed_over ends from id count else ends
 
 -- an answer that tells of no refused memory
-told_so : (ends new : Ends) (e : Event) (a : Answer) → is_out_of_memory a ≡ false → answered ends e ≡ (a, new) → EndsStep ends e a new
+pub told_so : (ends new : Ends) (e : Event) (a : Answer) → is_out_of_memory a ≡ false → answered ends e ≡ (a, new) → EndsStep ends e a new
 told_so ends new e a plain is = subst (λ b. AnswerOf b ends e a new) (sym plain) (sym (ap (λ x. x.0) is), sym (ap (λ x. x.1) is))
 
 module _ (ends : Ends) (from : Side) (id : ℕ) where
-  reader : EndpointHistory
+  abbrev reader : EndpointHistory
   reader = end_at ends (other from)
 
   goes : (bytes : List ℕ) → has_outgoing (end_at ends from) id ≡ true → length bytes ≤ waiting (end_at ends from) id → take (length bytes) (bytes_waiting (end_at ends from) id) ≡ bytes

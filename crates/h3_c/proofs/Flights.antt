@@ -183,22 +183,21 @@ carries_grown side carried e f k grows = record {
   flies = λ id. grown_at e f grows k.silent id (stream_at e.outgoing id) (stream_at f.outgoing id) (carried id) (grows.streams id) (k.flies id);
   silent = grows.own.updates ∙ k.silent;
   apart = λ id own. let was = subst (λ s. is_own s id ≡ true) grows.side own in apart_at e.side f.next_id id (stream_at e.outgoing id) (stream_at f.outgoing id) (grows.streams id) was (k.apart id was);
-  next = by grows.next;
-  next_is = is grows.next;
+  next = aligned.0;
+  next_is = aligned.1;
   fresh = λ client id behind. fresh_at e.side f.next_id id (stream_at e.outgoing id) (stream_at f.outgoing id) (grows.streams id) (k.side_is ∙ client) behind (k.fresh client id (later grows.next id behind));
 }
   where
-    by : (f.next_id ≡ e.next_id) ⊎ (f.next_id ≡ e.next_id + 4) → ℕ
-    by (inl same) = k.next
-    by (inr more) = suc k.next
+    by : (f.next_id ≡ e.next_id) ⊎ (f.next_id ≡ e.next_id + 4) → (n : ℕ) × (f.next_id ≡ 4 * n)
+    by (inl same) = (k.next, same ∙ k.next_is)
+    by (inr more) = (suc k.next, more ∙ four_more k.next e.next_id k.next_is)
+
+    aligned : (n : ℕ) × (f.next_id ≡ 4 * n)
+    aligned = by grows.next
 
     later : (f.next_id ≡ e.next_id) ⊎ (f.next_id ≡ e.next_id + 4) → (id : ℕ) → f.next_id ≤ id → e.next_id ≤ id
     later (inl same) id behind = omega (arith, same, behind)
     later (inr more) id behind = omega (arith, more, behind)
-
-    is : (n : (f.next_id ≡ e.next_id) ⊎ (f.next_id ≡ e.next_id + 4)) → f.next_id ≡ 4 * by n
-    is (inl same) = same ∙ k.next_is
-    is (inr more) = more ∙ four_more k.next e.next_id k.next_is
 
 -- What sends first changes nothing.
 same_grows : (side : Side) (next id : ℕ) (o p : Option Out) → option_map unordered_out p ≡ option_map unordered_out o → StreamGrows side next id o p
@@ -351,7 +350,7 @@ pub not_there : {X : Type 0} (o : Option X) (x : X) → o ≡ Some x → o ≡ N
 not_there o x some none = absurd (let never : Some x ≡ None = sym some ∙ none in cc)
 
 module _ (before after : ℕ → List ℕ) (e : EndpointHistory) (k : Carries e.side before e) (id : ℕ) (bytes : List ℕ) (joins : Joins before id bytes after) (front : bytes ≡ take (length bytes) (bytes_waiting e id)) where
-  n : ℕ
+  abbrev n : ℕ
   n = length bytes
 
   longer : (q : ℕ) → length (after q) ≡ length (before q) + extra id n q

@@ -232,13 +232,13 @@ module _ (e f : EndpointHistory) (grows : Grows e f) (silent : e.own.updates ≡
         (ap (λ l. flat_map decoder_bytes l) own.replies_is ∙ decoded_joined e.own.replies own.replies);
   }
 
-  texts_if : Side → ℕ → List ℕ
+  abbrev texts_if : Side → ℕ → List ℕ
   texts_if side id =
       if id == control_id side then control_start f.announced.settings f.own.further ++ control_frames 0 f.own.goaways f.own.updates else (
       if id == encoder_id side then encoding 2 ++ flat_map encoder_bytes f.own.instructions else (
       if id == decoder_id side then encoding 3 ++ flat_map decoder_bytes f.own.replies else []))
 
-  taken_if : Side → ℕ → ℕ
+  abbrev taken_if : Side → ℕ → ℕ
   taken_if side id =
       if id == control_id side then f.own.control_taken else (
       if id == encoder_id side then f.own.encoder_taken else (

@@ -51,7 +51,7 @@ abbrev pub Leaves : (ℕ → List ℕ) → ℕ → List ℕ → (ℕ → List �
 Leaves before id bytes after = (q : ℕ) → before q ≡ (if q == id then bytes else []) ++ after q
 
 module _ (before after : ℕ → List ℕ) (e : EndpointHistory) (k : Carries e.side before e) (id : ℕ) (bytes : List ℕ) (leaves : Leaves before id bytes after) where
-  n : ℕ
+  abbrev n : ℕ
   n = length bytes
 
   shorter : (q : ℕ) → length (before q) ≡ extra id n q + length (after q)

@@ -90,10 +90,10 @@ none_if false false true m n o x y z p q r = ap (λ i. o - i) (r refl) ∙ nothi
 none_if false false false m n o x y z p q r = refl
 
 module _ (side : Side) (carried : ℕ → List ℕ) (e : EndpointHistory) (k : Carries side carried e) (id : ℕ) where
-  T : View
+  abbrev T : View
   T = lagging side carried
 
-  K : Keeps T
+  abbrev K : Keeps T
   K = keeps_lagging side carried
 
   pub has_there : has_outgoing (seen T e) id ≡ has_outgoing e id

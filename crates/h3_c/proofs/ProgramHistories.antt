@@ -7,13 +7,11 @@ use Rattle.h3_proto.specs.declared.stream.Side.{Side}
 use Rattle.h3_proto.specs.declared.stream.Side.TheVariants.{Client, Server}
 use Rattle.h3_connection.specs.Answers.{call_refused}
 use Rattle.h3_connection.specs.Calls.{IsSame}
-use Rattle.h3_connection.specs.Endpoint.{EndpointHistory, is_critical_id}
+use Rattle.h3_connection.specs.Endpoint.{EndpointHistory}
 use Rattle.h3_connection.specs.LastLaws.{last_appended}
 use Rattle.h3_connection.specs.Lasts.{last_id}
-use Rattle.h3_connection.specs.Outgoing.{is_sent_off}
 use Rattle.h3_connection.specs.OwnIds.{other}
-use Rattle.h3_connection.specs.Refusals.{refusal_to_stop}
-use Rattle.h3_connection.specs.Sending.{cancel, closed_or, does, goaway, goaway_refusal, is_open, open_refusal, outgoing_at, reset, reset_refusal, unless_closed}
+use Rattle.h3_connection.specs.Sending.{cancel, closed_or, does, goaway, goaway_refusal, open_refusal, reset, reset_refusal, unless_closed}
 use Rattle.h3_connection.specs.SendingContracts.{DoesOrRefuses}
 use Rattle.h3_connection.specs.Shutdown.{goaway_once, is_named, last_taken, notice_id}
 use Rattle.h3_connection.specs.State.{StandsFor}
@@ -64,22 +62,6 @@ at_ends law ends stand made = record { events = made.events; answers = made.answ
 closed_some : (closed : Option ℕ) (r : Refusal) → closed_or closed (Some r) ≡ None → ⊥
 closed_some (Some code) r is = let never : Some (refusal.Closed code) ≡ None = is in absurd (cc)
 closed_some None r is = let never : Some r ≡ None = is in absurd (cc)
-
--- no sending that is ended lacks memory
-not_memory : (closed : Option ℕ) (critical is_there over : Bool) → is_out_of_memory (answer_of answer.Done (closed_or closed (refusal_to_stop critical is_there over))) ≡ false
-not_memory (Some code) critical is_there over = refl
-not_memory None true is_there over = refl
-not_memory None false false over = refl
-not_memory None false true true = refl
-not_memory None false true false = refl
-
-does_refusal : (r : Option Refusal) (e new : EndpointHistory) → (does r e new).0 ≡ r
-does_refusal None e new = refl
-does_refusal (Some r) e new = refl
-
-reset_answers : (e : EndpointHistory) (id : ℕ) → is_out_of_memory (answer_of answer.Done (reset e id).0) ≡ false
-reset_answers e id =
-    ap (λ r. is_out_of_memory (answer_of answer.Done r)) (does_refusal (reset_refusal e id) e _) ∙ not_memory e.closed (is_critical_id e id) (is_open e id) (is_sent_off (outgoing_at e id))
 
 does_none : (r : Option Refusal) (e new : EndpointHistory) → (does r e new).0 ≡ None → (r ≡ None) × ((does r e new).1 ≡ new)
 does_none None e new is = (refl, refl)

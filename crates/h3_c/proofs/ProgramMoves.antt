@@ -120,21 +120,15 @@ fewer_dropped : (n k : ℕ) (xs : List ℕ) → length (drop n xs) ≤ length (d
 fewer_dropped n k xs = let one = length_dropped n xs in let two = length_dropped (n - k) xs in omega (arith, one, two)
 
 lags_alike : (side : Side) (carried : ℕ → List ℕ) (e : EndpointHistory) (id : ℕ) → reset_refusal e id ≢ Some refusal.Ended → reset_refusal (seen (lagging side carried) e) id ≡ reset_refusal e id
-lags_alike side carried e id not = by (is_sent_off o) refl
+lags_alike side carried e id not = by (is_sent_off (outgoing_at e id)) refl
   where
-    T : View
-    T = lagging side carried
-
-    o : Out
-    o = outgoing_at e id
-
-    by : (b : Bool) → is_sent_off o ≡ b → reset_refusal (seen T e) id ≡ reset_refusal e id
+    by : (b : Bool) → is_sent_off (outgoing_at e id) ≡ b → reset_refusal (seen (lagging side carried) e) id ≡ reset_refusal e id
     by true over =
         let whole = ap (λ b. closed_or e.closed (refusal_to_stop (is_critical_id e id) (is_open e id) b)) over in
         let other = λ (b : Bool). alike_if e.closed (is_critical_id e id) (is_open e id) b (λ is. not (whole ∙ is)) in
-        stop_seen T (keeps_lagging side carried) e id ∙ other (is_sent_off (T.out id o)) ∙ sym whole
+        stop_seen (lagging side carried) (keeps_lagging side carried) e id ∙ other (is_sent_off ((lagging side carried).out id (outgoing_at e id))) ∙ sym whole
     by false waits =
-        sent_off_seen T (keeps_lagging side carried) e id (still_waits o.is_reset o.is_finished _ _ (fewer_dropped o.taken (length (carried id)) (part_bytes o)) waits ∙ sym waits)
+        sent_off_seen (lagging side carried) (keeps_lagging side carried) e id (still_waits (outgoing_at e id).is_reset (outgoing_at e id).is_finished _ _ (fewer_dropped (outgoing_at e id).taken (length (carried id)) (part_bytes (outgoing_at e id))) waits ∙ sym waits)
 
 does_refusal : (r : Option Refusal) (e new : EndpointHistory) → (does r e new).0 ≡ r
 does_refusal None e new = refl

@@ -26,7 +26,8 @@ use Rattle.h3_session.specs.Datagrams.{is_off, quarter_read, read_datagram, read
 use Rattle.h3_session.specs.declared.endpoint.datagrams.DatagramRead.{DatagramRead}
 use Rattle.h3_session.specs.declared.endpoint.datagrams.DatagramRead.TheVariants.{For, Early, Late, Off, Fault}
 use Rattle.h3_c.specs.Datagrams.{read_given}
-use Rattle.h3_c.proofs.Unordered.{unordered, unordered_out, unordered_streams}
+use Rattle.h3_c.proofs.Unordered.{unordered}
+use Rattle.h3_c.proofs.Views.{plain, seen_as, unordered_out}
 
 -- Where nothing has changed, the same histories are stood for.
 pub stands_unchanged : (s t : EndpointState) (e : EndpointHistory) → IsSame s t → StandsFor s e → StandsFor t e
@@ -66,28 +67,8 @@ pub record Stays (new : EndpointState) (e : EndpointHistory) : Type 0 where
   pub stands : StandsFor new after
   pub same : unordered after ≡ unordered e
 
--- a stream that is known to say the same
-same_some : (o p : Out) → Some o ≡ Some p → o ≡ p
-same_some o p is = cc
-
-set_by : (q id : ℕ) (x o p : Out) (streams : Streams Out) → (if q == id then Some x else stream_at streams id) ≡ Some o → unordered_out p ≡ unordered_out o
-    → (stream_at streams id ≡ Some o → unordered_streams (set_stream streams id p) ≡ unordered_streams streams) → (b : Bool) → (q == id) ≡ b
-    → unordered_streams (if q == id then (id, p) ∷ streams else (q, x) ∷ set_stream streams id p) ≡ (q, unordered_out x) ∷ unordered_streams streams
-set_by q id x o p streams at is later true here =
-    let first : x ≡ o = same_some x o (sym (ap (λ b. if b then Some x else stream_at streams id) here) ∙ at) in
-    let id_is : q ≡ id = eqb-true q id here in
-    ap (λ b. unordered_streams (if b then (id, p) ∷ streams else (q, x) ∷ set_stream streams id p)) here ∙ ap (λ y. (id, y) ∷ unordered_streams streams) (is ∙ ap unordered_out (sym first))
-    ∙ ap (λ n. (n, unordered_out x) ∷ unordered_streams streams) (sym id_is)
-set_by q id x o p streams at is later false other =
-    let behind : stream_at streams id ≡ Some o = sym (ap (λ b. if b then Some x else stream_at streams id) other) ∙ at in
-    ap (λ b. unordered_streams (if b then (id, p) ∷ streams else (q, x) ∷ set_stream streams id p)) other ∙ ap (λ l. (q, unordered_out x) ∷ l) (later behind)
-
-set_same : (streams : Streams Out) (id : ℕ) (o p : Out) → stream_at streams id ≡ Some o → unordered_out p ≡ unordered_out o → unordered_streams (set_stream streams id p) ≡ unordered_streams streams
-set_same [] id o p at is = absurd (let never : None ≡ Some o = at in cc)
-set_same ((q, x) ∷ streams) id o p at is = set_by q id x o p streams at is (λ behind. set_same streams id o p behind is) (q == id) refl
-
 pub with_same : (e : EndpointHistory) (id : ℕ) (o p : Out) → stream_at e.outgoing id ≡ Some o → unordered_out p ≡ unordered_out o → unordered (with_outgoing e id p) ≡ unordered e
-with_same e id o p at is = ap (λ l. record (unordered e) { outgoing = l }) (set_same e.outgoing id o p at is)
+with_same e id o p at is = ap (λ l. record (unordered e) { outgoing = l }) (seen_as e.outgoing plain.out plain.out id o p at is (λ i x differs. refl))
 
 -- `h3_end_taken`
 end_same : (e : EndpointHistory) (id : ℕ) (o : Option Out) → stream_at e.outgoing id ≡ o → unordered (end_taken_at e id o).1 ≡ unordered e

@@ -1,28 +1,32 @@
 -- What is read of what came is answered behind all that was written, and opens streams.
 use Rattle.std.proofs.Common.{◌≡◌, ◌⊎◌, inl, inr, ℕ, Bool, true, false, if◌then◌else◌, List, [], ◌∷◌, ◌++◌, refl, sym, ap, subst, ◌∙◌, Option, Some, None}
-use Rattle.std.specs.Prelude.{All, IfSome, IsSome, fold, is_some, option_map, unwrap_or}
+use Rattle.std.specs.Prelude.{◌-◌, All, IfSome, IsSome, fold, is_some, min, option_map, unwrap_or}
 use Rattle.std.proofs.lemmas.List.Elements.{All-head, All-tail}
 use Rattle.h3_field.specs.Instruction.{DecoderInstruction}
+use Rattle.h3_field.specs.Instruction.EncoderInstruction.{SetCapacity}
 use Rattle.h3_proto.specs.Settings.{value_of}
 use Rattle.h3_proto.specs.declared.stream.Side.{Side}
 use Rattle.h3_proto.specs.declared.stream.Side.TheVariants.{Client, Server}
 use Rattle.h3_connection.specs.Arrivals.{is_closed_in, stream_of}
 use Rattle.h3_connection.specs.declared.arrival.Arrival.{Arrival}
 use Rattle.h3_connection.specs.declared.arrival.Arrival.TheVariants.{BytesCame, EndCame, ResetCame}
-use Rattle.h3_connection.specs.Control.{Found, after_peer, are_refused, holding, if_learned, is_table_usable, lacks_settings, learned, read_control, read_decoder, read_encoder, read_held, taken_peer, then_decoder, with_table}
-use Rattle.h3_connection.specs.Delivering.{bytes_at, closed_by, closing, delivery_refusal, end_at, give_up, heard_as, opened, opened_at, read_unidirectional, refusal_at, request_refusal, reset_at, taken, unidirectional_at, unless_second, with_incoming, with_unidirectional}
+use Rattle.h3_connection.specs.Codes.{missing_settings, settings_error}
+use Rattle.h3_connection.specs.Control.{Found, after_peer, are_refused, holding, if_learned, increment, is_table_usable, kept_unread, lacks_settings, learned, listened_to, read_control, read_decoder, read_encoder, read_held, settings_alone, taken_peer, then_decoder, with_table}
+use Rattle.h3_connection.specs.Delivering.{bytes_at, cancellation, closed_by, delivery_refusal, end_at, give_up, given_up_once, heard_as, incoming_at, kept, opened, opened_at, read_unidirectional, refusal_at, request_refusal, reset_at, taken, unidirectional_at, unless_second, with_end, with_incoming, with_unidirectional}
 use Rattle.h3_connection.specs.Endpoint.{EndpointHistory, Kind, is_second, kind_of, limit_of, replied}
 use Rattle.h3_connection.specs.Endpoint.Kind.{Request, ServerOpened, OwnUnidirectional, PeerUnidirectional}
-use Rattle.h3_connection.specs.Incoming.{Incoming}
+use Rattle.h3_connection.specs.ExcessiveInstructions.{listen_up_to}
+use Rattle.h3_connection.specs.Incoming.{Incoming, nothing_came}
 use Rattle.h3_connection.specs.Keeping.{arrival_refusal, arrives, arrives_behind, keeping, opened_as, opened_by, pulled_after, pulls, pulls_behind, read_all, read_arrival, refused_behind, settles, unkept, unless_faulty}
+use Rattle.h3_connection.specs.Listeners.{after_hearing, heard_more, insertions_heard}
 use Rattle.h3_connection.specs.Outgoing.{Outgoing as Out, nothing_sent}
 use Rattle.h3_connection.specs.OwnIds.{is_own}
-use Rattle.h3_connection.specs.PartReading.{ReadsOn, ReadsPart, after_frames, early_if, held, held_as}
+use Rattle.h3_connection.specs.PartReading.{ReadsOn, ReadsPart, early_if, held_as}
 use Rattle.h3_connection.specs.PartReading.{ReadsWhole, ReadsFront, Holds, ReadsFrames, Hears, Listens}
 use Rattle.h3_connection.specs.PartReading.{Stops, Goes}
 use Rattle.h3_connection.specs.PeerReading.{PeerFound, read_peer}
-use Rattle.h3_connection.specs.Pulling.{Pulled}
-use Rattle.h3_connection.specs.Sending.{after_answer, after_fault, pull_at, pull_peer, pull_request, pull_unless, pulled, pulled_unidirectional}
+use Rattle.h3_connection.specs.Pulling.{Pulled, pull_stream}
+use Rattle.h3_connection.specs.Sending.{after_answer, after_fault, pull_at, pull_peer, pull_request, pull_unless, pulled, pulled_unidirectional, within_limit}
 use Rattle.h3_connection.specs.State.{EndpointState, IsOfOutgoing, IsReached, IsToldPeer, KeepsOpen, RequestState, SameAt, StandsFor, kept_at}
 use Rattle.h3_connection.specs.StreamSets.{set_stream, stream_at}
 use Rattle.h3_connection.specs.StreamSetLaws.{set-here, set-other}
@@ -36,6 +40,7 @@ use Rattle.h3_connection.specs.declared.event.Pull.TheVariants as pull
 use Rattle.h3_connection.specs.declared.event.Refusal.{Refusal}
 use Rattle.h3_connection.specs.declared.event.Refusal.TheVariants as refusal
 use Rattle.h3_connection.specs.declared.event.StreamFault.{StreamFault}
+use Rattle.h3_connection.specs.declared.event.StreamFault.TheVariants as stream_fault
 use Rattle.h3_c.proofs.Grows.{Grows, OwnGrows, StreamGrows, instructions_grow, own_is, own_same, own_then, replies_grow, request_is_none, stream_same}
 use Rattle.h3_c.proofs.Views.{by_id}
 
@@ -84,7 +89,7 @@ reads_then e f g a b = record {
   announced = b.announced ∙ a.announced;
   next = b.next ∙ a.next;
   own = own_then e.own f.own g.own a.own b.own;
-  streams = λ id. stream_then e.side id _ _ _ _ _ _ (a.streams id) (subst (λ s. StreamReads s id (stream_at f.incoming id) (stream_at f.outgoing id) (stream_at g.incoming id) (stream_at g.outgoing id)) a.side (b.streams id));
+  streams = λ id. stream_then e.side id (stream_at e.incoming id) (stream_at e.outgoing id) (stream_at f.incoming id) (stream_at f.outgoing id) (stream_at g.incoming id) (stream_at g.outgoing id) (a.streams id) (subst (λ s. StreamReads s id (stream_at f.incoming id) (stream_at f.outgoing id) (stream_at g.incoming id) (stream_at g.outgoing id)) a.side (b.streams id));
   decoder = λ id is. elim (b.decoder id is) [ inl was ↦ a.decoder id was | inr kind ↦ inr (subst (λ s. kind_of s id ≡ PeerUnidirectional) a.side kind) ];
 }
 
@@ -124,8 +129,8 @@ opens_at e id is there None at = record {
   own = own_same e.own;
   streams = λ q. by_id id q (λ b. StreamReads e.side q (stream_at e.incoming q) (stream_at e.outgoing q) (stream_at (opened_at e id None).incoming q) (stream_at (opened_at e id None).outgoing q))
       (λ same. subst (λ r. StreamReads e.side r (stream_at e.incoming r) (stream_at e.outgoing r) (stream_at (opened_at e id None).incoming r) (stream_at (opened_at e id None).outgoing r)) same
-      (IsOpened (server (there is)) at (ap is_some (set-here e.incoming id _)) (set-here e.outgoing id nothing_sent) (request_is_none e.side id is)))
-      (λ differs. Stays (set-other e.outgoing id q nothing_sent differs) (ap is_some (set-other e.incoming id q _ differs)));
+      (IsOpened (server (there is)) at (ap is_some (set-here e.incoming id nothing_came)) (set-here e.outgoing id nothing_sent) (request_is_none e.side id is)))
+      (λ differs. Stays (set-other e.outgoing id q nothing_sent differs) (ap is_some (set-other e.incoming id q nothing_came differs)));
   decoder = λ r is. inl is;
 }
   where
@@ -138,7 +143,7 @@ opens e id is there = opens_at e id is there (stream_at e.incoming id) refl
 
 opened_some : (e : EndpointHistory) (id : ℕ) (i : Option Incoming) → stream_at e.incoming id ≡ i → is_some (stream_at (opened_at e id i).incoming id) ≡ true
 opened_some e id (Some i) at = ap is_some at
-opened_some e id None at = ap is_some (set-here e.incoming id _)
+opened_some e id None at = ap is_some (set-here e.incoming id nothing_came)
 
 is_opened : (e : EndpointHistory) (id : ℕ) → is_some (stream_at (opened e id).incoming id) ≡ true
 is_opened e id = opened_some e id (stream_at e.incoming id) refl
@@ -151,7 +156,7 @@ some_still side id i o j p (IsOpened server none is_there a b) some = is_there
 there_still : (e f : EndpointHistory) → Reads e f → (id : ℕ) → IsThere e id → IsThere f id
 there_still e f reads id there kind = elim (there (subst (λ s. kind_of s id ≡ Request) reads.side kind)) [
   | inl server ↦ inl (reads.side ∙ server)
-  | inr some ↦ inr (some_still e.side id _ _ _ _ (reads.streams id) some)
+  | inr some ↦ inr (some_still e.side id (stream_at e.incoming id) (stream_at e.outgoing id) (stream_at f.incoming id) (stream_at f.outgoing id) (reads.streams id) some)
 ]
 
 all_still : (e f : EndpointHistory) → Reads e f → (arrivals : List Arrival) → AreThere e arrivals → AreThere f arrivals
@@ -175,7 +180,7 @@ learns e pairs =
     let capacity = unwrap_or (value_of 1 pairs) 0 in
     let blocked = unwrap_or (value_of 7 pairs) 0 in
     reads_if e (is_table_usable e.encoder.most_capacity capacity blocked) (with_table e capacity blocked) e
-    (record { side = refl; announced = refl; next = refl; own = instructions_grow e.own _; streams = λ id. Stays refl refl; decoder = λ id is. inl is }) (reads_none e)
+    (record { side = refl; announced = refl; next = refl; own = instructions_grow e.own (SetCapacity (min e.encoder.most_capacity capacity) ∷ []); streams = λ id. Stays refl refl; decoder = λ id is. inl is }) (reads_none e)
 
 learns_if : (before after : Option (List (ℕ × ℕ))) (e : EndpointHistory) → Reads e (if_learned before after e)
 learns_if None (Some pairs) e = learns e pairs
@@ -184,7 +189,9 @@ learns_if (Some known) None e = reads_none e
 learns_if (Some known) (Some pairs) e = reads_none e
 
 decoder_reads : (e : EndpointHistory) (bytes : List ℕ) → Reads e (read_decoder e bytes).0
-decoder_reads e bytes = found_if e (is_some e.peer.settings) _ _ (quiet e _ refl refl refl refl refl refl refl) (quiet e _ refl refl refl refl refl refl refl)
+decoder_reads e bytes =
+    let l = listen_up_to (limit_of e) e.encoder (e.decoder_unread ++ bytes) in
+    found_if e (is_some e.peer.settings) (listened_to e l) (kept_unread e (e.decoder_unread ++ bytes)) (quiet e (listened_to e l).0 refl refl refl refl refl refl refl) (quiet e (kept_unread e (e.decoder_unread ++ bytes)).0 refl refl refl refl refl refl refl)
 
 then_reads : (before after : Option (List (ℕ × ℕ))) (e : EndpointHistory) (fault : Option ℕ) → Reads e (then_decoder before after e fault).0
 then_reads before after e (Some code) = reads_none e
@@ -197,18 +204,23 @@ peer_reads : (e : EndpointHistory) (found : PeerFound) → Reads e (after_peer e
 peer_reads e (p, fault) =
     let read = record e { peer = p } in
     let on = if_learned e.peer.settings p.settings read in
-    found_if e (are_refused e e.peer.settings p.settings) _ (taken_peer e (p, fault)) (quiet e _ refl refl refl refl refl refl refl)
-    (reads_then e on _ (reads_then e read on (quiet e read refl refl refl refl refl refl refl) (learns_if e.peer.settings p.settings read)) (then_reads e.peer.settings p.settings on fault))
+    let alone = record e { peer = settings_alone e.peer p.settings } in
+    found_if e (are_refused e e.peer.settings p.settings) (alone, Some settings_error) (taken_peer e (p, fault)) (quiet e alone refl refl refl refl refl refl refl)
+    (reads_then e on (then_decoder e.peer.settings p.settings on fault).0 (reads_then e read on (quiet e read refl refl refl refl refl refl refl) (learns_if e.peer.settings p.settings read)) (then_reads e.peer.settings p.settings on fault))
 
 held_reads : (e : EndpointHistory) → Reads e (read_held e).0
-held_reads e = found_if e (lacks_settings e) _ (after_peer e (read_peer (kinds_of e.announced) (limit_of e) e.side e.peer)) (reads_none e) (peer_reads e (read_peer (kinds_of e.announced) (limit_of e) e.side e.peer))
+held_reads e = found_if e (lacks_settings e) (e, Some missing_settings) (after_peer e (read_peer (kinds_of e.announced) (limit_of e) e.side e.peer)) (reads_none e) (peer_reads e (read_peer (kinds_of e.announced) (limit_of e) e.side e.peer))
 
 second_reads : (b : Bool) (e : EndpointHistory) (found : Found) → Reads e found.0 → Reads e (unless_second b e found).0
 second_reads true e found reads = reads_none e
 second_reads false e found reads = reads
 
 encoder_reads : (e : EndpointHistory) (bytes : List ℕ) → Reads e (read_encoder e bytes).0
-encoder_reads e bytes = reads_then e _ _ (quiet e _ refl refl refl refl refl refl refl) (replies _ _)
+encoder_reads e bytes =
+    let h = heard_more (limit_of e) e.decoding bytes in
+    let on = record e { decoding = after_hearing h } in
+    let more = increment (insertions_heard e.decoding h) in
+    reads_then e on (replied on more) (quiet e on refl refl refl refl refl refl refl) (replies on more)
 
 told_now : (e : EndpointHistory) (id : ℕ) → kind_of e.side id ≡ PeerUnidirectional → Reads e (record e { decoder_on = Some id })
 told_now e id kind = record { side = refl; announced = refl; next = refl; own = own_same e.own; streams = λ q. Stays refl refl; decoder = λ q is. inr (subst (λ r. kind_of e.side r ≡ PeerUnidirectional) (same_number id q is) kind) }
@@ -220,13 +232,13 @@ heard_reads : (e : EndpointHistory) (id : ℕ) → kind_of e.side id ≡ PeerUni
 heard_reads e id kind (Untold front) bytes = reads_none e
 heard_reads e id kind Control bytes =
     let on = record e { control_on = Some id } in
-    second_reads (is_second e.control_on id) e (read_control on bytes) (reads_then e (holding on bytes) _ (quiet e (holding on bytes) refl refl refl refl refl refl refl) (held_reads (holding on bytes)))
+    second_reads (is_second e.control_on id) e (read_control on bytes) (reads_then e (holding on bytes) (read_control on bytes).0 (quiet e (holding on bytes) refl refl refl refl refl refl refl) (held_reads (holding on bytes)))
 heard_reads e id kind Encoder bytes =
     let on = record e { encoder_on = Some id } in
-    second_reads (is_second e.encoder_on id) e (read_encoder on bytes) (reads_then e on _ (quiet e on refl refl refl refl refl refl refl) (encoder_reads on bytes))
+    second_reads (is_second e.encoder_on id) e (read_encoder on bytes) (reads_then e on (read_encoder on bytes).0 (quiet e on refl refl refl refl refl refl refl) (encoder_reads on bytes))
 heard_reads e id kind Decoder bytes =
     let on = record e { decoder_on = Some id } in
-    second_reads (is_second e.decoder_on id) e (read_decoder on bytes) (reads_then e on _ (told_now e id kind) (decoder_reads on bytes))
+    second_reads (is_second e.decoder_on id) e (read_decoder on bytes) (reads_then e on (read_decoder on bytes).0 (told_now e id kind) (decoder_reads on bytes))
 heard_reads e id kind (Push push) bytes = reads_none e
 heard_reads e id kind (Session session) bytes = reads_none e
 heard_reads e id kind Ignored bytes = reads_none e
@@ -235,29 +247,34 @@ heard_reads e id kind (Other other) bytes = reads_none e
 unidirectional_reads : (e : EndpointHistory) (id : ℕ) → kind_of e.side id ≡ PeerUnidirectional → (o : Unidirectional) (read : Role × List ℕ) → Reads e (read_unidirectional e id o read).0
 unidirectional_reads e id kind o (role, bytes) =
     let on = with_unidirectional e id (with_bytes o (role, bytes)) in
-    reads_then e on _ (quiet e on refl refl refl refl refl refl refl) (heard_reads on id kind role bytes)
+    reads_then e on (heard_as on id role bytes).0 (quiet e on refl refl refl refl refl refl refl) (heard_reads on id kind role bytes)
 
 -- an arrival
 bytes_read : (e : EndpointHistory) (id : ℕ) (bytes : List ℕ) → IsThere e id → (k : Kind) → kind_of e.side id ≡ k → Reads e (bytes_at e id bytes k).0
-bytes_read e id bytes there Request is = reads_then e (opened e id) _ (opens e id is there) (sets (opened e id) id _ (is_opened e id))
+bytes_read e id bytes there Request is =
+    let i = kept (incoming_at e id) bytes in reads_then e (opened e id) (with_incoming (opened e id) id i) (opens e id is there) (sets (opened e id) id i (is_opened e id))
 bytes_read e id bytes there ServerOpened is = reads_none e
 bytes_read e id bytes there OwnUnidirectional is = reads_none e
 bytes_read e id bytes there PeerUnidirectional is = unidirectional_reads e id is (unidirectional_at e id) (role_after (known_streams e.announced) (unidirectional_at e id).role bytes)
 
 end_reads : (e : EndpointHistory) (id : ℕ) → IsThere e id → (k : Kind) → kind_of e.side id ≡ k → Reads e (end_at e id k).0
-end_reads e id there Request is = reads_then e (opened e id) _ (opens e id is there) (sets (opened e id) id _ (is_opened e id))
+end_reads e id there Request is =
+    let i = with_end (incoming_at e id) in reads_then e (opened e id) (with_incoming (opened e id) id i) (opens e id is there) (sets (opened e id) id i (is_opened e id))
 end_reads e id there ServerOpened is = reads_none e
 end_reads e id there OwnUnidirectional is = reads_none e
-end_reads e id there PeerUnidirectional is = quiet e _ refl refl refl refl refl refl refl
+end_reads e id there PeerUnidirectional is = quiet e (end_at e id PeerUnidirectional).0 refl refl refl refl refl refl refl
 
 pub gives_up : (e : EndpointHistory) (id : ℕ) (i : Incoming) (f : StreamFault) → is_some (stream_at e.incoming id) ≡ true → Reads e (give_up e id i f)
-gives_up e id i f some = reads_then e _ _ (sets e id _ some) (replies _ _)
+gives_up e id i f some =
+    let on = with_incoming e id (given_up_once i f) in reads_then e on (give_up e id i f) (sets e id (given_up_once i f) some) (replies on (cancellation id i.fault))
 
 reset_reads : (e : EndpointHistory) (id code : ℕ) → IsThere e id → (k : Kind) → kind_of e.side id ≡ k → Reads e (reset_at e id code k).0
-reset_reads e id code there Request is = reads_then e (opened e id) _ (opens e id is there) (gives_up (opened e id) id _ _ (is_opened e id))
+reset_reads e id code there Request is =
+    let i = record (incoming_at e id) { was_reset = true } in
+    reads_then e (opened e id) (give_up (opened e id) id i (stream_fault.Reset code)) (opens e id is there) (gives_up (opened e id) id i (stream_fault.Reset code) (is_opened e id))
 reset_reads e id code there ServerOpened is = reads_none e
 reset_reads e id code there OwnUnidirectional is = reads_none e
-reset_reads e id code there PeerUnidirectional is = quiet e _ refl refl refl refl refl refl refl
+reset_reads e id code there PeerUnidirectional is = quiet e (reset_at e id code PeerUnidirectional).0 refl refl refl refl refl refl refl
 
 arrival_reads : (e : EndpointHistory) (a : Arrival) → IsThere e (stream_of a) → Reads e (read_arrival e a).0
 arrival_reads e (BytesCame id bytes) there = bytes_read e id bytes there (kind_of e.side id) refl
@@ -266,7 +283,7 @@ arrival_reads e (ResetCame id code) there = reset_reads e id code there (kind_of
 
 reads_more : (arrivals : List Arrival) → ((x : EndpointHistory) → AreThere x arrivals → Reads x (read_all arrivals x).0) → (e : EndpointHistory) → AreThere e arrivals → (found : Found) → Reads e found.0 → Reads e (unless_faulty (read_all arrivals) found).0
 reads_more arrivals later e there (x, Some code) reads = reads
-reads_more arrivals later e there (x, None) reads = reads_then e x _ reads (later x (all_still e x reads arrivals there))
+reads_more arrivals later e there (x, None) reads = reads_then e x (read_all arrivals x).0 reads (later x (all_still e x reads arrivals there))
 
 all_read : (arrivals : List Arrival) (e : EndpointHistory) → AreThere e arrivals → Reads e (read_all arrivals e).0
 all_read [] e there = reads_none e
@@ -274,7 +291,7 @@ all_read (a ∷ arrivals) e there = reads_more arrivals (λ x t. all_read arriva
 
 closed_reads : (e : EndpointHistory) (found : Found) → Reads e found.0 → Reads e (closed_by found).1
 closed_reads e (x, None) reads = reads
-closed_reads e (x, Some code) reads = reads_then e x _ reads (quiet x _ refl refl refl refl refl refl refl)
+closed_reads e (x, Some code) reads = reads_then e x (record x { closed = Some code }) reads (quiet x (record x { closed = Some code }) refl refl refl refl refl refl refl)
 
 taken_reads : (closed : Option ℕ) (refused : Option Refusal) (e : EndpointHistory) (found : Found) → (refused ≡ None → Reads e found.0) → Reads e (taken closed refused e found).1
 taken_reads (Some code) refused e found reads = reads_none e
@@ -283,13 +300,14 @@ taken_reads None None e found reads = closed_reads e found (reads refl)
 
 unkept_reads : (e : EndpointHistory) (arrivals : List Arrival) → AreThere e arrivals → Reads e (read_all arrivals (unkept e)).0
 unkept_reads e arrivals there =
-    let begun = quiet e (unkept e) refl refl refl refl refl refl refl in reads_then e (unkept e) _ begun (all_read arrivals (unkept e) (all_still e (unkept e) begun arrivals there))
+    let begun = quiet e (unkept e) refl refl refl refl refl refl refl in reads_then e (unkept e) (read_all arrivals (unkept e)).0 begun (all_read arrivals (unkept e) (all_still e (unkept e) begun arrivals there))
 
 -- What is not refused is there.
 request_there : (side : Side) (i : Option Incoming) → request_refusal side i ≡ None → (side ≡ Server) ⊎ (is_some i ≡ true)
 request_there Client None is = absurd (let never : Some refusal.NotOpen ≡ None = is in cc)
 request_there Server None is = inl refl
-request_there side (Some i) is = inr refl
+request_there Client (Some i) is = inr refl
+request_there Server (Some i) is = inr refl
 
 pub not_refused : (e : EndpointHistory) (id : ℕ) → delivery_refusal e id ≡ None → IsThere e id
 not_refused e id is kind = request_there e.side (stream_at e.incoming id) (sym (ap (λ k. refusal_at e id k) kind) ∙ is)
@@ -312,17 +330,17 @@ there_last : (e : EndpointHistory) (arrivals : List Arrival) (a : Arrival) → A
 there_last e [] a all there = (there, tt)
 there_last e (x ∷ arrivals) a all there = (all.0, there_last e arrivals a all.1 there)
 
-behind_reads : (kept : List Arrival) (e : EndpointHistory) (a : Arrival) → AreThere e kept → Reads e (arrives_behind kept e a).1
+behind_reads : (arrivals : List Arrival) (e : EndpointHistory) (a : Arrival) → AreThere e arrivals → Reads e (arrives_behind arrivals e a).1
 behind_reads [] e a there = taken_reads e.closed (delivery_refusal e (stream_of a)) e (read_arrival e a) (λ none. arrival_reads e a (not_refused e (stream_of a) none))
-behind_reads (k ∷ kept) e a there = taken_reads e.closed (arrival_refusal e (stream_of a)) e (read_all (k ∷ kept ++ a ∷ []) (unkept e))
-    (λ none. unkept_reads e (k ∷ kept ++ a ∷ []) (there_last e (k ∷ kept) a there (not_refused e (stream_of a) (behind_none (is_closed_in e.kept (stream_of a)) (delivery_refusal e (stream_of a)) none))))
+behind_reads (k ∷ arrivals) e a there = taken_reads e.closed (arrival_refusal e (stream_of a)) e (read_all (k ∷ arrivals ++ a ∷ []) (unkept e))
+    (λ none. unkept_reads e (k ∷ arrivals ++ a ∷ []) (there_last e (k ∷ arrivals) a there (not_refused e (stream_of a) (behind_none (is_closed_in e.kept (stream_of a)) (delivery_refusal e (stream_of a)) none))))
 
 pub arrives_reads : (e : EndpointHistory) (a : Arrival) → IsReached e → Reads e (arrives e a).1
 arrives_reads e a reached = behind_reads e.kept e a (kept_there e e.kept reached.kept)
 
 -- a pull
 fault_reads : (f : Fault) (e : EndpointHistory) → Reads e (after_fault f e).1
-fault_reads (fault.Connection code) e = quiet e _ refl refl refl refl refl refl refl
+fault_reads (fault.Connection code) e = quiet e (record e { closed = Some code }) refl refl refl refl refl refl refl
 fault_reads (fault.Stream f) e = reads_none e
 fault_reads fault.Memory e = reads_none e
 
@@ -334,18 +352,21 @@ answer_reads (pull.Fault f) e = fault_reads f e
 answer_reads pull.NoMessages e = reads_none e
 
 pulled_reads : (e : EndpointHistory) (id : ℕ) (p : Pulled) → is_some (stream_at e.incoming id) ≡ true → Reads e (pulled e id p).1
-pulled_reads e id p some = reads_then e _ _ (reads_then e _ _ (sets e id p.incoming some) (replies (with_incoming e id p.incoming) p.replies)) (answer_reads p.answer _)
+pulled_reads e id p some =
+    let on = with_incoming e id p.incoming in
+    let more = replied on p.replies in
+    reads_then e more (pulled e id p).1 (reads_then e on more (sets e id p.incoming some) (replies on p.replies)) (answer_reads p.answer more)
 
 request_reads : (e : EndpointHistory) (id : ℕ) (i : Option Incoming) → stream_at e.incoming id ≡ i → Reads e (pull_request e id i).1
 request_reads e id None at = reads_none e
-request_reads e id (Some i) at = pulled_reads e id _ (ap is_some at)
+request_reads e id (Some i) at = pulled_reads e id (within_limit e id (pull_stream e.side e.announced id e.decoding.decoder i)) (ap is_some at)
 
 peer_pull_reads : (e : EndpointHistory) (id : ℕ) (o : Option Unidirectional) → Reads e (pull_peer e id o).1
 peer_pull_reads e id None = reads_none e
 peer_pull_reads e id (Some o) = on (pull_unidirectional o o.role)
   where
     on : (x : Pull × Unidirectional) → Reads e (pulled_unidirectional e id x).1
-    on (p, new) = quiet e _ refl refl refl refl refl refl refl
+    on (p, new) = quiet e (with_unidirectional e id new) refl refl refl refl refl refl refl
 
 pull_reads : (e : EndpointHistory) (id : ℕ) (k : Kind) → Reads e (pull_at e id k).1
 pull_reads e id Request = request_reads e id (stream_at e.incoming id) refl
@@ -358,19 +379,19 @@ unless_reads None e x reads = reads
 unless_reads (Some code) e x reads = reads_none e
 
 after_reads : (e : EndpointHistory) (found : Found) (id : ℕ) → Reads e found.0 → Reads e (pulled_after found id).1
-after_reads e (x, Some code) id reads = reads_then e x _ reads (quiet x _ refl refl refl refl refl refl refl)
-after_reads e (x, None) id reads = reads_then e x _ reads (pull_reads x id (kind_of x.side id))
+after_reads e (x, Some code) id reads = reads_then e x (record x { closed = Some code }) reads (quiet x (record x { closed = Some code }) refl refl refl refl refl refl refl)
+after_reads e (x, None) id reads = reads_then e x (pull_at x id (kind_of x.side id)).1 reads (pull_reads x id (kind_of x.side id))
 
 pulled_if : (e : EndpointHistory) (b : Bool) (x y : Pull × EndpointHistory) → Reads e x.1 → Reads e y.1 → Reads e (if b then x else y).1
 pulled_if e true x y a b = a
 pulled_if e false x y a b = b
 
-pulls_reads_behind : (kept : List Arrival) (e : EndpointHistory) (id : ℕ) → AreThere e kept → Reads e (pulls_behind kept e id).1
+pulls_reads_behind : (arrivals : List Arrival) (e : EndpointHistory) (id : ℕ) → AreThere e arrivals → Reads e (pulls_behind arrivals e id).1
 pulls_reads_behind [] e id there = unless_reads e.closed e (pull_at e id (kind_of e.side id)) (pull_reads e id (kind_of e.side id))
-pulls_reads_behind (k ∷ kept) e id there =
-    let found = read_all (k ∷ kept) (unkept e) in
+pulls_reads_behind (k ∷ arrivals) e id there =
+    let found = read_all (k ∷ arrivals) (unkept e) in
     unless_reads e.closed e (if settles e id then pull_at e id (kind_of e.side id) else pulled_after found id)
-    (pulled_if e (settles e id) (pull_at e id (kind_of e.side id)) (pulled_after found id) (pull_reads e id (kind_of e.side id)) (after_reads e found id (unkept_reads e (k ∷ kept) there)))
+    (pulled_if e (settles e id) (pull_at e id (kind_of e.side id)) (pulled_after found id) (pull_reads e id (kind_of e.side id)) (after_reads e found id (unkept_reads e (k ∷ arrivals) there)))
 
 pub pulls_reads : (e : EndpointHistory) (id : ℕ) → IsReached e → Reads e (pulls e id).1
 pulls_reads e id reached = pulls_reads_behind e.kept e id (kept_there e e.kept reached.kept)
@@ -388,16 +409,18 @@ opens_as PeerUnidirectional e id is there = reads_none e
 opens_all : (arrivals : List Arrival) (e : EndpointHistory) → AreThere e arrivals → Reads e (fold opened_by e arrivals)
 opens_all [] e there = reads_none e
 opens_all (a ∷ arrivals) e there =
-    let first = opens_as (kind_of e.side (stream_of a)) e (stream_of a) refl there.0 in reads_then e (opened_by e a) _ first (opens_all arrivals (opened_by e a) (all_still e (opened_by e a) first arrivals there.1))
+    let first = opens_as (kind_of e.side (stream_of a)) e (stream_of a) refl there.0 in reads_then e (opened_by e a) (fold opened_by (opened_by e a) arrivals) first (opens_all arrivals (opened_by e a) (all_still e (opened_by e a) first arrivals there.1))
 
 keeps : (e : EndpointHistory) (arrivals : List Arrival) → AreThere e arrivals → Reads e (keeping e arrivals)
-keeps e arrivals there = reads_then e (fold opened_by e arrivals) _ (opens_all arrivals e there) (quiet _ _ refl refl refl refl refl refl refl)
+keeps e arrivals there =
+    let on = fold opened_by e arrivals in reads_then e on (keeping e arrivals) (opens_all arrivals e there) (quiet on (keeping e arrivals) refl refl refl refl refl refl refl)
 
 holds_as : (e : EndpointHistory) (id : ℕ) → kind_of e.side id ≡ PeerUnidirectional → (read : Role × List ℕ) → Reads e (held_as e id read)
 holds_as e id kind (Untold front, bytes) = reads_none e
-holds_as e id kind (Control, bytes) = quiet e _ refl refl refl refl refl refl refl
-holds_as e id kind (Encoder, bytes) = quiet e _ refl refl refl refl refl refl refl
-holds_as e id kind (Decoder, bytes) = reads_then e (record e { decoder_on = Some id }) _ (told_now e id kind) (quiet _ _ refl refl refl refl refl refl refl)
+holds_as e id kind (Control, bytes) = quiet e (held_as e id (Control, bytes)) refl refl refl refl refl refl refl
+holds_as e id kind (Encoder, bytes) = quiet e (held_as e id (Encoder, bytes)) refl refl refl refl refl refl refl
+holds_as e id kind (Decoder, bytes) =
+    let on = record e { decoder_on = Some id } in reads_then e on (held_as e id (Decoder, bytes)) (told_now e id kind) (quiet on (held_as e id (Decoder, bytes)) refl refl refl refl refl refl refl)
 holds_as e id kind (Push push, bytes) = reads_none e
 holds_as e id kind (Session session, bytes) = reads_none e
 holds_as e id kind (Ignored, bytes) = reads_none e
@@ -413,11 +436,14 @@ reads_on {e = e} (Holds {id = id} {bytes = bytes} kind reader) there =
     let o = unidirectional_at e id in
     let read = role_after (known_streams e.announced) o.role bytes in
     let on = with_unidirectional e id (with_bytes o read) in
-    reads_then e on _ (quiet e on refl refl refl refl refl refl refl) (holds_as on id kind read)
+    reads_then e on (held_as on id read) (quiet e on refl refl refl refl refl refl refl) (holds_as on id kind read)
 reads_on {e = e} (ReadsFrames {id = id} {p = p} on may part) there =
-    let read = record e { peer = p } in reads_then e read _ (quiet e read refl refl refl refl refl refl refl) (learns_if e.peer.settings p.settings read)
-reads_on {e = e} (Hears on part) there = reads_then e _ _ (quiet e _ refl refl refl refl refl refl refl) (replies _ _)
-reads_on {e = e} (Listens on settings part) there = quiet e _ refl refl refl refl refl refl refl
+    let read = record e { peer = p } in reads_then e read (if_learned e.peer.settings p.settings read) (quiet e read refl refl refl refl refl refl refl) (learns_if e.peer.settings p.settings read)
+reads_on {e = e} (Hears {d = d} on part) there =
+    let heard = record e { decoding = d } in
+    let more = increment (d.decoder.table.inserted - e.decoding.decoder.table.inserted) in
+    reads_then e heard (replied heard more) (quiet e heard refl refl refl refl refl refl refl) (replies heard more)
+reads_on {e = e} {new = new} (Listens on settings part) there = quiet e new refl refl refl refl refl refl refl
 
 -- what is left to be read is there
 no_request : (k : Kind) → k ≡ PeerUnidirectional → k ≡ Request → ⊥

@@ -1,19 +1,19 @@
 -- Each step that one side makes writes behind what was written.
-use Rattle.std.proofs.Common.{arith, ◌≡◌, ◌⊎◌, inl, inr, ℕ, ◌+◌, ◌*◌, Bool, true, false, if◌then◌else◌, List, [], ◌∷◌, ◌++◌, flat_map, take, refl, sym, ap, subst, ◌∙◌, Option, Some, None, append_assoc, append-nil}
-use Rattle.std.specs.Prelude.{◌<◌, ◌≤◌, ◌==◌, not, is_some, nat_le, unwrap_or}
-use Rattle.std.proofs.lemmas.Grind.{common_steps}
+use Rattle.std.proofs.Common.{arith, ◌≡◌, ◌⊎◌, inl, inr, ℕ, ◌+◌, ◌*◌, Bool, true, false, if◌then◌else◌, List, [], ◌∷◌, ◌++◌, flat_map, length, take, refl, sym, ap, subst, ◌∙◌, Option, Some, None, append_assoc, append-nil}
+use Rattle.std.specs.Prelude.{◌==◌, ◌||◌, not, is_some, unwrap_or}
 use Rattle.h3_field.specs.Field.{Field}
+use Rattle.h3_messages.specs.Content.{left_behind}
 use Rattle.h3_messages.specs.declared.content.Content.{Content}
 use Rattle.h3_proto.specs.declared.stream.Side.{Side}
 use Rattle.h3_proto.specs.declared.stream.Side.TheVariants.{Client, Server}
-use Rattle.h3_connection.specs.Delivering.{incoming_at, opened_at, with_incoming}
+use Rattle.h3_connection.specs.Delivering.{give_up, incoming_at, opened_at, with_incoming}
 use Rattle.h3_connection.specs.Endpoint.{EndpointHistory, Own, is_critical_id}
 use Rattle.h3_connection.specs.Keeping.{pulls}
 use Rattle.h3_connection.specs.Outgoing.{Outgoing as Out, OwnPart, is_sent_off, nothing_sent, with_body, with_finish, with_reset, with_said, written_part}
 use Rattle.h3_connection.specs.Outgoing.OwnPart.{OwnBody, OwnTrailer}
 use Rattle.h3_connection.specs.OwnIds.{control_id, decoder_id, encoder_id, is_own}
-use Rattle.h3_connection.specs.Refusals.{first_of, going_away, refusal_to_open}
-use Rattle.h3_connection.specs.Sections.{with_insertions, written_section}
+use Rattle.h3_connection.specs.Refusals.{refusal_to_open}
+use Rattle.h3_connection.specs.Sections.{own_instructions, with_insertions, written_section}
 use Rattle.h3_connection.specs.Sending as sender
 use Rattle.h3_connection.specs.Sending.{appended, asked, closed_or, content_of_own, counted, does, encoded, fields_cost, head_part, is_open, known_of, outgoing_at, saying_at, sent_bytes, with_outgoing}
 use Rattle.h3_connection.specs.State.{EndpointState, StandsFor}
@@ -23,6 +23,7 @@ use Rattle.h3_connection.specs.Lasts.{last_id}
 use Rattle.h3_connection.specs.declared.event.Pull.{Pull}
 use Rattle.h3_connection.specs.declared.event.Refusal.{Refusal}
 use Rattle.h3_connection.specs.declared.event.Refusal.TheVariants as refusal
+use Rattle.h3_connection.specs.declared.event.StreamFault.TheVariants as stream_fault
 use Rattle.h3_header.specs.Reads.{head_of_fields}
 use Rattle.h3_world.specs.EndLists.{after_fields, after_trailer_fields, fields_refusal, send_fields, send_trailer_fields, trailer_fields_refusal}
 use Rattle.h3_world.specs.Ends.{Ends, answered, done, end_at, was_listed, with_end}
@@ -35,6 +36,7 @@ use Rattle.h3_memory.specs.Refused.{AnswerOf, CutsList, EndsStep, IsAsked, Lacks
 use Rattle.h3_c.proofs.Flights.{Carries}
 use Rattle.h3_c.proofs.Grows.{Grows, More, OwnGrows, PartsGrow, StreamGrows, goaways_grow, instructions_grow, more_of, new_grows, nothing_more, own_is, own_same, own_then, part_bytes, set_grows, stream_same}
 use Rattle.h3_c.proofs.ReadsGrow.{Reads, gives_up, kept_reads, pulls_reads, reads_grow, reads_then, sets}
+use Rattle.h3_c.proofs.Views.{by_id}
 use Rattle.h3_c.proofs.ViewsMemory.{Cancels, GoesAway, KeepsBytes, KeepsEnd, KeepsReset, LacksOf, Opens, Pulls, SendsBody, SendsFields, SendsTrailer, TakesNoEnd, TakesNoReset, TakesNone, lacking, lacks_of}
 use Rattle.h3_c.proofs.ViewsSteps.{IsCall, IsOfC}
 
@@ -85,13 +87,13 @@ closed_none : (closed : Option ℕ) (r : Option Refusal) → closed_or closed r 
 closed_none (Some code) r is = absurd (let never : Some (refusal.Closed code) ≡ None = is in cc)
 closed_none None r is = is
 
-open_first : (b : Bool) (rules : List (Bool × Refusal)) → first_of ((not b, refusal.NotOpen) ∷ rules) ≡ None → b ≡ true
-open_first true rules is = refl
-open_first false rules is = absurd (let never : Some refusal.NotOpen ≡ None = is in cc)
+open_first : (b : Bool) (r : Refusal) (later : Option Refusal) → (if not b then Some r else later) ≡ None → b ≡ true
+open_first true r later is = refl
+open_first false r later is = absurd (let never : Some r ≡ None = is in cc)
 
-open_second : (critical : Bool) (b : Bool) (rules : List (Bool × Refusal)) → first_of ((critical, refusal.Critical) ∷ (not b, refusal.NotOpen) ∷ rules) ≡ None → b ≡ true
-open_second true b rules is = absurd (let never : Some refusal.Critical ≡ None = is in cc)
-open_second false b rules is = open_first b rules is
+open_second : (critical b : Bool) (first r : Refusal) (later : Option Refusal) → (if critical then Some first else (if not b then Some r else later)) ≡ None → b ≡ true
+open_second true b first r later is = absurd (let never : Some first ≡ None = is in cc)
+open_second false b first r later is = open_first b r later is
 
 -- a stream that was written to
 parts_joined : (parts more : List OwnPart) → flat_map written_part (parts ++ more) ≡ flat_map written_part parts ++ flat_map written_part more
@@ -120,7 +122,7 @@ writes e id change grows there = writes_at e id change grows (stream_at e.outgoi
 
 -- a list
 encoded_grows : (e : EndpointHistory) (id : ℕ) (fields : List Field) → Grows e (encoded e id fields)
-encoded_grows e id fields = record { side = refl; announced = refl; next = inl refl; own = instructions_grow e.own _; streams = λ i. stream_same e.side e.next_id i (stream_at e.outgoing i) }
+encoded_grows e id fields = record { side = refl; announced = refl; next = inl refl; own = instructions_grow e.own (own_instructions e.encoder id fields); streams = λ i. stream_same e.side e.next_id i (stream_at e.outgoing i) }
 
 appends : (e : EndpointHistory) (id : ℕ) (part : OwnPart) → is_open e id ≡ true → Grows e (appended e id part)
 appends e id part there = writes e id (λ (o : Out). record o { parts = o.parts ++ part ∷ [] }) (λ o. part_grows o part o.content) there
@@ -155,37 +157,36 @@ section_grows e id fields part there =
 
 fields_grow : (e : EndpointHistory) (id : ℕ) (fields : List Field) → Grows e (send_fields e id fields).1
 fields_grow e id fields = does_grows (fields_refusal e id fields) e (after_fields e id fields) (λ none.
-    let there = open_first (is_open e id) _ (closed_none e.closed _ none) in
+    let there = open_first (is_open e id) refusal.NotOpen _ (closed_none e.closed _ none) in
     let part = head_part (head_of_fields fields) (written_section e.encoder id fields) in
     let sent = counted (appended (encoded e id fields) id part) (fields_cost fields) in
     grows_then e sent (asked sent id fields) (section_grows e id fields part there) (asked_grows sent id fields) refl)
 
 trailer_grows : (e : EndpointHistory) (id : ℕ) (fields : List Field) → Grows e (send_trailer_fields e id fields).1
 trailer_grows e id fields = does_grows (trailer_fields_refusal e id fields) e (after_trailer_fields e id fields) (λ none.
-    section_grows e id fields (OwnTrailer (written_section e.encoder id fields)) (open_first (is_open e id) _ (closed_none e.closed _ none)))
+    section_grows e id fields (OwnTrailer (written_section e.encoder id fields)) (open_first (is_open e id) refusal.NotOpen _ (closed_none e.closed _ none)))
 
 sent_bytes_grow : (e : EndpointHistory) (id : ℕ) (bytes : List ℕ) → is_open e id ≡ true → Grows e (sent_bytes e id bytes)
 sent_bytes_grow e id [] there = grows_none e
-sent_bytes_grow e id (byte ∷ bytes) there = writes e id (λ o. with_body o (byte ∷ bytes)) (λ o. part_grows o (OwnBody (byte ∷ bytes)) _) there
-
-bytes_next : (e : EndpointHistory) (id : ℕ) (bytes : List ℕ) → (sent_bytes e id bytes).next_id ≡ e.next_id
-bytes_next e id [] = refl
-bytes_next e id (byte ∷ bytes) = refl
+sent_bytes_grow e id (byte ∷ bytes) there = writes e id (λ o. with_body o (byte ∷ bytes)) (λ o. part_grows o (OwnBody (byte ∷ bytes)) (left_behind o.content (length (byte ∷ bytes)))) there
 
 body_grows : (e : EndpointHistory) (id : ℕ) (bytes : List ℕ) → Grows e (sender.send_body e id bytes).1
-body_grows e id bytes = does_grows _ e _ (λ none.
-    let there = open_first (is_open e id) _ (closed_none e.closed _ none) in
-    grows_then e (sent_bytes e id bytes) _ (sent_bytes_grow e id bytes there) (counted_grows (sent_bytes e id bytes) _) refl)
+body_grows e id bytes = does_grows (sender.body_refusal e id (length bytes)) e (counted (sent_bytes e id bytes) (length bytes)) (λ none.
+    let there = open_first (is_open e id) refusal.NotOpen _ (closed_none e.closed _ none) in
+    grows_then e (sent_bytes e id bytes) (counted (sent_bytes e id bytes) (length bytes)) (sent_bytes_grow e id bytes there) (counted_grows (sent_bytes e id bytes) (length bytes)) refl)
 
 finish_grows : (e : EndpointHistory) (id : ℕ) → Grows e (sender.finish e id).1
-finish_grows e id = does_grows _ e _ (λ none. writes e id with_finish (λ o. same_text o (with_finish o) refl refl (λ goes. goes)) (open_first (is_open e id) _ (closed_none e.closed _ none)))
+finish_grows e id = does_grows (sender.finish_refusal e id) e (with_outgoing e id (with_finish (outgoing_at e id))) (λ none. writes e id with_finish (λ o. same_text o (with_finish o) refl refl (λ goes. goes)) (open_first (is_open e id) refusal.NotOpen _ (closed_none e.closed _ none)))
 
 pub reset_grows : (e : EndpointHistory) (id : ℕ) → Grows e (sender.reset e id).1
-reset_grows e id = does_grows _ e _ (λ none.
-    writes e id with_reset (λ o. same_text o (with_reset o) refl refl (λ goes. absurd (let never : true ≡ false = goes in cc))) (open_second (is_critical_id e id) (is_open e id) _ (closed_none e.closed _ none)))
+reset_grows e id = does_grows (sender.reset_refusal e id) e (with_outgoing e id (with_reset (outgoing_at e id))) (λ none.
+    writes e id with_reset (λ o. same_text o (with_reset o) refl refl (λ goes. absurd (let never : true ≡ false = goes in cc))) (open_second (is_critical_id e id) (is_open e id) refusal.Critical refusal.NotOpen _ (closed_none e.closed _ none)))
 
 goaway_grows : (e : EndpointHistory) (id : ℕ) → Grows e (sender.goaway e id).1
-goaway_grows e id = does_grows _ e _ (λ none. record { side = refl; announced = refl; next = inl refl; own = goaways_grow e.own (id ∷ []); streams = λ i. stream_same e.side e.next_id i (stream_at e.outgoing i) })
+goaway_grows e id = does_grows (sender.goaway_refusal e id) e (record e { own = record e.own { goaways = e.own.goaways ++ id ∷ [] } }) (λ none. record { side = refl; announced = refl; next = inl refl; own = goaways_grow e.own (id ∷ []); streams = λ i. stream_same e.side e.next_id i (stream_at e.outgoing i) })
+
+insertions_grow : (e : EndpointHistory) (id : ℕ) (fields : List Field) → Grows e (with_insertions e id fields)
+insertions_grow e id fields = record { side = refl; announced = refl; next = inl refl; own = instructions_grow e.own (own_instructions e.encoder id fields); streams = λ i. stream_same e.side e.next_id i (stream_at e.outgoing i) }
 
 -- an end that calls made, of whose streams bytes are carried
 pub record Stood (e : EndpointHistory) : Type 0 where
@@ -196,28 +197,33 @@ pub record Stood (e : EndpointHistory) : Type 0 where
   pub carries : Carries side carried e
 
 there_some : (e : EndpointHistory) (id : ℕ) → sender.cancel_refusal e id ≡ None → is_some (stream_at e.incoming id) ≡ true
-there_some e id none = open_second (is_critical_id e id) (is_some (stream_at e.incoming id)) _ (closed_none e.closed _ none)
+there_some e id none = open_second (is_critical_id e id) (is_some (stream_at e.incoming id)) refusal.Critical refusal.NotOpen _ (closed_none e.closed _ none)
 
 cancel_grows : (e : EndpointHistory) (id : ℕ) → Stood e → Grows e (sender.cancel e id).1
-cancel_grows e id at = does_grows (sender.cancel_refusal e id) e _ (λ none. reads_grow at.state e _ at.stands (gives_up e id (incoming_at e id) _ (there_some e id none)))
+cancel_grows e id at =
+    let new = give_up e id (incoming_at e id) stream_fault.Canceled in
+    does_grows (sender.cancel_refusal e id) e new (λ none. reads_grow at.state e new at.stands (gives_up e id (incoming_at e id) stream_fault.Canceled (there_some e id none)))
 
 pulls_grow : (e : EndpointHistory) (id : ℕ) → Stood e → Grows e (pulls e id).1
-pulls_grow e id at = reads_grow at.state e _ at.stands (pulls_reads e id at.stands.reached)
+pulls_grow e id at = reads_grow at.state e (pulls e id).1 at.stands (pulls_reads e id at.stands.reached)
 
 -- a request
 client_opens : (side : Side) (last : Option ℕ) (next : ℕ) → refusal_to_open side last next ≡ None → side ≡ Client
 client_opens Client last next is = refl
 client_opens Server last next is = absurd (let never : Some refusal.NotClient ≡ None = is in cc)
 
+differs : (n k : ℕ) → (n ≡ k → ⊥) → (n == k) ≡ false
+differs n k not = by_id n k (λ b. b ≡ false) (λ same. absurd (not same)) (λ other. other)
+
+none_of : (a b c : Bool) → a ≡ false → b ≡ false → c ≡ false → (a || b || c) ≡ false
+none_of a b c p q r = ap (λ x. x || b || c) p ∙ ap (λ x. false || x || c) q ∙ ap (λ x. false || false || x) r
+
 four_apart : (n m : ℕ) → n ≡ 4 * m → (side : Side) → is_own side n ≡ false
-four_apart n m is Client = two
-  where
-    two : is_own Client n ≡ false
-    two = grind (arith, common_steps, is)
-four_apart n m is Server = grind (arith, common_steps, is)
+four_apart n m is Client = none_of (n == 2) (n == 6) (n == 10) (differs n 2 (λ same. omega (arith, is, same))) (differs n 6 (λ same. omega (arith, is, same))) (differs n 10 (λ same. omega (arith, is, same)))
+four_apart n m is Server = none_of (n == 3) (n == 7) (n == 11) (differs n 3 (λ same. omega (arith, is, same))) (differs n 7 (λ same. omega (arith, is, same))) (differs n 11 (λ same. omega (arith, is, same)))
 
 pub opens_grow : (e : EndpointHistory) (side : Side) (carried : ℕ → List ℕ) → Carries side carried e → Grows e (sender.open_request e).1
-opens_grow e side carried k = does_grows (sender.open_refusal e) e _ (λ none.
+opens_grow e side carried k = does_grows (sender.open_refusal e) e (record (opened_at e e.next_id None) { next_id = e.next_id + 4 }) (λ none.
     let client = client_opens e.side (last_id e.peer.goaways) e.next_id (closed_none e.closed _ none) in
     record {
       side = refl;
@@ -280,7 +286,7 @@ module _ (ends : Ends) (stood : (side : Side) → Stood (end_at ends side)) wher
 
   -- where memory was refused
   cuts_grow : (new : Ends) (r : Option Refusal) (side : Side) (id : ℕ) (fields : List Field) → CutsList r ends side id fields new → BothGrow ends new
-  cuts_grow new None side id fields c = end_grows new side _ c.is (record { side = refl; announced = refl; next = inl refl; own = instructions_grow (end_at ends side).own _; streams = λ i. stream_same _ _ i _ })
+  cuts_grow new None side id fields c = end_grows new side (with_insertions (end_at ends side) id (take c.front fields)) c.is (insertions_grow (end_at ends side) id (take c.front fields))
   cuts_grow new (Some (refusal.TooLarge size)) side id fields c = same_grow new c
   cuts_grow new (Some (refusal.Malformed why)) side id fields c = same_grow new c.1
   cuts_grow new (Some refusal.WrongSide) side id fields c = same_grow new c.1
@@ -304,20 +310,14 @@ module _ (ends : Ends) (stood : (side : Side) → Stood (end_at ends side)) wher
   loses_grow : (new : Ends) (side : Side) (id : ℕ) → LosesNothing ends side id new → BothGrow ends new
   loses_grow new side id l = by l.is
     where
-      e : EndpointHistory
-      e = end_at ends side
-
-      at : Stood e
-      at = stood side
-
-      read : Reads e l.after
-      read = kept_reads e l.after at.stands.reached l.read
+      read : Reads (end_at ends side) l.after
+      read = kept_reads (end_at ends side) l.after (stood side).stands.reached l.read
 
       by : (new ≡ with_end ends side l.after) ⊎ ((l.after.kept ≡ []) × IsAsked l.after id (end_at new side) × (new ≡ with_end ends side (end_at new side))) → BothGrow ends new
-      by (inl is) = end_grows new side l.after is (reads_grow at.state e l.after at.stands read)
+      by (inl is) = end_grows new side l.after is (reads_grow (stood side).state (end_at ends side) l.after (stood side).stands read)
       by (inr (none, asked, is)) =
-          end_grows new side (end_at new side) is (subst (λ f. Grows e f) (sym asked.is)
-          (reads_grow at.state e (with_incoming l.after id asked.asked) at.stands (reads_then e l.after (with_incoming l.after id asked.asked) read (sets l.after id asked.asked (ap is_some asked.here)))))
+          end_grows new side (end_at new side) is (subst (λ f. Grows (end_at ends side) f) (sym asked.is)
+          (reads_grow (stood side).state (end_at ends side) (with_incoming l.after id asked.asked) (stood side).stands (reads_then (end_at ends side) l.after (with_incoming l.after id asked.asked) read (sets l.after id asked.asked (ap is_some asked.here)))))
 
   lacks_grow : (new : Ends) (e : Event) (a : Answer) → IsCall e → LacksOf e a → LacksMemory ends e a new → BothGrow ends new
   lacks_grow new _ _ call (Opens {side = side}) h = same_grow new h.1

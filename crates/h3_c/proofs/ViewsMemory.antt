@@ -192,22 +192,19 @@ module _ (views : Views) (K : KeepBoth views) (ends new : Ends) where
   loses side id l =
       record {
         unsettled = subst (λ e. settles e id ≡ false) (sym (end_seen views ends side)) l.unsettled;
-        after = seen T l.after;
-        read = subst (λ e. ReadsPart (unkept e) e.kept (seen T l.after)) (sym (end_seen views ends side)) (reading.reads_part T (keeps_at views K side).new l.read);
+        after = seen (view_at views side) l.after;
+        read = subst (λ e. ReadsPart (unkept e) e.kept (seen (view_at views side) l.after)) (sym (end_seen views ends side)) (reading.reads_part (view_at views side) (keeps_at views K side).new l.read);
         is = by l.is;
       }
     where
-      T : View
-      T = view_at views side
-
       by : (new ≡ with_end ends side l.after) ⊎ ((l.after.kept ≡ []) × IsAsked l.after id (end_at new side) × (new ≡ with_end ends side (end_at new side)))
-          → (both_seen views new ≡ with_end (both_seen views ends) side (seen T l.after))
-          ⊎ (((seen T l.after).kept ≡ []) × IsAsked (seen T l.after) id (end_at (both_seen views new) side) × (both_seen views new ≡ with_end (both_seen views ends) side (end_at (both_seen views new) side)))
+          → (both_seen views new ≡ with_end (both_seen views ends) side (seen (view_at views side) l.after))
+          ⊎ (((seen (view_at views side) l.after).kept ≡ []) × IsAsked (seen (view_at views side) l.after) id (end_at (both_seen views new) side) × (both_seen views new ≡ with_end (both_seen views ends) side (end_at (both_seen views new) side)))
       by (inl is) = inl (ap (both_seen views) is ∙ sym (with_end_seen views ends side l.after))
       by (inr (none, asked, is)) =
           inr (
             none,
-            subst (λ e. IsAsked (seen T l.after) id e) (sym (end_seen views new side)) (asked_on T l.after (end_at new side) id asked),
+            subst (λ e. IsAsked (seen (view_at views side) l.after) id e) (sym (end_seen views new side)) (asked_on (view_at views side) l.after (end_at new side) id asked),
             ap (both_seen views) is ∙ sym (with_end_seen views ends side (end_at new side)) ∙ sym (ap (λ e. with_end (both_seen views ends) side e) (end_seen views new side)),
           )
 

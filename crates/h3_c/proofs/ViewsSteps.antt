@@ -77,7 +77,7 @@ abbrev pub so_answered : Views → Answer × Ends → Answer × Ends
 so_answered views (a, ends) = (a, both_seen views ends)
 
 module _ (views : Views) (K : KeepBoth views) where
-  pub keeps_at : (side : Side) → Keeps (view_at views side)
+  abbrev pub keeps_at : (side : Side) → Keeps (view_at views side)
   keeps_at Client = K.client
   keeps_at Server = K.server
 
