@@ -30,7 +30,7 @@ use Rattle.h3_world.specs.declared.event.Event.{Event}
 use Rattle.h3_world.specs.declared.event.Event.TheVariants as event
 use Rattle.h3_world.specs.declared.lists.ListItem.TheVariants as listed
 use Rattle.h3_world.specs.declared.lists.ListPull.TheVariants as list
-use Rattle.h3_memory.specs.Refused.{EndsStep}
+use Rattle.h3_memory.specs.Refused.{EndsStep, handed_over}
 use Rattle.h3_session.specs.Running.{answer_of, is_stored}
 use Rattle.h3_c.specs.Programs.{Handles, carrying, handle_at}
 use Rattle.h3_c.specs.Seen.{Seen}
@@ -38,7 +38,7 @@ use Rattle.h3_c.proofs.Comings.{IsDone, Came, ComesTo, bytes_step, came_seen, co
 use Rattle.h3_c.proofs.Flights.{Carries, IsUnreset, Took, carried_waits, carries_grown, drop_joined, keeps_lagging, lagging, own_lags, take_joined, takes_on}
 use Rattle.h3_c.proofs.Grows.{own_taken, own_text, waits_own}
 use Rattle.h3_c.proofs.Landings.{Landed, Leaves, landed_on}
-use Rattle.h3_c.proofs.ProgramMoves.{Left, Moves, LeavesSo, Stand, StaysAt, keep_lagging, views_of}
+use Rattle.h3_c.proofs.ProgramMoves.{Moves, LeavesSo, ends_are, keep_lagging, views_of}
 use Rattle.h3_c.proofs.ReadsGrow.{arrives_reads, pulls_reads_of_none, reads_grow, reads_then}
 use Rattle.h3_c.proofs.Unordered.{waits_of}
 use Rattle.h3_c.proofs.Views.{Keeps, View, at_seen, by_id, open_seen, seen, seen_alike}
@@ -165,17 +165,16 @@ read_by Server h s = record { client = s; server = h.server; carried = h.carried
 abbrev Told : Result Unit DeliverError → Answer → Answer
 Told result success = answer_of success (delivery_refused result)
 
--- Both ends to a schedule.
-ends_of : (a b : EndpointHistory) (c d : EndpointHistory) → a ≡ c → b ≡ d → (let x : Ends = record { client = a; server = b } in x) ≡ (let x : Ends = record { client = c; server = d } in x)
-ends_of a b c d one two = ap (λ e. let x : Ends = record { client = e; server = b } in x) one ∙ ap (λ e. let x : Ends = record { client = c; server = e } in x) two
+-- both ends once bytes were offered
+abbrev came_to : Bool → Ends → Side → ℕ → ℕ → EndpointHistory → Ends
+came_to stored ends Client id count reader = record { client = if stored then advance ends.client id count else ends.client; server = reader }
+came_to stored ends Server id count reader = record { client = reader; server = if stored then advance ends.server id count else ends.server }
 
-client_left : (stored : Bool) (w r x : EndpointHistory) (id n : ℕ) → with_end (left_if stored (record { client = w; server = r }) Client id n) Server x ≡ record { client = if stored then advance w id n else w; server = x }
-client_left true w r x id n = refl
-client_left false w r x id n = refl
-
-server_left : (stored : Bool) (w r x : EndpointHistory) (id n : ℕ) → with_end (left_if stored (record { client = r; server = w }) Server id n) Client x ≡ record { client = x; server = if stored then advance w id n else w }
-server_left true w r x id n = refl
-server_left false w r x id n = refl
+came_so : (stored : Bool) (ends : Ends) (from : Side) (id count : ℕ) (reader : EndpointHistory) → with_end (left_if stored ends from id count) (other from) reader ≡ came_to stored ends from id count reader
+came_so true ends Client id count reader = refl
+came_so false ends Client id count reader = refl
+came_so true ends Server id count reader = refl
+came_so false ends Server id count reader = refl
 
 module _ (h : Handles) (s : Seen) (id : ℕ) where
   -- **Bytes come.**
@@ -196,7 +195,7 @@ module _ (h : Handles) (s : Seen) (id : ℕ) where
       record {
         new = new;
         of = (tt, tt);
-        run = (_, step, sym (client_left (is_stored result) V.client V.server _ id (length bytes) ∙ ends_of _ _ _ _ u.is refl));
+        run = (_, step, sym (came_so (is_stored result) V Client id (length bytes) (seen (lagging Server (h.carried Server)) came.after) ∙ ends_are (came_to (is_stored result) V Client id (length bytes) (seen (lagging Server (h.carried Server)) came.after)) (both_seen (views_of (carrying h.carried Client id ((if is_stored result then [] else bytes) ++ rest))) new) u.is refl));
         stand = record { client = stand.client; server = came.stands; client_carries = u.carries; server_carries = carries_grown Server (h.carried Server) r came.after stand.server_carries (reads_grow h.server.endpoint r came.after stand.server came.reads) };
       })
   bytes_given Server bytes rest result is there delivers = LeavesSo (λ ends stand.
@@ -213,7 +212,7 @@ module _ (h : Handles) (s : Seen) (id : ℕ) where
       record {
         new = new;
         of = (tt, tt);
-        run = (_, step, sym (server_left (is_stored result) V.server V.client _ id (length bytes) ∙ ends_of _ _ _ _ refl u.is));
+        run = (_, step, sym (came_so (is_stored result) V Server id (length bytes) (seen (lagging Client (h.carried Client)) came.after) ∙ ends_are (came_to (is_stored result) V Server id (length bytes) (seen (lagging Client (h.carried Client)) came.after)) (both_seen (views_of (carrying h.carried Server id ((if is_stored result then [] else bytes) ++ rest))) new) refl u.is));
         stand = record { client = came.stands; server = stand.server; client_carries = carries_grown Client (h.carried Client) r came.after stand.client_carries (reads_grow h.client.endpoint r came.after stand.client came.reads); server_carries = u.carries };
       })
 
@@ -291,17 +290,17 @@ module _ (h : Handles) (s : Seen) (id : ℕ) where
 pub rest_given : (h : Handles) (from : Side) (id : ℕ) (bytes : List ℕ) → h.carried from id ≡ bytes → Moves h (record h { carried = carrying h.carried from id bytes }) [] []
 rest_given h Client id bytes is = LeavesSo (λ ends stand.
     let u = kept_on Client (h.carried Client) ends.client stand.client_carries id bytes is in
-    record { new = ends; of = tt; run = sym (ends_of _ _ _ _ u.1 refl); stand = record { client = stand.client; server = stand.server; client_carries = u.0; server_carries = stand.server_carries } })
+    record { new = ends; of = tt; run = sym (ends_are (both_seen (views_of h.carried) ends) (both_seen (views_of (carrying h.carried Client id bytes)) ends) u.1 refl); stand = record { client = stand.client; server = stand.server; client_carries = u.0; server_carries = stand.server_carries } })
 rest_given h Server id bytes is = LeavesSo (λ ends stand.
     let u = kept_on Server (h.carried Server) ends.server stand.server_carries id bytes is in
-    record { new = ends; of = tt; run = sym (ends_of _ _ _ _ refl u.1); stand = record { client = stand.client; server = stand.server; client_carries = stand.client_carries; server_carries = u.0 } })
+    record { new = ends; of = tt; run = sym (ends_are (both_seen (views_of h.carried) ends) (both_seen (views_of (carrying h.carried Server id bytes)) ends) refl u.1); stand = record { client = stand.client; server = stand.server; client_carries = stand.client_carries; server_carries = u.0 } })
 
 -- **A piece of a body comes, and is handed out.**
 hands_piece : (ends : Ends) (side : Side) (id : ℕ) (piece : List ℕ) (x : Pull × EndpointHistory) → x.0 ≡ pull.Item (found.Body piece)
     → was_listed ends side id x ≡ (answer.Listed (list.Item (listed.Body piece)), with_end ends side x.1)
 hands_piece ends side id piece (p, e) is = ap (λ q. was_listed ends side id (q, e)) is
 
-pub record HandsPiece (r s : EndpointState) (id : ℕ) (bytes piece : List ℕ) (e : EndpointHistory) : Type 0 where
+pub record HandsPiece (s : EndpointState) (id : ℕ) (bytes piece : List ℕ) (e : EndpointHistory) : Type 0 where
   pub accepted : (arrives e (BytesCame id bytes)).0 ≡ None
   pub kept : (arrives e (BytesCame id bytes)).1.kept ≡ []
   pub pulled : (pulls (arrives e (BytesCame id bytes)).1 id).0 ≡ pull.Item (found.Body piece)
@@ -309,7 +308,7 @@ pub record HandsPiece (r s : EndpointState) (id : ℕ) (bytes piece : List ℕ) 
 
 pub piece_given : (h : Handles) (s : Seen) (id : ℕ) (from : Side) (bytes rest piece : List ℕ) → h.carried from id ≡ bytes ++ rest
     → ((e : EndpointHistory) → StandsFor (handle_at h from).endpoint e → (has_outgoing e id ≡ true) × (is_reset e id ≡ false))
-    → ((e : EndpointHistory) → StandsFor (handle_at h (other from)).endpoint e → HandsPiece (handle_at h (other from)).endpoint s.endpoint id bytes piece e)
+    → ((e : EndpointHistory) → StandsFor (handle_at h (other from)).endpoint e → HandsPiece s.endpoint id bytes piece e)
     → Moves h (given_to from h s id rest) (event.Deliver from id (length bytes) ∷ event.PullFields (other from) id ∷ []) (answer.Delivered (length bytes) ∷ answer.Listed (list.Item (listed.Body piece)) ∷ [])
 piece_given h s id Client bytes rest piece is there hands = LeavesSo (λ ends stand.
     let w = ends.client in
@@ -327,7 +326,7 @@ piece_given h s id Client bytes rest piece is there hands = LeavesSo (λ ends st
     let views = views_of (carrying h.carried Client id rest) in
     let pulling = told_so mid last (event.PullFields Server id) (answer.Listed (list.Item (listed.Body piece))) refl (hands_piece mid Server id piece (pulls x.1 id) p.pulled) in
     let then = step_seen views (keep_lagging (carrying h.carried Client id rest)) mid last (event.PullFields Server id) (answer.Listed (list.Item (listed.Body piece))) tt tt tt pulling in
-    let first = subst (λ new. EndsStep V (event.Deliver Client id (length bytes)) (answer.Delivered (length bytes)) new) (ends_of _ _ _ _ u.is refl) step in
+    let first = subst (λ new. EndsStep V (event.Deliver Client id (length bytes)) (answer.Delivered (length bytes)) new) (ends_are (with_end (handed_over V Client id (length bytes)) Server (seen (lagging Server (h.carried Server)) x.1)) (both_seen views mid) u.is refl) step in
     record {
       new = last;
       of = (tt, (tt, tt));
@@ -356,7 +355,7 @@ piece_given h s id Server bytes rest piece is there hands = LeavesSo (λ ends st
     let views = views_of (carrying h.carried Server id rest) in
     let pulling = told_so mid last (event.PullFields Client id) (answer.Listed (list.Item (listed.Body piece))) refl (hands_piece mid Client id piece (pulls x.1 id) p.pulled) in
     let then = step_seen views (keep_lagging (carrying h.carried Server id rest)) mid last (event.PullFields Client id) (answer.Listed (list.Item (listed.Body piece))) tt tt tt pulling in
-    let first = subst (λ new. EndsStep V (event.Deliver Server id (length bytes)) (answer.Delivered (length bytes)) new) (ends_of _ _ _ _ refl u.is) step in
+    let first = subst (λ new. EndsStep V (event.Deliver Server id (length bytes)) (answer.Delivered (length bytes)) new) (ends_are (with_end (handed_over V Server id (length bytes)) Client (seen (lagging Client (h.carried Client)) x.1)) (both_seen views mid) refl u.is) step in
     record {
       new = last;
       of = (tt, (tt, tt));
@@ -406,19 +405,21 @@ taken_so h Client v id bytes there = LeavesSo (λ ends stand.
     let e = ends.client in
     let about = there e stand.client in
     let took = takes_on Client (h.carried Client) (with_stream (h.carried Client) id (h.carried Client id ++ bytes)) e stand.client_carries id bytes (joins_behind (h.carried Client) id bytes) about.0 in
+    let new : Ends = record { client = advance e id (length bytes); server = ends.server } in
     record {
-      new = record { client = advance e id (length bytes); server = ends.server };
+      new = new;
       of = tt;
-      run = ends_of _ _ _ _ took.seen_so refl;
+      run = ends_are (both_seen (views_of (carrying h.carried Client id (h.carried Client id ++ bytes))) new) (both_seen (views_of h.carried) ends) took.seen_so refl;
       stand = record { client = about.1; server = stand.server; client_carries = took.carries; server_carries = stand.server_carries };
     })
 taken_so h Server v id bytes there = LeavesSo (λ ends stand.
     let e = ends.server in
     let about = there e stand.server in
     let took = takes_on Server (h.carried Server) (with_stream (h.carried Server) id (h.carried Server id ++ bytes)) e stand.server_carries id bytes (joins_behind (h.carried Server) id bytes) about.0 in
+    let new : Ends = record { client = ends.client; server = advance e id (length bytes) } in
     record {
-      new = record { client = ends.client; server = advance e id (length bytes) };
+      new = new;
       of = tt;
-      run = ends_of _ _ _ _ refl took.seen_so;
+      run = ends_are (both_seen (views_of (carrying h.carried Server id (h.carried Server id ++ bytes))) new) (both_seen (views_of h.carried) ends) refl took.seen_so;
       stand = record { client = stand.client; server = about.1; client_carries = stand.client_carries; server_carries = took.carries };
     })

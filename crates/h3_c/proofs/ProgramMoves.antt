@@ -190,7 +190,7 @@ step_left ends new h g e a of call not same stand step client server =
     run_left ends new h g (e ∷ []) (a ∷ []) (of, tt) (both_seen (views_of h.carried) new, seen_step, refl)
     (carries_grown Client (h.carried Client) ends.client new.client stand.client_carries grow.client) (carries_grown Server (h.carried Server) ends.server new.server stand.server_carries grow.server) same client server
 
-ends_are : (a b : Ends) → a.client ≡ b.client → a.server ≡ b.server → a ≡ b
+pub ends_are : (a b : Ends) → a.client ≡ b.client → a.server ≡ b.server → a ≡ b
 ends_are a b client server = ap (λ e. let x : Ends = record { client = e; server = a.server } in x) client ∙ ap (λ e. let x : Ends = record { client = b.client; server = e } in x) server
 
 -- what changes nothing of which a schedule speaks

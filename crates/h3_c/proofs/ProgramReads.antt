@@ -291,7 +291,7 @@ came_kept e id bytes none kind =
     ap (λ l. (arrives_behind l e (BytesCame id bytes)).1.kept) none ∙ taken_kept e.closed (delivery_refusal e id) e (bytes_at e id bytes (kind_of e.side id)) found_is ∙ none
 
 pieces_move : (from : Side) (id used : ℕ) (bytes rest front piece : List ℕ) (v r s : Seen) (c : Carried) → c from id ≡ bytes ++ rest → front ≡ take used bytes → used ≤ length bytes → StillSends v id
-    → ((e : EndpointHistory) → StandsFor r.endpoint e → HandsPiece r.endpoint s.endpoint id front piece e)
+    → ((e : EndpointHistory) → StandsFor r.endpoint e → HandsPiece s.endpoint id front piece e)
     → Moves (pair from v r c) (pair from v s (carrying c from id (drop used bytes ++ rest))) (event.Deliver from id used ∷ event.PullFields (other from) id ∷ []) (answer.Delivered used ∷ answer.Listed (list.Item (listed.Body piece)) ∷ [])
 pieces_move from id used bytes rest front piece v r s c first is few goes hands =
     let count = ap (λ l. length l) is ∙ length_take used bytes few in
