@@ -38,8 +38,8 @@
  * OWNERSHIP
  *
  * h3_endpoint is one pointer, owned by the caller. H3_NONE_YET (all bytes zero) holds no endpoint.
- * h3_new makes an endpoint, and h3_free frees it: each h3_new needs one h3_free. A copy of the
- * struct is the same endpoint: keep one, and move it as you like.
+ * h3_new, h3_new_with and h3_new_resumed make an endpoint, and h3_free frees it: each that was made
+ * needs one h3_free. A copy of the struct is the same endpoint: keep one, and move it as you like.
  * No call keeps a pointer of yours: you may free or change what you pass in as soon as it returns.
  * The library never returns pointers to its memory: bytes that you get are copied into your buffer,
  * but for a body in bytes that you gave to h3_read, which says where it lies. What does not fit
@@ -51,8 +51,8 @@
  *
  * NULL may stand for `detail`, for `fin`, for a buffer that is to be filled (it has no room then),
  * and for bytes and sizes whose length or count is 0. NULL for an endpoint is the same as one that
- * holds none. Every other NULL is H3_ARGUMENT, and nothing is done (but *endpoint of h3_new holds
- * none): bytes or sizes whose length or count is not 0, a configuration, any other result.
+ * holds none. Every other NULL is H3_ARGUMENT, and nothing is done: bytes, sizes or settings whose
+ * length or count is not 0, a configuration, any other result.
  *
  * THREADS
  *
@@ -87,11 +87,12 @@
  *
  * WHAT TO CALL FROM QUIC'S CALLBACKS
  *
- *   the handshake is done    h3_new; open three unidirectional streams before any other, so that
- *                            QUIC gives them the ids of the control, encoder and decoder stream: 2,
- *                            6, 10 of a client, 3, 7, 11 of a server (h3_control_id and so on). Let
- *                            the peer open at least three unidirectional streams (RFC 9114, section
- *                            6.2), and request streams as others close.
+ *   the handshake is done    h3_new (h3_new_resumed before it, if 0-RTT data is sent); open three
+ *                            unidirectional streams before any other, so that QUIC gives them the
+ *                            ids of the control, encoder and decoder stream: 2, 6, 10 of a client,
+ *                            3, 7, 11 of a server (h3_control_id and so on). Let the peer open at
+ *                            least three unidirectional streams (RFC 9114, section 6.2), and
+ *                            request streams as others close.
  *   a request is to be sent  h3_open_request, and then a bidirectional stream of QUIC: both give 0,
  *                            4, 8, .. in turn (A REQUEST'S STREAM)
  *   stream data came, or     h3_read(id, bytes, len, fin), in order of the stream's bytes, and
@@ -147,7 +148,7 @@
  *
  * WHICH CALL CAN FILL WHICH STREAM (so that you know which to look at; h3_next_to_send finds all)
  *
- *   h3_new, h3_new_with                     the local control, encoder and decoder stream
+ *   h3_new, h3_new_with, h3_new_resumed     the local control, encoder and decoder stream
  *   h3_send_head, h3_send_trailer           that stream, and the local encoder stream
  *   h3_send_body, h3_send_body_of           that stream
  *   h3_finish                               no bytes; the end of that stream (h3_outgoing then says

@@ -273,7 +273,7 @@ class endpoint {
     return call(h3_new, &config);
   }
 
-  /* The same, with further settings behind those of h3_config, at most 8. */
+  /* The same, with further settings after those of h3_config, at most 8. */
   result open(const h3_config &config, const h3_setting *further, std::size_t count) noexcept {
     h3_free(&raw_);
     return call(h3_new_with, &config, further, count);

@@ -38,17 +38,25 @@ type FurtherSetting struct {
 	ID, Value uint64
 }
 
+// settings is the beginning of an array of them, and nil if there are none.
+func settings(further []FurtherSetting) *C.h3_setting {
+	if len(further) == 0 {
+		return nil
+	}
+	pairs := make([]C.h3_setting, len(further))
+	for at, setting := range further {
+		pairs[at] = C.h3_setting{id: C.uint64_t(setting.ID), value: C.uint64_t(setting.Value)}
+	}
+	return &pairs[0]
+}
+
 // NewWith makes an endpoint that announces further settings after those of the configuration, at most 8, for an extension that the caller
 // speaks. Refused as Setting: an id of HTTP/2's, one that the configuration announces, one given twice, an id or a value of 2^62 or more.
 func NewWith(config Config, further ...FurtherSetting) (*Endpoint, error) {
 	var detail C.uint64_t
 	raw := config.raw()
-	pairs := make([]C.h3_setting, len(further)+1)
-	for at, setting := range further {
-		pairs[at] = C.h3_setting{id: C.uint64_t(setting.ID), value: C.uint64_t(setting.Value)}
-	}
 	endpoint := &Endpoint{}
-	answer := C.h3_new_with(&endpoint.raw, &raw, &pairs[0], C.size_t(len(further)), &detail)
+	answer := C.h3_new_with(&endpoint.raw, &raw, settings(further), C.size_t(len(further)), &detail)
 	if err := refusal(answer, detail); err != nil {
 		return nil, err
 	}
@@ -60,12 +68,8 @@ func NewWith(config Config, further ...FurtherSetting) (*Endpoint, error) {
 func NewResumed(config Config, remembered []byte, further ...FurtherSetting) (*Endpoint, error) {
 	var detail C.uint64_t
 	raw := config.raw()
-	pairs := make([]C.h3_setting, len(further)+1)
-	for at, setting := range further {
-		pairs[at] = C.h3_setting{id: C.uint64_t(setting.ID), value: C.uint64_t(setting.Value)}
-	}
 	endpoint := &Endpoint{}
-	answer := C.h3_new_resumed(&endpoint.raw, &raw, &pairs[0], C.size_t(len(further)), start(remembered), C.size_t(len(remembered)), &detail)
+	answer := C.h3_new_resumed(&endpoint.raw, &raw, settings(further), C.size_t(len(further)), start(remembered), C.size_t(len(remembered)), &detail)
 	if err := refusal(answer, detail); err != nil {
 		return nil, err
 	}

@@ -82,7 +82,7 @@ class Endpoint:
     `Answer.NO_ENDPOINT`."""
 
     def __init__(self, config: Config, further: Iterable[tuple[int, int]] = (), remembered: Bytes | None = None) -> None:
-        """`further` has ids and values of settings that are announced behind those of the configuration, at most 8, for an extension that the
+        """`further` has ids and values of settings that are announced after those of the configuration, at most 8, for an extension that the
         caller speaks. `remembered`, of a client that sends 0-RTT data, are its server's settings, as `remember_settings` returned them in an earlier
         connection (RFC 9114, section 7.2.4.2).
 

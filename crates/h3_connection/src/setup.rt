@@ -105,7 +105,7 @@ impl Announced {
 
     /// Which settings of the peer count: those that came, and until then those that it remembers.
     pub fn settings_known<'a>(&'a self, came: Option<&'a Settings>) -> Option<&'a Settings>
-        ensures { option_copied result ≡ settings_known self.now (option_copied came) }
+        ensures { option_copied result ≡ settings_known self.now (option_copied came.entry) }
     {
         match came {
             Some(settings) => Some(settings),

@@ -59,7 +59,7 @@ use Rattle.h3_faithful.proofs.BehindBoth.{stands_behind}
 use Rattle.h3_faithful.proofs.CaughtUpEnds.{CaughtUp}
 use Rattle.h3_faithful.proofs.PlainMemory.{at_end, memory_plainly}
 use Rattle.h3_faithful.proofs.PullsNext.{list_next, pull_next, pulls_settled}
-use Rattle.h3_faithful.proofs.Quiet.{quiet_step, refuses_plainly}
+use Rattle.h3_faithful.proofs.Quiet.{plain_sides_count, quiet_step, refuses_plainly}
 
 -- Where both ends stand after an event.
 pub record GoesOn (setup : Setup) (P : World → Ends → Type 0) (new : Ends) : Type 0 where
@@ -218,7 +218,7 @@ module _ (laws : AlikeLaws) (setup : Setup) (made : IsMadeSetup setup) (P : Worl
     step_so = subst (λ b. AnswerOf b ends e (answered ends e).0 (answered ends e).1) (sym told) (refl, refl)
 
     on : StepsTo setup k e (answered ends e).0 (answered ends e).1
-    on = any_step laws.runs.steps laws.runs.moves setup made k ends s.stands (answered ends e).1 e (answered ends e).0 sendable (refuses_plainly laws.runs.quiet setup ends e s.quiet) step_so calm
+    on = any_step laws.runs.steps laws.runs.moves setup made k ends s.stands (answered ends e).1 e (answered ends e).0 (plain_sides_count setup ends s.quiet) sendable (refuses_plainly laws.runs.quiet setup ends e s.quiet) step_so calm
 
     standing_so : P on.after.world (answered ends e).1 → GoesOn setup P (answered ends e).1
     standing_so stays = record {

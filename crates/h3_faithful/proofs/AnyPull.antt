@@ -26,7 +26,7 @@ use Rattle.h3_world.specs.Order.{is_over}
 use Rattle.h3_world.specs.Pulling.{PausesExactly, PullsNext, settled}
 use Rattle.h3_world.specs.Sendable.{IsSendable}
 use Rattle.h3_world.specs.Sending.{given_up}
-use Rattle.h3_world.specs.Setup.{IsMadeSetup, JudgesPlainly, Setup}
+use Rattle.h3_world.specs.Setup.{IsMadeSetup, IsPlain, JudgesPlainly, Setup, announced_at}
 use Rattle.h3_world.specs.Step.{IsExact}
 use Rattle.h3_world.specs.Streams.{flow}
 use Rattle.h3_world.specs.World.{World}
@@ -44,6 +44,7 @@ use Rattle.h3_memory.specs.MemoryStep.{HappensWithMemory, StepWithMemory, Unless
 use Rattle.h3_memory.specs.Refused.{AnswerOf, EndsStep}
 use Rattle.h3_memory.specs.SoundKeeping.{IsSoundKeeping}
 use Rattle.h3_memory.specs.Theorem.{StandsOn, StepsOn}
+use Rattle.h3_strict.specs.CountsNothing.{CountsNothing}
 use Rattle.h3_strict.specs.GivesUp.{AtOnce, BehindPart, GivesUp}
 use Rattle.h3_strict.specs.GivingUpLaws.{alive_before}
 use Rattle.h3_strict.specs.PlainAlike.{DoesPlainly}
@@ -66,6 +67,10 @@ pub record StepLaws : Type 0 where
   pub gives_up : (setup : Setup) (k : KeepingWorld) (ends : Ends) (side : Side) (id : ℕ) (fault : StreamFault) → IsMadeSetup setup → StandsKeeping setup k ends
       → (next : EndpointHistory) (i x : Incoming) → read_all (end_at ends side).kept (unkept (end_at ends side)) ≡ (next, None) → stream_at next.incoming id ≡ Some i → i.fault ≡ None → i.is_over ≡ false → IsGone i x fault
       → (settled (caught_up setup k side) side id ≡ None) × StandsKeeping setup (with_kept k side (given_up (caught_up setup k side) side id fault) []) (with_end ends side (giving_up next id x))
+
+-- A side that judges plainly counts nothing.
+abbrev pub PlainSidesCount : Setup → Ends → Type 0
+PlainSidesCount setup ends = (side : Side) → IsPlain (announced_at setup side) → CountsNothing (announced_at setup side) (end_at ends side)
 
 -- A step, and where the ends stand after it.
 pub record StepsTo (setup : Setup) (k : KeepingWorld) (e : Event) (a : Answer) (new : Ends) : Type 0 where
@@ -178,8 +183,8 @@ module _ (laws : StepLaws) (moves : MemoryMoves) (setup : Setup) (made : IsMadeS
         let over : is_over g ≡ is_over f = ap (λ s. is_over (record g { sent = s })) same.sent ∙ ap (λ n. is_over (record g { sent = f.sent; parts_out = n })) same.parts_out in
         neither (is_some f.fault) (is_over f) (alive_before (is_some f.fault) (is_some g.fault) (c.1 (other side) id) (settled_alive u side id unsettled)) (sym over ∙ (settled_none u side id unsettled).not_over)
 
-    gives_stream_up : GivesStreamUp e id → GivesUpSo (pulls e id).0 (with_end pe side (plainly (pulls e id).1))
-    gives_stream_up g = by_way g.gives.leaves
+    gives_stream_up : PlainSidesCount setup ends → GivesStreamUp e id → GivesUpSo (pulls e id).0 (with_end pe side (plainly (pulls e id).1))
+    gives_stream_up counts g = by_way g.gives.leaves
       where
         fault : StreamFault
         fault = Malformed g.why
@@ -195,6 +200,7 @@ module _ (laws : StepLaws) (moves : MemoryMoves) (setup : Setup) (made : IsMadeS
             record {
               new = with_kept k side v [];
               pulls = record {
+                judges = λ plain. g.judges (announced_at setup side) (counts side plain) plain.1;
                 why = g.why;
                 told = g.gives.told;
                 unsettled = gone_there.0;
@@ -289,15 +295,15 @@ module _ (laws : StepLaws) (moves : MemoryMoves) (setup : Setup) (made : IsMadeS
         record { after = on.after; happens = AsPlainly told on.happens; stands = on.stands }
 
     -- **A pull.**
-    pub any_pull : is_out_of_memory (answered ends (event.Pull side id)).0 ≡ false → is_connection_fault (answered ends (event.Pull side id)).0 ≡ false → StepsTo setup k (event.Pull side id) (answered ends (event.Pull side id)).0 (answered ends (event.Pull side id)).1
-    any_pull told none = by_pull (laws.pulls e id)
+    pub any_pull : PlainSidesCount setup ends → is_out_of_memory (answered ends (event.Pull side id)).0 ≡ false → is_connection_fault (answered ends (event.Pull side id)).0 ≡ false → StepsTo setup k (event.Pull side id) (answered ends (event.Pull side id)).0 (answered ends (event.Pull side id)).1
+    any_pull counts told none = by_pull (laws.pulls e id)
       where
         by_pull : PullPlainly e id → StepsTo setup k (event.Pull side id) (answered ends (event.Pull side id)).0 (answered ends (event.Pull side id)).1
         by_pull (PullAlike same) =
             plain_pull (event.Pull side id) (answer.Pulled (pulls e id).0) real_pull (other_pull ∙ ap (λ z. let x : Answer × Ends = (answer.Pulled z.0, with_end pe side z.1) in x) same) tt told
         by_pull (PullFaults faults) = absurd (let never : true ≡ false = sym faults ∙ sym (ap (λ z. is_connection_fault z.0) real_pull) ∙ none in cc)
         by_pull (PullGone g) =
-            let up = gives_stream_up g in
+            let up = gives_stream_up counts g in
             record {
               after = up.new;
               happens = subst (λ z. HappensAnywhere setup k (event.Pull side id) z.0 up.new) (sym real_pull) (GivesMessageUp up.pulls);
@@ -305,9 +311,9 @@ module _ (laws : StepLaws) (moves : MemoryMoves) (setup : Setup) (made : IsMadeS
             }
 
     -- **And one with lists.**
-    pub any_list : is_out_of_memory (answered ends (event.PullFields side id)).0 ≡ false → is_connection_fault (answered ends (event.PullFields side id)).0 ≡ false
+    pub any_list : PlainSidesCount setup ends → is_out_of_memory (answered ends (event.PullFields side id)).0 ≡ false → is_connection_fault (answered ends (event.PullFields side id)).0 ≡ false
         → StepsTo setup k (event.PullFields side id) (answered ends (event.PullFields side id)).0 (answered ends (event.PullFields side id)).1
-    any_list told none = by_pull (laws.pulls e id)
+    any_list counts told none = by_pull (laws.pulls e id)
       where
         fields : Option (List Field)
         fields = fields_behind e.kept e id
@@ -319,10 +325,10 @@ module _ (laws : StepLaws) (moves : MemoryMoves) (setup : Setup) (made : IsMadeS
             ∙ ap (λ l. let x : Answer × Ends = (answer.Listed l, with_end pe side (plainly (pulls e id).1)) in x) ((laws.does e).lists id)) tt told
         by_pull (PullFaults faults) = absurd (let never : true ≡ false = sym (listed_faults fields (pulls e id).0 faults) ∙ sym (ap (λ z. is_connection_fault z.0) real_list) ∙ none in cc)
         by_pull (PullGone g) =
-            let up = gives_stream_up g in
+            let up = gives_stream_up counts g in
             let m = up.pulls in
             let listed : PullsMalformed setup k side id (pull_of (listed_pull fields (pulls e id).0)) up.new =
-            record { why = m.why; told = ap (λ q. pull_of (listed_pull fields q)) m.told; unsettled = m.unsettled; given_up = m.given_up; kept = m.kept } in
+            record { judges = m.judges; why = m.why; told = ap (λ q. pull_of (listed_pull fields q)) m.told; unsettled = m.unsettled; given_up = m.given_up; kept = m.kept } in
             record {
               after = up.new;
               happens = subst (λ z. HappensAnywhere setup k (event.PullFields side id) z.0 up.new) (sym real_list) (GivesMessageUp listed);

@@ -18,7 +18,7 @@ use Rattle.h3_strict.specs.PlainEnds.{Alike, Judges, RefusesMalformed as Refused
 use Rattle.h3_strict.specs.Plainly.{is_excess}
 use Rattle.h3_faithful.specs.Steps.{AsPlainly, LacksMemory, RefusesMalformed, is_strict_send}
 use Rattle.h3_faithful.proofs.Accounts.{MemoryMoves}
-use Rattle.h3_faithful.proofs.AnyPull.{StepLaws, StepsTo, any_list, any_pull, plain_step}
+use Rattle.h3_faithful.proofs.AnyPull.{PlainSidesCount, StepLaws, StepsTo, any_list, any_pull, plain_step}
 use Rattle.h3_faithful.proofs.PlainMemory.{memory_plainly}
 
 -- what is too long for its reader is a fault of the connection
@@ -71,14 +71,14 @@ module _ (laws : StepLaws) (moves : MemoryMoves) (setup : Setup) (made : IsMadeS
       by_step (Judges judged few) = absurd (let never : true ≡ false = sym (judged_faults e none none_listed judged) ∙ faultless in cc)
       by_step (Alike unrefused same) = answered_alike e sendable told same
 
-  answered_event : (e : Event) → IsSendable setup e → RefusesPlainly setup ends e → is_out_of_memory (answered ends e).0 ≡ false → is_connection_fault (answered ends e).0 ≡ false → StepsTo setup k e (answered ends e).0 (answered ends e).1
-  answered_event (event.Pull side id) sendable plainly told faultless = any_pull laws moves setup made k ends h side id told faultless
-  answered_event (event.PullFields side id) sendable plainly told faultless = any_list laws moves setup made k ends h side id told faultless
-  answered_event e sendable plainly told faultless = other_event e (λ side id same. absurd (cc)) (λ side id same. absurd (cc)) sendable plainly told faultless
+  answered_event : (e : Event) → PlainSidesCount setup ends → IsSendable setup e → RefusesPlainly setup ends e → is_out_of_memory (answered ends e).0 ≡ false → is_connection_fault (answered ends e).0 ≡ false → StepsTo setup k e (answered ends e).0 (answered ends e).1
+  answered_event (event.Pull side id) counts sendable plainly told faultless = any_pull laws moves setup made k ends h side id counts told faultless
+  answered_event (event.PullFields side id) counts sendable plainly told faultless = any_list laws moves setup made k ends h side id counts told faultless
+  answered_event e counts sendable plainly told faultless = other_event e (λ side id same. absurd (cc)) (λ side id same. absurd (cc)) sendable plainly told faultless
 
   -- **Any event.**
-  pub any_step : (new : Ends) (e : Event) (a : Answer) → IsSendable setup e → RefusesPlainly setup ends e → EndsStep ends e a new → is_connection_fault a ≡ false → StepsTo setup k e a new
-  any_step new e a sendable plainly step faultless = by_memory (is_out_of_memory a) refl step
+  pub any_step : (new : Ends) (e : Event) (a : Answer) → PlainSidesCount setup ends → IsSendable setup e → RefusesPlainly setup ends e → EndsStep ends e a new → is_connection_fault a ≡ false → StepsTo setup k e a new
+  any_step new e a counts sendable plainly step faultless = by_memory (is_out_of_memory a) refl step
     where
       by_memory : (b : Bool) → is_out_of_memory a ≡ b → AnswerOf b ends e a new → StepsTo setup k e a new
       by_memory true told lacks =
@@ -87,4 +87,4 @@ module _ (laws : StepLaws) (moves : MemoryMoves) (setup : Setup) (made : IsMadeS
       by_memory false told is =
           subst (λ x. StepsTo setup k e x new) (sym is.0)
           (subst (λ x. StepsTo setup k e (answered ends e).0 x) (sym is.1)
-          (answered_event e sendable plainly (ap is_out_of_memory (sym is.0) ∙ told) (ap is_connection_fault (sym is.0) ∙ faultless)))
+          (answered_event e counts sendable plainly (ap is_out_of_memory (sym is.0) ∙ told) (ap is_connection_fault (sym is.0) ∙ faultless)))

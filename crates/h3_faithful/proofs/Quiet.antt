@@ -6,7 +6,7 @@ use Rattle.h3_field.specs.Field.{Field}
 use Rattle.h3_proto.specs.declared.stream.Side.{Side}
 use Rattle.h3_proto.specs.declared.stream.Side.TheVariants.{Client, Server}
 use Rattle.h3_connection.specs.Control.{Found}
-use Rattle.h3_connection.specs.Delivering.{delivery_refusal, refusal_at, request_refusal, server_opened_refusal, taken}
+use Rattle.h3_connection.specs.Delivering.{delivery_refusal, refusal_at, request_refusal, server_opened_refusal, taken, with_incoming}
 use Rattle.h3_connection.specs.Endpoint.{EndpointHistory, Kind, bytes_waiting, new_endpoint}
 use Rattle.h3_connection.specs.Endpoint.Kind.{OwnUnidirectional, PeerUnidirectional, Request, ServerOpened}
 use Rattle.h3_connection.specs.Arrivals.{is_closed_in, stream_of}
@@ -14,11 +14,12 @@ use Rattle.h3_connection.specs.Incoming.{Incoming}
 use Rattle.h3_connection.specs.Keeping.{arrival_refusal, arrives, arrives_behind, pulls, read_arrival, refused_behind, unkept}
 use Rattle.h3_connection.specs.Lasts.{last_id}
 use Rattle.h3_connection.specs.OwnIds.{other}
-use Rattle.h3_connection.specs.PartReading.{ReadsPart}
+use Rattle.h3_connection.specs.PartReading.{CountsOn, ReadsPart}
 use Rattle.h3_connection.specs.Refusals.{going_away, raised, refusal_of_goaway, refusal_to_open, refusal_to_stop}
 use Rattle.h3_connection.specs.Sending as sender
 use Rattle.h3_connection.specs.Sending.{closed_or, does}
 use Rattle.h3_connection.specs.Shown.{has_outgoing, is_finished, is_reset, waiting}
+use Rattle.h3_connection.specs.StreamSets.{stream_at}
 use Rattle.h3_connection.specs.declared.arrival.Arrival.{Arrival}
 use Rattle.h3_connection.specs.declared.arrival.Arrival.TheVariants.{BytesCame, EndCame, ResetCame}
 use Rattle.h3_connection.specs.declared.event.Fault.TheVariants as fault
@@ -36,53 +37,58 @@ use Rattle.h3_world.specs.declared.event.Answer.TheVariants as answer
 use Rattle.h3_world.specs.declared.event.Event.{Event}
 use Rattle.h3_world.specs.declared.event.Event.TheVariants as event
 use Rattle.h3_world.specs.declared.lists.ListPull.TheVariants as list
-use Rattle.h3_world.specs.Setup.{Setup}
+use Rattle.h3_world.specs.Setup.{Setup, announced_at}
 use Rattle.h3_memory.specs.Refused.{AnswerOf, CutsList, CutsOff, CutsSection, EndsStep, IsAsked, LacksMemory, LosesNothing, Stores, handed_over}
 use Rattle.h3_strict.specs.CountsNothing.{CountsNothing, RefusesAlike}
 use Rattle.h3_strict.specs.PlainEnds.{is_malformed_refusal, plain_ends}
 use Rattle.h3_strict.specs.Plainly.{is_malformed, plainly}
 use Rattle.h3_faithful.specs.Faithful.{asks_for_strict}
+use Rattle.h3_faithful.proofs.AnyPull.{PlainSidesCount}
 use Rattle.h3_faithful.proofs.AnyStep.{RefusesPlainly}
 use Rattle.h3_faithful.proofs.PlainMemory.{at_end}
 
 -- The laws of `h3_strict` that are cited.
 pub record QuietLaws : Type 0 where
-  pub first : (side : Side) (announced : Announced) → announced.choices.strict_messages ≡ false → CountsNothing (new_endpoint side announced)
-  pub event : (ends : Ends) (side : Side) → CountsNothing (end_at ends side) → (e : Event) → CountsNothing (end_at (answered ends e).1 side)
-  pub reads : (e new : EndpointHistory) (arrivals : List Arrival) → ReadsPart e arrivals new → CountsNothing e → CountsNothing new
-  pub advances : (e : EndpointHistory) (id count : ℕ) → CountsNothing e → CountsNothing (sender.advance e id count)
-  pub sends : (e : EndpointHistory) → CountsNothing e → RefusesAlike e
+  pub first : (side : Side) (own : Announced) → own.choices.strict_messages ≡ false → CountsNothing own (new_endpoint side own)
+  pub event : (own : Announced) (ends : Ends) (side : Side) → CountsNothing own (end_at ends side) → (e : Event) → CountsNothing own (end_at (answered ends e).1 side)
+  pub reads : (own : Announced) (e new : EndpointHistory) (arrivals : List Arrival) → ReadsPart e arrivals new → CountsNothing own e → CountsNothing own new
+  pub asked : (own : Announced) (e : EndpointHistory) (id : ℕ) (old new : Incoming) → CountsNothing own e → stream_at e.incoming id ≡ Some old → CountsOn old.content new.content → CountsNothing own (with_incoming e id new)
+  pub advances : (own : Announced) (e : EndpointHistory) (id count : ℕ) → CountsNothing own e → CountsNothing own (sender.advance e id count)
+  pub sends : (own : Announced) (e : EndpointHistory) → CountsNothing own e → RefusesAlike e
 
 abbrev pub QuietSides : Setup → Ends → Type 0
-QuietSides setup ends = (side : Side) → asks_for_strict setup side ≡ false → CountsNothing (end_at ends side)
+QuietSides setup ends = (side : Side) → asks_for_strict setup side ≡ false → CountsNothing (announced_at setup side) (end_at ends side)
+
+pub plain_sides_count : (setup : Setup) (ends : Ends) → QuietSides setup ends → PlainSidesCount setup ends
+plain_sides_count setup ends quiet = λ side plain. quiet side plain.0
 
 pub new_quiet : QuietLaws → (setup : Setup) → QuietSides setup (new_ends setup)
 new_quiet laws setup Client plain = laws.first Client setup.client plain
 new_quiet laws setup Server plain = laws.first Server setup.server plain
 
 -- One end changes.
-sets : (ends : Ends) (s side : Side) (e : EndpointHistory) → (CountsNothing (end_at ends side) → CountsNothing e) → CountsNothing (end_at ends s) → CountsNothing (end_at (with_end ends side e) s)
-sets ends Client Client e goes h = goes h
-sets ends Server Server e goes h = goes h
-sets ends Client Server e goes h = h
-sets ends Server Client e goes h = h
+sets : (own : Announced) (ends : Ends) (s side : Side) (e : EndpointHistory) → (CountsNothing own (end_at ends side) → CountsNothing own e) → CountsNothing own (end_at ends s) → CountsNothing own (end_at (with_end ends side e) s)
+sets own ends Client Client e goes h = goes h
+sets own ends Server Server e goes h = goes h
+sets own ends Client Server e goes h = h
+sets own ends Server Client e goes h = h
 
-sets_behind : (ends : Ends) (s writer : Side) (sent e : EndpointHistory) → (CountsNothing (end_at ends writer) → CountsNothing sent) → (CountsNothing (end_at ends (other writer)) → CountsNothing e) → CountsNothing (end_at ends s)
-    → CountsNothing (end_at (with_end (with_end ends writer sent) (other writer) e) s)
-sets_behind ends Client Client sent e first goes h = first h
-sets_behind ends Server Server sent e first goes h = first h
-sets_behind ends Client Server sent e first goes h = goes h
-sets_behind ends Server Client sent e first goes h = goes h
+sets_behind : (own : Announced) (ends : Ends) (s writer : Side) (sent e : EndpointHistory) → (CountsNothing own (end_at ends writer) → CountsNothing own sent) → (CountsNothing own (end_at ends (other writer)) → CountsNothing own e) → CountsNothing own (end_at ends s)
+    → CountsNothing own (end_at (with_end (with_end ends writer sent) (other writer) e) s)
+sets_behind own ends Client Client sent e first goes h = first h
+sets_behind own ends Server Server sent e first goes h = first h
+sets_behind own ends Client Server sent e first goes h = goes h
+sets_behind own ends Server Client sent e first goes h = goes h
 
-module _ (laws : QuietLaws) (ends new : Ends) (s : Side) (h : CountsNothing (end_at ends s)) where
+module _ (laws : QuietLaws) (own : Announced) (ends new : Ends) (s : Side) (h : CountsNothing own (end_at ends s)) where
   abbrev Stays : Type 0
-  Stays = CountsNothing (end_at new s)
+  Stays = CountsNothing own (end_at new s)
 
   same : new ≡ ends → Stays
-  same is = subst (λ x. CountsNothing (end_at x s)) (sym is) h
+  same is = subst (λ x. CountsNothing own (end_at x s)) (sym is) h
 
   cut_stays : (side : Side) (id : ℕ) (fields : List Field) → CutsOff ends side id fields new → Stays
-  cut_stays side id fields cut = subst (λ x. CountsNothing (end_at x s)) (sym cut.is) (sets ends s side _ (λ k. k) h)
+  cut_stays side id fields cut = subst (λ x. CountsNothing own (end_at x s)) (sym cut.is) (sets own ends s side _ (λ k. k) h)
 
   section_stays : (p : Option Refusal) (side : Side) (id : ℕ) (fields : List Field) → CutsSection p ends side id fields new → Stays
   section_stays None side id fields cut = cut_stays side id fields cut
@@ -99,23 +105,23 @@ module _ (laws : QuietLaws) (ends new : Ends) (s : Side) (h : CountsNothing (end
   list_stays (Some r) side id fields is = absurd is
 
   stored_stays : (reader : Side) (a : Arrival) → Stores ends reader a ends new → Stays
-  stored_stays reader a t = subst (λ x. CountsNothing (end_at x s)) (sym t.is) (sets ends s reader t.after (λ k. laws.reads (unkept (end_at ends reader)) t.after _ t.read k) h)
+  stored_stays reader a t = subst (λ x. CountsNothing own (end_at x s)) (sym t.is) (sets own ends s reader t.after (λ k. laws.reads own (unkept (end_at ends reader)) t.after _ t.read k) h)
 
   offered_stays : (writer : Side) (id count : ℕ) (a : Arrival) → Stores ends (other writer) a (handed_over ends writer id count) new → Stays
   offered_stays writer id count a t =
       let e = end_at ends (other writer) in
-      subst (λ x. CountsNothing (end_at x s)) (sym t.is)
-      (sets_behind ends s writer (sender.advance (end_at ends writer) id count) t.after (laws.advances (end_at ends writer) id count) (λ k. laws.reads (unkept e) t.after _ t.read k) h)
+      subst (λ x. CountsNothing own (end_at x s)) (sym t.is)
+      (sets_behind own ends s writer (sender.advance (end_at ends writer) id count) t.after (laws.advances own (end_at ends writer) id count) (λ k. laws.reads own (unkept e) t.after _ t.read k) h)
 
   lost_stays : (side : Side) (id : ℕ) → LosesNothing ends side id new → Stays
   lost_stays side id l = by_case l.is
     where
-      read : CountsNothing (end_at ends side) → CountsNothing l.after
-      read k = laws.reads (unkept (end_at ends side)) l.after _ l.read k
+      read : CountsNothing own (end_at ends side) → CountsNothing own l.after
+      read k = laws.reads own (unkept (end_at ends side)) l.after _ l.read k
 
       by_case : (new ≡ with_end ends side l.after) ⊎ ((l.after.kept ≡ []) × IsAsked l.after id (end_at new side) × (new ≡ with_end ends side (end_at new side))) → Stays
-      by_case (inl is) = subst (λ x. CountsNothing (end_at x s)) (sym is) (sets ends s side l.after read h)
-      by_case (inr (none, asked, is)) = subst (λ x. CountsNothing (end_at x s)) (sym is) (sets ends s side (end_at new side) (λ k. subst CountsNothing (sym asked.is) (read k)) h)
+      by_case (inl is) = subst (λ x. CountsNothing own (end_at x s)) (sym is) (sets own ends s side l.after read h)
+      by_case (inr (none, asked, is)) = subst (λ x. CountsNothing own (end_at x s)) (sym is) (sets own ends s side (end_at new side) (λ k. subst (CountsNothing own) (sym asked.is) (laws.asked own l.after id asked.old asked.asked (read k) asked.here asked.counts)) h)
 
   lacks_stays : (e : Event) (a : Answer) → LacksMemory ends e a new → Stays
   lacks_stays (event.OpenRequest side) (answer.Refused refusal.OutOfMemory) l = same l.1
@@ -140,9 +146,9 @@ module _ (laws : QuietLaws) (ends new : Ends) (s : Side) (h : CountsNothing (end
 pub quiet_step : QuietLaws → (setup : Setup) (ends new : Ends) (e : Event) (a : Answer) → QuietSides setup ends → EndsStep ends e a new → QuietSides setup new
 quiet_step laws setup ends new e a quiet step = λ s plain. by_memory s (quiet s plain) (is_out_of_memory a) step
   where
-    by_memory : (s : Side) → CountsNothing (end_at ends s) → (b : Bool) → AnswerOf b ends e a new → CountsNothing (end_at new s)
-    by_memory s h true lacks = lacks_stays laws ends new s h e a lacks
-    by_memory s h false is = subst (λ x. CountsNothing (end_at x s)) (sym is.1) (laws.event ends s h e)
+    by_memory : (s : Side) → CountsNothing (announced_at setup s) (end_at ends s) → (b : Bool) → AnswerOf b ends e a new → CountsNothing (announced_at setup s) (end_at new s)
+    by_memory s h true lacks = lacks_stays laws (announced_at setup s) ends new s h e a lacks
+    by_memory s h false is = subst (λ x. CountsNothing (announced_at setup s) (end_at x s)) (sym is.1) (laws.event (announced_at setup s) ends s h e)
 
 -- What is refused as malformed: sends alone.
 abbrev malforms : Option Refusal → Bool
@@ -255,7 +261,7 @@ pub refuses_plainly : QuietLaws → (setup : Setup) (ends : Ends) (e : Event) �
 refuses_plainly laws setup ends e quiet = by_event e
   where
     alike : (side : Side) → asks_for_strict setup side ≡ false → RefusesAlike (end_at ends side)
-    alike side plain = laws.sends (end_at ends side) (quiet side plain)
+    alike side plain = laws.sends (announced_at setup side) (end_at ends side) (quiet side plain)
 
     -- no such event is refused so
     by_none : (e : Event) → is_malformed_refusal (answered ends e).0 ≡ false → RefusesPlainly setup ends e

@@ -26,7 +26,7 @@ use Rattle.h3_faithful.specs.Steps.{HappensAnywhere, RunsUntilFault, StandsAnywh
 use Rattle.h3_faithful.proofs.Accounts.{MemoryMoves}
 use Rattle.h3_faithful.proofs.AnyPull.{StepLaws, plain_step}
 use Rattle.h3_faithful.proofs.AnyStep.{any_step}
-use Rattle.h3_faithful.proofs.Quiet.{QuietLaws, QuietSides, new_quiet, quiet_step, refuses_plainly}
+use Rattle.h3_faithful.proofs.Quiet.{QuietLaws, QuietSides, new_quiet, plain_sides_count, quiet_step, refuses_plainly}
 
 -- The laws that are cited of a whole run.
 pub record RunLaws : Type 0 where
@@ -84,7 +84,7 @@ module _ (laws : RunLaws) (setup : Setup) (made : IsMadeSetup setup) where
   ran (suc n) k ends [] [] last stands quiet sendable run none = record { world = k; run = refl; ends = ends; stands = stands; quiet = quiet; sendable = sendable; rest = run }
   ran (suc n) k ends (e ∷ events) (a ∷ answers) last stands quiet sendable run none =
       let faultless = neither (is_connection_fault a) (list_any is_connection_fault (take n answers)) none in
-      let on = any_step laws.steps laws.moves setup made k ends stands run.0 e a sendable.0 (refuses_plainly laws.quiet setup ends e quiet) run.1 faultless.0 in
+      let on = any_step laws.steps laws.moves setup made k ends stands run.0 e a (plain_sides_count setup ends quiet) sendable.0 (refuses_plainly laws.quiet setup ends e quiet) run.1 faultless.0 in
       let r = ran n on.after run.0 events answers last on.stands (quiet_step laws.quiet setup ends run.0 e a quiet run.1) sendable.1 run.2 faultless.1 in
       record { world = r.world; run = (on.after, on.happens, r.run); ends = r.ends; stands = r.stands; quiet = r.quiet; sendable = r.sendable; rest = r.rest }
   ran (suc n) k ends [] (a ∷ answers) last stands quiet sendable run none = absurd run
@@ -101,7 +101,7 @@ module _ (laws : RunLaws) (setup : Setup) (made : IsMadeSetup setup) where
   ran_all k ends [] [] last stands quiet sendable run none = record { world = k; run = refl; stands = subst (λ x. StandsKeeping ps k (plain_ends x)) (sym run) stands }
   ran_all k ends (e ∷ events) (a ∷ answers) last stands quiet sendable run none =
       let faultless = neither (is_connection_fault a) (list_any is_connection_fault answers) none in
-      let on = any_step laws.steps laws.moves setup made k ends stands run.0 e a sendable.0 (refuses_plainly laws.quiet setup ends e quiet) run.1 faultless.0 in
+      let on = any_step laws.steps laws.moves setup made k ends stands run.0 e a (plain_sides_count setup ends quiet) sendable.0 (refuses_plainly laws.quiet setup ends e quiet) run.1 faultless.0 in
       let r = ran_all on.after run.0 events answers last on.stands (quiet_step laws.quiet setup ends run.0 e a quiet run.1) sendable.1 run.2 faultless.1 in
       record { world = r.world; run = (on.after, on.happens, r.run); stands = r.stands }
   ran_all k ends [] (a ∷ answers) last stands quiet sendable run none = absurd run

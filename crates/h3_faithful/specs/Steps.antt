@@ -16,7 +16,7 @@ use Rattle.h3_world.specs.declared.event.Answer.{Answer}
 use Rattle.h3_world.specs.declared.event.Answer.TheVariants as answer
 use Rattle.h3_world.specs.declared.event.Event.{Event}
 use Rattle.h3_world.specs.declared.event.Event.TheVariants as event
-use Rattle.h3_world.specs.Setup.{Setup}
+use Rattle.h3_world.specs.Setup.{IsPlain, Setup, announced_at}
 use Rattle.h3_memory.specs.Kept.{KeepingWorld, caught_up, nothing_kept, with_kept}
 use Rattle.h3_memory.specs.Keeping.{StandsKeeping}
 use Rattle.h3_memory.specs.MemoryStep.{HappensWithMemory}
@@ -36,6 +36,7 @@ is_strict_send setup _ = false
 
 -- A pull that finds the message malformed once all that the side keeps is read. A side that judges plainly finds none so.
 pub record PullsMalformed (setup : Setup) (k : KeepingWorld) (side : Side) (id : ℕ) (p : Pull) (new : KeepingWorld) : Type 0 where
+  pub judges : IsPlain (announced_at setup side) → ⊥
   pub why : Malformation
   pub told : p ≡ Fault (Stream (Malformed why))
   pub unsettled : settled (caught_up (plain_setup setup) k side) side id ≡ None
@@ -55,7 +56,7 @@ pub data HappensAnywhere (setup : Setup) (k : KeepingWorld) (e : Event) (a : Ans
   LacksMemory : is_out_of_memory a ≡ true → HappensWithMemory (plain_setup setup) k e a new → HappensAnywhere setup k e a new
   -- a strict side refuses a send as malformed, and nothing changes
   RefusesMalformed : is_strict_send setup e ≡ true → is_malformed_refusal a ≡ true → new ≡ k → HappensAnywhere setup k e a new
-  -- a pull gives the message up
+  -- a pull of a side that asks for strict messages, or has a limit, gives the message up
   GivesMessageUp : PullsOn setup k e a new → HappensAnywhere setup k e a new
 
 -- **The answers are those of a run of such steps.**

@@ -29,7 +29,7 @@ use Rattle.h3_headline.specs.Messages.MessageContent.{Byte, FieldSection, Foreig
 use Rattle.h3_headline.specs.Exactly.{IsReadBack, IsAllOf, IsExactly, IsTakenWhole, Reader, header_of, reader_at}
 use Rattle.h3_headline.specs.Messages.{IsFrontOf, MessageContent, ended_in, finished_in, has_finished, has_pulled_end, pulled, pulled_in, sent, sent_in}
 use Rattle.h3_headline.specs.MovedLaws.{moved}
-use Rattle.h3_headline.specs.PlainlyLaws.{all_read_back}
+use Rattle.h3_headline.specs.ReadBackLaws.{all_read_back}
 use Rattle.h3_headline.specs.PulledAndSentLaws.{differ, is_all, is_complete, is_front}
 
 -- and it keeps the world sound

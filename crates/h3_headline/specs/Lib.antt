@@ -33,9 +33,7 @@ pub mod ListeningLaws
 pub mod Messages
 pub mod Exactly
 pub mod MovedLaws
-pub mod Values
-pub mod ValuesLaws
-pub mod PlainlyLaws
+pub mod ReadBackLaws
 pub mod ChangeLaws
 pub mod Changes
 pub mod GoneLaws

@@ -1,7 +1,6 @@
 -- What a side sent on a request stream, and what the other side was handed out of it, by the events and their answers alone.
-use Rattle.std.specs.Prelude.{ℕ, List, Bool, false, ◌==◌, [], true, if◌then◌else◌, ◌∷◌, map, flat_map, fold, ◌&&◌, ◌++◌, ◌||◌, ◌≡◌, ◌<◌, ◌≤◌, Option, Some, None, bytes_eq, codes}
-use Rattle.http_header.specs.FieldName.{IsHeaderName}
-use Rattle.h3_field.specs.Field.{Field, plain_field, section_size}
+use Rattle.std.specs.Prelude.{ℕ, List, Bool, false, ◌==◌, [], true, if◌then◌else◌, ◌∷◌, map, fold, ◌&&◌, ◌++◌, ◌||◌, Option, Some, None, bytes_eq, codes}
+use Rattle.h3_field.specs.Field.{Field}
 use Rattle.h3_connection.specs.declared.event.Item.{Item}
 use Rattle.h3_connection.specs.declared.event.Item.TheVariants as item
 use Rattle.h3_proto.specs.declared.stream.Side.{Side}
@@ -136,26 +135,6 @@ pulled side id events answers = all_of (pulled_in side id) events answers
 
 abbrev pub has_pulled_end : Side → ℕ → List Event → List Answer → Bool
 has_pulled_end side id events answers = any_of (ended_in side id) events answers
-
--- the names and values of fields
-abbrev pub plainly : List Field → List Field
-plainly fields = map (λ f. plain_field f.name f.value) fields
-
--- the values of a name, in their order
-abbrev pub values_of : List ℕ → List Field → List (List ℕ)
-values_of name fields = flat_map (λ f. if bytes_eq f.name name then f.value ∷ [] else []) fields
-
--- They are those that were sent, in their order; a header that is pulled of a list has those of each regular field.
-abbrev pub HasFields : Bool → Bool → List Field → List Field → Type 0
-HasFields false true given fields = (name : List ℕ) → IsHeaderName name → values_of name given ≡ values_of name fields
-HasFields as_list was_list given fields = plainly given ≡ plainly fields
-
--- What is handed out is what was sent: of a section above the reader's limit its size alone (RFC 9114, section 4.2.2).
-abbrev pub Is : ℕ → MessageContent → MessageContent → Type 0
-Is most (FieldSection kind list given) (FieldSection k l fields) = (kind ≡ k) × HasFields list l given fields × (section_size fields ≤ most)
-Is most (TooLarge size) (FieldSection k l fields) = (size ≡ section_size fields) × (most < section_size fields)
-Is most (Byte b) (Byte c) = b ≡ c
-Is most _ _ = ⊥
 
 -- the others begin so
 abbrev pub IsFrontOf : (MessageContent → MessageContent → Type 0) → List MessageContent → List MessageContent → Type 0

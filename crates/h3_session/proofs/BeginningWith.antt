@@ -11,6 +11,8 @@ use Rattle.h3_connection.specs.Endpoint.{new_endpoint, new_endpoint_with}
 use Rattle.h3_connection.specs.OwnSettings.{control_start}
 use Rattle.h3_connection.specs.SendingContracts.{CreatesFurther, CreatesWith}
 use Rattle.h3_connection.specs.State.{EndpointState, OwnStands, OwnState, StandsFor, TakesWhatIsThere}
+use Rattle.h3_streams.specs.Placed.{StreamsState, placed}
+use Rattle.h3_session.specs.Refused.{streams_of}
 
 -- its own streams
 taken_with : (side : Side) (announced : Announced) (own : OwnState) (further : List (ℕ × ℕ)) → OwnStands own (new_endpoint side announced) → TakesWhatIsThere (new_endpoint_with side announced further)
@@ -24,7 +26,7 @@ own_with Server announced own further h =
     record { control = sym (append-nil (control_start announced.settings further)); encoder = h.encoder; decoder = h.decoder; taken = taken_with Server announced own further h }
 
 -- where they begin with what was announced, and these
-pub begun_with : (s : EndpointState) (own : OwnState) (side : Side) (announced : Announced) (further : List (ℕ × ℕ)) → own ≡ record s.own { control = control_start s.announced.settings further } → StandsFor s (new_endpoint side announced)
+begun_with : (s : EndpointState) (own : OwnState) (side : Side) (announced : Announced) (further : List (ℕ × ℕ)) → own ≡ record s.own { control = control_start s.announced.settings further } → StandsFor s (new_endpoint side announced)
     → StandsFor (record s { own = own }) (new_endpoint_with side announced further)
 begun_with s own side announced further is h =
     record {
@@ -62,11 +64,15 @@ begun_with s own side announced further is h =
     }
 
 -- the same of a call that may be refused
-pub begins_with : {A E : Type 0} (r : Result A E) (s before after : EndpointState) (own : OwnState) (further : List (ℕ × ℕ)) → s ≡ before → after ≡ record s { own = own } → OnOk r (own ≡ record s.own { control = control_start s.announced.settings further })
-    → OnOk r ((side : Side) (announced : Announced) → StandsFor before (new_endpoint side announced) → StandsFor after (new_endpoint_with side announced further))
-begins_with (Ok value) s before after own further same is begun =
-    λ side announced h. subst (λ x. StandsFor x (new_endpoint_with side announced further)) (sym is) (begun_with s own side announced further begun (subst (λ x. StandsFor x (new_endpoint side announced)) (sym same) h))
-begins_with (Err e) s before after own further same is begun = tt
+pub begins_with : {A E : Type 0} (r : Result A E) (s now : EndpointState) (x : StreamsState) (further : List (ℕ × ℕ)) → s ≡ now
+    → OnOk r (x ≡ record (streams_of s) { own = record s.own { control = control_start s.announced.settings further } })
+    → OnOk r ((side : Side) (announced : Announced) → StandsFor now (new_endpoint side announced) → StandsFor (placed s x) (new_endpoint_with side announced further))
+begins_with (Ok value) s now x further view same = λ side announced h.
+    let own : OwnState = record s.own { control = control_start s.announced.settings further } in
+    let here : StandsFor (placed s (record (streams_of s) { own = own })) (new_endpoint_with side announced further)
+    = begun_with s own side announced further refl (subst (λ v. StandsFor v (new_endpoint side announced)) (sym view) h) in
+    subst (λ y. StandsFor (placed s y) (new_endpoint_with side announced further)) (sym same) here
+begins_with (Err e) s now x further view same = tt
 
 -- these settings are refused, or there is no memory for an endpoint, or one is made
 pub further_refused : (side : Side) (a : Announced) (pairs : List (ℕ × ℕ)) (e : SettingsError) → Err e ≡ further_from a.settings [] pairs → CreatesWith side (Ok a) pairs (Err (new_error.Settings e))

@@ -14,6 +14,7 @@ mod StrictStreams
 mod UnbrokenLaws
 mod SameWorlds
 mod KeepsCounts
+mod UncountedPulls
 mod NothingCounted
 mod SentLaws
 mod StrictCodes

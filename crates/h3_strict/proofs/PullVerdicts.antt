@@ -1,13 +1,16 @@
 -- A pull of any end, whatever it keeps, beside the same end that judges plainly.
 use Rattle.std.proofs.Common.{◌≡◌, ℕ, Bool, true, false, List, [], ◌∷◌, ◌++◌, append_assoc, refl, ap, sym, ◌∙◌, subst, Option, Some, None, if◌then◌else◌}
-use Rattle.std.specs.Prelude.{nat_lt, option_map}
+use Rattle.std.specs.Prelude.{not, ◌&&◌, nat_lt, option_map, unwrap_or}
 use Rattle.h3_field.specs.Instruction.{DecoderInstruction}
 use Rattle.h3_field.specs.Instruction.DecoderInstruction.{CancelStream}
+use Rattle.h3_messages.specs.declared.content.Content.{Content}
+use Rattle.h3_messages.specs.declared.content.Content.TheVariants.{Unsaid}
+use Rattle.h3_proto.specs.Config.{is_limit}
 use Rattle.h3_connection.specs.Control.{Found}
-use Rattle.h3_connection.specs.Delivering.{with_incoming}
+use Rattle.h3_connection.specs.Delivering.{incoming_at, with_incoming}
 use Rattle.h3_connection.specs.Endpoint.{EndpointHistory, Kind, heads_waiting, kind_of, replied}
 use Rattle.h3_connection.specs.Endpoint.Kind.{OwnUnidirectional, PeerUnidirectional, Request, ServerOpened}
-use Rattle.h3_connection.specs.Incoming.{Incoming, given_up}
+use Rattle.h3_connection.specs.Incoming.{Incoming, given_up, nothing_came}
 use Rattle.h3_connection.specs.Keeping.{pulled_after, pulls, pulls_behind, read_all, settles, unkept}
 use Rattle.h3_connection.specs.Pulling.{Pulled, malformed, pull_stream}
 use Rattle.h3_connection.specs.Sending.{if_too_many, pull_at, pull_request, pull_unless, pulled, within_limit}
@@ -21,19 +24,34 @@ use Rattle.h3_connection.specs.declared.event.Pull.{Pull}
 use Rattle.h3_connection.specs.declared.event.Pull.TheVariants as pull
 use Rattle.h3_connection.specs.declared.event.StreamFault.{StreamFault}
 use Rattle.h3_connection.specs.declared.event.StreamFault.TheVariants.{Malformed}
+use Rattle.h3_connection.specs.declared.setup.Announced.{Announced}
 use Rattle.h3_world.specs.Headline.{is_connection_fault}
+use Rattle.h3_world.specs.Setup.{TakesAnyLength}
 use Rattle.h3_world.specs.declared.event.Answer.TheVariants as answer
 use Rattle.h3_headline.specs.GivenUp.{IsGone, giving_up}
+use Rattle.h3_strict.specs.CountsNothing.{CountsNothing}
 use Rattle.h3_strict.specs.Plainly.{plain, plain_incoming, plainly}
 use Rattle.h3_strict.specs.PullPlainly.{GivesUpAs, LeavesGone, LeftAtOnce, LeftBehind, OtherFaults, PullAlike, PullFaults, PullGone, PullPlainly}
+use Rattle.h3_strict.proofs.NothingCounted.{all_count, at_come}
 use Rattle.h3_strict.proofs.PlainCalls.{plain_result}
 use Rattle.h3_strict.proofs.PlainParts.{found_plain}
 use Rattle.h3_strict.proofs.PlainPulled.{given_plain, limit_plain, peer_plain, settled_kind, settles_alike}
+use Rattle.h3_strict.proofs.PlainPulls.{plain_pulled}
 use Rattle.h3_strict.proofs.PlainReading.{all_plain}
 use Rattle.h3_strict.proofs.PlainStreams.{at_each, set_each}
 use Rattle.h3_strict.proofs.PullEvents.{given_up_again, over_again}
 use Rattle.h3_strict.proofs.PullResults.{gone_end}
+use Rattle.h3_strict.proofs.UncountedPulls.{pull_same}
 use Rattle.h3_strict.proofs.Verdicts.{AtOnce, BehindSection, EndsAll, IsSame, Marks, Verdict, marks_of, pull_told}
+
+both_true : (a b : Bool) → (a && b) ≡ true → (a ≡ true) × (b ≡ true)
+both_true true true h = (refl, refl)
+both_true true false h = absurd (cc)
+both_true false b h = absurd (cc)
+
+not_true : (a : Bool) → not a ≡ true → a ≡ false
+not_true true h = absurd (cc)
+not_true false h = refl
 
 -- what is left of a receiver with the same marks
 left_gone : (i j k : Incoming) (why : Malformation) → marks_of j ≡ marks_of i → marks_of k ≡ marks_of i → IsGone k (plain_incoming (given_up j (Malformed why))) (Malformed why)
@@ -49,11 +67,24 @@ left_gone i j k why gone kept =
       is_over = ap (λ (m : Marks). m.is_over) marks;
     }
 
+abbrev is_unsaid : Content → Bool
+is_unsaid Unsaid = true
+is_unsaid _ = false
+
+unsaid_is : (c : Content) → is_unsaid c ≡ true → c ≡ Unsaid
+unsaid_is Unsaid h = refl
+unsaid_is c h = absurd (cc)
+
+-- the end asks for no strict messages, has no limit, and counts no content of the stream
+abbrev is_loose : EndpointHistory → ℕ → Bool
+is_loose f id = not f.announced.choices.strict_messages && (not (is_limit f.announced.choices.unfinished_limit) && is_unsaid (incoming_at f id).content)
+
 -- the pull of one stream, where nothing is kept
 data AtVerdict (f : EndpointHistory) (id : ℕ) (a b : Pull × EndpointHistory) : Type 0 where
   AlikeAt : b ≡ plain_result a → AtVerdict f id a b
   FaultsAt : is_connection_fault (answer.Pulled a.0) ≡ true → AtVerdict f id a b
-  GoneAt : (why : Malformation) → GivesUpAs a b (plainly f) id why → AtVerdict f id a b
+  -- no end does that asks for no strict messages, has no limit and counts no content of it
+  GoneAt : (why : Malformation) → GivesUpAs a b (plainly f) id why → (is_loose f id ≡ true → ⊥) → AtVerdict f id a b
 
 module _ (f : EndpointHistory) (id : ℕ) where
   module _ (i : Incoming) (here : stream_at f.incoming id ≡ Some i) where
@@ -102,15 +133,18 @@ module _ (f : EndpointHistory) (id : ℕ) where
     too_many : (x : Pulled) → p ≡ x → many x ≡ true → AtVerdict f id a b
     too_many x same is = FaultsAt (ap (λ z. is_connection_fault (answer.Pulled z.0)) (given x true same is))
 
-    told : Verdict id (marks_of i) p q → AtVerdict f id a b
-    told (IsSame same) = AlikeAt (ap (λ x. pulled (plainly f) id (within_limit (plainly f) id x)) same ∙ ap (pulled (plainly f) id) (limit_plain f id p) ∙ given_plain f id (within_limit f id p))
-    told (EndsAll code ends_so) = by_many (many p) refl
+    alike : q ≡ plain_pulled p → AtVerdict f id a b
+    alike same = AlikeAt (ap (λ x. pulled (plainly f) id (within_limit (plainly f) id x)) same ∙ ap (pulled (plainly f) id) (limit_plain f id p) ∙ given_plain f id (within_limit f id p))
+
+    told : (is_loose f id ≡ true → ⊥) → Verdict id (marks_of i) p q → AtVerdict f id a b
+    told judges (IsSame same) = alike same
+    told judges (EndsAll code ends_so) = by_many (many p) refl
       where
         by_many : (c : Bool) → many p ≡ c → AtVerdict f id a b
         by_many true is = too_many p refl is
         by_many false is =
             FaultsAt (ap (λ z. is_connection_fault (answer.Pulled z.0)) (given p false refl is) ∙ ap (λ x. is_connection_fault (answer.Pulled (pulled f id (record p { answer = x })).0)) ends_so)
-    told (AtOnce why j is marks) = by_many (many (malformed id why j [])) refl
+    told judges (AtOnce why j is marks) = by_many (many (malformed id why j [])) refl
       where
         by_many : (c : Bool) → many (malformed id why j []) ≡ c → AtVerdict f id a b
         by_many true k = too_many (malformed id why j []) is k
@@ -127,8 +161,8 @@ module _ (f : EndpointHistory) (id : ℕ) where
               goes = goes.1;
               gone = left_gone i j (plain_incoming i) why marks refl;
               leaves = LeftAtOnce (ap (λ z. plainly z.1) left ∙ sym (ap (λ s. record (plainly (gone_end f id j why [])) { incoming = s }) (set_each plain_incoming f.incoming id x)));
-            })
-    told (BehindSection why j it is marks gives kept) = by_many (many (malformed id why j q.replies)) refl
+            }) judges
+    told judges (BehindSection why j it is marks gives kept) = by_many (many (malformed id why j q.replies)) refl
       where
         behind : EndpointHistory
         behind = replied (with_incoming (plainly f) id q.incoming) q.replies
@@ -152,7 +186,7 @@ module _ (f : EndpointHistory) (id : ℕ) where
               goes = goes.1;
               gone = left_gone i j (plain_incoming i) why marks refl;
               leaves = leaves;
-            })
+            }) judges
 
         by_other : (i.fault ≡ None) × (i.is_over ≡ false) → a ≡ pulled f id (malformed id why j q.replies) → (c : Bool) → other_many ≡ c → AtVerdict f id a b
         by_other goes left true k = gone_of goes left (OtherFaults (ap (λ c. is_connection_fault (answer.Pulled (pulled (plainly f) id (if_too_many c q)).0)) k))
@@ -167,9 +201,18 @@ module _ (f : EndpointHistory) (id : ℕ) where
         by_many true k = too_many (malformed id why j q.replies) is k
         by_many false k = by_other (goes_on why j q.replies is) (given (malformed id why j q.replies) false is k) other_many refl
 
+    -- a loose end judges nothing
+    by_loose : (c : Bool) → is_loose f id ≡ c → AtVerdict f id a b
+    by_loose false k = told (λ loose. let never : false ≡ true = sym k ∙ loose in cc) (pull_told f.side f.announced id f.decoding.decoder i)
+    by_loose true k =
+        let strict = both_true (not f.announced.choices.strict_messages) _ k in
+        let limit = both_true (not (is_limit f.announced.choices.unfinished_limit)) _ strict.1 in
+        let none : i.content ≡ Unsaid = ap (λ o. (unwrap_or o nothing_came).content) (sym here) ∙ unsaid_is (incoming_at f id).content limit.1 in
+        alike (pull_same f.side f.announced id f.decoding.decoder i (not_true f.announced.choices.strict_messages strict.0) (not_true (is_limit f.announced.choices.unfinished_limit) limit.0) none)
+
   at_request : (o : Option Incoming) → stream_at f.incoming id ≡ o → AtVerdict f id (pull_request f id o) (pull_request (plainly f) id (option_map plain_incoming o))
   at_request None here = AlikeAt refl
-  at_request (Some i) here = told i here (pull_told f.side f.announced id f.decoding.decoder i)
+  at_request (Some i) here = by_loose i here (is_loose f id) refl
 
   at_kind : (k : Kind) → AtVerdict f id (pull_at f id k) (pull_at (plainly f) id k)
   at_kind Request = subst (λ o. AtVerdict f id (pull_at f id Request) (pull_request (plainly f) id o)) (sym (at_each plain_incoming f.incoming id)) (at_request (stream_at f.incoming id) refl)
@@ -189,16 +232,26 @@ module _ (e : EndpointHistory) (id : ℕ) where
   of_read : (f : EndpointHistory) → settles e id ≡ false → read_all e.kept (unkept e) ≡ (f, None) → pulls e id ≡ pull_at f id (kind_of f.side id) → pulls (plainly e) id ≡ pull_at (plainly f) id (kind_of f.side id) → PullPlainly e id
   of_read f unsettled reads one two = of (subst (λ x. AtVerdict f id x (pulls (plainly e) id)) (sym one) (subst (AtVerdict f id (pull_at f id (kind_of f.side id))) (sym two) (at_kind f id (kind_of f.side id))))
     where
+      -- an end that counts nothing counts nothing once it has read what it keeps
+      is_loose_behind : (own : Announced) → CountsNothing own e → TakesAnyLength own → is_loose f id ≡ true
+      is_loose_behind own counts any =
+          let behind : CountsNothing own f = subst (λ (x : Found). CountsNothing own x.0) reads (all_count own e.kept (unkept e) counts) in
+          ap (λ (a : Announced). not a.choices.strict_messages && (not (is_limit a.choices.unfinished_limit) && is_unsaid (incoming_at f id).content)) behind.0
+          ∙ ap (λ s. not s && (not (is_limit own.choices.unfinished_limit) && is_unsaid (incoming_at f id).content)) behind.1
+          ∙ ap (λ l. not l && is_unsaid (incoming_at f id).content) any
+          ∙ ap is_unsaid (at_come f.incoming id behind.3)
+
       of : AtVerdict f id (pulls e id) (pulls (plainly e) id) → PullPlainly e id
       of (AlikeAt alike) = PullAlike alike
       of (FaultsAt faults) = PullFaults faults
-      of (GoneAt why gives) =
+      of (GoneAt why gives judges) =
           PullGone (record {
             why = why;
             next = f;
             unsettled = unsettled;
             reads = found_plain (unkept e).announced (read_all e.kept (unkept e)) (read_all e.kept (unkept (plainly e))) f (all_plain e.kept (unkept e)) reads;
             gives = gives;
+            judges = λ own counts any. judges (is_loose_behind own counts any);
           })
 
   abbrev Behind : List Arrival → Pull × EndpointHistory

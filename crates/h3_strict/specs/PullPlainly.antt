@@ -13,6 +13,9 @@ use Rattle.h3_connection.specs.declared.event.StreamFault.TheVariants.{Malformed
 use Rattle.h3_world.specs.Headline.{is_connection_fault}
 use Rattle.h3_world.specs.declared.event.Answer.TheVariants as answer
 use Rattle.h3_headline.specs.GivenUp.{IsGone, giving_up}
+use Rattle.h3_connection.specs.declared.setup.Announced.{Announced}
+use Rattle.h3_world.specs.Setup.{TakesAnyLength}
+use Rattle.h3_strict.specs.CountsNothing.{CountsNothing}
 use Rattle.h3_strict.specs.Plainly.{plainly}
 
 -- A pull gives a stream up as malformed, where the end that judges plainly stands as `f` once both have read what they keep. With the stream given up there
@@ -38,6 +41,8 @@ pub record GivesStreamUp (e : EndpointHistory) (id : ℕ) : Type 0 where
   pub unsettled : settles e id ≡ false
   pub reads : read_all (plainly e).kept (unkept (plainly e)) ≡ (plainly next, None)
   pub gives : GivesUpAs (pulls e id) (pulls (plainly e) id) (plainly next) id why
+  -- no end does that counts nothing and has no limit
+  pub judges : (own : Announced) → CountsNothing own e → TakesAnyLength own → ⊥
 
 -- It is answered alike, or by a fault of the connection, or so.
 pub data PullPlainly (e : EndpointHistory) (id : ℕ) : Type 0 where

@@ -9,7 +9,11 @@ ghost use Rattle.h3_world.specs.Setup.{IsMadeSetup, JudgesPlainly, Setup};
 ghost use Rattle.h3_world.specs.declared.event.Event.{Event};
 ghost use Rattle.h3_strict.specs.PlainEnds.{AreBounded, FewWaitAt, IsFront, NoneJudges, RunsPlainly, StepsPlainly, asks_strictly, before_judged, finds_fault, plain_ends, plain_setup};
 ghost use Rattle.std.specs.Prelude.{ℕ};
-ghost use Rattle.h3_connection.specs.PartReading.{ReadsPart};
+ghost use Rattle.std.specs.Prelude.{Some};
+ghost use Rattle.h3_connection.specs.Delivering.{with_incoming};
+ghost use Rattle.h3_connection.specs.Incoming.{Incoming};
+ghost use Rattle.h3_connection.specs.PartReading.{CountsOn, ReadsPart};
+ghost use Rattle.h3_connection.specs.StreamSets.{stream_at};
 ghost use Rattle.h3_connection.specs.Sending.{advance};
 ghost use Rattle.h3_connection.specs.declared.arrival.Arrival.{Arrival};
 ghost use Rattle.h3_world.specs.Ends.{end_at};
@@ -39,14 +43,15 @@ pub fn ends_do_the_same_plainly()
     ensures { (e : EndpointHistory) → DoesPlainly e }
 {}
 
-/// A side that asks for no strict messages counts nothing of what it sends (`CountsNothing`). It refuses each send as the same end does that
-/// judges plainly.
+/// A side that asks for no strict messages counts nothing of what it sends, nor of what comes (`CountsNothing`). It refuses each send as the
+/// same end does that judges plainly.
 pub fn sides_that_judge_plainly_count_nothing()
-    ensures first { (side : Side) (announced : Announced) → announced.choices.strict_messages ≡ false → CountsNothing (new_endpoint side announced) }
-    ensures event { (ends : Ends) (side : Side) → CountsNothing (end_at ends side) → (e : Event) → CountsNothing (end_at (answered ends e).1 side) }
-    ensures reads { (e new : EndpointHistory) (arrivals : List Arrival) → ReadsPart e arrivals new → CountsNothing e → CountsNothing new }
-    ensures advances { (e : EndpointHistory) (id count : ℕ) → CountsNothing e → CountsNothing (advance e id count) }
-    ensures sends { (e : EndpointHistory) → CountsNothing e → RefusesAlike e }
+    ensures first { (side : Side) (own : Announced) → own.choices.strict_messages ≡ false → CountsNothing own (new_endpoint side own) }
+    ensures event { (own : Announced) (ends : Ends) (side : Side) → CountsNothing own (end_at ends side) → (e : Event) → CountsNothing own (end_at (answered ends e).1 side) }
+    ensures reads { (own : Announced) (e new : EndpointHistory) (arrivals : List Arrival) → ReadsPart e arrivals new → CountsNothing own e → CountsNothing own new }
+    ensures asked { (own : Announced) (e : EndpointHistory) (id : ℕ) (old new : Incoming) → CountsNothing own e → stream_at e.incoming id ≡ Some old → CountsOn old.content new.content → CountsNothing own (with_incoming e id new) }
+    ensures advances { (own : Announced) (e : EndpointHistory) (id count : ℕ) → CountsNothing own e → CountsNothing own (advance e id count) }
+    ensures sends { (own : Announced) (e : EndpointHistory) → CountsNothing own e → RefusesAlike e }
 {}
 
 /// No more streams of new ends wait for insertions than each announced, and each event keeps them so: an event that judges there tells so.
@@ -125,7 +130,8 @@ pub fn schedules_that_judge_nothing_find_no_fault()
 ghost use Rattle.h3_strict.specs.PullPlainly.{PullPlainly};
 
 /// A pull of any end, whatever it keeps, is answered as by the same end that judges plainly. Or it is answered by a fault of the connection. Or
-/// it finds a message malformed and gives it up, once all that is kept is read: at once, or after the section that the other end returns.
+/// it finds a message malformed and gives it up, once all that is kept is read: at once, or after the section that the other end returns. No
+/// end gives one up so that counts nothing and has no limit.
 pub fn pulls_are_plain_or_give_a_message_up()
     ensures { (e : EndpointHistory) (id : ℕ) → PullPlainly e id }
 {}

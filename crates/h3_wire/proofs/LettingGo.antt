@@ -1,11 +1,15 @@
 -- What the head of an unknown frame says of the frame, also while that is under way.
-use Rattle.std.proofs.Common.{◌≡◌, ℕ, ◌+◌, ◌-◌, ◌<◌, ◌≤◌, ◌==◌, Bool, true, false, List, ◌∷◌, ◌++◌, length, take, drop, arith, refl, sym, ◌∙◌, ap, inl, inr, length-append, if◌then◌else◌, Option, Some, None}
+use Rattle.std.proofs.Common.{◌≡◌, ℕ, ◌+◌, ◌-◌, ◌<◌, ◌≤◌, ◌==◌, Bool, true, false, List, [], ◌∷◌, ◌++◌, length, take, drop, arith, refl, sym, ◌∙◌, ap, inl, inr, length-append, if◌then◌else◌, Option, Some, None}
 use Rattle.std.proofs.lemmas.Bool.{or_parts, lt-ltb, le-ltb}
 use Rattle.std.proofs.Math.Seq.{drop-append-add}
+use Rattle.std.specs.List.{concat}
+use Rattle.std.specs.Prelude.{slice_get}
 use Rattle.h3_coding.specs.Varint.{varint_at}
 use Rattle.h3_coding.specs.VarintLaws.{cases_number, reads_more, shorter, begins, used}
 use Rattle.h3_wire.specs.FrameLaws.{at_head}
 use Rattle.h3_wire.specs.Frames.{Unknown, Unfinished, frame_by, frame_of, has_head, is_http2, is_session, is_update}
+use Rattle.h3_wire.specs.Pieces.{first_bytes}
+use Rattle.h3_wire.proofs.Heads.{one_byte}
 use Rattle.h3_wire.proofs.Tries.{head_is_whole}
 use Rattle.h3_wire.specs.UnknownSize.{is_known_type, size_by, size_with, unknown_size}
 use Rattle.h3_wire.specs.declared.frame.kinds.FrameKinds.{FrameKinds}
@@ -35,6 +39,18 @@ at_kind kinds kind bytes mid b e t = ap (size_by kinds (length bytes)) e ∙ ap 
 
 pub known_kind : (kinds : FrameKinds) (kind : ℕ) (bytes mid : List ℕ) → varint_at bytes ≡ Some (kind, mid) → is_known_type kinds kind ≡ true → unknown_size kinds bytes ≡ None
 known_kind kinds kind bytes mid e t = at_kind kinds kind bytes mid true e t
+
+one_first : (kind : ℕ) (bytes : List ℕ) → Some kind ≡ slice_get bytes 0 → kind < 64 → varint_at bytes ≡ Some (kind, drop 1 bytes)
+one_first kind [] first low = absurd (cc)
+one_first kind (x ∷ xs) first low =
+    let is : kind ≡ x = cc in
+    one_byte kind (x ∷ xs) (omega arith) is low
+
+-- a type of one byte, in the first piece
+pub known_first : (kinds : FrameKinds) (kind : ℕ) (pieces : List (List ℕ)) → Some kind ≡ slice_get (first_bytes pieces) 0 → kind < 64 → is_known_type kinds kind ≡ true
+    → unknown_size kinds (concat pieces) ≡ None
+known_first kinds kind [] first low t = absurd (cc)
+known_first kinds kind (p ∷ pieces) first low t = known_kind kinds kind (p ++ concat pieces) (drop 1 p ++ concat pieces) (reads_more kind p (drop 1 p) (concat pieces) (one_first kind p first low)) t
 
 by_number : (kinds : FrameKinds) (bytes : List ℕ) (size kind : ℕ) (mid : List ℕ) → is_known_type kinds kind ≡ false → varint_at bytes ≡ Some (kind, mid) → unknown_size kinds bytes ≡ Some size → IsUnknownHead kinds bytes size
 by_number kinds bytes size kind mid t e is = elim (cases_number mid) [

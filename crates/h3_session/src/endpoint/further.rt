@@ -1,8 +1,9 @@
 //! Endpoints that announce further settings, or remember those of an earlier connection.
-ghost use Rattle.std.specs.Prelude.{◌<◌, ◌^◌, OnOk, Ok};
+ghost use Rattle.std.specs.Prelude.{◌≡◌, ◌<◌, ◌^◌, OnOk, Ok};
 ghost use Rattle.h3_proto.specs.Config.{announced};
 ghost use Rattle.h3_connection.specs.Announcing.{announced_by};
 ghost use Rattle.h3_connection.specs.Endpoint.{new_endpoint, new_endpoint_with};
+ghost use Rattle.h3_connection.specs.OwnSettings.{control_start};
 ghost use Rattle.h3_connection.specs.Remembering.{remembering};
 ghost use Rattle.h3_connection.specs.SendingContracts.{CreatesWith};
 ghost use Rattle.h3_connection.specs.State.{StandsFor};
@@ -15,6 +16,7 @@ use h3_connection::setup::{Announced, Limits, NewError};
 use h3_proto::config::Config;
 use h3_proto::frame::Settings;
 use h3_proto::stream::Side;
+use h3_streams::streams::ConnectionStreams;
 use std::alloc::{AllocError, Global};
 
 impl Endpoint {
@@ -89,8 +91,24 @@ impl Endpoint {
     fn begin_with(&mut self, further: &Settings) -> Result<(), AllocError>
         ensures { OnOk result ((side : Side) (announced : Announced) → StandsFor self.old (new_endpoint side announced) → StandsFor self.new (new_endpoint_with side announced further.now)) }
     {
-        self.streams
-            .own
-            .begin_with(self.alloc, &self.announced.settings, further)
+        write_start(
+            &mut self.streams,
+            self.alloc,
+            &self.announced.settings,
+            further,
+        )
     }
+}
+
+/// The local control stream, of which nothing was taken, begins with these settings. A refusal changes nothing.
+fn write_start(
+    streams: &mut ConnectionStreams,
+    alloc: Global,
+    settings: &Settings,
+    further: &Settings,
+) -> Result<(), AllocError>
+    ensures { OnOk result
+        (streams.new ≡ record streams.old { own = record streams.old.own { control = control_start settings.now further.now } }) }
+{
+    streams.own.begin_with(alloc, settings, further)
 }

@@ -45,6 +45,7 @@ laws c =
         first = c.sides_that_judge_plainly_count_nothing.ensures.first;
         event = c.sides_that_judge_plainly_count_nothing.ensures.event;
         reads = c.sides_that_judge_plainly_count_nothing.ensures.reads;
+        asked = c.sides_that_judge_plainly_count_nothing.ensures.asked;
         advances = c.sides_that_judge_plainly_count_nothing.ensures.advances;
         sends = c.sides_that_judge_plainly_count_nothing.ensures.sends;
       };

@@ -36,8 +36,8 @@ returns-in-Update-clause-ok c =
     rw (sym c.self.view_is)
     (update_read _ _ _ _ _ _ _ _ _ _ _ (sym c.is_excessive.ensures ∙ c.if-is_excessive.false) c.reserve.ensures.items c.reserve-2.ensures.same c.put.ensures gives c.in-Update.ensures)
 
-pub returns-in-Fault-clause-ok : goal.returns-in-Fault-clause-ok
-returns-in-Fault-clause-ok c =
+pub returns-in-Ok-Some-clause-ok : goal.returns-in-Ok-Some-clause-ok
+returns-in-Ok-Some-clause-ok c =
     let gives = rw c.in-Ok-Some.field-0-is at c.in-Ok-Some.ensures.gives in
     rw (sym c.self.view_is) (one_fault _ _ _ _ _ _ _ _ _ _ (sym c.is_excessive.ensures ∙ c.if-is_excessive.false) c.reserve.ensures.items c.reserve-2.ensures.same gives c.in-Fault.ensures)
 
@@ -47,8 +47,8 @@ returns-in-Err-Proto-clause-ok c =
     rw (sym c.self.view_is, c.reserve.ensures.items, c.reserve-2.ensures.same, c.refused.ensures, c.in-Err-Proto.e-is)
     (peer_refused _ _ _ _ _ _ (sym c.is_excessive.ensures ∙ c.if-is_excessive.false) gives.0 gives.1)
 
-pub returns-in-Err : goal.returns-in-Err
-returns-in-Err c = record {
+pub returns : goal.returns
+returns c = record {
   ok = tt;
   refused = rw (sym c.self.view_is) (refused_front _ _ _ _ _ _ _ _ c.reserve.ensures.items c.reserve-2.ensures.same c.in-Err.ensures.gives);
   first = λ none. tt;
