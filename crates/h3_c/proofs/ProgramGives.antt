@@ -325,12 +325,12 @@ piece_given h s id Client bytes rest piece is there hands = LeavesSo (λ ends st
     let last : Ends = record { client = w; server = (pulls x.1 id).1 } in
     let views = views_of (carrying h.carried Client id rest) in
     let pulling = told_so mid last (event.PullFields Server id) (answer.Listed (list.Item (listed.Body piece))) refl (hands_piece mid Server id piece (pulls x.1 id) p.pulled) in
-    let then = step_seen views (keep_lagging (carrying h.carried Client id rest)) mid last (event.PullFields Server id) (answer.Listed (list.Item (listed.Body piece))) tt tt tt pulling in
+    let last_step = step_seen views (keep_lagging (carrying h.carried Client id rest)) mid last (event.PullFields Server id) (answer.Listed (list.Item (listed.Body piece))) tt tt tt pulling in
     let first = subst (λ new. EndsStep V (event.Deliver Client id (length bytes)) (answer.Delivered (length bytes)) new) (ends_are (with_end (handed_over V Client id (length bytes)) Server (seen (lagging Server (h.carried Server)) x.1)) (both_seen views mid) u.is refl) step in
     record {
       new = last;
       of = (tt, (tt, tt));
-      run = (both_seen views mid, first, (both_seen views last, then, refl));
+      run = (both_seen views mid, first, (both_seen views last, last_step, refl));
       stand = record {
         client = stand.client;
         server = p.stands;
@@ -354,12 +354,12 @@ piece_given h s id Server bytes rest piece is there hands = LeavesSo (λ ends st
     let last : Ends = record { client = (pulls x.1 id).1; server = w } in
     let views = views_of (carrying h.carried Server id rest) in
     let pulling = told_so mid last (event.PullFields Client id) (answer.Listed (list.Item (listed.Body piece))) refl (hands_piece mid Client id piece (pulls x.1 id) p.pulled) in
-    let then = step_seen views (keep_lagging (carrying h.carried Server id rest)) mid last (event.PullFields Client id) (answer.Listed (list.Item (listed.Body piece))) tt tt tt pulling in
+    let last_step = step_seen views (keep_lagging (carrying h.carried Server id rest)) mid last (event.PullFields Client id) (answer.Listed (list.Item (listed.Body piece))) tt tt tt pulling in
     let first = subst (λ new. EndsStep V (event.Deliver Server id (length bytes)) (answer.Delivered (length bytes)) new) (ends_are (with_end (handed_over V Server id (length bytes)) Client (seen (lagging Client (h.carried Client)) x.1)) (both_seen views mid) refl u.is) step in
     record {
       new = last;
       of = (tt, (tt, tt));
-      run = (both_seen views mid, first, (both_seen views last, then, refl));
+      run = (both_seen views mid, first, (both_seen views last, last_step, refl));
       stand = record {
         client = p.stands;
         server = stand.server;

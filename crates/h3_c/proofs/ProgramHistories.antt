@@ -200,10 +200,10 @@ module _ (side : Side) (h g : Handles) (there : handle_at g (other side) ≡ han
       let two = step_of mid last (event.Reset side id) answer.Done refl (sym (ap (λ x. x.0) (second side one.1) ∙ ap (λ r. answer_of answer.Done r) none)) (sym (ap (λ x. x.1) (second side one.1))) in
       let views = views_of h.carried in
       let first = step_seen views (keep_lagging h.carried) ends mid (event.Cancel side id) (answer_of answer.Done canceled) tt tt tt step in
-      let then = step_seen views (keep_lagging h.carried) mid last (event.Reset side id) answer.Done tt tt (resets_alike h.carried mid last (event.Reset side id) answer.Done (λ is. absurd (cc)) two) two in
+      let last_step = step_seen views (keep_lagging h.carried) mid last (event.Reset side id) answer.Done tt tt (resets_alike h.carried mid last (event.Reset side id) answer.Done (λ is. absurd (cc)) two) two in
       let grow = step_grows ends (stood stand) mid (event.Cancel side id) (answer_of answer.Done canceled) tt tt step in
       let more = grown side one.1 in
-      run_left ends last h g (event.Cancel side id ∷ event.Reset side id ∷ []) (answer_of answer.Done canceled ∷ answer.Done ∷ []) (tt, (tt, tt)) (both_seen views mid, first, (both_seen views last, then, refl))
+      run_left ends last h g (event.Cancel side id ∷ event.Reset side id ∷ []) (answer_of answer.Done canceled ∷ answer.Done ∷ []) (tt, (tt, tt)) (both_seen views mid, first, (both_seen views last, last_step, refl))
       (carries_grown Client (h.carried Client) mid.client last.client (carries_grown Client (h.carried Client) ends.client mid.client stand.client_carries grow.client) more.client)
       (carries_grown Server (h.carried Server) mid.server last.server (carries_grown Server (h.carried Server) ends.server mid.server stand.server_carries grow.server) more.server)
       same s.0 s.1
