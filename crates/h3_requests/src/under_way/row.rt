@@ -143,7 +143,7 @@ impl Row {
         let mut found = None;
         // (the label names the loop in its proof)
         'places: for place in &self.places {
-            if place.stream.is_some() && self.seeks(place.id, undone) {
+            if self.seeks(place.id, undone) {
                 found = greater(found, Some(place.id));
             }
         }
@@ -171,7 +171,7 @@ impl Row {
         let mut found = None;
         // (the label names the loop in its proof)
         'places: for place in &self.places {
-            if place.stream.is_some() && self.is_next(place.id, inserted, from) {
+            if self.is_next(place.id, inserted, from) {
                 found = lesser(found, Some(place.id));
             }
         }
