@@ -47,7 +47,7 @@ use Rattle.h3_c.proofs.ViewsSteps.{both_seen}
 
 -- so much is carried of one stream
 abbrev pub with_stream : (ℕ → List ℕ) → ℕ → List ℕ → ℕ → List ℕ
-with_stream carried id bytes i = if i == id then bytes else carried i
+with_stream carried id bytes = λ i. if i == id then bytes else carried i
 
 leaves_front : (carried : ℕ → List ℕ) (id : ℕ) (bytes rest : List ℕ) → carried id ≡ bytes ++ rest → Leaves carried id bytes (with_stream carried id rest)
 leaves_front carried id bytes rest is q =

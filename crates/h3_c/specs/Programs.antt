@@ -94,7 +94,7 @@ pub record Tells (v : Seen) (id : ℕ) (tells : StreamState → Type 0) : Type 0
 
 -- of the stream these bytes are carried
 abbrev pub carrying : (Side → ℕ → List ℕ) → Side → ℕ → List ℕ → Side → ℕ → List ℕ
-carrying carried from id bytes side i = if is_on from id side i then bytes else carried side i
+carrying carried from id bytes = λ side i. if is_on from id side i then bytes else carried side i
 
 -- QUIC takes bytes: it carries them behind those that it carries.
 pub record Takes (from : Side) (id : ℕ) (bytes : List ℕ) (h g : Handles) : Type 0 where
