@@ -1,5 +1,5 @@
 -- What the number of a delivery tells.
-use Rattle.std.proofs.Common.{◌≡◌, Bool, true, false, refl, sym, ap, subst, ◌∙◌, Option, Some, None, Result, Ok, Err}
+use Rattle.std.proofs.Common.{◌≡◌, true, false, refl, sym, subst, Result, Ok, Err}
 use Rattle.h3_connection.specs.Answers.{delivery_refused}
 use Rattle.h3_connection.specs.Endpoint.{EndpointHistory}
 use Rattle.h3_connection.specs.ReceivingContracts.{Receives}

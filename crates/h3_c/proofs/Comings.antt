@@ -1,6 +1,6 @@
 -- What comes at a reader is a step of two endpoints, whatever is seen of how much was taken.
 use Rattle.std.proofs.Common.{arith, ◌≡◌, ◌≢◌, ◌≤◌, ℕ, Bool, true, false, if◌then◌else◌, List, [], ◌∷◌, ◌++◌, length, take, refl, sym, ap, subst, ◌∙◌, Option, Some, None, Result, Ok, Err}
-use Rattle.std.specs.Prelude.{◌==◌, ◌&&◌, ◌||◌, not, nat_lt}
+use Rattle.std.specs.Prelude.{◌||◌, nat_lt}
 use Rattle.std.proofs.lemmas.Grind.{common_steps}
 use Rattle.h3_proto.specs.declared.stream.Side.{Side}
 use Rattle.h3_proto.specs.declared.stream.Side.TheVariants.{Client, Server}
@@ -31,7 +31,7 @@ use Rattle.h3_world.specs.declared.event.Answer.{Answer}
 use Rattle.h3_world.specs.declared.event.Answer.TheVariants as answer
 use Rattle.h3_world.specs.declared.event.Event.{Event}
 use Rattle.h3_world.specs.declared.event.Event.TheVariants as event
-use Rattle.h3_memory.specs.Refused.{AnswerOf, EndsStep, LacksMemory, Stores, handed_over}
+use Rattle.h3_memory.specs.Refused.{AnswerOf, EndsStep, Stores, handed_over}
 use Rattle.h3_session.specs.Running.{answer_of, is_stored}
 use Rattle.h3_c.proofs.QuietCalls.{stands_unchanged}
 use Rattle.h3_c.proofs.ReadsGrow.{Reads, accepted, arrives_reads, reads_none, stored_reads}

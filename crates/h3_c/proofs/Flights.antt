@@ -1,19 +1,19 @@
 -- What QUIC carries stands in the text of its stream, behind what came and in front of what waits. To a schedule it waits.
 use Rattle.std.proofs.Common.{arith, ◌≡◌, ◌≤◌, ◌⊎◌, inl, inr, ℕ, zero, suc, ◌+◌, ◌-◌, ◌*◌, Bool, true, false, if◌then◌else◌, List, [], ◌∷◌, ◌++◌, length, drop, take, refl, sym, ap, subst, ◌∙◌, Option, Some, None, append_assoc, append-nil}
-use Rattle.std.specs.Prelude.{◌==◌, ◌||◌, is_some, option_map}
+use Rattle.std.specs.Prelude.{◌==◌, ◌||◌, option_map}
 use Rattle.std.proofs.lemmas.Grind.{common_steps}
 use Rattle.h3_proto.specs.declared.stream.Side.{Side}
 use Rattle.h3_proto.specs.declared.stream.Side.TheVariants.{Client, Server}
-use Rattle.h3_connection.specs.Endpoint.{EndpointHistory, Own, bytes_waiting, own_waiting}
-use Rattle.h3_connection.specs.Order.{default_precedence, no_order}
-use Rattle.h3_connection.specs.Outgoing.{Outgoing as Out, nothing_sent, part_bytes_waiting}
+use Rattle.h3_connection.specs.Endpoint.{EndpointHistory, Own, bytes_waiting}
+use Rattle.h3_connection.specs.Order.{default_precedence}
+use Rattle.h3_connection.specs.Outgoing.{Outgoing as Out, nothing_sent}
 use Rattle.h3_connection.specs.OwnIds.{control_id, decoder_id, encoder_id, is_own}
-use Rattle.h3_connection.specs.Sending.{advance, advance_at, order_after, own_advanced}
+use Rattle.h3_connection.specs.Sending.{advance, advance_at, own_advanced}
 use Rattle.h3_connection.specs.StreamSets.{set_stream, stream_at}
-use Rattle.h3_connection.specs.StreamSetLaws.{set-here, set-other, set-same}
-use Rattle.h3_c.proofs.Grows.{Grows, More, OwnGrows, PartsGrow, StreamGrows, nothing_more, own_is, own_taken, own_text, part_bytes, taken_stays, texts_grow, waits_own}
+use Rattle.h3_connection.specs.StreamSetLaws.{set-here, set-other}
+use Rattle.h3_c.proofs.Grows.{Grows, More, StreamGrows, nothing_more, own_is, own_taken, own_text, part_bytes, taken_stays, texts_grow, waits_own}
 use Rattle.h3_c.proofs.Unordered.{unordered, waits_of}
-use Rattle.h3_c.proofs.Views.{Keeps, View, at_seen, by_id, other_way, plain, seen, seen_absent, seen_alike, seen_as, seen_plainly, set_seen, streams_seen, unordered_out}
+use Rattle.h3_c.proofs.Views.{Keeps, View, at_seen, by_id, other_way, plain, seen, seen_absent, seen_as, seen_plainly, unordered_out}
 
 -- Of a side of whose streams these bytes are carried, they do not count as taken.
 abbrev pub lagging : Side → (ℕ → List ℕ) → View

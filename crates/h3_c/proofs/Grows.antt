@@ -1,12 +1,11 @@
 -- What an endpoint writes comes behind what it wrote, and no call but `advance` takes any of it.
-use Rattle.std.proofs.Common.{arith, ◌≡◌, ◌⊎◌, inl, inr, ℕ, ◌+◌, ◌*◌, Bool, true, false, if◌then◌else◌, List, [], ◌∷◌, ◌++◌, flat_map, refl, sym, ap, subst, ◌∙◌, Option, Some, None, append_assoc, append-nil}
+use Rattle.std.proofs.Common.{◌≡◌, ◌⊎◌, inr, ℕ, ◌+◌, Bool, true, false, if◌then◌else◌, List, [], ◌∷◌, ◌++◌, flat_map, refl, sym, ap, subst, ◌∙◌, Option, Some, None, append_assoc, append-nil}
 use Rattle.std.specs.Prelude.{◌<◌, ◌==◌, ◌||◌, drop}
-use Rattle.std.proofs.lemmas.Bool.{eqb-true}
 use Rattle.h3_coding.specs.Encodings.{encoding}
 use Rattle.h3_field.specs.Instruction.{DecoderInstruction, EncoderInstruction, decoder_bytes, encoder_bytes}
 use Rattle.h3_proto.specs.declared.stream.Side.{Side}
 use Rattle.h3_proto.specs.declared.stream.Side.TheVariants.{Client, Server}
-use Rattle.h3_connection.specs.Endpoint.{EndpointHistory, Kind, Own, kind_of, own_waiting}
+use Rattle.h3_connection.specs.Endpoint.{EndpointHistory, Own, kind_of, own_waiting}
 use Rattle.h3_connection.specs.Endpoint.Kind.{Request}
 use Rattle.h3_connection.specs.Outgoing.{Outgoing as Out, nothing_sent, written_part}
 use Rattle.h3_connection.specs.OwnIds.{control_id, decoder_id, encoder_id, is_own}
@@ -14,7 +13,7 @@ use Rattle.h3_connection.specs.OwnSettings.{control_start}
 use Rattle.h3_connection.specs.OwnUpdates.{control_frames, goaway_encoding}
 use Rattle.h3_connection.specs.StreamSets.{Streams, set_stream, stream_at}
 use Rattle.h3_connection.specs.StreamSetLaws.{set-here, set-other}
-use Rattle.h3_c.proofs.Views.{by_id, other_way}
+use Rattle.h3_c.proofs.Views.{by_id}
 
 -- the text of an own stream, and how much of it was taken
 abbrev pub own_text : EndpointHistory → ℕ → List ℕ

@@ -1,14 +1,14 @@
 -- Bytes that QUIC carried come. To a schedule they leave the writer then.
-use Rattle.std.proofs.Common.{arith, ◌≡◌, ◌≤◌, ℕ, ◌+◌, ◌-◌, Bool, true, false, if◌then◌else◌, List, [], ◌∷◌, ◌++◌, length, drop, take, refl, sym, ap, subst, ◌∙◌, Option, Some, None, append_assoc}
-use Rattle.std.specs.Prelude.{◌==◌, ◌||◌, is_some, option_map}
+use Rattle.std.proofs.Common.{arith, ◌≡◌, ◌≤◌, ℕ, ◌+◌, ◌-◌, Bool, true, false, if◌then◌else◌, List, [], ◌++◌, length, refl, sym, ap, subst, ◌∙◌, Option, Some, None, append_assoc}
+use Rattle.std.specs.Prelude.{◌==◌, option_map}
 use Rattle.std.proofs.lemmas.Grind.{common_steps}
 use Rattle.h3_proto.specs.declared.stream.Side.{Side}
 use Rattle.h3_proto.specs.declared.stream.Side.TheVariants.{Client, Server}
-use Rattle.h3_connection.specs.Endpoint.{EndpointHistory, bytes_waiting}
+use Rattle.h3_connection.specs.Endpoint.{EndpointHistory}
 use Rattle.h3_connection.specs.Order.{default_precedence, no_order}
 use Rattle.h3_connection.specs.Outgoing.{Outgoing as Out}
 use Rattle.h3_connection.specs.OwnIds.{control_id, decoder_id, encoder_id, is_own}
-use Rattle.h3_connection.specs.Sending.{advance, advance_at, order_after}
+use Rattle.h3_connection.specs.Sending.{advance, advance_at}
 use Rattle.h3_connection.specs.StreamSets.{set_stream, stream_at}
 use Rattle.h3_connection.specs.StreamSetLaws.{set-same}
 use Rattle.h3_c.proofs.Flights.{Carries, Flies, FliesAt, IsUnreset, advanced_own, extra, its, lagging, length_if, length_joined, not_there, own_lags}

@@ -1,6 +1,6 @@
 -- Requests that are opened one after the other are so many events.
 use Rattle.std.proofs.Common.{arith, ◌≡◌, ◌<◌, ◌≤◌, ◌+◌, ℕ, zero, suc, Bool, true, false, if◌then◌else◌, refl, sym, ap, subst, ◌∙◌, Option, Some, None}
-use Rattle.std.specs.Prelude.{◌*◌, ◌^◌, ◌-◌, ◌/◌, not, nat_le, nat_lt}
+use Rattle.std.specs.Prelude.{◌*◌, ◌^◌, ◌-◌, not, nat_le, nat_lt}
 use Rattle.std.proofs.lemmas.Grind.{common_steps}
 use Rattle.std.proofs.lemmas.Nat.{div-add-mod'}
 use Rattle.h3_proto.specs.StreamIds.{is_request_stream}

@@ -35,7 +35,7 @@ use Rattle.h3_memory.specs.Refused.{AnswerOf, CutsList, EndsRun, EndsStep, IsAsk
 use Rattle.h3_c.proofs.UnheardUpdates.{peer_unheard, so_heard, unheard}
 use Rattle.h3_c.proofs.Unordered.{advance_unordered, bytes_unordered, finished_unordered, has_unordered, keeps_plain, reset_unordered, unordered}
 use Rattle.h3_c.proofs.UnorderedSteps.{answered_unordered, both_unordered, end_unordered, with_end_unordered}
-use Rattle.h3_c.proofs.Views.{plain, seen}
+use Rattle.h3_c.proofs.Views.{plain}
 use Rattle.h3_c.proofs.ViewsMemory.{Cancels, GoesAway, KeepsBytes, KeepsEnd, KeepsReset, LacksOf, Opens, Pulls, SendsBody, SendsFields, SendsTrailer, TakesNoEnd, TakesNoReset, TakesNone, lacking, lacks_of}
 use Rattle.h3_c.proofs.ViewsReading as reading
 use Rattle.h3_c.proofs.ViewsSending as sending

@@ -1,22 +1,19 @@
 -- What QUIC takes, and what it gives to the other side.
-use Rattle.std.proofs.Common.{arith, ◌≡◌, ◌≤◌, ℕ, ◌+◌, ◌-◌, Bool, true, false, if◌then◌else◌, List, [], ◌∷◌, ◌++◌, length, drop, take, refl, sym, ap, subst, ◌∙◌, Option, Some, None, Result, Ok, Err, append_assoc}
-use Rattle.std.specs.Prelude.{◌==◌, ◌||◌, is_some, nat_lt, option_map, unwrap_or}
-use Rattle.std.proofs.lemmas.Grind.{common_steps}
+use Rattle.std.proofs.Common.{arith, ◌≡◌, ◌≤◌, ℕ, ◌+◌, ◌-◌, Bool, true, false, if◌then◌else◌, List, [], ◌∷◌, ◌++◌, length, drop, take, refl, sym, ap, subst, ◌∙◌, Option, Some, None, Result, Ok, append_assoc}
+use Rattle.std.specs.Prelude.{◌==◌, ◌||◌, option_map, unwrap_or}
 use Rattle.h3_proto.specs.declared.stream.Side.{Side}
 use Rattle.h3_proto.specs.declared.stream.Side.TheVariants.{Client, Server}
 use Rattle.h3_connection.specs.Answers.{delivery_refused}
-use Rattle.h3_connection.specs.Arrivals.{stream_of}
 use Rattle.h3_connection.specs.Endpoint.{EndpointHistory, bytes_waiting}
 use Rattle.h3_connection.specs.Keeping.{arrives, pulls}
 use Rattle.h3_connection.specs.Order.{default_precedence}
 use Rattle.h3_connection.specs.Outgoing.{Outgoing as Out}
 use Rattle.h3_connection.specs.OwnIds.{control_id, decoder_id, encoder_id, is_own, other}
-use Rattle.h3_connection.specs.ReceivingContracts.{Delivers, DeliversEnd, DeliversReset, KeepsBehind, Receives}
+use Rattle.h3_connection.specs.ReceivingContracts.{Delivers, DeliversEnd, DeliversReset}
 use Rattle.h3_connection.specs.Sending.{advance}
 use Rattle.h3_connection.specs.Shown.{has_outgoing, is_finished, is_reset, waiting}
 use Rattle.h3_connection.specs.State.{EndpointState, StandsFor}
 use Rattle.h3_connection.specs.StreamSets.{stream_at}
-use Rattle.h3_connection.specs.declared.arrival.Arrival.{Arrival}
 use Rattle.h3_connection.specs.declared.arrival.Arrival.TheVariants.{BytesCame, EndCame, ResetCame}
 use Rattle.h3_connection.specs.declared.event.DeliverError.{DeliverError}
 use Rattle.h3_connection.specs.declared.event.Item.TheVariants as found
@@ -34,10 +31,10 @@ use Rattle.h3_memory.specs.Refused.{EndsStep, handed_over}
 use Rattle.h3_session.specs.Running.{answer_of, is_stored}
 use Rattle.h3_c.specs.Programs.{Handles, carrying, handle_at}
 use Rattle.h3_c.specs.Seen.{Seen}
-use Rattle.h3_c.proofs.Comings.{IsDone, Came, ComesTo, bytes_step, came_seen, comes, end_step, left_if, reset_step, told_so}
-use Rattle.h3_c.proofs.Flights.{Carries, IsUnreset, Took, carried_waits, carries_grown, drop_joined, keeps_lagging, lagging, own_lags, take_joined, takes_on}
-use Rattle.h3_c.proofs.Grows.{own_taken, own_text, waits_own}
-use Rattle.h3_c.proofs.Landings.{Landed, Leaves, landed_on}
+use Rattle.h3_c.proofs.Comings.{IsDone, bytes_step, came_seen, comes, end_step, left_if, reset_step, told_so}
+use Rattle.h3_c.proofs.Flights.{Carries, IsUnreset, carried_waits, carries_grown, keeps_lagging, lagging, own_lags, take_joined, takes_on}
+use Rattle.h3_c.proofs.Grows.{own_text, waits_own}
+use Rattle.h3_c.proofs.Landings.{Leaves, landed_on}
 use Rattle.h3_c.proofs.ProgramMoves.{Moves, LeavesSo, ends_are, keep_lagging, views_of}
 use Rattle.h3_c.proofs.ReadsGrow.{arrives_reads, pulls_reads_of_none, reads_grow, reads_then}
 use Rattle.h3_c.proofs.Unordered.{waits_of}

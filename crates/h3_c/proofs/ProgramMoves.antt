@@ -5,13 +5,13 @@ use Rattle.std.proofs.lemmas.Grind.{common_steps}
 use Rattle.h3_proto.specs.declared.stream.Side.{Side}
 use Rattle.h3_proto.specs.declared.stream.Side.TheVariants.{Client, Server}
 use Rattle.h3_connection.specs.Endpoint.{EndpointHistory, is_critical_id}
-use Rattle.h3_connection.specs.Outgoing.{Outgoing as Out, is_sent_off}
+use Rattle.h3_connection.specs.Outgoing.{is_sent_off}
 use Rattle.h3_connection.specs.Refusals.{refusal_to_stop}
 use Rattle.h3_connection.specs.Sending.{closed_or, does, is_open, outgoing_at, reset, reset_refusal}
 use Rattle.h3_connection.specs.State.{EndpointState, StandsFor}
 use Rattle.h3_connection.specs.declared.event.Refusal.{Refusal}
 use Rattle.h3_connection.specs.declared.event.Refusal.TheVariants as refusal
-use Rattle.h3_world.specs.Ends.{Ends, answered, end_at}
+use Rattle.h3_world.specs.Ends.{Ends, end_at}
 use Rattle.h3_world.specs.Headline.{is_out_of_memory}
 use Rattle.h3_world.specs.declared.event.Answer.{Answer}
 use Rattle.h3_world.specs.declared.event.Answer.TheVariants as answer
@@ -26,12 +26,12 @@ use Rattle.h3_c.proofs.Comings.{done_is}
 use Rattle.h3_c.proofs.Flights.{Carries, carries_grown, keeps_lagging, lagging, stays_grows, stays_seen}
 use Rattle.h3_c.proofs.Grows.{part_bytes}
 use Rattle.h3_c.proofs.QuietCalls.{Stays}
-use Rattle.h3_c.proofs.SendsGrow.{BothGrow, Stood, step_grows}
+use Rattle.h3_c.proofs.SendsGrow.{Stood, step_grows}
 use Rattle.h3_c.proofs.Unordered.{unordered}
 use Rattle.h3_c.proofs.ViewsMemory.{step_seen}
 use Rattle.h3_c.proofs.ViewsSending.{sent_off_seen, stop_seen}
-use Rattle.h3_c.proofs.ViewsSteps.{AreOfC, IsCall, IsOfC, KeepBoth, ResetsAlike, Views, both_seen, view_at}
-use Rattle.h3_c.proofs.Views.{View, seen}
+use Rattle.h3_c.proofs.ViewsSteps.{AreOfC, IsCall, IsOfC, KeepBoth, ResetsAlike, Views, both_seen}
+use Rattle.h3_c.proofs.Views.{seen}
 
 abbrev pub StaysAt : Seen → Seen → Type 0
 StaysAt v w = (e : EndpointHistory) → StandsFor v.endpoint e → Stays w.endpoint e

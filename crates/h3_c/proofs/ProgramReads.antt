@@ -8,7 +8,7 @@ use Rattle.h3_proto.specs.declared.stream.Side.TheVariants.{Client, Server}
 use Rattle.h3_connection.specs.Answers.{delivery_refused}
 use Rattle.h3_connection.specs.Calls.{IsSame}
 use Rattle.h3_connection.specs.Control.{Found}
-use Rattle.h3_connection.specs.Delivering.{bytes_at, closed_by, delivery_refusal, incoming_at, kept, opened, opened_at, taken}
+use Rattle.h3_connection.specs.Delivering.{bytes_at, closed_by, delivery_refusal, kept, opened_at, taken}
 use Rattle.h3_connection.specs.Endpoint.{EndpointHistory, Kind, kind_of}
 use Rattle.h3_connection.specs.Endpoint.Kind.{Request, ServerOpened, OwnUnidirectional, PeerUnidirectional}
 use Rattle.h3_connection.specs.Incoming.{Incoming}

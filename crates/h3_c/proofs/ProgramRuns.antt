@@ -1,16 +1,14 @@
 -- What two programs do is a run of two endpoints.
-use Rattle.std.proofs.Common.{arith, ◌≡◌, ◌<◌, ◌⊎◌, inl, inr, ℕ, zero, suc, ◌-◌, Bool, true, false, if◌then◌else◌, List, [], ◌∷◌, ◌++◌, length, drop, take, refl, sym, ap, subst, ◌∙◌, Some, Result}
+use Rattle.std.proofs.Common.{arith, ◌≡◌, ◌<◌, ◌⊎◌, inl, inr, ℕ, Bool, true, false, if◌then◌else◌, List, [], ◌∷◌, ◌++◌, length, drop, refl, sym, ap, subst, ◌∙◌}
 use Rattle.std.specs.Prelude.{◌==◌, ◌^◌, min}
 use Rattle.h3_proto.specs.declared.stream.Side.{Side}
 use Rattle.h3_proto.specs.declared.stream.Side.TheVariants.{Client, Server}
 use Rattle.h3_connection.specs.Answers.{delivery_refused}
-use Rattle.h3_connection.specs.Endpoint.{EndpointHistory, bytes_waiting, new_endpoint}
+use Rattle.h3_connection.specs.Endpoint.{bytes_waiting, new_endpoint}
 use Rattle.h3_connection.specs.OwnIds.{control_id, decoder_id, encoder_id, other}
 use Rattle.h3_connection.specs.Sending.{advance}
-use Rattle.h3_connection.specs.Shown.{waiting}
 use Rattle.h3_connection.specs.Shutdown.{is_rejected_in}
 use Rattle.h3_connection.specs.State.{StandsFor}
-use Rattle.h3_connection.specs.declared.event.DeliverError.{DeliverError}
 use Rattle.h3_connection.specs.declared.setup.Announced.{Announced}
 use Rattle.h3_world.specs.Ends.{Ends, end_at, new_ends}
 use Rattle.h3_world.specs.Setup.{Setup}
@@ -21,8 +19,8 @@ use Rattle.h3_world.specs.declared.event.Event.TheVariants as event
 use Rattle.h3_memory.specs.Refused.{EndsRun}
 use Rattle.h3_session.specs.Running.{answer_of, is_stored}
 use Rattle.h3_c.specs.Exported.{Calls, DeliversOn}
-use Rattle.h3_c.specs.Numbers.{ok, rejected}
-use Rattle.h3_c.specs.Programs.{Act, AreMade, Bytes, Call, Comes, Empty, End, Gives, Handles, Happen, Happens, HasNone, IsEvent, IsRead, IsRefused, Nothing, Read, Reset, StandFor, Take, Takes, Tells, Then, carrying, event_of, handle_at, HasEnded, is_taken}
+use Rattle.h3_c.specs.Numbers.{rejected}
+use Rattle.h3_c.specs.Programs.{Act, AreMade, Bytes, Call, Comes, Empty, End, Handles, Happen, Happens, HasNone, IsEvent, IsRead, IsRefused, Nothing, Read, Reset, StandFor, Take, Takes, Tells, Then, carrying, handle_at, HasEnded, is_taken}
 use Rattle.h3_c.specs.Reads.{taken_of}
 use Rattle.h3_c.specs.Seen.{Seen}
 use Rattle.h3_c.specs.declared.numbers.Told.{Told}

@@ -2,7 +2,6 @@
 -- nothing.
 use Rattle.std.proofs.Common.{◌≡◌, ℕ, Bool, true, false, if◌then◌else◌, List, [], ◌∷◌, take, refl, sym, ap, subst, ◌∙◌, Option, Some, None}
 use Rattle.std.specs.Prelude.{◌==◌, ◌&&◌, not, is_none, is_some, option_map, unwrap_or}
-use Rattle.std.proofs.lemmas.Bool.{eqb-true}
 use Rattle.h3_capsule.specs.Datagram.{datagram_of}
 use Rattle.h3_priority.specs.Priority.{PriorityParameters}
 use Rattle.h3_proto.specs.StreamIds.{is_request_stream}
@@ -17,7 +16,7 @@ use Rattle.h3_connection.specs.Refusals.{first_of}
 use Rattle.h3_connection.specs.Sending.{closed_or, does, is_open, outgoing_at, with_outgoing}
 use Rattle.h3_connection.specs.SendingContracts.{DoesOrRefuses}
 use Rattle.h3_connection.specs.State.{EndpointState, RequestState, StandsFor, SameAt, IsOfOutgoing}
-use Rattle.h3_connection.specs.StreamSets.{Streams, set_stream, stream_at}
+use Rattle.h3_connection.specs.StreamSets.{Streams, stream_at}
 use Rattle.h3_connection.specs.declared.event.Refusal.{Refusal}
 use Rattle.h3_connection.specs.declared.event.Refusal.TheVariants as refusal
 use Rattle.h3_connection.specs.declared.order.PrioritySource.{PrioritySource}

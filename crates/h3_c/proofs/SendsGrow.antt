@@ -7,18 +7,17 @@ use Rattle.h3_messages.specs.declared.content.Content.{Content}
 use Rattle.h3_proto.specs.declared.stream.Side.{Side}
 use Rattle.h3_proto.specs.declared.stream.Side.TheVariants.{Client, Server}
 use Rattle.h3_connection.specs.Delivering.{give_up, incoming_at, opened_at, with_incoming}
-use Rattle.h3_connection.specs.Endpoint.{EndpointHistory, Own, is_critical_id}
+use Rattle.h3_connection.specs.Endpoint.{EndpointHistory, is_critical_id}
 use Rattle.h3_connection.specs.Keeping.{pulls}
-use Rattle.h3_connection.specs.Outgoing.{Outgoing as Out, OwnPart, is_sent_off, nothing_sent, with_body, with_finish, with_reset, with_said, written_part}
+use Rattle.h3_connection.specs.Outgoing.{Outgoing as Out, OwnPart, nothing_sent, with_body, with_finish, with_reset, with_said, written_part}
 use Rattle.h3_connection.specs.Outgoing.OwnPart.{OwnBody, OwnTrailer}
-use Rattle.h3_connection.specs.OwnIds.{control_id, decoder_id, encoder_id, is_own}
+use Rattle.h3_connection.specs.OwnIds.{is_own}
 use Rattle.h3_connection.specs.Refusals.{refusal_to_open}
 use Rattle.h3_connection.specs.Sections.{own_instructions, with_insertions, written_section}
 use Rattle.h3_connection.specs.Sending as sender
 use Rattle.h3_connection.specs.Sending.{appended, asked, closed_or, content_of_own, counted, does, encoded, fields_cost, head_part, is_open, known_of, outgoing_at, saying_at, sent_bytes, with_outgoing}
 use Rattle.h3_connection.specs.State.{EndpointState, StandsFor}
 use Rattle.h3_connection.specs.StreamSets.{Streams, stream_at}
-use Rattle.h3_connection.specs.Pulling.{is_client}
 use Rattle.h3_connection.specs.Lasts.{last_id}
 use Rattle.h3_connection.specs.declared.event.Pull.{Pull}
 use Rattle.h3_connection.specs.declared.event.Refusal.{Refusal}
@@ -34,7 +33,7 @@ use Rattle.h3_world.specs.declared.event.Event.{Event}
 use Rattle.h3_world.specs.declared.event.Event.TheVariants as event
 use Rattle.h3_memory.specs.Refused.{AnswerOf, CutsList, EndsStep, IsAsked, LacksMemory, LosesNothing}
 use Rattle.h3_c.proofs.Flights.{Carries}
-use Rattle.h3_c.proofs.Grows.{Grows, More, OwnGrows, PartsGrow, StreamGrows, goaways_grow, instructions_grow, more_of, new_grows, nothing_more, own_is, own_same, own_then, part_bytes, set_grows, stream_same}
+use Rattle.h3_c.proofs.Grows.{Grows, PartsGrow, StreamGrows, goaways_grow, instructions_grow, more_of, new_grows, own_is, own_same, own_then, part_bytes, set_grows, stream_same}
 use Rattle.h3_c.proofs.ReadsGrow.{Reads, gives_up, kept_reads, pulls_reads, reads_grow, reads_then, sets}
 use Rattle.h3_c.proofs.Views.{by_id}
 use Rattle.h3_c.proofs.ViewsMemory.{Cancels, GoesAway, KeepsBytes, KeepsEnd, KeepsReset, LacksOf, Opens, Pulls, SendsBody, SendsFields, SendsTrailer, TakesNoEnd, TakesNoReset, TakesNone, lacking, lacks_of}

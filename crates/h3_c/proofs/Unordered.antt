@@ -1,14 +1,14 @@
 -- An endpoint of which nothing is known of what sends first, by its own calls or its peer's PRIORITY_UPDATE frames, and whose FINs QUIC took: what it
 -- answers to all other calls rests on neither.
-use Rattle.std.proofs.Common.{◌≡◌, ℕ, ◌+◌, Bool, true, false, if◌then◌else◌, List, [], ◌∷◌, refl, ap, ◌∙◌, Option, Some, None}
-use Rattle.std.specs.Prelude.{◌==◌, ◌||◌, is_some, option_map, unwrap_or}
+use Rattle.std.proofs.Common.{◌≡◌, ℕ, ◌+◌, Bool, true, false, if◌then◌else◌, List, refl, ap, ◌∙◌, Option, Some, None}
+use Rattle.std.specs.Prelude.{◌==◌, ◌||◌, option_map, unwrap_or}
 use Rattle.h3_connection.specs.Endpoint.{EndpointHistory, bytes_waiting, own_waiting}
 use Rattle.h3_connection.specs.Order.{no_order}
 use Rattle.h3_connection.specs.Outgoing.{Outgoing as Out, part_bytes_waiting}
 use Rattle.h3_connection.specs.Sending.{advance, advance_at, order_after}
 use Rattle.h3_connection.specs.Shown.{has_outgoing, is_finished, is_reset}
 use Rattle.h3_connection.specs.OwnIds.{is_own}
-use Rattle.h3_connection.specs.StreamSets.{Streams, set_stream, stream_at}
+use Rattle.h3_connection.specs.StreamSets.{set_stream, stream_at}
 use Rattle.h3_c.proofs.Views.{Keeps, at_seen, open_seen, plain, seen, set_seen, streams_seen, unordered_out}
 
 abbrev pub unordered : EndpointHistory → EndpointHistory

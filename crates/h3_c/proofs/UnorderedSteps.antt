@@ -1,5 +1,5 @@
 -- Each event is answered alike by two endpoints of which nothing is known of what sends first.
-use Rattle.std.proofs.Common.{◌≡◌, ◌+◌, ℕ, Bool, true, false, if◌then◌else◌, List, [], ◌∷◌, length, take, refl, ap, ◌∙◌, Option, Some, None}
+use Rattle.std.proofs.Common.{◌≡◌, ℕ, Bool, true, false, if◌then◌else◌, length, take, refl, ap, ◌∙◌, Option, Some, None}
 use Rattle.std.specs.Prelude.{◌==◌, ◌&&◌, not, nat_lt}
 use Rattle.h3_proto.specs.declared.stream.Side.{Side}
 use Rattle.h3_proto.specs.declared.stream.Side.TheVariants.{Client, Server}
@@ -8,7 +8,7 @@ use Rattle.h3_connection.specs.declared.arrival.Arrival.TheVariants.{BytesCame, 
 use Rattle.h3_connection.specs.Endpoint.{EndpointHistory, bytes_waiting}
 use Rattle.h3_connection.specs.Keeping.{arrives}
 use Rattle.h3_connection.specs.OwnIds.{other}
-use Rattle.h3_connection.specs.Sending.{advance, outgoing_at}
+use Rattle.h3_connection.specs.Sending.{advance}
 use Rattle.h3_connection.specs.Shown.{has_outgoing, is_finished, is_reset, waiting}
 use Rattle.h3_connection.specs.declared.event.Refusal.{Refusal}
 use Rattle.h3_world.specs.Delivering.{reset_code}
@@ -21,7 +21,7 @@ use Rattle.h3_c.proofs.Unordered.{advance_unordered, bytes_unordered, finished_u
 use Rattle.h3_c.proofs.Views.{plain}
 use Rattle.h3_c.proofs.ViewsReading as reading
 use Rattle.h3_c.proofs.ViewsSending as sending
-use Rattle.h3_c.proofs.ViewsSteps.{IsCall, IsOfC, KeepBoth, ResetsAlike, Views, answered_seen, both_seen, end_seen, so_answered as so_answered_by, with_end_seen}
+use Rattle.h3_c.proofs.ViewsSteps.{IsOfC, KeepBoth, ResetsAlike, Views, answered_seen, both_seen, so_answered as so_answered_by}
 
 abbrev pub both_plain : Views
 both_plain = record { client = plain; server = plain }

@@ -1,13 +1,13 @@
 -- An endpoint as a schedule sees it: of what sends first, by its own calls or its peer's PRIORITY_UPDATE frames, and of the FINs that QUIC took, nothing
 -- is known; and as much of each stream's text counts as taken as a view says.
-use Rattle.std.proofs.Common.{arith, ◌≡◌, ℕ, ◌+◌, Bool, true, false, if◌then◌else◌, List, [], ◌∷◌, ◌++◌, refl, sym, ap, subst, ◌∙◌, Option, Some, None}
-use Rattle.std.specs.Prelude.{◌==◌, ◌||◌, is_some, option_map, unwrap_or}
+use Rattle.std.proofs.Common.{arith, ◌≡◌, ℕ, ◌+◌, Bool, true, false, if◌then◌else◌, List, [], ◌∷◌, ◌++◌, refl, sym, ap, ◌∙◌, Option, Some, None}
+use Rattle.std.specs.Prelude.{◌==◌, is_some, option_map, unwrap_or}
 use Rattle.std.proofs.lemmas.Bool.{eqb-true}
 use Rattle.std.proofs.lemmas.Grind.{common_steps}
 use Rattle.h3_connection.specs.Endpoint.{EndpointHistory}
 use Rattle.h3_connection.specs.Order.{default_precedence, no_order}
-use Rattle.h3_connection.specs.Outgoing.{Outgoing as Out, OwnPart, is_unsent, last_is_trailer, nothing_sent, with_body, with_finish, with_reset, with_said}
-use Rattle.h3_connection.specs.Refusals.{SenderStream, seen as seen_of}
+use Rattle.h3_connection.specs.Outgoing.{Outgoing as Out, OwnPart, nothing_sent, with_body, with_finish, with_reset, with_said}
+use Rattle.h3_connection.specs.Refusals.{seen as seen_of}
 use Rattle.h3_connection.specs.Sending.{is_open, outgoing_at, seen_at, with_outgoing}
 use Rattle.h3_connection.specs.StreamSets.{Streams, set_stream, stream_at}
 use Rattle.h3_messages.specs.declared.content.Content.{Content}

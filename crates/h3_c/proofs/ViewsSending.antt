@@ -1,24 +1,24 @@
 -- What is sent is answered alike whatever is seen of how much was taken.
-use Rattle.std.proofs.Common.{◌≡◌, ◌≢◌, ◌+◌, ℕ, Bool, true, false, if◌then◌else◌, List, [], ◌∷◌, ◌++◌, length, refl, sym, ap, ◌∙◌, Option, Some, None}
+use Rattle.std.proofs.Common.{◌≡◌, ◌+◌, ℕ, Bool, true, false, if◌then◌else◌, List, [], ◌∷◌, ◌++◌, length, refl, sym, ap, ◌∙◌, Option, Some, None}
 use Rattle.std.specs.Prelude.{not, option_map}
 use Rattle.h3_field.specs.Field.{Field}
 use Rattle.h3_messages.specs.declared.content.Content.{Content}
 use Rattle.h3_connection.specs.Delivering.{opened_at}
 use Rattle.h3_connection.specs.Endpoint.{EndpointHistory, is_critical_id}
 use Rattle.h3_connection.specs.Outgoing.{Outgoing as Out, OwnPart, is_sent_off, with_body, with_finish, with_reset, with_said, nothing_sent}
-use Rattle.h3_connection.specs.Outgoing.OwnPart.{OwnBody, OwnTrailer}
+use Rattle.h3_connection.specs.Outgoing.OwnPart.{OwnTrailer}
 use Rattle.h3_connection.specs.Remembering.{settings_known}
 use Rattle.h3_connection.specs.Refusals.{Sender, SenderStream, refusal_of_body, refusal_of_end, refusal_of_head, refusal_of_trailer, refusal_to_stop}
 use Rattle.h3_connection.specs.Sections.{written_section}
 use Rattle.h3_connection.specs.Sending as sender
-use Rattle.h3_connection.specs.Sending.{appended, asked, broken_head_at, closed_or, content_of_own, counted, does, encoded, fields_cost, head_part, is_open, known_of, outgoing_at, saying_at, seen_at, sender_at, sent_bytes, unless_closed, with_outgoing}
+use Rattle.h3_connection.specs.Sending.{appended, asked, broken_head_at, content_of_own, counted, does, encoded, fields_cost, head_part, is_open, known_of, outgoing_at, saying_at, seen_at, sender_at, sent_bytes, unless_closed, with_outgoing}
 use Rattle.h3_connection.specs.StreamSets.{Streams, stream_at}
 use Rattle.h3_connection.specs.StrictConnection.{begins_none_after}
 use Rattle.h3_connection.specs.StrictSending.{broken_trailer, early_trailer, passes_content}
 use Rattle.h3_connection.specs.Lasts.{last_id}
 use Rattle.h3_connection.specs.declared.event.Refusal.{Refusal}
 use Rattle.h3_connection.specs.declared.event.Refusal.TheVariants as refusal
-use Rattle.h3_messages.specs.Content.{left_behind, may_end}
+use Rattle.h3_messages.specs.Content.{may_end}
 use Rattle.h3_header.specs.Reads.{head_of_fields}
 use Rattle.h3_world.specs.EndLists.{after_fields, after_trailer_fields, fields_refusal, send_fields, send_trailer_fields, trailer_fields_refusal}
 use Rattle.h3_world.specs.Lists.{unreadable}

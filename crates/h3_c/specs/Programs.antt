@@ -1,6 +1,6 @@
 -- Two programs in C, a client and a server: their calls in the order of time, and the bytes that QUIC carries from one to the other, those of a stream in
 -- order (RFC 9000, section 2.2). And the schedule that these stand for, with its answers.
-use Rattle.std.specs.Prelude.{if◌then◌else◌, ◌≡◌, ◌⊎◌, ◌<◌, ◌≤◌, ℕ, zero, suc, ◌+◌, Bool, true, false, ◌||◌, ◌==◌, List, [], ◌∷◌, ◌++◌, drop, length, take, Option, Some, None, is_none, Ok}
+use Rattle.std.specs.Prelude.{if◌then◌else◌, ◌≡◌, ◌⊎◌, ◌<◌, ◌≤◌, ℕ, zero, suc, ◌+◌, Bool, true, false, ◌||◌, ◌==◌, List, [], ◌∷◌, ◌++◌, drop, length, take, Option, Some, None, Ok}
 use Rattle.h3_proto.specs.declared.stream.Side.{Side}
 use Rattle.h3_proto.specs.declared.stream.Side.TheVariants.{Client, Server}
 use Rattle.h3_connection.specs.OwnIds.{other}
@@ -21,7 +21,6 @@ use Rattle.h3_headline.specs.Messages.{is_on}
 use Rattle.h3_session.specs.OpeningAt.{to_open}
 use Rattle.h3_session.specs.Running.{answer_of}
 use Rattle.h3_c.specs.Asked.{GivesBytes, Learns, Tells as TellsAnswer, asked, is_left_out, pull_listed}
-use Rattle.h3_c.specs.Bits.{bit}
 use Rattle.h3_c.specs.Configs.{MakesGiven, announced_of, side_of}
 use Rattle.h3_c.specs.Does.{CallOfC, Does}
 use Rattle.h3_c.specs.Does.CallOfC.{Advance, CloseStream, Deliver, DeliverEnd, DeliverReset, OpenRequestAt, Outgoing, Read as ReadOfC, Reset as ResetOfC, Shutdown, ShutdownNotice, Stream}
