@@ -1,5 +1,5 @@
 -- What QUIC carries stands in the text of its stream, behind what came and in front of what waits. To a schedule it waits.
-use Rattle.std.proofs.Common.{arith, ◌≡◌, ◌≤◌, ◌⊎◌, inl, inr, ℕ, zero, suc, ◌+◌, ◌-◌, ◌*◌, Bool, true, false, if◌then◌else◌, List, [], ◌∷◌, ◌++◌, length, drop, take, refl, sym, ap, subst, ◌∙◌, Option, Some, None, append_assoc, append-nil}
+use Rattle.std.proofs.Common.{arith, ◌≡◌, ◌≤◌, ◌⊎◌, inl, inr, ℕ, zero, suc, ◌+◌, ◌-◌, ◌*◌, Bool, true, false, if◌then◌else◌, List, [], ◌∷◌, ◌++◌, length, drop, take, refl, sym, ap, subst, ◌∙◌, Option, Some, None, append_assoc, append-nil, length-append, take-append-drop}
 use Rattle.std.specs.Prelude.{◌==◌, ◌||◌, option_map}
 use Rattle.std.proofs.lemmas.Grind.{common_steps}
 use Rattle.h3_proto.specs.declared.stream.Side.{Side}
@@ -72,10 +72,6 @@ empty_right : {X : Type 0} (xs ys : List X) → [] ≡ xs ++ ys → ys ≡ []
 empty_right [] ys is = sym is
 empty_right (x ∷ xs) ys is = absurd (let never : [] ≡ x ∷ (xs ++ ys) = is in cc)
 
-pub length_joined : {X : Type 0} (xs ys : List X) → length (xs ++ ys) ≡ length xs + length ys
-length_joined [] ys = omega arith
-length_joined (x ∷ xs) ys = ap (λ n. suc n) (length_joined xs ys)
-
 pub drop_joined : (xs ys : List ℕ) → drop (length xs) (xs ++ ys) ≡ ys
 drop_joined [] ys = refl
 drop_joined (x ∷ xs) ys = drop_joined xs ys
@@ -84,15 +80,10 @@ pub take_joined : (xs ys : List ℕ) → take (length xs) (xs ++ ys) ≡ xs
 take_joined [] ys = refl
 take_joined (x ∷ xs) ys = ap (λ l. x ∷ l) (take_joined xs ys)
 
-pub cut_at : (n : ℕ) (xs : List ℕ) → xs ≡ take n xs ++ drop n xs
-cut_at zero xs = refl
-cut_at (suc n) [] = refl
-cut_at (suc n) (x ∷ xs) = ap (λ l. x ∷ l) (cut_at n xs)
-
 -- what waits: by the endpoint itself, and to a schedule
 rest_waits : {text flying : List ℕ} {taken : ℕ} (f : Flies text taken flying) → drop taken text ≡ f.rest
 rest_waits {text = text} {flying = flying} {taken = taken} f =
-    ap (λ n. drop n text) (f.count ∙ sym (length_joined f.before flying)) ∙ ap (λ l. drop (length (f.before ++ flying)) l) (f.is ∙ sym (append_assoc f.before flying f.rest))
+    ap (λ n. drop n text) (f.count ∙ sym (length-append f.before flying)) ∙ ap (λ l. drop (length (f.before ++ flying)) l) (f.is ∙ sym (append_assoc f.before flying f.rest))
     ∙ drop_joined (f.before ++ flying) f.rest
 
 less : (a b t : ℕ) → t ≡ a + b → t - b ≡ a
@@ -290,7 +281,7 @@ taken_if : (a b c : Bool) (m n o x y z w : ℕ) → (a ≡ true → x ≡ w) →
 taken_if true b c m n o x y z w p q r s = ap (λ i. m + i) (p refl)
 taken_if false true c m n o x y z w p q r s = ap (λ i. n + i) (q refl)
 taken_if false false true m n o x y z w p q r s = ap (λ i. o + i) (r refl)
-taken_if false false false m n o x y z w p q r s = sym (s refl)
+taken_if false false false m n o x y z w p q r s = let none = s refl in omega (arith, none)
 
 same_extra : (id n q p : ℕ) → (p == q) ≡ true → extra id n q ≡ extra id n p
 same_extra id n q p is = by_id p q (λ b. b ≡ true → extra id n q ≡ extra id n p) (λ same here. ap (λ i. extra id n i) (sym same)) (λ differs here. absurd (let never : false ≡ true = here in cc)) is
@@ -318,14 +309,14 @@ more_carried {flying = flying} bytes behind f rest now =
       before = f.before;
       rest = behind;
       is = f.is ∙ ap (λ l. f.before ++ (flying ++ l)) rest ∙ ap (λ l. f.before ++ l) (sym (append_assoc flying bytes behind));
-      count = let both = length_joined flying bytes in let was = f.count in omega (arith, both, was, now);
+      count = let both = length-append flying bytes in let was = f.count in omega (arith, both, was, now);
     }
 
 shifted : (t k x l : ℕ) → l ≡ k + x → (t + x) - l ≡ t - k
 shifted t k x l is = omega (arith, is)
 
 split_front : (n : ℕ) (xs bytes : List ℕ) → bytes ≡ take n xs → xs ≡ bytes ++ drop n xs
-split_front n xs bytes is = cut_at n xs ∙ ap (λ l. l ++ drop n xs) (sym is)
+split_front n xs bytes is = sym (take-append-drop n xs) ∙ ap (λ l. l ++ drop n xs) (sym is)
 
 no_bytes : (bytes : List ℕ) (n : ℕ) → bytes ≡ take n [] → bytes ≡ []
 no_bytes bytes zero is = is
@@ -354,7 +345,7 @@ module _ (before after : ℕ → List ℕ) (e : EndpointHistory) (k : Carries e.
   n = length bytes
 
   longer : (q : ℕ) → length (after q) ≡ length (before q) + extra id n q
-  longer q = ap (λ l. length l) (joins q) ∙ length_joined (before q) (if q == id then bytes else []) ∙ ap (λ i. length (before q) + i) (length_if (q == id) bytes)
+  longer q = ap (λ l. length l) (joins q) ∙ length-append (before q) (if q == id then bytes else []) ∙ ap (λ i. length (before q) + i) (length_if (q == id) bytes)
 
   others_out : (i : ℕ) (x : Out) → (i == id) ≡ false → (lagging e.side after).out i x ≡ (lagging e.side before).out i x
   others_out i x differs =

@@ -1,5 +1,5 @@
 -- Bytes that QUIC carried come. To a schedule they leave the writer then.
-use Rattle.std.proofs.Common.{arith, ◌≡◌, ◌≤◌, ℕ, ◌+◌, ◌-◌, Bool, true, false, if◌then◌else◌, List, [], ◌++◌, length, refl, sym, ap, subst, ◌∙◌, Option, Some, None, append_assoc}
+use Rattle.std.proofs.Common.{arith, ◌≡◌, ◌≤◌, ℕ, ◌+◌, ◌-◌, Bool, true, false, if◌then◌else◌, List, [], ◌++◌, length, refl, sym, ap, subst, ◌∙◌, Option, Some, None, append_assoc, length-append}
 use Rattle.std.specs.Prelude.{◌==◌, option_map}
 use Rattle.std.proofs.lemmas.Grind.{common_steps}
 use Rattle.h3_proto.specs.declared.stream.Side.{Side}
@@ -11,7 +11,7 @@ use Rattle.h3_connection.specs.OwnIds.{control_id, decoder_id, encoder_id, is_ow
 use Rattle.h3_connection.specs.Sending.{advance, advance_at}
 use Rattle.h3_connection.specs.StreamSets.{set_stream, stream_at}
 use Rattle.h3_connection.specs.StreamSetLaws.{set-same}
-use Rattle.h3_c.proofs.Flights.{Carries, Flies, FliesAt, IsUnreset, advanced_own, extra, its, lagging, length_if, length_joined, not_there, own_lags}
+use Rattle.h3_c.proofs.Flights.{Carries, Flies, FliesAt, IsUnreset, advanced_own, extra, its, lagging, length_if, not_there, own_lags}
 use Rattle.h3_c.proofs.Grows.{own_taken}
 use Rattle.h3_c.proofs.Views.{at_seen, by_id, seen, seen_absent, set_seen, streams_seen}
 
@@ -22,7 +22,7 @@ flies_fewer {flying = flying} front rest f is =
       before = f.before ++ front;
       rest = f.rest;
       is = f.is ∙ ap (λ l. f.before ++ (l ++ f.rest)) is ∙ ap (λ l. f.before ++ l) (append_assoc front rest f.rest) ∙ sym (append_assoc f.before front (rest ++ f.rest));
-      count = let all = ap (λ l. length l) is in let both = length_joined front rest in let more = length_joined f.before front in let was = f.count in omega (arith, all, both, more, was);
+      count = let all = ap (λ l. length l) is in let both = length-append front rest in let more = length-append f.before front in let was = f.count in omega (arith, all, both, more, was);
     }
 
 -- so many bytes of it count as taken then
@@ -55,7 +55,7 @@ module _ (before after : ℕ → List ℕ) (e : EndpointHistory) (k : Carries e.
   n = length bytes
 
   shorter : (q : ℕ) → length (before q) ≡ extra id n q + length (after q)
-  shorter q = ap (λ l. length l) (leaves q) ∙ length_joined (if q == id then bytes else []) (after q) ∙ ap (λ i. i + length (after q)) (length_if (q == id) bytes)
+  shorter q = ap (λ l. length l) (leaves q) ∙ length-append (if q == id then bytes else []) (after q) ∙ ap (λ i. i + length (after q)) (length_if (q == id) bytes)
 
   flies_at : (q : ℕ) (o : Option Out) → FliesAt e q o (before q) → FliesAt e q o (after q)
   flies_at q None f = flies_fewer (if q == id then bytes else []) (after q) f (leaves q)

@@ -1,5 +1,5 @@
 -- What two handles are after something happened, and what that is to a schedule.
-use Rattle.std.proofs.Common.{arith, ◌≡◌, ◌≢◌, ◌≤◌, ℕ, zero, suc, ◌-◌, Bool, true, false, if◌then◌else◌, List, [], ◌∷◌, ◌++◌, length, drop, refl, sym, ap, subst, ◌∙◌, Option, Some, None}
+use Rattle.std.proofs.Common.{arith, ◌≡◌, ◌≢◌, ◌≤◌, ℕ, ◌-◌, Bool, true, false, if◌then◌else◌, List, [], ◌∷◌, ◌++◌, length, drop, refl, sym, ap, subst, ◌∙◌, Option, Some, None, length-drop}
 use Rattle.std.specs.Prelude.{◌==◌, ◌&&◌, ◌||◌}
 use Rattle.std.proofs.lemmas.Grind.{common_steps}
 use Rattle.h3_proto.specs.declared.stream.Side.{Side}
@@ -111,13 +111,8 @@ still_waits : (is_reset finished : Bool) (xs ys : List ℕ) → length xs ≤ le
 still_waits true finished xs ys few h = h
 still_waits false finished xs ys few h = longer_waits finished (length xs) (length ys) few h
 
-length_dropped : (n : ℕ) (xs : List ℕ) → length (drop n xs) ≡ length xs - n
-length_dropped zero xs = omega arith
-length_dropped (suc n) [] = omega arith
-length_dropped (suc n) (x ∷ xs) = let rest = length_dropped n xs in omega (arith, rest)
-
 fewer_dropped : (n k : ℕ) (xs : List ℕ) → length (drop n xs) ≤ length (drop (n - k) xs)
-fewer_dropped n k xs = let one = length_dropped n xs in let two = length_dropped (n - k) xs in omega (arith, one, two)
+fewer_dropped n k xs = let one = length-drop n xs in let two = length-drop (n - k) xs in omega (arith, one, two)
 
 lags_alike : (side : Side) (carried : ℕ → List ℕ) (e : EndpointHistory) (id : ℕ) → reset_refusal e id ≢ Some refusal.Ended → reset_refusal (seen (lagging side carried) e) id ≡ reset_refusal e id
 lags_alike side carried e id not = by (is_sent_off (outgoing_at e id)) refl

@@ -1,5 +1,5 @@
 -- A read of bytes that come is their delivery, that of the end where it stands behind them, and a pull.
-use Rattle.std.proofs.Common.{arith, ◌≡◌, ◌≤◌, ◌<◌, inl, inr, ℕ, zero, suc, ◌+◌, Bool, true, false, if◌then◌else◌, List, [], ◌∷◌, ◌++◌, length, drop, take, refl, sym, ap, subst, ◌∙◌, Option, Some, None, Ok, Err, Result, append_assoc}
+use Rattle.std.proofs.Common.{arith, ◌≡◌, ◌≤◌, ◌<◌, inl, inr, ℕ, ◌+◌, Bool, true, false, if◌then◌else◌, List, [], ◌∷◌, ◌++◌, length, drop, take, refl, sym, ap, subst, ◌∙◌, Option, Some, None, Ok, Err, Result, append_assoc, length-take-le, take-append-drop, take_all}
 use Rattle.std.specs.Prelude.{◌==◌, ◌&&◌, ◌^◌, nat_lt}
 use Rattle.std.proofs.lemmas.Bool.{eqb-true}
 use Rattle.std.proofs.lemmas.Grind.{common_steps}
@@ -47,7 +47,6 @@ use Rattle.h3_c.specs.Seen.{Seen}
 use Rattle.h3_c.specs.declared.items.PulledItem.{PulledItem}
 use Rattle.h3_c.specs.declared.numbers.Told.{Told}
 use Rattle.h3_c.proofs.CarriedOver.{delivery_tells}
-use Rattle.h3_c.proofs.Flights.{cut_at}
 use Rattle.h3_c.proofs.ProgramCalls.{listed_pulls}
 use Rattle.h3_c.proofs.ProgramGives.{HandsPiece, bytes_given, end_given, piece_given, rest_given}
 use Rattle.h3_c.proofs.ProgramMoves.{ActsSo, Moves, StaysAt, StaysSo, ThenSo, stays_same}
@@ -93,19 +92,9 @@ rest_moves Server id v r c bytes is = rest_given (pair Server v r c) Server id b
 abbrev with_endpoint : Seen → EndpointState → Seen
 with_endpoint r s = record r { endpoint = s }
 
--- lists
-length_take : (k : ℕ) (xs : List ℕ) → k ≤ length xs → length (take k xs) ≡ k
-length_take zero xs h = refl
-length_take (suc k) [] h = absurd (omega (arith, h))
-length_take (suc k) (x ∷ xs) h = ap (λ n. suc n) (length_take k xs (omega (arith, h)))
-
-take_all : (xs : List ℕ) → take (length xs) xs ≡ xs
-take_all [] = refl
-take_all (x ∷ xs) = ap (λ l. x ∷ l) (take_all xs)
-
 -- cut in front of some of them
 cut_behind : (k : ℕ) (bytes rest : List ℕ) → bytes ++ rest ≡ take k bytes ++ (drop k bytes ++ rest)
-cut_behind k bytes rest = ap (λ l. l ++ rest) (cut_at k bytes) ∙ append_assoc (take k bytes) (drop k bytes) rest
+cut_behind k bytes rest = ap (λ l. l ++ rest) (sym (take-append-drop k bytes)) ∙ append_assoc (take k bytes) (drop k bytes) rest
 
 positive : (n : ℕ) → (n == 0) ≡ false → 0 < n
 positive n h = grind (arith, common_steps, h)
@@ -167,7 +156,7 @@ module _ (from : Side) (id : ℕ) (bytes : List ℕ) (fin used : ℕ) (item : Pu
           subst (λ b. Moves (pair from v (with_endpoint r start) c) (pair from v (with_endpoint r mid) left) (if b then [] else event.Deliver from id used ∷ []) (if b then [] else answer.Delivered used ∷ [])) (sym is)
           (subst (λ x. Moves (pair from v (with_endpoint r start) c) (pair from v (with_endpoint r x) left) [] []) (sym same) (rest_moves from id v (with_endpoint r start) c (drop used bytes ++ rest) (first ∙ stays_there none)))
       by false is =
-          let count = length_take used bytes few in
+          let count = length-take-le used bytes few in
           let length_some = positive used is in
           let delivers = delivers_some start mid id (take used bytes) (omega (arith, count, length_some)) takes in
           subst (λ b. Moves (pair from v (with_endpoint r start) c) (pair from v (with_endpoint r mid) left) (if b then [] else event.Deliver from id used ∷ []) (if b then [] else answer.Delivered used ∷ [])) (sym is)
@@ -226,7 +215,7 @@ module _ (from : Side) (id : ℕ) (bytes : List ℕ) (fin used : ℕ) (item : Pu
           → Moves (pair from v (with_endpoint r start) c) (pair from v s (carrying c from id ((if is_stored (Err e) then [] else take count bytes) ++ (drop count bytes ++ rest)))) (event.Deliver from id count ∷ []) (given_answer e ∷ [])
       offers e refused =
           subst (λ k. Moves (pair from v (with_endpoint r start) c) (pair from v s (carrying c from id ((if is_stored (Err e) then [] else take count bytes) ++ (drop count bytes ++ rest)))) (event.Deliver from id k ∷ [])
-          (answer_of (answer.Delivered k) (delivery_refused {X = Unit {0}} (Err e)) ∷ [])) (length_take count bytes few)
+          (answer_of (answer.Delivered k) (delivery_refused {X = Unit {0}} (Err e)) ∷ [])) (length-take-le count bytes few)
           (bytes_move from id v (with_endpoint r start) s c (take count bytes) (drop count bytes ++ rest) (Err e) (first ∙ cut_behind count bytes rest) goes refused)
 
       ends_so : (e : DeliverError) → stop.told ≡ delivery_told {X = Unit {0}} (Err e) → Delivers start s.endpoint id (take count bytes) (Err e)
@@ -247,7 +236,7 @@ module _ (from : Side) (id : ℕ) (bytes : List ℕ) (fin used : ℕ) (item : Pu
       by (deliver_error.OutOfMemory back) is refused taken = ends_so (deliver_error.OutOfMemory back) is refused (untaken taken)
   copied start same before (was_unended mid ends takes refuses last events given) =
       let all = used_all fin used bytes ends in
-      let took : TakesBytes start mid id (take used bytes) = subst (TakesBytes start mid id) (sym (ap (λ k. take k bytes) all ∙ take_all bytes)) takes in
+      let took : TakesBytes start mid id (take used bytes) = subst (TakesBytes start mid id) (sym (ap (λ k. take k bytes) all ∙ take_all (length bytes) bytes (omega arith))) takes in
       let a = told_answer (Err refuses.0) in
       record {
         events = bytes_events from id used ++ event.DeliverEnd from id ∷ [];
@@ -294,7 +283,7 @@ pieces_move : (from : Side) (id used : ℕ) (bytes rest front piece : List ℕ) 
     → ((e : EndpointHistory) → StandsFor r.endpoint e → HandsPiece s.endpoint id front piece e)
     → Moves (pair from v r c) (pair from v s (carrying c from id (drop used bytes ++ rest))) (event.Deliver from id used ∷ event.PullFields (other from) id ∷ []) (answer.Delivered used ∷ answer.Listed (list.Item (listed.Body piece)) ∷ [])
 pieces_move from id used bytes rest front piece v r s c first is few goes hands =
-    let count = ap (λ l. length l) is ∙ length_take used bytes few in
+    let count = ap (λ l. length l) is ∙ length-take-le used bytes few in
     subst (λ k. Moves (pair from v r c) (pair from v s (carrying c from id (drop used bytes ++ rest))) (event.Deliver from id k ∷ event.PullFields (other from) id ∷ []) (answer.Delivered k ∷ answer.Listed (list.Item (listed.Body piece)) ∷ [])) count
     (by from (first ∙ cut_behind used bytes rest ∙ ap (λ l. l ++ (drop used bytes ++ rest)) (sym is)))
   where
