@@ -380,7 +380,7 @@ module _ (before after : ℕ → List ℕ) (e : EndpointHistory) (k : Carries e.
       ap (λ l. length l) (no_bytes bytes n (front ∙ ap (λ l. take n l) none)))
       (λ differs. refl)
     where
-      none_dropped : (i : ℕ) → drop i [] ≡ []
+      none_dropped : (i : ℕ) → drop {A = ℕ} i [] ≡ []
       none_dropped zero = refl
       none_dropped (suc i) = refl
 
@@ -389,6 +389,9 @@ module _ (before after : ℕ → List ℕ) (e : EndpointHistory) (k : Carries e.
       (λ same. subst (λ i. FliesAt (own_more e id n) i (stream_at e.outgoing i) (after i)) (sym same) this)
       (λ differs. other (stream_at e.outgoing q) (k.flies q) differs)
     where
+      same_number : (i : ℕ) → (i == i) ≡ true
+      same_number i = grind (arith, common_steps)
+
       this : FliesAt (own_more e id n) id (stream_at e.outgoing id) (after id)
       this =
           let f = subst (λ o. FliesAt e id o (before id)) at (k.flies id) in
@@ -398,17 +401,14 @@ module _ (before after : ℕ → List ℕ) (e : EndpointHistory) (k : Carries e.
           (more_carried bytes (drop n f.rest) f (split_front n f.rest bytes (front ∙ ap (λ l. take n l) waits))
           (taken_more e id n id (no_more at id) ∙ ap (λ b. own_taken e id + (if b then n else 0)) (same_number id))))
 
-      same_number : (i : ℕ) → (i == i) ≡ true
-      same_number i = grind (arith, common_steps)
+      none_more : (m : ℕ) → m + 0 ≡ m
+      none_more m = omega arith
 
       other : (o : Option Out) → FliesAt e q o (before q) → (q == id) ≡ false → FliesAt (own_more e id n) q o (after q)
       other None f differs =
           let now : own_taken (own_more e id n) q ≡ own_taken e q = taken_more e id n q (no_more at q) ∙ ap (λ b. own_taken e q + (if b then n else 0)) differs ∙ none_more (own_taken e q) in
           subst (λ l. Flies (own_text e q) (own_taken (own_more e id n) q) l) (sym (elsewhere q differs)) (flies_more f (nothing_more (own_text e q)) now)
       other (Some o) f differs = λ goes. subst (λ l. Flies (part_bytes o) o.taken l) (sym (elsewhere q differs)) (f goes)
-
-      none_more : (m : ℕ) → m + 0 ≡ m
-      none_more m = omega arith
 
   own_took : stream_at e.outgoing id ≡ None → Took e.side before after e (advance e id n)
   own_took at =

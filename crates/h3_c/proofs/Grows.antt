@@ -124,13 +124,49 @@ own_then o p q a b = record {
 }
 
 pub replies_grow : (o : Own) (replies : List DecoderInstruction) → OwnGrows o (record o { replies = o.replies ++ replies })
-replies_grow o replies = record (own_same o) { replies = replies; replies_is = refl }
+replies_grow o replies = record {
+  further = refl;
+  updates = refl;
+  goaways = [];
+  goaways_is = sym (append-nil o.goaways);
+  instructions = [];
+  instructions_is = sym (append-nil o.instructions);
+  replies = replies;
+  replies_is = refl;
+  control_taken = refl;
+  encoder_taken = refl;
+  decoder_taken = refl;
+}
 
 pub instructions_grow : (o : Own) (instructions : List EncoderInstruction) → OwnGrows o (record o { instructions = o.instructions ++ instructions })
-instructions_grow o instructions = record (own_same o) { instructions = instructions; instructions_is = refl }
+instructions_grow o instructions = record {
+  further = refl;
+  updates = refl;
+  goaways = [];
+  goaways_is = sym (append-nil o.goaways);
+  instructions = instructions;
+  instructions_is = refl;
+  replies = [];
+  replies_is = sym (append-nil o.replies);
+  control_taken = refl;
+  encoder_taken = refl;
+  decoder_taken = refl;
+}
 
 pub goaways_grow : (o : Own) (goaways : List ℕ) → OwnGrows o (record o { goaways = o.goaways ++ goaways })
-goaways_grow o goaways = record (own_same o) { goaways = goaways; goaways_is = refl }
+goaways_grow o goaways = record {
+  further = refl;
+  updates = refl;
+  goaways = goaways;
+  goaways_is = refl;
+  instructions = [];
+  instructions_is = sym (append-nil o.instructions);
+  replies = [];
+  replies_is = sym (append-nil o.replies);
+  control_taken = refl;
+  encoder_taken = refl;
+  decoder_taken = refl;
+}
 
 pub same_parts : (o : Out) → PartsGrow o o
 same_parts o = record { taken = refl; text = λ goes. (goes, nothing_more (part_bytes o)) }
@@ -174,7 +210,7 @@ request_is_none side id is = ap (λ b. b || (id == encoder_id side) || (id == de
     not_decoder Server h = absurd (cc)
 
     differs : (s : Side) (i own : ℕ) → (kind_of s own ≡ Request → ⊥) → kind_of s i ≡ Request → (i == own) ≡ false
-    differs s i own never here = by_id i own (λ b. b ≡ false) (λ same. absurd (never (subst (λ j. kind_of s j ≡ Request) same here))) (λ other. other)
+    differs s i own never here = by_id i own (λ b. b ≡ false) (λ same. absurd (never (subst (λ j. kind_of s j ≡ Request) same here))) (λ other. refl)
 
 -- The texts of own streams grow, where no priority was said.
 frames_joined : (ids more : List ℕ) → flat_map goaway_encoding (ids ++ more) ≡ flat_map goaway_encoding ids ++ flat_map goaway_encoding more

@@ -1,6 +1,6 @@
 -- What is read of what came is answered behind all that was written, and opens streams.
 use Rattle.std.proofs.Common.{◌≡◌, ◌⊎◌, inl, inr, ℕ, Bool, true, false, if◌then◌else◌, List, [], ◌∷◌, ◌++◌, refl, sym, ap, subst, ◌∙◌, Option, Some, None}
-use Rattle.std.specs.Prelude.{◌-◌, All, IfSome, IsSome, fold, is_some, min, option_map, unwrap_or}
+use Rattle.std.specs.Prelude.{◌-◌, All, IfSome, fold, is_some, min, option_map, unwrap_or}
 use Rattle.std.proofs.lemmas.List.Elements.{All-head, All-tail}
 use Rattle.h3_field.specs.Instruction.{DecoderInstruction}
 use Rattle.h3_field.specs.Instruction.EncoderInstruction.{SetCapacity}
@@ -317,14 +317,10 @@ behind_none b (Some r) is = absurd (let never : Some r ≡ None = is in cc)
 behind_none b None is = refl
 
 -- So is what is kept.
-if_some : {X : Type 0} (o : Option X) → IsSome o → is_some o ≡ true
-if_some None h = absurd h
-if_some (Some x) h = refl
-
 kept_there : (e : EndpointHistory) (arrivals : List Arrival) → All (KeepsOpen e.side e.incoming) arrivals → AreThere e arrivals
 kept_there e [] all = tt
 kept_there e (a ∷ arrivals) all =
-    (λ kind. inr (if_some (stream_at e.incoming (stream_of a)) (All-head (KeepsOpen e.side e.incoming) a arrivals all kind)), kept_there e arrivals (All-tail (KeepsOpen e.side e.incoming) a arrivals all))
+    (λ kind. inr (All-head (KeepsOpen e.side e.incoming) a arrivals all kind), kept_there e arrivals (All-tail (KeepsOpen e.side e.incoming) a arrivals all))
 
 there_last : (e : EndpointHistory) (arrivals : List Arrival) (a : Arrival) → AreThere e arrivals → IsThere e (stream_of a) → AreThere e (arrivals ++ a ∷ [])
 there_last e [] a all there = (there, tt)
@@ -473,12 +469,12 @@ part_reads {e = e} {new = new} (Goes {next = next} {more = more} on part) there 
 decoder_told : (e : EndpointHistory) → IsReached e → IsToldDecoder e
 decoder_told e reached id is = by e.decoder_on reached.told_decoder is
   where
+    same_number : (a b : ℕ) → Some a ≡ Some b → a ≡ b
+    same_number a b is = cc
+
     by : (o : Option ℕ) → IfSome o (IsToldPeer e.side e.unidirectional) → o ≡ Some id → kind_of e.side id ≡ PeerUnidirectional
     by None told is = absurd (let never : None ≡ Some id = is in cc)
     by (Some q) told is = subst (λ i. kind_of e.side i ≡ PeerUnidirectional) (same_number q id is) told.0
-
-    same_number : (a b : ℕ) → Some a ≡ Some b → a ≡ b
-    same_number a b is = cc
 
 -- of an endpoint that calls made
 pub kept_reads : (e new : EndpointHistory) → IsReached e → ReadsPart (unkept e) e.kept new → Reads e new

@@ -212,7 +212,7 @@ client_opens Client last next is = refl
 client_opens Server last next is = absurd (let never : Some refusal.NotClient ≡ None = is in cc)
 
 differs : (n k : ℕ) → (n ≡ k → ⊥) → (n == k) ≡ false
-differs n k not = by_id n k (λ b. b ≡ false) (λ same. absurd (not same)) (λ other. other)
+differs n k never = by_id n k (λ b. b ≡ false) (λ same. absurd (never same)) (λ other. refl)
 
 none_of : (a b c : Bool) → a ≡ false → b ≡ false → c ≡ false → (a || b || c) ≡ false
 none_of a b c p q r = ap (λ x. x || b || c) p ∙ ap (λ x. false || x || c) q ∙ ap (λ x. false || false || x) r
