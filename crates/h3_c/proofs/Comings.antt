@@ -201,7 +201,7 @@ module _ (ends : Ends) (from : Side) (id : ℕ) where
 
   pub end_step : (result : Result Unit DeliverError) (after : EndpointHistory) → has_outgoing (end_at ends from) id ≡ true → is_finished (end_at ends from) id ≡ true → waiting (end_at ends from) id ≡ 0
       → Came reader (EndCame id) result after → EndsStep ends (event.DeliverEnd from id) (answer_of answer.Done (delivery_refused result)) (with_end ends (other from) after)
-  end_step _ _ has finished none (IsDone done ok) =
+  end_step _ _ has finished none (IsDone _ ok) =
       let is : end_delivery ends from id ≡ done ends (other from) answer.Done (arrives reader (EndCame id)) = rw (has, finished, none) refl in
       told_so ends _ (event.DeliverEnd from id) answer.Done refl (is ∙ told_done (EndCame id) ok)
   end_step _ _ has finished none (IsRefused why some) =
@@ -212,7 +212,7 @@ module _ (ends : Ends) (from : Side) (id : ℕ) where
 
   pub reset_step : (result : Result Unit DeliverError) (after : EndpointHistory) → has_outgoing (end_at ends from) id ≡ true → is_reset (end_at ends from) id ≡ true
       → Came reader (ResetCame id reset_code) result after → EndsStep ends (event.DeliverReset from id) (answer_of answer.Done (delivery_refused result)) (with_end ends (other from) after)
-  reset_step _ _ has was (IsDone done ok) =
+  reset_step _ _ has was (IsDone _ ok) =
       let is : reset_delivery ends from id ≡ done ends (other from) answer.Done (arrives reader (ResetCame id reset_code)) = rw (has, was) refl in
       told_so ends _ (event.DeliverReset from id) answer.Done refl (is ∙ told_done (ResetCame id reset_code) ok)
   reset_step _ _ has was (IsRefused why some) =

@@ -177,7 +177,7 @@ ended_or_not (refusal.Raised id) = inr refl
 ended_or_not refusal.OutOfMemory = inr refl
 
 not_over : (a : Answer) → is_over a ≡ false → a ≢ answer.Refused refusal.Ended
-not_over a no is = absurd (let never : true ≡ false = sym (ap is_over is) ∙ no in cc)
+not_over a differs is = absurd (let never : true ≡ false = sym (ap is_over is) ∙ differs in cc)
 
 module _ (side : Side) (h g : Handles) (there : handle_at g (other side) ≡ handle_at h (other side)) (same : g.carried ≡ h.carried) where
   abbrev HasNoEvent : CallOfC → Type 0
@@ -253,8 +253,8 @@ module _ (side : Side) (h g : Handles) (there : handle_at g (other side) ≡ han
   ]
     where
       done : (r : Result Unit Refusal) → n ≡ call_told r → is_over (done_answer r) ≡ false → Resets (handle_at h side).endpoint (handle_at g side).endpoint id r → Made (Call side (call.Reset id n)) h g
-      done r told no resets =
-          made_event (Call side (call.Reset id n)) h g (event.Reset side id) n (done_answer r) refl (call_tells n r told) tt tt (not_over (done_answer r) no) same
+      done r told differs resets =
+          made_event (Call side (call.Reset id n)) h g (event.Reset side id) n (done_answer r) refl (call_tells n r told) tt tt (not_over (done_answer r) differs) same
           (by_side side (TellsCall done_answer (λ s t r. Resets s t id r)) h g (done_answer r) (record { result = r; given_is = refl; called = resets }) there)
 
       refuses : (r : Refusal) → n ≡ refusal_told r → Resets (handle_at h side).endpoint (handle_at g side).endpoint id (Err r) → (r ≡ refusal.Ended) ⊎ (is_over (answer.Refused r) ≡ false) → Made (Call side (call.Reset id n)) h g
@@ -262,7 +262,7 @@ module _ (side : Side) (h g : Handles) (there : handle_at g (other side) ≡ han
           made_at (Call side (call.Reset id n)) side h g
           (λ e stands. record { after = e; stands = stands_unchanged (handle_at h side).endpoint (handle_at g side).endpoint e (resets.same (λ is. absurd (let never : Some r ≡ None = is in cc))) stands; same = refl })
           there same (IsOver refl (told ∙ ap refusal_told ended))
-      refuses r told resets (inr no) = done (Err r) told no resets
+      refuses r told resets (inr differs) = done (Err r) told differs resets
 
       by : (r : Result Unit Refusal) → n ≡ call_told r → Resets (handle_at h side).endpoint (handle_at g side).endpoint id r → Made (Call side (call.Reset id n)) h g
       by (Ok success) told resets = done (Ok success) told refl resets

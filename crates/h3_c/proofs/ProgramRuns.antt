@@ -120,7 +120,7 @@ bytes_made from id bytes n h g ends stand (gives, tells) =
     (bytes_given h s id from bytes gives.rest result gives.first (goes_told (handle_at h from) id tells) k.done))
 
 end_made : (from : Side) (id : ℕ) (n : Told) (h g : Handles) → Happens (End from id n) h g → Made (End from id n) h g
-end_made from id n h g (gives, none, tells) =
+end_made from id n h g (gives, (none, tells)) =
     let below = (tells_stream (handle_at h from) id _ tells).0 in
     let s = handle_at g (other from) in
     delivered id n (handle_at h (other from)) s _ _ below gives.given
@@ -168,7 +168,7 @@ act_made law (Read from id bytes fin used before item n) h g ends stand (gives, 
     carried_here g bytes is = ap (λ c. c from id) is ∙ carrying_here h.carried from id bytes
 act_made law (End from id n) h g ends stand happens = at_ends law ends stand (end_made from id n h g happens)
 act_made law (Reset from id n) h g ends stand happens = at_ends law ends stand (reset_made from id n h g happens)
-act_made law (Empty from id) h g ends stand (none, tells, same) =
+act_made law (Empty from id) h g ends stand ((none, tells), same) =
     at_ends law ends stand (made_moves (Empty from id) h g h (event.Deliver from id 1 ∷ []) (answer.Short 0 ∷ []) same (IsEvent refl refl) (empty_given h from id none (empty_told (handle_at h from) id tells)))
 
 -- what two programs come to
@@ -196,11 +196,11 @@ acts_run law (act ∷ acts) h g ends stand (next, happens, happen) =
     }
 
 -- At the beginning nothing is carried.
-zero_if : (a b c : Bool) → (if a then 0 else (if b then 0 else (if c then 0 else 0))) ≡ 0
-zero_if true b c = refl
-zero_if false true c = refl
-zero_if false false true = refl
-zero_if false false false = refl
+same_if : (a b c : Bool) (n : ℕ) → (if a then n else (if b then n else (if c then n else n))) ≡ n
+same_if true b c n = refl
+same_if false true c n = refl
+same_if false false true n = refl
+same_if false false false n = refl
 
 new_carries : (side : Side) (announced : Announced) (carried : ℕ → List ℕ) → ((id : ℕ) → carried id ≡ []) → Carries side carried (new_endpoint side announced)
 new_carries side announced carried none =
@@ -208,7 +208,7 @@ new_carries side announced carried none =
     record {
       side_is = refl;
       flies = λ id. subst (λ l. Flies (own_text e id) (own_taken e id) l) (sym (none id))
-          (record { before = []; rest = own_text e id; is = refl; count = zero_if (id == control_id side) (id == encoder_id side) (id == decoder_id side) });
+          (record { before = []; rest = own_text e id; is = refl; count = same_if (id == control_id side) (id == encoder_id side) (id == decoder_id side) 0 });
       silent = refl;
       apart = λ id own. refl;
       next = 0;

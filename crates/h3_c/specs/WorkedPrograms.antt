@@ -111,6 +111,10 @@ request_sent = FieldSection OfHead true request ∷ []
 abbrev pub response_sent : List MessageContent
 response_sent = FieldSection OfHead true response ∷ Byte 104 ∷ Byte 105 ∷ []
 
+-- a HEADERS frame with the section of `:status: 200` (RFC 9204, appendix A: index 25), and a DATA frame
+abbrev pub response_frames : List ℕ
+response_frames = 1 ∷ 3 ∷ 0 ∷ 0 ∷ 217 ∷ 0 ∷ 2 ∷ 104 ∷ 105 ∷ []
+
 -- What is carried of the response: nothing, five bytes, nine, and two. Nothing is carried of another stream, or from the client.
 abbrev pub none_carried : Side → ℕ → List ℕ
 none_carried side id = []
