@@ -1,11 +1,11 @@
--- What `h3_outgoing` shows is the front of what waits.
-use Rattle.std.proofs.Common.{arith, ◌≡◌, ◌≤◌, ◌<◌, ◌⊎◌, inl, inr, ℕ, zero, suc, Bool, true, false, List, [], ◌∷◌, length, take, refl, ap, subst, ◌∙◌, Option, Some, None}
-use Rattle.std.specs.Prelude.{◌==◌, ◌&&◌, ◌||◌, ◌^◌, min, nat_lt, is_some, option_map, unwrap_or}
+-- What `h3_outgoing` shows is the front of what waits, and what `h3_stream` tells of a stream is so.
+use Rattle.std.proofs.Common.{arith, ◌≡◌, ◌≤◌, ◌<◌, ◌⊎◌, inl, inr, ℕ, zero, suc, Bool, true, false, List, [], ◌∷◌, length, take, refl, sym, ap, subst, ◌∙◌, Option, Some, None}
+use Rattle.std.specs.Prelude.{◌||◌, ◌^◌, min, nat_lt, is_some, option_map, unwrap_or}
 use Rattle.std.proofs.lemmas.Bool.{cases_Bool}
 use Rattle.std.proofs.lemmas.Grind.{common_steps}
-use Rattle.h3_connection.specs.Endpoint.{EndpointHistory, bytes_waiting, own_waiting}
+use Rattle.h3_connection.specs.Endpoint.{EndpointHistory, bytes_waiting}
 use Rattle.h3_connection.specs.Outgoing.{Outgoing as Out}
-use Rattle.h3_connection.specs.OwnIds.{control_id, encoder_id, decoder_id, is_own}
+use Rattle.h3_connection.specs.OwnIds.{is_own}
 use Rattle.h3_connection.specs.Shown.{has_outgoing, is_finished, is_reset, waiting}
 use Rattle.h3_connection.specs.State.{StandsFor}
 use Rattle.h3_connection.specs.StreamSets.{stream_at}
@@ -15,10 +15,11 @@ use Rattle.h3_outgoing.specs.HeldLaws.{front_in, front_out, front_within}
 use Rattle.h3_c.specs.Bits.{bit}
 use Rattle.h3_c.specs.Exported.{CopiesOut, OnStream}
 use Rattle.h3_c.specs.Numbers.{argument, ok}
-use Rattle.h3_c.specs.Programs.{Shows}
+use Rattle.h3_c.specs.Programs.{Shows, Tells, GoesOn, HasEnded, IsEmpty, WasReset}
 use Rattle.h3_c.specs.Seen.{Seen}
+use Rattle.h3_c.specs.Showing.{IsStream}
+use Rattle.h3_c.specs.declared.state.StreamState.{StreamState}
 use Rattle.h3_c.specs.declared.numbers.Told.{Told}
-use Rattle.h3_c.proofs.Unordered.{waits_of}
 
 pub below_or_not : (a b : ℕ) → (a < b) ⊎ (b ≤ a)
 below_or_not a b = elim (cases_Bool (nat_lt a b)) [
@@ -51,21 +52,20 @@ take_front (suc k) (b ∷ wire) h = elim (cases_Bool (nat_lt b 256)) [
   | inr is ↦ (let n = ap (λ l. length l) (front_out b wire is) in absurd (omega (arith, h, n)))
 ]
 
-pub copies : (v : Seen) (id : ℕ) (buffer : List ℕ) (count past fin : ℕ) (s : Shows v id buffer count past fin) → CopiesOut v id ok s.before buffer count past fin
-copies v id buffer count past fin s = (known_id id v v _ s.call.1).1
+copies : (v : Seen) (id : ℕ) (bytes : List ℕ) (s : Shows v id bytes) → CopiesOut v id ok s.before s.buffer s.count s.past s.fin
+copies v id bytes s = (known_id id v v _ s.call.1).1
 
 -- so many of them are the first that wait
-pub shown_front : (v : Seen) (id : ℕ) (buffer bytes : List ℕ) (count past fin : ℕ) → Shows v id buffer count past fin → length bytes ≤ count → bytes ≡ take (length bytes) buffer
-    → (e : EndpointHistory) → StandsFor v.endpoint e → (bytes ≡ take (length bytes) (bytes_waiting e id)) × (length bytes ≤ waiting e id)
-shown_front v id buffer bytes count past fin s within is e h =
-    let c = copies v id buffer count past fin s in
+pub shown_front : (v : Seen) (id : ℕ) (bytes : List ℕ) → Shows v id bytes → (e : EndpointHistory) → StandsFor v.endpoint e → (bytes ≡ take (length bytes) (bytes_waiting e id)) × (length bytes ≤ waiting e id)
+shown_front v id bytes s e h =
+    let c = copies v id bytes s in
     let f = (c.copied e h).copied in
     let front = front_of (bytes_waiting e id) in
-    let few : length bytes ≤ min (length front) (length s.before) = subst (λ n. length bytes ≤ n) f.place within in
+    let few : length bytes ≤ min (length front) (length s.before) = subst (λ n. length bytes ≤ n) f.place s.within in
     let fits : length bytes ≤ length front = omega (arith, few) in
     let room : length bytes ≤ length s.before = omega (arith, few) in
     let there = front_within (bytes_waiting e id) in (
-      is ∙ ap (λ l. take (length bytes) l) f.filled ∙ take_put (length bytes) front s.before fits room ∙ take_front (length bytes) (bytes_waiting e id) fits,
+      s.front ∙ ap (λ l. take (length bytes) l) f.filled ∙ take_put (length bytes) front s.before fits room ∙ take_front (length bytes) (bytes_waiting e id) fits,
       omega (arith, fits, there),
     )
 
@@ -78,30 +78,6 @@ or_true : (b : Bool) → (b || true) ≡ true
 or_true true = refl
 or_true false = refl
 
--- bytes wait on own streams and on open ones alone
-own_there : (e : EndpointHistory) (id : ℕ) → 0 < length (own_waiting e id) → is_own e.side id ≡ true
-own_there e id some = elim (cases_Bool (id == control_id e.side)) [
-  | inl control ↦ rw (control) refl
-  | inr not_control ↦ elim (cases_Bool (id == encoder_id e.side)) [
-    | inl encoder ↦ rw (not_control, encoder) refl
-    | inr not_encoder ↦ elim (cases_Bool (id == decoder_id e.side)) [
-      | inl decoder ↦ rw (not_control, not_encoder, decoder) refl
-      | inr not_decoder ↦ absurd (
-          let none : own_waiting e id ≡ [] = rw (not_control, not_encoder, not_decoder) refl in
-          let n = ap (λ l. length l) none in omega (arith, some, n))
-    ]
-  ]
-]
-
-some_there : (e : EndpointHistory) (id : ℕ) (o : Option Out) → stream_at e.outgoing id ≡ o → 0 < waiting e id → has_outgoing e id ≡ true
-some_there e id None is some =
-    let own : bytes_waiting e id ≡ own_waiting e id = ap (λ o. waits_of e id o) is in
-    ap (λ b. b || is_some (stream_at e.outgoing id)) (own_there e id (subst (λ l. 0 < length l) own some))
-some_there e id (Some o) is some = ap (λ o. is_own e.side id || is_some o) is ∙ or_true (is_own e.side id)
-
-pub waits_there : (e : EndpointHistory) (id : ℕ) → 0 < waiting e id → has_outgoing e id ≡ true
-waits_there e id some = some_there e id (stream_at e.outgoing id) refl some
-
 pub ends_there : (e : EndpointHistory) (id : ℕ) → is_finished e id ≡ true → has_outgoing e id ≡ true
 ends_there e id h = ap (λ b. is_own e.side id || b) (finished_there (stream_at e.outgoing id) h) ∙ or_true (is_own e.side id)
 
@@ -112,31 +88,36 @@ reset_there (Some o) h = refl
 pub resets_there : (e : EndpointHistory) (id : ℕ) → is_reset e id ≡ true → has_outgoing e id ≡ true
 resets_there e id h = ap (λ b. is_own e.side id || b) (reset_there (stream_at e.outgoing id) h) ∙ or_true (is_own e.side id)
 
--- `fin` says that the stream is finished, and that these are the last
-bit_true : (b : Bool) → 1 ≡ bit b → b ≡ true
-bit_true true h = refl
-bit_true false h = absurd (omega (arith, h))
+-- what `h3_stream` tells
+bit_true : (b : Bool) (n : ℕ) → n ≡ bit b → n ≡ 1 → b ≡ true
+bit_true true n is one = refl
+bit_true false n is one = absurd (omega (arith, is, one))
 
-and_left : (a b : Bool) → (a && b) ≡ true → a ≡ true
-and_left true b h = refl
-and_left false b h = absurd (let never : false ≡ true = h in cc)
+bit_false : (b : Bool) (n : ℕ) → n ≡ bit b → n ≡ 0 → b ≡ false
+bit_false true n is none = absurd (omega (arith, is, none))
+bit_false false n is none = refl
 
-and_right : (a b : Bool) → (a && b) ≡ true → b ≡ true
-and_right true b h = h
-and_right false b h = absurd (let never : false ≡ true = h in cc)
+pub tells_stream : (v : Seen) (id : ℕ) (tells : StreamState → Type 0) (t : Tells v id tells) → (id < 2 ^ 62) × ((e : EndpointHistory) → StandsFor v.endpoint e → IsStream e id t.state)
+tells_stream v id tells t = let k = known_id id v v _ t.call.1 in (k.0, k.1.1)
 
-pub shown_finished : (v : Seen) (id : ℕ) (buffer : List ℕ) (count past : ℕ) → Shows v id buffer count past 1 → (e : EndpointHistory) → StandsFor v.endpoint e → is_finished e id ≡ true
-shown_finished v id buffer count past s e h = and_left _ _ (bit_true _ ((copies v id buffer count past 1 s).last e h))
+pub goes_told : (v : Seen) (id : ℕ) → Tells v id GoesOn → (e : EndpointHistory) → StandsFor v.endpoint e → (has_outgoing e id ≡ true) × (is_reset e id ≡ false)
+goes_told v id t e h =
+    let s = (tells_stream v id GoesOn t).1 e h in
+    (bit_true (has_outgoing e id) t.state.has_outgoing s.has_outgoing t.told.0, bit_false (is_reset e id) t.state.is_reset s.is_reset t.told.1)
 
-none_left : (n : ℕ) → (n == 0) ≡ true → n ≡ 0
-none_left n h = grind (arith, common_steps, h)
+pub ended_told : (v : Seen) (id : ℕ) → Tells v id HasEnded → (e : EndpointHistory) → StandsFor v.endpoint e → (has_outgoing e id ≡ true) × (is_finished e id ≡ true) × (waiting e id ≡ 0)
+ended_told v id t e h =
+    let s = (tells_stream v id HasEnded t).1 e h in
+    let finished = bit_true (is_finished e id) t.state.is_finished s.is_finished t.told.0 in
+    (ends_there e id finished, finished, sym s.waiting ∙ t.told.1)
 
-pub shown_none : (v : Seen) (id : ℕ) (buffer : List ℕ) → Shows v id buffer 0 0 1 → (e : EndpointHistory) → StandsFor v.endpoint e → waiting e id ≡ 0
-shown_none v id buffer s e h = none_left (waiting e id) (and_right _ _ (bit_true _ ((copies v id buffer 0 0 1 s).last e h)))
+pub reset_told : (v : Seen) (id : ℕ) → Tells v id WasReset → (e : EndpointHistory) → StandsFor v.endpoint e → (has_outgoing e id ≡ true) × (is_reset e id ≡ true)
+reset_told v id t e h =
+    let s = (tells_stream v id WasReset t).1 e h in
+    let was = bit_true (is_reset e id) t.state.is_reset s.is_reset t.told in
+    (resets_there e id was, was)
 
-pub goes_there : (v : Seen) (id : ℕ) (buffer bytes : List ℕ) (count past fin : ℕ) → Shows v id buffer count past fin → length bytes ≤ count → bytes ≡ take (length bytes) buffer → (0 < length bytes) ⊎ (fin ≡ 1)
-    → (e : EndpointHistory) → StandsFor v.endpoint e → has_outgoing e id ≡ true
-goes_there v id buffer bytes count past fin s within is (inl some) e h =
-    let there = (shown_front v id buffer bytes count past fin s within is e h).1 in waits_there e id (omega (arith, some, there))
-goes_there v id buffer bytes count past fin s within is (inr ends) e h =
-    ends_there e id (shown_finished v id buffer count past (subst (λ f. Shows v id buffer count past f) ends s) e h)
+pub empty_told : (v : Seen) (id : ℕ) → Tells v id IsEmpty → (e : EndpointHistory) → StandsFor v.endpoint e → (has_outgoing e id ≡ true) × (waiting e id ≡ 0)
+empty_told v id t e h =
+    let s = (tells_stream v id IsEmpty t).1 e h in
+    (bit_true (has_outgoing e id) t.state.has_outgoing s.has_outgoing t.told.0, sym s.waiting ∙ t.told.1)

@@ -9,8 +9,7 @@ use Rattle.h3_world.specs.declared.event.Event.TheVariants as event
 use Rattle.h3_session.specs.Typed.{IsTyped}
 use Rattle.h3_c.specs.Given.{behind, field_at_front, fields_cut, fields_given, first_flag, is_flags}
 use Rattle.h3_c.specs.declared.fields.FieldSize.{FieldSize}
-use Rattle.h3_c.proofs.ProgramMoves.{AreOfC}
-use Rattle.h3_c.proofs.UnorderedSteps.{IsOfC}
+use Rattle.h3_c.proofs.ViewsSteps.{AreOfC, IsOfC}
 
 take_bytes : (count : ℕ) (bytes : List ℕ) → AreBytes bytes → AreBytes (take count bytes)
 take_bytes zero bytes all = tt

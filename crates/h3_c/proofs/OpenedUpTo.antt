@@ -1,6 +1,6 @@
 -- Requests that are opened one after the other are so many events.
 use Rattle.std.proofs.Common.{arith, ◌≡◌, ◌<◌, ◌≤◌, ◌+◌, ℕ, zero, suc, Bool, true, false, if◌then◌else◌, refl, sym, ap, subst, ◌∙◌, Option, Some, None}
-use Rattle.std.specs.Prelude.{◌*◌, ◌^◌, ◌-◌, ◌/◌, not, nat_le, nat_lt}
+use Rattle.std.specs.Prelude.{◌*◌, ◌^◌, ◌-◌, not, nat_le, nat_lt}
 use Rattle.std.proofs.lemmas.Grind.{common_steps}
 use Rattle.std.proofs.lemmas.Nat.{div-add-mod'}
 use Rattle.h3_proto.specs.StreamIds.{is_request_stream}
@@ -22,7 +22,8 @@ use Rattle.h3_memory.specs.Refused.{EndsRun, EndsStep}
 use Rattle.h3_session.specs.OpeningAt.{id_refused, opened_more, opening_refusal, to_open}
 use Rattle.h3_session.specs.Running.{answer_of}
 use Rattle.h3_c.specs.Programs.{opened_answers, opened_events}
-use Rattle.h3_c.proofs.ProgramMoves.{AreOfC}
+use Rattle.h3_c.proofs.Comings.{done_is}
+use Rattle.h3_c.proofs.ViewsSteps.{AreOfC}
 
 -- The first one of them is opened, and then the others.
 opened_first : (count : ℕ) (e : EndpointHistory) → opened_more (suc count) e ≡ opened_more count (open_request e).1
@@ -57,11 +58,6 @@ opens_next e is few =
 
 next_is : (e : EndpointHistory) → open_refusal e ≡ None → (open_request e).1.next_id ≡ e.next_id + 4
 next_is e is = ap (λ x. x.1.next_id) (opened_is e is)
-
--- an end that is done, or refused
-pub done_is : (ends : Ends) (side : Side) (success : Answer) (x : Option Refusal × EndpointHistory) → done ends side success x ≡ (answer_of success x.0, with_end ends side x.1)
-done_is ends side success (None, e) = refl
-done_is ends side success (Some r, e) = refl
 
 opened_by : (side : Side) (ends : Ends) (e : EndpointHistory) → open_refusal e ≡ None → done (with_end ends side e) side (answer.Opened e.next_id) (open_request e) ≡ (answer.Opened e.next_id, with_end (with_end ends side e) side (open_request e).1)
 opened_by side ends e is =

@@ -32,12 +32,23 @@ use Rattle.h3_world.specs.Headline.{is_out_of_memory}
 use Rattle.h3_world.specs.declared.event.Answer.{Answer}
 use Rattle.h3_world.specs.declared.event.Event.{Event}
 use Rattle.h3_memory.specs.Refused.{AnswerOf, CutsList, EndsRun, EndsStep, IsAsked, LacksMemory, LosesNothing, Stores, handed_over}
-use Rattle.h3_c.proofs.ProgramMoves.{AreOfC}
 use Rattle.h3_c.proofs.UnheardUpdates.{peer_unheard, so_heard, unheard}
-use Rattle.h3_c.proofs.Unordered.{bytes_unordered, finished_unordered, has_unordered, reset_unordered, unordered}
-use Rattle.h3_c.proofs.UnorderedMemory.{Cancels, GoesAway, KeepsBytes, KeepsEnd, KeepsReset, LacksOf, Opens, Pulls, SendsBody, SendsFields, SendsTrailer, TakesNoEnd, TakesNoReset, TakesNone, at_end, handed_unordered, lacking, lacks_of}
-use Rattle.h3_c.proofs.UnorderedReading.{arrival_unordered, held_as_unordered, if_learned_unordered, keeping_unordered, so_found}
-use Rattle.h3_c.proofs.UnorderedSteps.{IsOfC, answered_unordered, both_unordered, cancel_unordered, end_unordered, fields_sent_unordered, goaway_unordered, open_request_unordered, trailer_sent_unordered, with_end_unordered}
+use Rattle.h3_c.proofs.Unordered.{advance_unordered, bytes_unordered, finished_unordered, has_unordered, keeps_plain, reset_unordered, unordered}
+use Rattle.h3_c.proofs.UnorderedSteps.{answered_unordered, both_unordered, end_unordered, with_end_unordered}
+use Rattle.h3_c.proofs.Views.{plain}
+use Rattle.h3_c.proofs.ViewsMemory.{Cancels, GoesAway, KeepsBytes, KeepsEnd, KeepsReset, LacksOf, Opens, Pulls, SendsBody, SendsFields, SendsTrailer, TakesNoEnd, TakesNoReset, TakesNone, lacking, lacks_of}
+use Rattle.h3_c.proofs.ViewsReading as reading
+use Rattle.h3_c.proofs.ViewsSending as sending
+use Rattle.h3_c.proofs.ViewsSteps.{AreOfC, IsOfC}
+
+-- what is refused is refused alike
+at_end : {X : Type 0} (ends : Ends) (side : Side) (f : EndpointHistory → X) → ((e : EndpointHistory) → f (unordered e) ≡ f e) → f (end_at (both_unordered ends) side) ≡ f (end_at ends side)
+at_end ends side f alike = ap f (end_unordered ends side) ∙ alike (end_at ends side)
+
+handed_unordered : (ends : Ends) (writer : Side) (id count : ℕ) → handed_over (both_unordered ends) writer id count ≡ both_unordered (handed_over ends writer id count)
+handed_unordered ends writer id count =
+    ap (λ e. with_end (both_unordered ends) writer (sender.advance e id count)) (end_unordered ends writer) ∙ ap (λ e. with_end (both_unordered ends) writer e) (advance_unordered (end_at ends writer) id count)
+    ∙ with_end_unordered ends writer (sender.advance (end_at ends writer) id count)
 
 -- What is read of what came.
 record FoundOf (e : EndpointHistory) (a : Arrival) (y : EndpointHistory) : Type 0 where
@@ -45,11 +56,11 @@ record FoundOf (e : EndpointHistory) (a : Arrival) (y : EndpointHistory) : Type 
   read : read_arrival e a ≡ (new, None)
   is : y ≡ unordered new
 
-found_by : (e : EndpointHistory) (a : Arrival) (y : EndpointHistory) (found : Found) → read_arrival e a ≡ found → so_found found ≡ (y, None) → FoundOf e a y
+found_by : (e : EndpointHistory) (a : Arrival) (y : EndpointHistory) (found : Found) → read_arrival e a ≡ found → reading.so_found plain keeps_plain.new found ≡ (y, None) → FoundOf e a y
 found_by e a y (new, code) at is = record { new = new; read = at ∙ ap (λ (x : Found). let z : Found = (new, x.1) in z) is; is = sym (ap (λ (x : Found). x.0) is) }
 
 found_ordered : (e : EndpointHistory) (a : Arrival) (y : EndpointHistory) → read_arrival (unordered e) a ≡ (y, None) → FoundOf e a y
-found_ordered e a y is = found_by e a y (read_arrival e a) refl (sym (arrival_unordered e a) ∙ is)
+found_ordered e a y is = found_by e a y (read_arrival e a) refl (sym (reading.arrival_seen plain keeps_plain.new e a) ∙ is)
 
 record PartOf (kinds : FrameKinds) (limit : ℕ) (side : Side) (old y : Peer) : Type 0 where
   new : Peer
@@ -82,14 +93,14 @@ on_ordered e {y = y} (ReadsFront front rest {id = id} is) =
 on_ordered e (Holds {id = id} {bytes = bytes} {more = more} kind reader) =
     let o = unidirectional_at e id in
     let read = role_after (known_streams e.announced) o.role bytes in
-    record { new = held e id bytes; on = Holds kind reader; is = held_as_unordered (with_unidirectional e id (with_bytes o read)) id read }
+    record { new = held e id bytes; on = Holds kind reader; is = reading.held_as_seen plain keeps_plain.new (with_unidirectional e id (with_bytes o read)) id read }
 on_ordered e (ReadsFrames {id = id} {p = p} {more = more} on may part) =
     let q = part_ordered (kinds_of e.announced) (limit_of e) e.side e.peer p part in
     let taken : are_refused e e.peer.settings q.new.settings ≡ false = subst (λ (x : Peer). are_refused e e.peer.settings x.settings ≡ false) q.is may.taken in
     let frames : OnOf e (BytesCame id [] ∷ more) (after_frames (unordered e) (unheard q.new)) (BytesCame id [] ∷ early (unordered e) (unheard q.new) ++ more) = record {
       new = after_frames e q.new;
       on = ReadsFrames on (record { first = may.first; taken = taken }) q.part;
-      is = if_learned_unordered e.peer.settings q.new.settings (record e { peer = q.new });
+      is = reading.if_learned_seen plain keeps_plain.new e.peer.settings q.new.settings (record e { peer = q.new });
     } in
     subst (λ x. OnOf e (BytesCame id [] ∷ more) (after_frames (unordered e) x) (BytesCame id [] ∷ early (unordered e) x ++ more)) (sym q.is) frames
 on_ordered e (Hears on part) = record { new = _; on = Hears on part; is = refl }
@@ -101,7 +112,7 @@ record ReadOf (e : EndpointHistory) (arrivals : List Arrival) (y : EndpointHisto
   is : y ≡ unordered new
 
 read_ordered : {x y : EndpointHistory} {arrivals : List Arrival} → ReadsPart x arrivals y → (e : EndpointHistory) → x ≡ unordered e → ReadOf e arrivals y
-read_ordered (Stops {rest = rest}) e is = record { new = keeping e rest; read = Stops; is = ap (λ z. keeping z rest) is ∙ keeping_unordered e rest }
+read_ordered (Stops {rest = rest}) e is = record { new = keeping e rest; read = Stops; is = ap (λ z. keeping z rest) is ∙ reading.keeping_seen plain keeps_plain.new e rest }
 read_ordered {arrivals = arrivals} (Goes {next = next} {more = more} on part) e is =
     let first = on_ordered e (subst (λ z. ReadsOn z arrivals next more) is on) in
     let rest = read_ordered part first.new first.is in
@@ -238,14 +249,14 @@ module _ (ends x : Ends) where
   was_reset writer id h = same writer (λ e. is_reset e id) true (λ e. reset_unordered e id) h
 
   lacks_ordered : (e : Event) (a : Answer) → LacksOf e a → LacksMemory (both_unordered ends) e a x → LacksSo ends x e a
-  lacks_ordered _ _ (Opens {side = side}) h = record { new = ends; lacks = (same side (λ e. (sender.open_request e).0) None (λ e. ap (λ x. x.0) (open_request_unordered e)) h.0, refl); is = h.1 }
+  lacks_ordered _ _ (Opens {side = side}) h = record { new = ends; lacks = (same side (λ e. (sender.open_request e).0) None (λ e. ap (λ x. x.0) (sending.open_request_seen plain keeps_plain e)) h.0, refl); is = h.1 }
   lacks_ordered _ _ (SendsFields {side = side} {id = id} {fields = fields}) h =
-      let c = lists side id fields (λ e. (send_fields e id fields).0) (λ e. ap (λ x. x.0) (fields_sent_unordered e id fields)) h in record { new = c.new; lacks = c.cuts; is = c.is }
+      let c = lists side id fields (λ e. (send_fields e id fields).0) (λ e. ap (λ x. x.0) (sending.fields_sent_seen plain keeps_plain e id fields)) h in record { new = c.new; lacks = c.cuts; is = c.is }
   lacks_ordered _ _ (SendsBody {side = side} {id = id} {bytes = bytes}) h = record { new = ends; lacks = refl; is = h }
   lacks_ordered _ _ (SendsTrailer {side = side} {id = id} {fields = fields}) h =
-      let c = lists side id fields (λ e. (send_trailer_fields e id fields).0) (λ e. ap (λ x. x.0) (trailer_sent_unordered e id fields)) h in record { new = c.new; lacks = c.cuts; is = c.is }
-  lacks_ordered _ _ (Cancels {side = side} {id = id}) h = record { new = ends; lacks = (same side (λ e. (sender.cancel e id).0) None (λ e. ap (λ x. x.0) (cancel_unordered e id)) h.0, refl); is = h.1 }
-  lacks_ordered _ _ (GoesAway {side = side} {id = id}) h = record { new = ends; lacks = (same side (λ e. (sender.goaway e id).0) None (λ e. ap (λ x. x.0) (goaway_unordered e id)) h.0, refl); is = h.1 }
+      let c = lists side id fields (λ e. (send_trailer_fields e id fields).0) (λ e. ap (λ x. x.0) (sending.trailer_sent_seen plain keeps_plain e id fields)) h in record { new = c.new; lacks = c.cuts; is = c.is }
+  lacks_ordered _ _ (Cancels {side = side} {id = id}) h = record { new = ends; lacks = (same side (λ e. (sender.cancel e id).0) None (λ e. ap (λ x. x.0) (sending.cancel_seen plain keeps_plain e id)) h.0, refl); is = h.1 }
+  lacks_ordered _ _ (GoesAway {side = side} {id = id}) h = record { new = ends; lacks = (same side (λ e. (sender.goaway e id).0) None (λ e. ap (λ x. x.0) (sending.goaway_seen plain keeps_plain e id)) h.0, refl); is = h.1 }
   lacks_ordered _ _ (TakesNone {writer = writer} {id = id} {count = count}) h = record { new = ends; lacks = refl; is = h }
   lacks_ordered _ _ (TakesNoEnd {writer = writer} {id = id}) h =
       record { new = ends; lacks = (finished writer id h.0, none_waits writer id h.1, takes_ordered (other writer) id h.2, refl); is = h.3 }

@@ -1,6 +1,6 @@
 -- What each call of a program is to a schedule: the call of an endpoint that its event names, or nothing.
 use Rattle.std.proofs.Common.{◌≡◌, ◌⊎◌, inl, inr, ℕ, Bool, true, false, List, [], ◌∷◌, refl, sym, ap, subst, ◌∙◌, Option, Some, None, Result, Ok, Err}
-use Rattle.std.specs.Prelude.{◌<◌, ◌^◌, ◌&&◌, ◌==◌, is_none, option_map}
+use Rattle.std.specs.Prelude.{◌<◌, ◌≢◌, ◌^◌, ◌&&◌, ◌==◌, is_none, option_map}
 use Rattle.h3_field.specs.Field.{Field}
 use Rattle.h3_proto.specs.declared.stream.Side.{Side}
 use Rattle.h3_proto.specs.declared.stream.Side.TheVariants.{Client, Server}
@@ -15,6 +15,7 @@ use Rattle.h3_connection.specs.ReceivingContracts.{PullsNext}
 use Rattle.h3_connection.specs.SendingContracts.{Cancels, DoesOrRefuses, Finishes, GoesAway, Opens, Resets}
 use Rattle.h3_connection.specs.State.{EndpointState, StandsFor}
 use Rattle.h3_connection.specs.declared.event.Refusal.{Refusal}
+use Rattle.h3_connection.specs.declared.event.Refusal.TheVariants as refusal
 use Rattle.h3_incoming.specs.FieldsPulls.{list_of as fields_of_pull, pull_of as pull_of_fields}
 use Rattle.h3_incoming.specs.declared.fields.FieldsItem.TheVariants as came
 use Rattle.h3_incoming.specs.declared.fields.FieldsPull.{FieldsPull}
@@ -35,18 +36,18 @@ use Rattle.h3_c.specs.Does.{CallOfC, Does}
 use Rattle.h3_c.specs.Does.{CallOfC as call}
 use Rattle.h3_c.specs.Exported.{Calls, CallsList, CallsOn, LacksList, OnStream, OpensRequest, Pulls, SendsCut}
 use Rattle.h3_c.specs.Given.{fields_given}
-use Rattle.h3_c.specs.Numbers.{TellsList, argument, body_told, call_told}
+use Rattle.h3_c.specs.Numbers.{TellsList, argument, body_told, call_told, refusal_told}
 use Rattle.h3_c.specs.Ordering.{IfGiven, flag_given, priority_given}
-use Rattle.h3_c.specs.Programs.{Act, Call, Comes, HasNone, Handles, IsEvent, IsRefused, LacksList as NoList, LearnsOf, WritesNone, are_events, event_of, handle_at, is_list}
+use Rattle.h3_c.specs.Programs.{Act, Call, Comes, HasNone, Handles, IsEvent, IsOver, IsRefused, LacksList as NoList, LearnsOf, WritesNone, are_events, event_of, handle_at, is_list}
 use Rattle.h3_c.specs.Seen.{Seen}
 use Rattle.h3_c.specs.declared.items.PulledItem.{PulledItem}
 use Rattle.h3_c.specs.declared.numbers.Told.{Told}
 use Rattle.h3_c.proofs.FrontsShown.{below_or_not}
 use Rattle.h3_c.proofs.GivenBytes.{given_bytes}
-use Rattle.h3_c.proofs.ProgramMoves.{ActsSo, Moves, StaysAt, StaysSo, stays_same}
-use Rattle.h3_c.proofs.QuietCalls.{datagram_same, does_same, end_taken_same, fault_told, hold_same, is_fault, set_initial_same, set_priority_same, updates_same}
+use Rattle.h3_c.proofs.ProgramMoves.{ActsSo, Moves, NotEnded, StaysAt, StaysSo, stays_same}
+use Rattle.h3_c.proofs.QuietCalls.{datagram_same, does_same, end_taken_same, fault_told, hold_same, is_fault, set_initial_same, set_priority_same, stands_unchanged, updates_same}
 use Rattle.h3_c.proofs.Unordered.{unordered}
-use Rattle.h3_c.proofs.UnorderedSteps.{IsOfC}
+use Rattle.h3_c.proofs.ViewsSteps.{IsCall, IsOfC}
 
 -- what an act comes to
 pub record Made (act : Act) (h g : Handles) : Type 0 where
@@ -56,21 +57,26 @@ pub record Made (act : Act) (h g : Handles) : Type 0 where
   pub moves : Moves h g events answers
 
 -- an event
-pub made_event : (act : Act) (h g : Handles) (e : Event) (n : Told) (a : Answer) → event_of act ≡ Some (e, n) → LearnsOf act g a → IsOfC e
+made_event : (act : Act) (h g : Handles) (e : Event) (n : Told) (a : Answer) → event_of act ≡ Some (e, n) → LearnsOf act g a → IsOfC e → IsCall e → NotEnded e a → g.carried ≡ h.carried
     → Acts e h.client.endpoint h.server.endpoint a g.client.endpoint g.server.endpoint → Made act h g
-made_event act h g e n a is learns of acts = record { events = e ∷ []; answers = a ∷ []; comes = IsEvent is learns; moves = ActsSo of acts }
+made_event act h g e n a is learns of call not same acts = record { events = e ∷ []; answers = a ∷ []; comes = IsEvent is learns; moves = ActsSo of call not same acts }
 
 -- no event
-pub made_none : (act : Act) (h g : Handles) → StaysAt h.client g.client → StaysAt h.server g.server → Comes act h g [] [] → Made act h g
-made_none act h g client server comes = record { events = []; answers = []; comes = comes; moves = StaysSo client server }
+made_none : (act : Act) (h g : Handles) → StaysAt h.client g.client → StaysAt h.server g.server → g.carried ≡ h.carried → Comes act h g [] [] → Made act h g
+made_none act h g client server same comes = record { events = []; answers = []; comes = comes; moves = StaysSo client server same }
 
-made_at : (act : Act) (side : Side) (h g : Handles) → StaysAt (handle_at h side) (handle_at g side) → handle_at g (other side) ≡ handle_at h (other side) → Comes act h g [] [] → Made act h g
-made_at act Client h g here there comes = made_none act h g here (stays_same h.server g.server there) comes
-made_at act Server h g here there comes = made_none act h g (stays_same h.client g.client there) here comes
+made_at : (act : Act) (side : Side) (h g : Handles) → StaysAt (handle_at h side) (handle_at g side) → handle_at g (other side) ≡ handle_at h (other side) → g.carried ≡ h.carried → Comes act h g [] [] → Made act h g
+made_at act Client h g here there same comes = made_none act h g here (stays_same h.server g.server there) same comes
+made_at act Server h g here there same comes = made_none act h g (stays_same h.client g.client there) here same comes
 
-pub same_handles : (side : Side) (h g : Handles) → handle_at g side ≡ handle_at h side → handle_at g (other side) ≡ handle_at h (other side) → g ≡ h
-same_handles Client h g here there = ap (λ v. let x : Handles = record { client = v; server = g.server } in x) here ∙ ap (λ v. let x : Handles = record { client = h.client; server = v } in x) there
-same_handles Server h g here there = ap (λ v. let x : Handles = record { client = v; server = g.server } in x) there ∙ ap (λ v. let x : Handles = record { client = h.client; server = v } in x) here
+handles_are : (h g : Handles) → g.client ≡ h.client → g.server ≡ h.server → g.carried ≡ h.carried → g ≡ h
+handles_are h g client server carried =
+    ap (λ v. let x : Handles = record { client = v; server = g.server; carried = g.carried } in x) client ∙ ap (λ v. let x : Handles = record { client = h.client; server = v; carried = g.carried } in x) server
+    ∙ ap (λ c. let x : Handles = record { client = h.client; server = h.server; carried = c } in x) carried
+
+same_handles : (side : Side) (h g : Handles) → handle_at g side ≡ handle_at h side → handle_at g (other side) ≡ handle_at h (other side) → g.carried ≡ h.carried → g ≡ h
+same_handles Client h g here there same = handles_are h g here there same
+same_handles Server h g here there same = handles_are h g there here same
 
 by_side : (side : Side) (calls : EndpointState → EndpointState → Answer → Type 0) (h g : Handles) (a : Answer) → calls (handle_at h side).endpoint (handle_at g side).endpoint a → handle_at g (other side) ≡ handle_at h (other side)
     → ByOne side calls h.client.endpoint h.server.endpoint a g.client.endpoint g.server.endpoint
@@ -144,39 +150,68 @@ pub data ByHistory : CallOfC → Type 0 where
   GivesNoticeOf : (n : Told) → ByHistory (call.ShutdownNotice n)
   ShutsDownOf : (n : Told) → ByHistory (call.Shutdown n)
 
-module _ (side : Side) (h g : Handles) (there : handle_at g (other side) ≡ handle_at h (other side)) where
+-- a reset of a stream that was sent to its end
+abbrev is_over : Answer → Bool
+is_over (answer.Refused refusal.Ended) = true
+is_over _ = false
+
+ended_or_not : (r : Refusal) → (r ≡ refusal.Ended) ⊎ (is_over (answer.Refused r) ≡ false)
+ended_or_not (refusal.Closed code) = inr refl
+ended_or_not (refusal.Connection code) = inr refl
+ended_or_not refusal.NotReceiving = inr refl
+ended_or_not refusal.AfterEnd = inr refl
+ended_or_not refusal.Kept = inr refl
+ended_or_not refusal.NotClient = inr refl
+ended_or_not (refusal.GoingAway id) = inr refl
+ended_or_not refusal.IdsUsedUp = inr refl
+ended_or_not refusal.NotOpen = inr refl
+ended_or_not refusal.OutOfOrder = inr refl
+ended_or_not refusal.WrongSide = inr refl
+ended_or_not refusal.PseudoInTrailer = inr refl
+ended_or_not (refusal.Malformed why) = inr refl
+ended_or_not (refusal.TooLarge size) = inr refl
+ended_or_not refusal.Critical = inr refl
+ended_or_not refusal.Ended = inl refl
+ended_or_not refusal.NotRequestId = inr refl
+ended_or_not (refusal.Raised id) = inr refl
+ended_or_not refusal.OutOfMemory = inr refl
+
+not_over : (a : Answer) → is_over a ≡ false → a ≢ answer.Refused refusal.Ended
+not_over a differs is = absurd (let never : true ≡ false = sym (ap is_over is) ∙ differs in cc)
+
+module _ (side : Side) (h g : Handles) (there : handle_at g (other side) ≡ handle_at h (other side)) (same : g.carried ≡ h.carried) where
   abbrev HasNoEvent : CallOfC → Type 0
   HasNoEvent c = (event_of (Call side c) ≡ None) × (are_events (Call side c) ≡ false) × WritesNone (Call side c) h g
 
   quiet : (c : CallOfC) → HasNoEvent c → StaysAt (handle_at h side) (handle_at g side) → Made (Call side c) h g
-  quiet c none stays = made_at (Call side c) side h g stays there (HasNone none.1 none.0 none.2)
+  quiet c none stays = made_at (Call side c) side h g stays there same (HasNone none.1 none.0 none.2)
 
   looks_at : (c : CallOfC) → HasNoEvent c → handle_at g side ≡ handle_at h side → Made (Call side c) h g
-  looks_at c none same = quiet c none (stays_same (handle_at h side) (handle_at g side) same)
+  looks_at c none is = quiet c none (stays_same (handle_at h side) (handle_at g side) is)
 
   -- of what it owns another part alone is another one
   looks : (c : CallOfC) → HasNoEvent c → (handle_at g side).endpoint ≡ (handle_at h side).endpoint → Made (Call side c) h g
-  looks c none same = quiet c none (λ e stands. record { after = e; stands = subst (λ s. StandsFor s e) (sym same) stands; same = refl })
+  looks c none is = quiet c none (λ e stands. record { after = e; stands = subst (λ s. StandsFor s e) (sym is) stands; same = refl })
 
   refused : (c : CallOfC) (e : Event) (n : Told) → event_of (Call side c) ≡ Some (e, n) → (n ≡ argument) × (handle_at g side ≡ handle_at h side) → Made (Call side c) h g
-  refused c e n is r = made_at (Call side c) side h g (stays_same (handle_at h side) (handle_at g side) r.1) there (IsRefused is (inl r.0))
+  refused c e n is r = made_at (Call side c) side h g (stays_same (handle_at h side) (handle_at g side) r.1) there same (IsRefused is (inl r.0))
 
   -- a call that answers whether it was done
-  calls : (c : CallOfC) (e : Event) (n : Told) (id : ℕ) (does : EndpointState → EndpointState → Result Unit Refusal → Type 0) → event_of (Call side c) ≡ Some (e, n) → (id < 2 ^ 62 → IsOfC e)
+  calls : (c : CallOfC) (e : Event) (n : Told) (id : ℕ) (does : EndpointState → EndpointState → Result Unit Refusal → Type 0) → event_of (Call side c) ≡ Some (e, n) → (id < 2 ^ 62 → IsOfC e) → IsCall e → ((a : Answer) → NotEnded e a)
       → ((a : Answer) → Tells answer.Done n a → LearnsOf (Call side c) g a)
       → ((a : Answer) → ByOne side (TellsCall done_answer does) h.client.endpoint h.server.endpoint a g.client.endpoint g.server.endpoint → Acts e h.client.endpoint h.server.endpoint a g.client.endpoint g.server.endpoint)
       → CallsOn call_told id n (handle_at h side) (handle_at g side) (λ r. does (handle_at h side).endpoint (handle_at g side).endpoint r) → Made (Call side c) h g
-  calls c e n id does is of learns acts on = elim (below_or_not id (2 ^ 62)) [
+  calls c e n id does is of call not learns acts on = elim (below_or_not id (2 ^ 62)) [
     | inl below ↦ (let k = on.known below in
         let one = by_side side (TellsCall done_answer does) h g (done_answer k.answer) (record { result = k.answer; given_is = refl; called = k.done }) there in
-        made_event (Call side c) h g e n (done_answer k.answer) is (learns (done_answer k.answer) (call_tells n k.answer k.is)) (of below) (acts (done_answer k.answer) one))
+        made_event (Call side c) h g e n (done_answer k.answer) is (learns (done_answer k.answer) (call_tells n k.answer k.is)) (of below) call (not (done_answer k.answer)) same (acts (done_answer k.answer) one))
     | inr above ↦ refused c e n is (on.unknown above)
   ]
 
   -- a list
   sends : (c : CallOfC) (e : List Field → Event) (n : Told) (id : ℕ) (cut : Option (List Field)) (place : EndpointHistory → Option Refusal) (does : List Field → EndpointState → EndpointState → Result Unit Refusal → Type 0)
       → event_of (Call side c) ≡ option_map (λ fields. (e fields, n)) cut → (are_events (Call side c) ≡ false) × WritesNone (Call side c) h g
-      → ((fields : List Field) → (is_list (e fields) ≡ true) × (cut ≡ Some fields → IsOfC (e fields)))
+      → ((fields : List Field) → (is_list (e fields) ≡ true) × (cut ≡ Some fields → IsOfC (e fields)) × IsCall (e fields) × ((a : Answer) → NotEnded (e fields) a))
       → ((a : Answer) → TellsSent (handle_at g side).endpoint.announced.choices cut n a → LearnsOf (Call side c) g a)
       → ((fields : List Field) (a : Answer) → ByOne side (TellsCall done_answer (does fields)) h.client.endpoint h.server.endpoint a g.client.endpoint g.server.endpoint → Acts (e fields) h.client.endpoint h.server.endpoint a g.client.endpoint g.server.endpoint)
       → OnStream id n (handle_at h side) (handle_at g side) (SendsCut cut place n (handle_at h side) (handle_at g side) (λ fields r. does fields (handle_at h side).endpoint (handle_at g side).endpoint r)) → Made (Call side c) h g
@@ -190,26 +225,48 @@ module _ (side : Side) (h g : Handles) (there : handle_at g (other side) ≡ han
   ]
     where
       by : LacksList place fields n (handle_at h side) (handle_at g side) ⊎ CallsList fields n (handle_at h side) (handle_at g side) (λ r. does fields (handle_at h side).endpoint (handle_at g side).endpoint r) → Made (Call side c) h g
-      by (inl lacks) = made_at (Call side c) side h g (stays_same (handle_at h side) (handle_at g side) lacks.same) there (NoList is (list fields).0 lacks.told (same_handles side h g lacks.same there))
+      by (inl lacks) = made_at (Call side c) side h g (stays_same (handle_at h side) (handle_at g side) lacks.same) there same (NoList is (list fields).0 lacks.told (same_handles side h g lacks.same there same))
       by (inr k) =
           let one = by_side side (TellsCall done_answer (does fields)) h g (done_answer k.answer) (record { result = k.answer; given_is = refl; called = k.done }) there in
           made_event (Call side c) h g (e fields) n (done_answer k.answer) is
-          (learns (done_answer k.answer) (sent_tells (handle_at g side) (Some fields) fields n _ (handle_at h side) refl k)) ((list fields).1 refl) (acts fields (done_answer k.answer) one)
+          (learns (done_answer k.answer) (sent_tells (handle_at g side) (Some fields) fields n _ (handle_at h side) refl k)) ((list fields).1 refl) (list fields).2 ((list fields).3 (done_answer k.answer)) same (acts fields (done_answer k.answer) one)
 
   opens : (before id : ℕ) (n : Told) → Does (call.OpenRequest before id n) (handle_at h side) (handle_at g side) → Made (Call side (call.OpenRequest before id n)) h g
   opens before id n o =
       let a = opened_answer o.calls.answer in
-      made_event (Call side (call.OpenRequest before id n)) h g (event.OpenRequest side) n a refl (opened_tells (handle_at h side) (handle_at g side) before id n o) tt
+      made_event (Call side (call.OpenRequest before id n)) h g (event.OpenRequest side) n a refl (opened_tells (handle_at h side) (handle_at g side) before id n o) tt tt tt same
       (by_side side (TellsCall opened_answer Opens) h g a (record { result = o.calls.answer; given_is = refl; called = o.calls.done }) there)
 
   sends_body : (id : ℕ) (bytes : List ℕ) (n : Told) → Does (call.SendBody id bytes n) (handle_at h side) (handle_at g side) → Made (Call side (call.SendBody id bytes n)) h g
   sends_body id bytes n on = elim (below_or_not id (2 ^ 62)) [
     | inl below ↦ (let k = on.known below in
         let a = body_answer k.answer in
-        made_event (Call side (call.SendBody id bytes n)) h g (event.Body side id bytes) n a refl (body_tells n k.answer k.is) tt
+        made_event (Call side (call.SendBody id bytes n)) h g (event.Body side id bytes) n a refl (body_tells n k.answer k.is) tt tt tt same
         (by_side side (SendsShared id bytes) h g a (inl (record { result = k.answer; given_is = refl; called = k.done })) there))
     | inr above ↦ refused (call.SendBody id bytes n) (event.Body side id bytes) n refl (on.unknown above)
   ]
+
+  resets : (id : ℕ) (n : Told) → Does (call.Reset id n) (handle_at h side) (handle_at g side) → Made (Call side (call.Reset id n)) h g
+  resets id n on = elim (below_or_not id (2 ^ 62)) [
+    | inl below ↦ (let k = on.known below in by k.answer k.is k.done)
+    | inr above ↦ refused (call.Reset id n) (event.Reset side id) n refl (on.unknown above)
+  ]
+    where
+      done : (r : Result Unit Refusal) → n ≡ call_told r → is_over (done_answer r) ≡ false → Resets (handle_at h side).endpoint (handle_at g side).endpoint id r → Made (Call side (call.Reset id n)) h g
+      done r told differs resets =
+          made_event (Call side (call.Reset id n)) h g (event.Reset side id) n (done_answer r) refl (call_tells n r told) tt tt (not_over (done_answer r) differs) same
+          (by_side side (TellsCall done_answer (λ s t r. Resets s t id r)) h g (done_answer r) (record { result = r; given_is = refl; called = resets }) there)
+
+      refuses : (r : Refusal) → n ≡ refusal_told r → Resets (handle_at h side).endpoint (handle_at g side).endpoint id (Err r) → (r ≡ refusal.Ended) ⊎ (is_over (answer.Refused r) ≡ false) → Made (Call side (call.Reset id n)) h g
+      refuses r told resets (inl ended) =
+          made_at (Call side (call.Reset id n)) side h g
+          (λ e stands. record { after = e; stands = stands_unchanged (handle_at h side).endpoint (handle_at g side).endpoint e (resets.same (λ is. absurd (let never : Some r ≡ None = is in cc))) stands; same = refl })
+          there same (IsOver refl (told ∙ ap refusal_told ended))
+      refuses r told resets (inr differs) = done (Err r) told differs resets
+
+      by : (r : Result Unit Refusal) → n ≡ call_told r → Resets (handle_at h side).endpoint (handle_at g side).endpoint id r → Made (Call side (call.Reset id n)) h g
+      by (Ok success) told resets = done (Ok success) told refl resets
+      by (Err r) told resets = refuses r told resets (ended_or_not r)
 
   pulls : (id : ℕ) (before item : PulledItem) (n : Told) → Does (call.Pull id before item n) (handle_at h side) (handle_at g side) → Made (Call side (call.Pull id before item n)) h g
   pulls id before item n on = elim (below_or_not id (2 ^ 62)) [
@@ -217,7 +274,7 @@ module _ (side : Side) (h g : Handles) (there : handle_at g (other side) ≡ han
         let last = (handle_at g side).last in
         let a = answer.Listed (pull_listed last) in
         let one = listed_pulls id n (handle_at h side) (handle_at g side) item k in
-        made_event (Call side (call.Pull id before item n)) h g (event.PullFields side id) n a refl (k.done, k.given_so, refl) tt
+        made_event (Call side (call.Pull id before item n)) h g (event.PullFields side id) n a refl (k.done, k.given_so, refl) tt tt tt same
         (by_side side (TellsCall answer.Listed (λ s t l. PullsList s t id l)) h g a (record { result = pull_listed last; given_is = refl; called = one }) there))
     | inr above ↦ refused (call.Pull id before item n) (event.PullFields side id) n refl (on.0.unknown above)
   ]
@@ -280,15 +337,15 @@ module _ (side : Side) (h g : Handles) (there : handle_at g (other side) ≡ han
   call_made (call.OpenRequest before id n) out given d = inl (opens before id n d)
   call_made (call.NextRequestId before id n) out given d = inl (looks_at _ (refl, refl, tt) d.0)
   call_made (call.OpenRequestAt id n) out given d = inr (OpensUpToOf id n)
-  call_made (call.SendHead id sizes flags bytes n) out given d = inl (sends (call.SendHead id sizes flags bytes n) (λ fields. event.Fields side id fields) n id (fields_given sizes flags bytes) (λ e. place_refusal e id) (λ fields s t r. SendsFieldList s t id fields r) refl (refl, tt) (λ fields. (refl, λ is. given_bytes sizes flags bytes fields given is)) (λ a tells. tells) (λ fields a acts. acts) d)
-  call_made (call.SendTrailer id sizes flags bytes n) out given d = inl (sends (call.SendTrailer id sizes flags bytes n) (λ fields. event.TrailerFields side id fields) n id (fields_given sizes flags bytes) (λ e. order_refusal e id) (λ fields s t r. SendsTrailerList s t id fields r) refl (refl, tt) (λ fields. (refl, λ is. given_bytes sizes flags bytes fields given is)) (λ a tells. tells) (λ fields a acts. acts) d)
+  call_made (call.SendHead id sizes flags bytes n) out given d = inl (sends (call.SendHead id sizes flags bytes n) (λ fields. event.Fields side id fields) n id (fields_given sizes flags bytes) (λ e. place_refusal e id) (λ fields s t r. SendsFieldList s t id fields r) refl (refl, tt) (λ fields. (refl, λ is. given_bytes sizes flags bytes fields given is, tt, λ a. tt)) (λ a tells. tells) (λ fields a acts. acts) d)
+  call_made (call.SendTrailer id sizes flags bytes n) out given d = inl (sends (call.SendTrailer id sizes flags bytes n) (λ fields. event.TrailerFields side id fields) n id (fields_given sizes flags bytes) (λ e. order_refusal e id) (λ fields s t r. SendsTrailerList s t id fields r) refl (refl, tt) (λ fields. (refl, λ is. given_bytes sizes flags bytes fields given is, tt, λ a. tt)) (λ a tells. tells) (λ fields a acts. acts) d)
   call_made (call.SendBody id bytes n) out given d = inl (sends_body id bytes n d)
   call_made (call.SendBodyOf id len n) out given d = inl (never out)
-  call_made (call.Finish id n) out given d = inl (calls (call.Finish id n) (event.Finish side id) n id (λ s t r. Finishes s t id r) refl (λ below. tt) (λ a tells. tells) (λ a acts. acts) d)
-  call_made (call.Reset id n) out given d = inl (calls (call.Reset id n) (event.Reset side id) n id (λ s t r. Resets s t id r) refl (λ below. tt) (λ a tells. tells) (λ a acts. acts) d)
-  call_made (call.Cancel id n) out given d = inl (calls (call.Cancel id n) (event.Cancel side id) n id (λ s t r. Cancels s t id r) refl (λ below. tt) (λ a tells. tells) (λ a acts. acts) d)
+  call_made (call.Finish id n) out given d = inl (calls (call.Finish id n) (event.Finish side id) n id (λ s t r. Finishes s t id r) refl (λ below. tt) tt (λ a. tt) (λ a tells. tells) (λ a acts. acts) d)
+  call_made (call.Reset id n) out given d = inl (resets id n d)
+  call_made (call.Cancel id n) out given d = inl (calls (call.Cancel id n) (event.Cancel side id) n id (λ s t r. Cancels s t id r) refl (λ below. tt) tt (λ a. tt) (λ a tells. tells) (λ a acts. acts) d)
   call_made (call.CloseStream id stop_before stop reset_before reset n) out given d = inr (ClosesBoth id stop_before stop reset_before reset n)
-  call_made (call.Goaway id n) out given d = inl (calls (call.Goaway id n) (event.Goaway side id) n id (λ s t r. GoesAway s t id r) refl (λ below. below) (λ a tells. tells) (λ a acts. acts) d)
+  call_made (call.Goaway id n) out given d = inl (calls (call.Goaway id n) (event.Goaway side id) n id (λ s t r. GoesAway s t id r) refl (λ below. below) tt (λ a. tt) (λ a tells. tells) (λ a acts. acts) d)
   call_made (call.ShutdownNotice n) out given d = inr (GivesNoticeOf n)
   call_made (call.Shutdown n) out given d = inr (ShutsDownOf n)
   call_made (call.FirstUnseen id n) out given d = inl (looks_at _ (refl, refl, tt) d.0)

@@ -1,19 +1,17 @@
 -- The calls whose events are told by what the endpoint stands for: those that shut a connection down, the one that closes a stream both ways, and
 -- the one that opens requests up to an id.
 use Rattle.std.proofs.Common.{arith, ◌≡◌, ◌≤◌, ◌<◌, ◌⊎◌, inl, inr, ℕ, ◌+◌, Bool, true, false, List, [], ◌∷◌, ◌++◌, refl, sym, ap, subst, ◌∙◌, Option, Some, None, Result, Ok, Err}
-use Rattle.std.specs.Prelude.{◌≢◌, ◌*◌, ◌^◌, ◌||◌, ◌==◌, nat_lt}
+use Rattle.std.specs.Prelude.{◌≢◌, ◌*◌, ◌^◌, ◌||◌, ◌==◌, if◌then◌else◌, is_none, nat_lt, suc, zero}
 use Rattle.std.proofs.lemmas.Grind.{common_steps}
 use Rattle.h3_proto.specs.declared.stream.Side.{Side}
 use Rattle.h3_proto.specs.declared.stream.Side.TheVariants.{Client, Server}
 use Rattle.h3_connection.specs.Answers.{call_refused}
 use Rattle.h3_connection.specs.Calls.{IsSame}
-use Rattle.h3_connection.specs.Endpoint.{EndpointHistory, is_critical_id}
+use Rattle.h3_connection.specs.Endpoint.{EndpointHistory}
 use Rattle.h3_connection.specs.LastLaws.{last_appended}
 use Rattle.h3_connection.specs.Lasts.{last_id}
-use Rattle.h3_connection.specs.Outgoing.{is_sent_off}
 use Rattle.h3_connection.specs.OwnIds.{other}
-use Rattle.h3_connection.specs.Refusals.{refusal_to_stop}
-use Rattle.h3_connection.specs.Sending.{cancel, closed_or, does, goaway, goaway_refusal, is_open, open_refusal, outgoing_at, reset, reset_refusal, unless_closed}
+use Rattle.h3_connection.specs.Sending.{cancel, closed_or, does, goaway, goaway_refusal, open_refusal, reset, reset_refusal, unless_closed}
 use Rattle.h3_connection.specs.SendingContracts.{DoesOrRefuses}
 use Rattle.h3_connection.specs.Shutdown.{goaway_once, is_named, last_taken, notice_id}
 use Rattle.h3_connection.specs.State.{StandsFor}
@@ -40,42 +38,30 @@ use Rattle.h3_c.specs.Programs.{Act, Call, Closes, Comes, GoesAway, Handles, Has
 use Rattle.h3_c.specs.Seen.{Seen}
 use Rattle.h3_c.specs.declared.numbers.Told.{Told}
 use Rattle.h3_c.proofs.FrontsShown.{below_or_not}
-use Rattle.h3_c.proofs.OpenedUpTo.{all_known, are_opened, done_is, opening_opens, opens_run}
+use Rattle.h3_c.proofs.Comings.{done_is}
+use Rattle.h3_c.proofs.Flights.{Carries, carries_grown}
+use Rattle.h3_c.proofs.OpenedUpTo.{all_known, are_opened, opening_opens, opens_run}
 use Rattle.h3_c.proofs.ProgramCalls.{ByHistory, ClosesBoth, GivesNoticeOf, Made, OpensUpToOf, ShutsDownOf}
-use Rattle.h3_c.proofs.ProgramMoves.{CallsAreSteps, Left, leaves, run_unordered}
+use Rattle.h3_c.proofs.ProgramMoves.{CallsAreSteps, Left, Stand, keep_lagging, leaves, resets_alike, run_left, stays_left, step_left, stood, views_of}
 use Rattle.h3_c.proofs.QuietCalls.{stands_unchanged}
 use Rattle.h3_c.proofs.Unordered.{unordered}
-use Rattle.h3_c.proofs.UnorderedSteps.{both_unordered}
+use Rattle.h3_c.proofs.SendsGrow.{BothGrow, grows_none, opens_grow, reset_grows, step_grows}
+use Rattle.h3_c.proofs.ViewsMemory.{step_seen}
+use Rattle.h3_c.proofs.ViewsSteps.{KeepBoth, Views, both_seen}
 
 -- what an act comes to, by the ends that both handles stand for
 pub record MadeAt (act : Act) (h g : Handles) (ends : Ends) : Type 0 where
   pub events : List Event
   pub answers : List Answer
   pub comes : Comes act h g events answers
-  pub left : Left ends g events answers
+  pub left : Left ends h g events answers
 
-pub at_ends : CallsAreSteps → {act : Act} {h g : Handles} (ends : Ends) → StandsFor h.client.endpoint ends.client → StandsFor h.server.endpoint ends.server → Made act h g → MadeAt act h g ends
-at_ends law ends client server made = record { events = made.events; answers = made.answers; comes = made.comes; left = leaves law ends client server made.moves }
+pub at_ends : CallsAreSteps → {act : Act} {h g : Handles} (ends : Ends) → Stand h ends → Made act h g → MadeAt act h g ends
+at_ends law ends stand made = record { events = made.events; answers = made.answers; comes = made.comes; left = leaves law ends stand made.moves }
 
 closed_some : (closed : Option ℕ) (r : Refusal) → closed_or closed (Some r) ≡ None → ⊥
 closed_some (Some code) r is = let never : Some (refusal.Closed code) ≡ None = is in absurd (cc)
 closed_some None r is = let never : Some r ≡ None = is in absurd (cc)
-
--- no sending that is ended lacks memory
-not_memory : (closed : Option ℕ) (critical is_there over : Bool) → is_out_of_memory (answer_of answer.Done (closed_or closed (refusal_to_stop critical is_there over))) ≡ false
-not_memory (Some code) critical is_there over = refl
-not_memory None true is_there over = refl
-not_memory None false false over = refl
-not_memory None false true true = refl
-not_memory None false true false = refl
-
-does_refusal : (r : Option Refusal) (e new : EndpointHistory) → (does r e new).0 ≡ r
-does_refusal None e new = refl
-does_refusal (Some r) e new = refl
-
-reset_answers : (e : EndpointHistory) (id : ℕ) → is_out_of_memory (answer_of answer.Done (reset e id).0) ≡ false
-reset_answers e id =
-    ap (λ r. is_out_of_memory (answer_of answer.Done r)) (does_refusal (reset_refusal e id) e _) ∙ not_memory e.closed (is_critical_id e id) (is_open e id) (is_sent_off (outgoing_at e id))
 
 does_none : (r : Option Refusal) (e new : EndpointHistory) → (does r e new).0 ≡ None → (r ≡ None) × ((does r e new).1 ≡ new)
 does_none None e new is = (refl, refl)
@@ -87,9 +73,13 @@ step_of ends new e a memory is next = subst (λ b. AnswerOf b ends e a new) (sym
 is_known : (id : ℕ) → nat_lt id (2 ^ 62) ≡ true → id < 2 ^ 62
 is_known id h = grind (arith, common_steps, h)
 
-module _ (side : Side) (h g : Handles) (there : handle_at g (other side) ≡ handle_at h (other side)) (ends : Ends) (client : StandsFor h.client.endpoint ends.client) (server : StandsFor h.server.endpoint ends.server) where
+does_some : (r : Option Refusal) (e new : EndpointHistory) (why : Refusal) → (does r e new).0 ≡ Some why → (does r e new).1 ≡ e
+does_some None e new why is = absurd (let never : None ≡ Some why = is in cc)
+does_some (Some r) e new why is = refl
+
+module _ (side : Side) (h g : Handles) (there : handle_at g (other side) ≡ handle_at h (other side)) (same : g.carried ≡ h.carried) (ends : Ends) (stand : Stand h ends) where
   stands : StandsFor (handle_at h side).endpoint (end_at ends side)
-  stands = by side client server
+  stands = by side stand.client stand.server
     where
       by : (s : Side) → StandsFor h.client.endpoint ends.client → StandsFor h.server.endpoint ends.server → StandsFor (handle_at h s).endpoint (end_at ends s)
       by Client client server = client
@@ -98,38 +88,29 @@ module _ (side : Side) (h g : Handles) (there : handle_at g (other side) ≡ han
   -- one end is another one
   with_stands : (s : Side) → handle_at g (other s) ≡ handle_at h (other s) → (after : EndpointHistory) → StandsFor (handle_at g s).endpoint after
       → StandsFor g.client.endpoint (with_end ends s after).client × StandsFor g.server.endpoint (with_end ends s after).server
-  with_stands Client same after stands = (stands, subst (λ (v : Seen). StandsFor v.endpoint ends.server) (sym same) server)
-  with_stands Server same after stands = (subst (λ (v : Seen). StandsFor v.endpoint ends.client) (sym same) client, stands)
-
-  same_end : (s : Side) (after : EndpointHistory) → unordered after ≡ unordered (end_at ends s) → both_unordered (with_end ends s after) ≡ both_unordered ends
-  same_end Client after is = ap (λ e. let x : Ends = record { client = e; server = unordered ends.server } in x) is
-  same_end Server after is = ap (λ e. let x : Ends = record { client = unordered ends.client; server = e } in x) is
+  with_stands Client is after stands = (stands, subst (λ (v : Seen). StandsFor v.endpoint ends.server) (sym is) stand.server)
+  with_stands Server is after stands = (subst (λ (v : Seen). StandsFor v.endpoint ends.client) (sym is) stand.client, stands)
 
   -- no event
-  none_left : (after : EndpointHistory) → StandsFor (handle_at g side).endpoint after → unordered after ≡ unordered (end_at ends side) → Left ends g [] []
-  none_left after stands is =
-      let s = with_stands side there after stands in
-      record { new = with_end ends side after; of = tt; run = same_end side after is; client_stands = s.0; server_stands = s.1 }
+  none_left : (after : EndpointHistory) → StandsFor (handle_at g side).endpoint after → unordered after ≡ unordered (end_at ends side) → Left ends h g [] []
+  none_left after after_stands is = by side there after_stands is
+    where
+      by : (s : Side) → handle_at g (other s) ≡ handle_at h (other s) → StandsFor (handle_at g s).endpoint after → unordered after ≡ unordered (end_at ends s) → Left ends h g [] []
+      by Client still on equal = stays_left ends h g after ends.server same stand equal refl on (subst (λ (v : Seen). StandsFor v.endpoint ends.server) (sym still) stand.server)
+      by Server still on equal = stays_left ends h g ends.client after same stand refl equal (subst (λ (v : Seen). StandsFor v.endpoint ends.client) (sym still) stand.client) on
 
-  unchanged : (refused : Option Refusal) → (refused ≢ None → IsSame (handle_at h side).endpoint (handle_at g side).endpoint) → (r : Refusal) → refused ≡ Some r → Left ends g [] []
-  unchanged refused same r is =
-      none_left (end_at ends side) (stands_unchanged (handle_at h side).endpoint (handle_at g side).endpoint (end_at ends side) (same (λ none. let never : Some r ≡ None = sym is ∙ none in absurd (cc))) stands) refl
+  unchanged : (refused : Option Refusal) → (refused ≢ None → IsSame (handle_at h side).endpoint (handle_at g side).endpoint) → (r : Refusal) → refused ≡ Some r → Left ends h g [] []
+  unchanged refused still r is =
+      none_left (end_at ends side) (stands_unchanged (handle_at h side).endpoint (handle_at g side).endpoint (end_at ends side) (still (λ none. let never : Some r ≡ None = sym is ∙ none in absurd (cc))) stands) refl
 
   -- a GOAWAY that is written
-  goes_away : (id : ℕ) → id < 2 ^ 62 → (goaway (end_at ends side) id).0 ≡ None → StandsFor (handle_at g side).endpoint (goaway (end_at ends side) id).1 → Left ends g (event.Goaway side id ∷ []) (answer.Done ∷ [])
-  goes_away id known none stands =
-      let after = (goaway (end_at ends side) id).1 in
-      let new = with_end ends side after in
+  goes_away : (id : ℕ) → id < 2 ^ 62 → (goaway (end_at ends side) id).0 ≡ None → StandsFor (handle_at g side).endpoint (goaway (end_at ends side) id).1 → Left ends h g (event.Goaway side id ∷ []) (answer.Done ∷ [])
+  goes_away id known none after_stands =
+      let new = with_end ends side (goaway (end_at ends side) id).1 in
       let is = done_is ends side answer.Done (goaway (end_at ends side) id) in
-      let s = with_stands side there after stands in
+      let s = with_stands side there (goaway (end_at ends side) id).1 after_stands in
       let step = step_of ends new (event.Goaway side id) answer.Done refl (sym (ap (λ x. x.0) is ∙ ap (λ r. answer_of answer.Done r) none)) (sym (ap (λ x. x.1) is)) in
-      record {
-        new = new;
-        of = (known, tt);
-        run = run_unordered (event.Goaway side id ∷ []) (answer.Done ∷ []) ends new (known, tt) (new, step, refl);
-        client_stands = s.0;
-        server_stands = s.1;
-      }
+      step_left ends new h g (event.Goaway side id) answer.Done known tt tt same stand step s.0 s.1
 
   -- which GOAWAY is the last one then
   writes_none : (c : call) (n : Told) → (c ≡ call.ShutdownNotice n) ⊎ (c ≡ call.Shutdown n) → goaway_at g side ≡ goaway_at h side → WritesNone (Call side c) h g
@@ -189,34 +170,51 @@ module _ (side : Side) (h g : Handles) (there : handle_at g (other side) ≡ han
           let same = d.same (λ is. let never : Some r ≡ None = is in absurd (cc)) in
           record { events = []; answers = []; comes = HasNone none.1 none.0 (writes_none c n is same.rest.last_goaway); left = unchanged (Some r) d.same r refl }
 
-  -- what closes a stream: canceled, and then reset
-  ends_both : (id : ℕ) → (canceled : Option Refusal) → (canceled ≡ None) ⊎ (canceled ≡ Some refusal.Ended) → (cancel (end_at ends side) id).0 ≡ canceled
-      → StandsFor (handle_at g side).endpoint (reset (cancel (end_at ends side) id).1 id).1
-      → Left ends g (event.Cancel side id ∷ event.Reset side id ∷ []) (answer_of answer.Done canceled ∷ answer_of answer.Done (reset (cancel (end_at ends side) id).1 id).0 ∷ [])
-  ends_both id canceled may is after_stands =
+  -- what closes a stream: canceled, and then reset, or not
+  canceled_step : (id : ℕ) → (canceled : Option Refusal) → (canceled ≡ None) ⊎ (canceled ≡ Some refusal.Ended) → (cancel (end_at ends side) id).0 ≡ canceled
+      → EndsStep ends (event.Cancel side id) (answer_of answer.Done canceled) (with_end ends side (cancel (end_at ends side) id).1)
+  canceled_step id canceled may is =
       let one = cancel (end_at ends side) id in
-      let mid = with_end ends side one.1 in
-      let last = with_end ends side (reset one.1 id).1 in
-      let s = with_stands side there (reset one.1 id).1 after_stands in
       let first = done_is ends side answer.Done one in
-      let memory : is_out_of_memory (answer_of answer.Done canceled) ≡ false = clear canceled may in
-      let step = step_of ends mid (event.Cancel side id) (answer_of answer.Done canceled) memory (sym (ap (λ x. x.0) first ∙ ap (λ r. answer_of answer.Done r) is)) (sym (ap (λ x. x.1) first)) in
-      let two = step_of mid last (event.Reset side id) (answer_of answer.Done (reset one.1 id).0) (reset_answers one.1 id) (sym (ap (λ x. x.0) (second side one.1))) (sym (ap (λ x. x.1) (second side one.1))) in
-      record {
-        new = last;
-        of = (tt, (tt, tt));
-        run = run_unordered (event.Cancel side id ∷ event.Reset side id ∷ []) (answer_of answer.Done canceled ∷ answer_of answer.Done (reset one.1 id).0 ∷ []) ends last (tt, (tt, tt)) (mid, step, (last, two, refl));
-        client_stands = s.0;
-        server_stands = s.1;
-      }
+      step_of ends (with_end ends side one.1) (event.Cancel side id) (answer_of answer.Done canceled) (clear canceled may) (sym (ap (λ x. x.0) first ∙ ap (λ r. answer_of answer.Done r) is)) (sym (ap (λ x. x.1) first))
     where
       clear : (r : Option Refusal) → (r ≡ None) ⊎ (r ≡ Some refusal.Ended) → is_out_of_memory (answer_of answer.Done r) ≡ false
       clear r (inl none) = ap (λ x. is_out_of_memory (answer_of answer.Done x)) none
       clear r (inr ended) = ap (λ x. is_out_of_memory (answer_of answer.Done x)) ended
 
+  cancels : (id : ℕ) → (canceled : Option Refusal) → (canceled ≡ None) ⊎ (canceled ≡ Some refusal.Ended) → (cancel (end_at ends side) id).0 ≡ canceled
+      → StandsFor (handle_at g side).endpoint (cancel (end_at ends side) id).1 → Left ends h g (event.Cancel side id ∷ []) (answer_of answer.Done canceled ∷ [])
+  cancels id canceled may is after_stands =
+      let s = with_stands side there (cancel (end_at ends side) id).1 after_stands in
+      step_left ends (with_end ends side (cancel (end_at ends side) id).1) h g (event.Cancel side id) (answer_of answer.Done canceled) tt tt tt same stand (canceled_step id canceled may is) s.0 s.1
+
+  ends_both : (id : ℕ) → (canceled : Option Refusal) → (canceled ≡ None) ⊎ (canceled ≡ Some refusal.Ended) → (cancel (end_at ends side) id).0 ≡ canceled → (reset (cancel (end_at ends side) id).1 id).0 ≡ None
+      → StandsFor (handle_at g side).endpoint (reset (cancel (end_at ends side) id).1 id).1
+      → Left ends h g (event.Cancel side id ∷ event.Reset side id ∷ []) (answer_of answer.Done canceled ∷ answer.Done ∷ [])
+  ends_both id canceled may is none after_stands =
+      let one = cancel (end_at ends side) id in
+      let mid = with_end ends side one.1 in
+      let last = with_end ends side (reset one.1 id).1 in
+      let s = with_stands side there (reset one.1 id).1 after_stands in
+      let step = canceled_step id canceled may is in
+      let two = step_of mid last (event.Reset side id) answer.Done refl (sym (ap (λ x. x.0) (second side one.1) ∙ ap (λ r. answer_of answer.Done r) none)) (sym (ap (λ x. x.1) (second side one.1))) in
+      let views = views_of h.carried in
+      let first = step_seen views (keep_lagging h.carried) ends mid (event.Cancel side id) (answer_of answer.Done canceled) tt tt tt step in
+      let last_step = step_seen views (keep_lagging h.carried) mid last (event.Reset side id) answer.Done tt tt (resets_alike h.carried mid last (event.Reset side id) answer.Done (λ is. absurd (cc)) two) two in
+      let grow = step_grows ends (stood stand) mid (event.Cancel side id) (answer_of answer.Done canceled) tt tt step in
+      let more = grown side one.1 in
+      run_left ends last h g (event.Cancel side id ∷ event.Reset side id ∷ []) (answer_of answer.Done canceled ∷ answer.Done ∷ []) (tt, (tt, tt)) (both_seen views mid, first, (both_seen views last, last_step, refl))
+      (carries_grown Client (h.carried Client) mid.client last.client (carries_grown Client (h.carried Client) ends.client mid.client stand.client_carries grow.client) more.client)
+      (carries_grown Server (h.carried Server) mid.server last.server (carries_grown Server (h.carried Server) ends.server mid.server stand.server_carries grow.server) more.server)
+      same s.0 s.1
+    where
       second : (s : Side) (e : EndpointHistory) → answered (with_end ends s e) (event.Reset s id) ≡ (answer_of answer.Done (reset e id).0, with_end ends s (reset e id).1)
       second Client e = done_is (with_end ends Client e) Client answer.Done (reset e id)
       second Server e = done_is (with_end ends Server e) Server answer.Done (reset e id)
+
+      grown : (s : Side) (e : EndpointHistory) → BothGrow (with_end ends s e) (with_end ends s (reset e id).1)
+      grown Client e = record { client = reset_grows e id; server = grows_none ends.server }
+      grown Server e = record { client = grows_none ends.client; server = reset_grows e id }
 
 -- why a direction that is over refuses nothing
 ended_or_none : (o : Option Refusal) → unless_ended o ≡ None → (o ≡ None) ⊎ (o ≡ Some refusal.Ended)
@@ -285,7 +283,23 @@ same_ends : (ends : Ends) (side : Side) → with_end ends side (end_at ends side
 same_ends ends Client = refl
 same_ends ends Server = refl
 
-module _ (side : Side) (h g : Handles) (there : handle_at g (other side) ≡ handle_at h (other side)) (ends : Ends) (client : StandsFor h.client.endpoint ends.client) (server : StandsFor h.server.endpoint ends.server) where
+-- what opens requests is a run to a schedule
+opened_seen : (views : Views) (K : KeepBoth views) (side : Side) (count next : ℕ) (ends new : Ends) → EndsRun ends (opened_events side count) (opened_answers next count) new → EndsRun (both_seen views ends) (opened_events side count) (opened_answers next count) (both_seen views new)
+opened_seen views K side zero next ends new run = ap (both_seen views) run
+opened_seen views K side (suc count) next ends new (mid, step, rest) = (both_seen views mid, step_seen views K ends mid (event.OpenRequest side) (answer.Opened next) tt tt tt step, opened_seen views K side count (next + 4) mid new rest)
+
+carries_opened : (side : Side) (carried : ℕ → List ℕ) (count : ℕ) (e : EndpointHistory) → Carries side carried e → Carries side carried (opened_more count e)
+carries_opened side carried zero e k = k
+carries_opened side carried (suc count) e k =
+    let rest = carries_opened side carried count e k in carries_grown side carried (opened_more count e) _ rest (opens_grow (opened_more count e) side carried rest)
+
+module _ (side : Side) (h g : Handles) (there : handle_at g (other side) ≡ handle_at h (other side)) (same : g.carried ≡ h.carried) (ends : Ends) (stand : Stand h ends) where
+  here : StandsFor (handle_at h side).endpoint (end_at ends side)
+  here = stands side h g there same ends stand
+
+  still : (handle_at g side) ≡ (handle_at h side) → StandsFor (handle_at g side).endpoint (end_at ends side)
+  still is = subst (λ (v : Seen). StandsFor v.endpoint (end_at ends side)) (sym is) here
+
   pub closes_both : (id stop_before stop reset_before reset_stream : ℕ) (n : Told) → Does (call.CloseStream id stop_before stop reset_before reset_stream n) (handle_at h side) (handle_at g side)
       → MadeAt (Call side (call.CloseStream id stop_before stop reset_before reset_stream n)) h g ends
   closes_both id stop_before stop reset_before reset_stream n d = elim (below_or_not id (2 ^ 62)) [
@@ -294,49 +308,64 @@ module _ (side : Side) (h g : Handles) (there : handle_at g (other side) ≡ han
       events = [];
       answers = [];
       comes = HasNone (ap (λ (t : Told). t.number == 0) (d.0.unknown above).0) refl tt;
-      left = none_left side h g there ends client server (end_at ends side) (subst (λ (v : Seen). StandsFor v.endpoint (end_at ends side)) (sym (d.0.unknown above).1) (stands side h g there ends client server)) refl;
+      left = none_left side h g there same ends stand (end_at ends side) (still (d.0.unknown above).1) refl;
     }
   ]
     where
+      ends_so : (o : Option Refusal) → (reset (cancel (end_at ends side) id).1 id).0 ≡ o → n ≡ ok → ((cancel (end_at ends side) id).0 ≡ None) ⊎ ((cancel (end_at ends side) id).0 ≡ Some refusal.Ended) → reset_stream ≡ bit (is_none o)
+          → StandsFor (handle_at g side).endpoint (reset (cancel (end_at ends side) id).1 id).1 → MadeAt (Call side (call.CloseStream id stop_before stop reset_before reset_stream n)) h g ends
+      ends_so None none told may is on =
+          let canceled = (cancel (end_at ends side) id).0 in
+          record {
+            events = event.Cancel side id ∷ event.Reset side id ∷ [];
+            answers = answer_of answer.Done canceled ∷ answer.Done ∷ [];
+            comes = subst (λ m. Comes (Call side (call.CloseStream id stop_before stop reset_before reset_stream n)) h g (event.Cancel side id ∷ (if m == 0 then [] else event.Reset side id ∷ [])) (answer_of answer.Done canceled ∷ (if m == 0 then [] else answer.Done ∷ []))) is
+                (Closes canceled refl told may);
+            left = ends_both side h g there same ends stand id canceled may refl none on;
+          }
+      ends_so (Some why) some told may is on =
+          let canceled = (cancel (end_at ends side) id).0 in
+          let one = (cancel (end_at ends side) id).1 in
+          record {
+            events = event.Cancel side id ∷ [];
+            answers = answer_of answer.Done canceled ∷ [];
+            comes = subst (λ m. Comes (Call side (call.CloseStream id stop_before stop reset_before reset_stream n)) h g (event.Cancel side id ∷ (if m == 0 then [] else event.Reset side id ∷ [])) (answer_of answer.Done canceled ∷ (if m == 0 then [] else answer.Done ∷ []))) is
+                (Closes canceled refl told may);
+            left = cancels side h g there same ends stand id canceled may refl (subst (λ e. StandsFor (handle_at g side).endpoint e) (does_some (reset_refusal one id) one _ why some) on);
+          }
+
       by : (r : Result ClosedStream Refusal) → n ≡ call_told r → ClosesStream (handle_at h side).endpoint (handle_at g side).endpoint id r → GivesFrames r stop_before stop reset_before reset_stream
           → MadeAt (Call side (call.CloseStream id stop_before stop reset_before reset_stream n)) h g ends
       by (Ok frames) told closed given =
           let e = end_at ends side in
-          let here = stands side h g there ends client server in
           let x = closed.closes.done e here (λ memory. let never : None ≡ Some refusal.OutOfMemory = memory in absurd (cc)) in
           let y = does_none (unless_ended (cancel e id).0) e (reset (cancel e id).1 id).1 (sym x.0) in
           let may = ended_or_none (cancel e id).0 y.0 in
-          let sends = closed.sends e here in
-          record {
-            events = event.Cancel side id ∷ event.Reset side id ∷ [];
-            answers = answer_of answer.Done (cancel e id).0 ∷ answer_of answer.Done (reset (cancel e id).1 id).0 ∷ [];
-            comes = Closes (cancel e id).0 (reset (cancel e id).1 id).0 refl told may (given.1 ∙ ap (λ (f : ClosedStream). bit f.reset_stream) sends);
-            left = ends_both side h g there ends client server id (cancel e id).0 may refl (subst (λ z. StandsFor (handle_at g side).endpoint z) y.1 x.1);
-          }
+          let is = given.1 ∙ ap (λ (f : ClosedStream). bit f.reset_stream) (closed.sends e here) in
+          ends_so (reset (cancel e id).1 id).0 refl told may is (subst (λ z. StandsFor (handle_at g side).endpoint z) y.1 x.1)
       by (Err r) told closed given =
-          record { events = []; answers = []; comes = HasNone (ap (λ (t : Told). t.number == 0) told ∙ not_done r) refl tt; left = unchanged side h g there ends client server (Some r) closed.closes.same r refl }
+          record { events = []; answers = []; comes = HasNone (ap (λ (t : Told). t.number == 0) told ∙ not_done r) refl tt; left = unchanged side h g there same ends stand (Some r) closed.closes.same r refl }
 
   -- what opens requests, up to an id
   opened_left : (count : ℕ) → (0 < count → open_refusal (end_at ends side) ≡ None) → (end_at ends side).next_id + 4 * count < 2 ^ 62 + 4
-      → StandsFor (handle_at g side).endpoint (opened_more count (end_at ends side)) → Left ends g (opened_events side count) (opened_answers (end_at ends side).next_id count)
+      → StandsFor (handle_at g side).endpoint (opened_more count (end_at ends side)) → Left ends h g (opened_events side count) (opened_answers (end_at ends side).next_id count)
   opened_left count may few after_stands =
       let e = end_at ends side in
       let new = with_end ends side (opened_more count e) in
-      let s = with_stands side h g there ends client server side there (opened_more count e) after_stands in
+      let s = with_stands side h g there same ends stand side there (opened_more count e) after_stands in
       let run = subst (λ x. EndsRun x (opened_events side count) (opened_answers e.next_id count) new) (same_ends ends side) (opens_run side count ends e may few) in
-      record {
-        new = new;
-        of = are_opened side count;
-        run = run_unordered (opened_events side count) (opened_answers e.next_id count) ends new (are_opened side count) run;
-        client_stands = s.0;
-        server_stands = s.1;
-      }
+      let both = opened_both side in
+      run_left ends new h g (opened_events side count) (opened_answers e.next_id count) (are_opened side count) (opened_seen (views_of h.carried) (keep_lagging h.carried) side count e.next_id ends new run) both.0 both.1 same s.0 s.1
+    where
+      opened_both : (s : Side) → Carries Client (h.carried Client) (with_end ends s (opened_more count (end_at ends s))).client × Carries Server (h.carried Server) (with_end ends s (opened_more count (end_at ends s))).server
+      opened_both Client = (carries_opened Client (h.carried Client) count ends.client stand.client_carries, stand.server_carries)
+      opened_both Server = (stand.client_carries, carries_opened Server (h.carried Server) count ends.server stand.server_carries)
 
   opens_so : (id : ℕ) (n : Told) (count : ℕ) → id < 2 ^ 62 → (open_request_at (end_at ends side) id).0 ≡ None → count ≤ to_open (end_at ends side).next_id id
       → OpensSoMany n (to_open (end_at ends side).next_id id) count → StandsFor (handle_at g side).endpoint (opened_more count (end_at ends side)) → MadeAt (Call side (call.OpenRequestAt id n)) h g ends
   opens_so id n count known none few many after_stands =
       let e = end_at ends side in
-      let next = (stands side h g there ends client server).next_id in
+      let next = here.next_id in
       let may = opening_opens e id (does_none (opening_refusal e id) e (opened_more (to_open e.next_id id) e) none).0 in
       record {
         events = opened_events side count;
@@ -353,7 +382,7 @@ module _ (side : Side) (h g : Handles) (there : handle_at g (other side) ≡ han
       events = [];
       answers = [];
       comes = HasNone (ap (λ (t : Told). (t.number == 0) || (t.number == 18)) (d.unknown above).0) refl tt;
-      left = none_left side h g there ends client server (end_at ends side) (subst (λ (v : Seen). StandsFor v.endpoint (end_at ends side)) (sym (d.unknown above).1) (stands side h g there ends client server)) refl;
+      left = none_left side h g there same ends stand (end_at ends side) (still (d.unknown above).1) refl;
     }
   ]
     where
@@ -361,7 +390,6 @@ module _ (side : Side) (h g : Handles) (there : handle_at g (other side) ≡ han
           → (r ≡ refusal.OutOfMemory) ⊎ ((((refusal_told r).number == 0) || ((refusal_told r).number == 18)) ≡ false) → MadeAt (Call side (call.OpenRequestAt id n)) h g ends
       refused r told o below (inl is) =
           let e = end_at ends side in
-          let here = stands side h g there ends client server in
           let memory_is = ap (λ x. Some x) is in
           let fewer = o.fewer memory_is in
           let few : fewer.opened < to_open e.next_id id = subst (λ k. fewer.opened < to_open k id) here.next_id fewer.fewer in
@@ -371,13 +399,13 @@ module _ (side : Side) (h g : Handles) (there : handle_at g (other side) ≡ han
             events = [];
             answers = [];
             comes = HasNone (ap (λ (t : Told). (t.number == 0) || (t.number == 18)) told ∙ another) refl tt;
-            left = unchanged side h g there ends client server (Some r) (λ some. o.same some (λ is. is_other r another is)) r refl;
+            left = unchanged side h g there same ends stand (Some r) (λ some. o.same some (λ is. is_other r another is)) r refl;
           }
 
       by : id < 2 ^ 62 → (r : Result Unit Refusal) → n ≡ call_told r → OpensRequestAt (handle_at h side).endpoint (handle_at g side).endpoint id r → MadeAt (Call side (call.OpenRequestAt id n)) h g ends
       by below (Ok done) told o =
           let e = end_at ends side in
-          let x = o.done e (stands side h g there ends client server) (λ memory. let never : None ≡ Some refusal.OutOfMemory = memory in absurd (cc)) in
+          let x = o.done e here (λ memory. let never : None ≡ Some refusal.OutOfMemory = memory in absurd (cc)) in
           let y = does_none (opening_refusal e id) e (opened_more (to_open e.next_id id) e) (sym x.0) in
           opens_so id n (to_open e.next_id id) below (sym x.0) (omega arith) (inl (told, refl)) (subst (λ z. StandsFor (handle_at g side).endpoint z) y.1 x.1)
       by below (Err r) told o = refused r told o below (memory_or_not r)
@@ -385,5 +413,5 @@ module _ (side : Side) (h g : Handles) (there : handle_at g (other side) ≡ han
   pub by_history : (c : call) → ByHistory c → Does c (handle_at h side) (handle_at g side) → MadeAt (Call side c) h g ends
   by_history _ (OpensUpToOf id n) d = opens_up_to id n d
   by_history _ (ClosesBoth id stop_before stop reset_before reset_stream n) d = closes_both id stop_before stop reset_before reset_stream n d
-  by_history _ (GivesNoticeOf n) d = shuts_down side h g there ends client server (call.ShutdownNotice n) n (λ e. notice_id e.side) (refl, refl) (inl refl) d
-  by_history _ (ShutsDownOf n) d = shuts_down side h g there ends client server (call.Shutdown n) n (λ e. last_taken e.side e) (refl, refl) (inr refl) d
+  by_history _ (GivesNoticeOf n) d = shuts_down side h g there same ends stand (call.ShutdownNotice n) n (λ e. notice_id e.side) (refl, refl) (inl refl) d
+  by_history _ (ShutsDownOf n) d = shuts_down side h g there same ends stand (call.Shutdown n) n (λ e. last_taken e.side e) (refl, refl) (inr refl) d

@@ -1,18 +1,37 @@
--- What two handles are after something happened.
-use Rattle.std.proofs.Common.{◌≡◌, List, [], ◌∷◌, ◌++◌, refl, sym, ap, subst, ◌∙◌}
-use Rattle.h3_connection.specs.Endpoint.{EndpointHistory}
+-- What two handles are after something happened, and what that is to a schedule.
+use Rattle.std.proofs.Common.{arith, ◌≡◌, ◌≢◌, ◌≤◌, ℕ, ◌-◌, Bool, true, false, if◌then◌else◌, List, [], ◌∷◌, ◌++◌, length, drop, refl, sym, ap, subst, ◌∙◌, Option, Some, None, length-drop}
+use Rattle.std.specs.Prelude.{◌==◌, ◌&&◌, ◌||◌}
+use Rattle.std.proofs.lemmas.Grind.{common_steps}
+use Rattle.h3_proto.specs.declared.stream.Side.{Side}
+use Rattle.h3_proto.specs.declared.stream.Side.TheVariants.{Client, Server}
+use Rattle.h3_connection.specs.Endpoint.{EndpointHistory, is_critical_id}
+use Rattle.h3_connection.specs.Outgoing.{is_sent_off}
+use Rattle.h3_connection.specs.Refusals.{refusal_to_stop}
+use Rattle.h3_connection.specs.Sending.{closed_or, does, is_open, outgoing_at, reset, reset_refusal}
 use Rattle.h3_connection.specs.State.{EndpointState, StandsFor}
-use Rattle.h3_world.specs.Ends.{Ends}
+use Rattle.h3_connection.specs.declared.event.Refusal.{Refusal}
+use Rattle.h3_connection.specs.declared.event.Refusal.TheVariants as refusal
+use Rattle.h3_world.specs.Ends.{Ends, end_at}
+use Rattle.h3_world.specs.Headline.{is_out_of_memory}
 use Rattle.h3_world.specs.declared.event.Answer.{Answer}
+use Rattle.h3_world.specs.declared.event.Answer.TheVariants as answer
 use Rattle.h3_world.specs.declared.event.Event.{Event}
-use Rattle.h3_memory.specs.Refused.{EndsRun}
+use Rattle.h3_world.specs.declared.event.Event.TheVariants as event
+use Rattle.h3_memory.specs.Refused.{AnswerOf, EndsRun, EndsStep}
 use Rattle.h3_session.specs.Acting.{Acts, RunsByCalls}
+use Rattle.h3_session.specs.Running.{answer_of}
 use Rattle.h3_c.specs.Programs.{Handles}
 use Rattle.h3_c.specs.Seen.{Seen}
+use Rattle.h3_c.proofs.Comings.{done_is}
+use Rattle.h3_c.proofs.Flights.{Carries, carries_grown, keeps_lagging, lagging, stays_grows, stays_seen}
+use Rattle.h3_c.proofs.Grows.{part_bytes}
 use Rattle.h3_c.proofs.QuietCalls.{Stays}
+use Rattle.h3_c.proofs.SendsGrow.{Stood, step_grows}
 use Rattle.h3_c.proofs.Unordered.{unordered}
-use Rattle.h3_c.proofs.UnorderedMemory.{step_unordered}
-use Rattle.h3_c.proofs.UnorderedSteps.{IsOfC, both_unordered}
+use Rattle.h3_c.proofs.ViewsMemory.{step_seen}
+use Rattle.h3_c.proofs.ViewsSending.{sent_off_seen, stop_seen}
+use Rattle.h3_c.proofs.ViewsSteps.{AreOfC, IsCall, IsOfC, KeepBoth, ResetsAlike, Views, both_seen}
+use Rattle.h3_c.proofs.Views.{seen}
 
 abbrev pub StaysAt : Seen → Seen → Type 0
 StaysAt v w = (e : EndpointHistory) → StandsFor v.endpoint e → Stays w.endpoint e
@@ -20,24 +39,42 @@ StaysAt v w = (e : EndpointHistory) → StandsFor v.endpoint e → Stays w.endpo
 pub stays_same : (v w : Seen) → w ≡ v → StaysAt v w
 stays_same v w same e h = record { after = e; stands = subst (λ (x : Seen). StandsFor x.endpoint e) (sym same) h; same = refl }
 
--- both handles stand for ends, and what was answered is a run that leads to these
-pub record Ran (ends : Ends) (g : Handles) (events : List Event) (answers : List Answer) : Type 0 where
+-- Both handles stand for ends, of whose streams this is carried.
+pub record Stand (h : Handles) (ends : Ends) : Type 0 where
+  pub client : StandsFor h.client.endpoint ends.client
+  pub server : StandsFor h.server.endpoint ends.server
+  pub client_carries : Carries Client (h.carried Client) ends.client
+  pub server_carries : Carries Server (h.carried Server) ends.server
+
+-- as a schedule sees both ends
+abbrev pub views_of : (Side → ℕ → List ℕ) → Views
+views_of carried = record { client = lagging Client (carried Client); server = lagging Server (carried Server) }
+
+pub keep_lagging : (carried : Side → ℕ → List ℕ) → KeepBoth (views_of carried)
+keep_lagging carried = record { client = keeps_lagging Client (carried Client); server = keeps_lagging Server (carried Server) }
+
+pub stood : {h : Handles} {ends : Ends} → Stand h ends → (side : Side) → Stood (end_at ends side)
+stood {h = h} stand Client = record { state = h.client.endpoint; stands = stand.client; side = Client; carried = h.carried Client; carries = stand.client_carries }
+stood {h = h} stand Server = record { state = h.server.endpoint; stands = stand.server; side = Server; carried = h.carried Server; carries = stand.server_carries }
+
+-- What was answered is a run to a schedule, and the handles stand for ends then.
+pub record Left (ends : Ends) (h g : Handles) (events : List Event) (answers : List Answer) : Type 0 where
   pub new : Ends
-  pub run : EndsRun ends events answers new
-  pub client_stands : StandsFor g.client.endpoint new.client
-  pub server_stands : StandsFor g.server.endpoint new.server
+  pub of : AreOfC events
+  pub run : EndsRun (both_seen (views_of h.carried) ends) events answers (both_seen (views_of g.carried) new)
+  pub stand : Stand g new
 
-abbrev pub AreOfC : List Event → Type 0
-AreOfC [] = Unit {0}
-AreOfC (e ∷ events) = IsOfC e × AreOfC events
+-- not a reset of a stream that was sent to its end
+abbrev pub NotEnded : Event → Answer → Type 0
+NotEnded (event.Reset side id) a = a ≢ answer.Refused refusal.Ended
+NotEnded _ a = Unit {0}
 
--- They answered this event by the calls that it names; or some, whatever they stood for; or nothing of which a schedule speaks has changed; or one
+-- One side answered this event by the call that it names; or nothing of which a schedule speaks has changed; or some, whatever they stood for; or one
 -- behind the other.
 pub data Moves : Handles → Handles → List Event → List Answer → Type 0 where
-  ActsSo : {h g : Handles} {e : Event} {a : Answer} → IsOfC e → Acts e h.client.endpoint h.server.endpoint a g.client.endpoint g.server.endpoint → Moves h g (e ∷ []) (a ∷ [])
-  RunsSo : {h g : Handles} {events : List Event} {answers : List Answer} → AreOfC events
-      → ((ends : Ends) → StandsFor h.client.endpoint ends.client → StandsFor h.server.endpoint ends.server → Ran ends g events answers) → Moves h g events answers
-  StaysSo : {h g : Handles} → StaysAt h.client g.client → StaysAt h.server g.server → Moves h g [] []
+  ActsSo : {h g : Handles} {e : Event} {a : Answer} → IsOfC e → IsCall e → NotEnded e a → g.carried ≡ h.carried → Acts e h.client.endpoint h.server.endpoint a g.client.endpoint g.server.endpoint → Moves h g (e ∷ []) (a ∷ [])
+  LeavesSo : {h g : Handles} {events : List Event} {answers : List Answer} → ((ends : Ends) → Stand h ends → Left ends h g events answers) → Moves h g events answers
+  StaysSo : {h g : Handles} → StaysAt h.client g.client → StaysAt h.server g.server → g.carried ≡ h.carried → Moves h g [] []
   ThenSo : {h mid g : Handles} {first events : List Event} {given answers : List Answer} → Moves h mid first given → Moves mid g events answers → Moves h g (first ++ events) (given ++ answers)
 
 -- runs one after another
@@ -51,58 +88,146 @@ pub of_both : (first events : List Event) → AreOfC first → AreOfC events →
 of_both [] events one two = two
 of_both (e ∷ first) events one two = (one.0, of_both first events one.1 two)
 
-pub run_unordered : (events : List Event) (answers : List Answer) (ends new : Ends) → AreOfC events → EndsRun ends events answers new → EndsRun (both_unordered ends) events answers (both_unordered new)
-run_unordered [] [] ends new of run = ap both_unordered run
-run_unordered (e ∷ events) (a ∷ answers) ends new of (mid, step, rest) = (both_unordered mid, step_unordered ends mid e a of.0 step, run_unordered events answers mid new of.1 rest)
-run_unordered [] (a ∷ answers) ends new of x = absurd x
-run_unordered (e ∷ events) [] ends new of x = absurd x
+pub left_then : (ends : Ends) (h mid g : Handles) (first events : List Event) (given answers : List Answer) (one : Left ends h mid first given) → Left one.new mid g events answers → Left ends h g (first ++ events) (given ++ answers)
+left_then ends h mid g first events given answers one two = record {
+  new = two.new;
+  of = of_both first events one.of two.of;
+  run = run_on first events given answers (both_seen (views_of h.carried) ends) (both_seen (views_of mid.carried) one.new) (both_seen (views_of g.carried) two.new) one.run two.run;
+  stand = two.stand;
+}
+
+-- A reset is answered alike, unless the stream was sent to its end.
+alike_if : (closed : Option ℕ) (critical there over : Bool) → closed_or closed (refusal_to_stop critical there true) ≢ Some refusal.Ended → closed_or closed (refusal_to_stop critical there over) ≡ closed_or closed (refusal_to_stop critical there true)
+alike_if (Some code) critical there over not = refl
+alike_if None true there over not = refl
+alike_if None false false over not = refl
+alike_if None false true over not = absurd (not refl)
+
+longer_waits : (finished : Bool) (m n : ℕ) → m ≤ n → (finished && (m == 0)) ≡ false → (finished && (n == 0)) ≡ false
+longer_waits false m n few h = refl
+longer_waits true m n few h = grind (arith, common_steps, few, h)
+
+still_waits : (is_reset finished : Bool) (xs ys : List ℕ) → length xs ≤ length ys → (is_reset || (finished && (length (if is_reset then [] else xs) == 0))) ≡ false → (is_reset || (finished && (length (if is_reset then [] else ys) == 0))) ≡ false
+still_waits true finished xs ys few h = h
+still_waits false finished xs ys few h = longer_waits finished (length xs) (length ys) few h
+
+fewer_dropped : (n k : ℕ) (xs : List ℕ) → length (drop n xs) ≤ length (drop (n - k) xs)
+fewer_dropped n k xs = let one = length-drop n xs in let two = length-drop (n - k) xs in omega (arith, one, two)
+
+lags_alike : (side : Side) (carried : ℕ → List ℕ) (e : EndpointHistory) (id : ℕ) → reset_refusal e id ≢ Some refusal.Ended → reset_refusal (seen (lagging side carried) e) id ≡ reset_refusal e id
+lags_alike side carried e id not = by (is_sent_off (outgoing_at e id)) refl
+  where
+    by : (b : Bool) → is_sent_off (outgoing_at e id) ≡ b → reset_refusal (seen (lagging side carried) e) id ≡ reset_refusal e id
+    by true over =
+        let whole = ap (λ b. closed_or e.closed (refusal_to_stop (is_critical_id e id) (is_open e id) b)) over in
+        let other = λ (b : Bool). alike_if e.closed (is_critical_id e id) (is_open e id) b (λ is. not (whole ∙ is)) in
+        stop_seen (lagging side carried) (keeps_lagging side carried) e id ∙ other (is_sent_off ((lagging side carried).out id (outgoing_at e id))) ∙ sym whole
+    by false waits =
+        sent_off_seen (lagging side carried) (keeps_lagging side carried) e id (still_waits (outgoing_at e id).is_reset (outgoing_at e id).is_finished _ _ (fewer_dropped (outgoing_at e id).taken (length (carried id)) (part_bytes (outgoing_at e id))) waits ∙ sym waits)
+
+does_refusal : (r : Option Refusal) (e new : EndpointHistory) → (does r e new).0 ≡ r
+does_refusal None e new = refl
+does_refusal (Some r) e new = refl
+
+reset_answer : (ends : Ends) (side : Side) (id : ℕ) (a : Answer) (new : Ends) → EndsStep ends (event.Reset side id) a new → a ≡ answer_of answer.Done (reset_refusal (end_at ends side) id)
+reset_answer ends side id a new step = by (is_out_of_memory a) refl
+  where
+    by : (b : Bool) → is_out_of_memory a ≡ b → a ≡ answer_of answer.Done (reset_refusal (end_at ends side) id)
+    by true is = absurd (subst (λ c. AnswerOf c ends (event.Reset side id) a new) is step)
+    by false is =
+        (subst (λ c. AnswerOf c ends (event.Reset side id) a new) is step).0 ∙ ap (λ x. x.0) (done_is ends side answer.Done (reset (end_at ends side) id))
+        ∙ ap (λ r. answer_of answer.Done r) (does_refusal (reset_refusal (end_at ends side) id) (end_at ends side) _)
+
+not_over : (a : Answer) (r : Option Refusal) → a ≡ answer_of answer.Done r → a ≢ answer.Refused refusal.Ended → r ≢ Some refusal.Ended
+not_over a r is not over = not (is ∙ ap (λ x. answer_of answer.Done x) over)
+
+pub resets_alike : (carried : Side → ℕ → List ℕ) (ends new : Ends) (e : Event) (a : Answer) → NotEnded e a → EndsStep ends e a new → ResetsAlike e (views_of carried) ends
+resets_alike carried ends new (event.Reset Client id) a not step = lags_alike Client (carried Client) ends.client id (not_over a _ (reset_answer ends Client id a new step) not)
+resets_alike carried ends new (event.Reset Server id) a not step = lags_alike Server (carried Server) ends.server id (not_over a _ (reset_answer ends Server id a new step) not)
+resets_alike carried ends new (event.OpenRequest side) a not step = tt
+resets_alike carried ends new (event.Head side id head) a not step = tt
+resets_alike carried ends new (event.Fields side id fields) a not step = tt
+resets_alike carried ends new (event.Body side id bytes) a not step = tt
+resets_alike carried ends new (event.Trailer side id trailer) a not step = tt
+resets_alike carried ends new (event.TrailerFields side id fields) a not step = tt
+resets_alike carried ends new (event.Finish side id) a not step = tt
+resets_alike carried ends new (event.Cancel side id) a not step = tt
+resets_alike carried ends new (event.Goaway side id) a not step = tt
+resets_alike carried ends new (event.Deliver side id count) a not step = tt
+resets_alike carried ends new (event.DeliverEnd side id) a not step = tt
+resets_alike carried ends new (event.DeliverReset side id) a not step = tt
+resets_alike carried ends new (event.Pull side id) a not step = tt
+resets_alike carried ends new (event.PullFields side id) a not step = tt
+resets_alike carried ends new (event.Show side) a not step = tt
+
+-- A run to a schedule of which both sides carry on
+pub run_left : (ends new : Ends) (h g : Handles) (events : List Event) (answers : List Answer) → AreOfC events → EndsRun (both_seen (views_of h.carried) ends) events answers (both_seen (views_of h.carried) new)
+    → Carries Client (h.carried Client) new.client → Carries Server (h.carried Server) new.server → g.carried ≡ h.carried → StandsFor g.client.endpoint new.client → StandsFor g.server.endpoint new.server → Left ends h g events answers
+run_left ends new h g events answers of run client_carries server_carries same client server =
+    record {
+      new = new;
+      of = of;
+      run = subst (λ c. EndsRun (both_seen (views_of h.carried) ends) events answers (both_seen (views_of c) new)) (sym same) run;
+      stand = record {
+        client = client;
+        server = server;
+        client_carries = subst (λ (c : Side → ℕ → List ℕ). Carries Client (c Client) new.client) (sym same) client_carries;
+        server_carries = subst (λ (c : Side → ℕ → List ℕ). Carries Server (c Server) new.server) (sym same) server_carries;
+      };
+    }
+
+-- **A step that one side makes is one to a schedule.**
+pub step_left : (ends new : Ends) (h g : Handles) (e : Event) (a : Answer) → IsOfC e → IsCall e → NotEnded e a → g.carried ≡ h.carried → Stand h ends → EndsStep ends e a new → StandsFor g.client.endpoint new.client → StandsFor g.server.endpoint new.server
+    → Left ends h g (e ∷ []) (a ∷ [])
+step_left ends new h g e a of call not same stand step client server =
+    let seen_step = step_seen (views_of h.carried) (keep_lagging h.carried) ends new e a of call (resets_alike h.carried ends new e a not step) step in
+    let grow = step_grows ends (stood stand) new e a of call step in
+    run_left ends new h g (e ∷ []) (a ∷ []) (of, tt) (both_seen (views_of h.carried) new, seen_step, refl)
+    (carries_grown Client (h.carried Client) ends.client new.client stand.client_carries grow.client) (carries_grown Server (h.carried Server) ends.server new.server stand.server_carries grow.server) same client server
+
+pub ends_are : (a b : Ends) → a.client ≡ b.client → a.server ≡ b.server → a ≡ b
+ends_are a b client server = ap (λ e. let x : Ends = record { client = e; server = a.server } in x) client ∙ ap (λ e. let x : Ends = record { client = b.client; server = e } in x) server
+
+-- what changes nothing of which a schedule speaks
+pub stays_left : (ends : Ends) (h g : Handles) (client server : EndpointHistory) → g.carried ≡ h.carried → Stand h ends → unordered client ≡ unordered ends.client → unordered server ≡ unordered ends.server
+    → StandsFor g.client.endpoint client → StandsFor g.server.endpoint server → Left ends h g [] []
+stays_left ends h g client server same stand client_same server_same client_stands server_stands =
+    let new : Ends = record { client = client; server = server } in
+    record {
+      new = new;
+      of = tt;
+      run = ap (λ c. both_seen (views_of c) new) same
+          ∙ ends_are (both_seen (views_of h.carried) new) (both_seen (views_of h.carried) ends) (stays_seen Client (h.carried Client) ends.client client client_same) (stays_seen Server (h.carried Server) ends.server server server_same);
+      stand = record {
+        client = client_stands;
+        server = server_stands;
+        client_carries = subst (λ (c : Side → ℕ → List ℕ). Carries Client (c Client) client) (sym same) (carries_grown Client (h.carried Client) ends.client client stand.client_carries (stays_grows ends.client client client_same));
+        server_carries = subst (λ (c : Side → ℕ → List ℕ). Carries Server (c Server) server) (sym same) (carries_grown Server (h.carried Server) ends.server server stand.server_carries (stays_grows ends.server server server_same));
+      };
+    }
 
 -- what is cited: events that were answered by their calls are steps of the ends that were stood for
 abbrev pub CallsAreSteps : Type 0
 CallsAreSteps = (ends : Ends) (events : List Event) (answers : List Answer) (client server : EndpointState) → RunsByCalls ends events answers client server
     → (new : Ends) × EndsRun ends events answers new × StandsFor client new.client × StandsFor server new.server
 
--- both handles stand for ends then, and by what a schedule speaks of it is a run
-pub record Left (ends : Ends) (g : Handles) (events : List Event) (answers : List Answer) : Type 0 where
-  pub new : Ends
-  pub of : AreOfC events
-  pub run : EndsRun (both_unordered ends) events answers (both_unordered new)
-  pub client_stands : StandsFor g.client.endpoint new.client
-  pub server_stands : StandsFor g.server.endpoint new.server
-
-ends_are : (a b : Ends) → a.client ≡ b.client → a.server ≡ b.server → a ≡ b
-ends_are a b client server = ap (λ e. let x : Ends = record { client = e; server = a.server } in x) client ∙ ap (λ e. let x : Ends = record { client = b.client; server = e } in x) server
-
-pub leaves : CallsAreSteps → {h g : Handles} (ends : Ends) {events : List Event} {answers : List Answer} → StandsFor h.client.endpoint ends.client → StandsFor h.server.endpoint ends.server → Moves h g events answers → Left ends g events answers
-leaves law ends client server (ActsSo {h = h} {g = g} {e = e} {a = a} of acts) =
+pub leaves : CallsAreSteps → {h g : Handles} (ends : Ends) {events : List Event} {answers : List Answer} → Stand h ends → Moves h g events answers → Left ends h g events answers
+leaves law ends stand (ActsSo {h = h} {g = g} {e = e} {a = a} of call not same acts) =
     let on = law ends (e ∷ []) (a ∷ []) g.client.endpoint g.server.endpoint (record {
       client = h.client.endpoint;
       server = h.server.endpoint;
-      client_stands = client;
-      server_stands = server;
+      client_stands = stand.client;
+      server_stands = stand.server;
       acts = (g.client.endpoint, g.server.endpoint, acts, (refl, refl));
     }) in
-    record { new = on.0; of = (of, tt); run = run_unordered (e ∷ []) (a ∷ []) ends on.0 (of, tt) on.1; client_stands = on.2; server_stands = on.3 }
-leaves law ends {events = events} {answers = answers} client server (RunsSo of runs) =
-    let ran = runs ends client server in
-    record { new = ran.new; of = of; run = run_unordered events answers ends ran.new of ran.run; client_stands = ran.client_stands; server_stands = ran.server_stands }
-leaves law ends client server (StaysSo client_stays server_stays) =
-    let c = client_stays ends.client client in
-    let s = server_stays ends.server server in
-    record {
-      new = record { client = c.after; server = s.after };
-      of = tt;
-      run = ends_are (record { client = unordered c.after; server = unordered s.after }) (both_unordered ends) c.same s.same;
-      client_stands = c.stands;
-      server_stands = s.stands;
-    }
-leaves law ends client server (ThenSo {mid = mid} {first = first} {events = events} {given = given} {answers = answers} before behind) =
-    let one = leaves law ends client server before in
-    let two = leaves law one.new one.client_stands one.server_stands behind in
-    record {
-      new = two.new;
-      of = of_both first events one.of two.of;
-      run = run_on first events given answers (both_unordered ends) (both_unordered one.new) (both_unordered two.new) one.run two.run;
-      client_stands = two.client_stands;
-      server_stands = two.server_stands;
-    }
+    one_step on.0 on.1 on.2 on.3
+  where
+    one_step : (new : Ends) → EndsRun ends (e ∷ []) (a ∷ []) new → StandsFor g.client.endpoint new.client → StandsFor g.server.endpoint new.server → Left ends h g (e ∷ []) (a ∷ [])
+    one_step new (mid, step, is) client server = step_left ends new h g e a of call not same stand (subst (λ x. EndsStep ends e a x) (sym is) step) client server
+leaves law ends stand (LeavesSo left) = left ends stand
+leaves law ends stand (StaysSo {h = h} {g = g} client_stays server_stays same) =
+    let c = client_stays ends.client stand.client in
+    let s = server_stays ends.server stand.server in
+    stays_left ends h g c.after s.after same stand c.same s.same c.stands s.stands
+leaves law ends stand (ThenSo {h = h} {mid = mid} {g = g} {first = first} {events = events} {given = given} {answers = answers} before behind) =
+    let one = leaves law ends stand before in left_then ends h mid g first events given answers one (leaves law one.new one.stand behind)

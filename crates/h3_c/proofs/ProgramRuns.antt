@@ -1,42 +1,42 @@
 -- What two programs do is a run of two endpoints.
-use Rattle.std.proofs.Common.{arith, ◌≡◌, ◌<◌, ◌⊎◌, inl, inr, ℕ, Bool, true, false, List, [], ◌∷◌, ◌++◌, length, refl, sym, ap, subst, ◌∙◌, Some}
-use Rattle.std.specs.Prelude.{◌^◌}
+use Rattle.std.proofs.Common.{arith, ◌≡◌, ◌<◌, ◌⊎◌, inl, inr, ℕ, Bool, true, false, if◌then◌else◌, List, [], ◌∷◌, ◌++◌, length, drop, refl, sym, ap, subst, ◌∙◌}
+use Rattle.std.specs.Prelude.{◌==◌, ◌^◌, min}
 use Rattle.h3_proto.specs.declared.stream.Side.{Side}
 use Rattle.h3_proto.specs.declared.stream.Side.TheVariants.{Client, Server}
-use Rattle.h3_connection.specs.Endpoint.{EndpointHistory}
-use Rattle.h3_connection.specs.SendingContracts.{Advances}
-use Rattle.h3_connection.specs.Shown.{has_outgoing, is_reset}
+use Rattle.h3_connection.specs.Answers.{delivery_refused}
+use Rattle.h3_connection.specs.Endpoint.{bytes_waiting, new_endpoint}
+use Rattle.h3_connection.specs.OwnIds.{control_id, decoder_id, encoder_id, other}
+use Rattle.h3_connection.specs.Sending.{advance}
 use Rattle.h3_connection.specs.Shutdown.{is_rejected_in}
-use Rattle.h3_connection.specs.State.{EndpointState, StandsFor}
-use Rattle.h3_world.specs.Ends.{Ends}
+use Rattle.h3_connection.specs.State.{StandsFor}
+use Rattle.h3_connection.specs.declared.setup.Announced.{Announced}
+use Rattle.h3_world.specs.Ends.{Ends, end_at, new_ends}
+use Rattle.h3_world.specs.Setup.{Setup}
 use Rattle.h3_world.specs.declared.event.Answer.{Answer}
 use Rattle.h3_world.specs.declared.event.Answer.TheVariants as answer
 use Rattle.h3_world.specs.declared.event.Event.{Event}
 use Rattle.h3_world.specs.declared.event.Event.TheVariants as event
 use Rattle.h3_memory.specs.Refused.{EndsRun}
-use Rattle.h3_session.specs.Acting.{CarriesBytes, CarriesEnd, CarriesReset, Acts, FromOne}
-use Rattle.h3_session.specs.Running.{answer_of, is_stored, told_answer}
-use Rattle.h3_connection.specs.Answers.{delivery_refused}
-use Rattle.h3_c.specs.Asked.{Tells}
-use Rattle.h3_c.specs.Bits.{bit}
+use Rattle.h3_session.specs.Running.{answer_of, is_stored}
 use Rattle.h3_c.specs.Exported.{Calls, DeliversOn}
-use Rattle.h3_c.specs.Numbers.{ok, rejected}
-use Rattle.h3_c.specs.Programs as programs
-use Rattle.h3_c.specs.Programs.{Act, Bytes, Call, Empty, End, FromTo, Handles, Happen, Happens, IsRead, IsRefused, LearnsOf, Nothing, Read, Reset, StandFor, Then, event_of, is_taken}
+use Rattle.h3_c.specs.Numbers.{rejected}
+use Rattle.h3_c.specs.Programs.{Act, AreMade, Bytes, Call, Comes, Empty, End, Handles, Happen, Happens, HasNone, IsEvent, IsRead, IsRefused, Nothing, Read, Reset, StandFor, Take, Takes, Tells, Then, carrying, handle_at, HasEnded, is_taken}
+use Rattle.h3_c.specs.Reads.{taken_of}
 use Rattle.h3_c.specs.Seen.{Seen}
 use Rattle.h3_c.specs.declared.numbers.Told.{Told}
-use Rattle.h3_c.proofs.CarriedOver.{bytes_carried, delivery_tells, end_carried, none_carried, reset_carried, taken_so}
-use Rattle.h3_c.proofs.FrontsShown.{goes_there, known_id, resets_there, shown_finished, shown_front, shown_none}
-use Rattle.h3_c.proofs.ProgramCalls.{ByHistory, Made, call_made, made_event, made_none}
+use Rattle.h3_c.proofs.CarriedOver.{delivery_tells, taken_so as told_taken}
+use Rattle.h3_c.proofs.Flights.{Carries, Flies, lagging, none_less, own_lags}
+use Rattle.h3_c.proofs.FrontsShown.{empty_told, ended_told, goes_told, known_id, reset_told, shown_front, tells_stream}
+use Rattle.h3_c.proofs.Grows.{own_taken, own_text}
+use Rattle.h3_c.proofs.MadeHandles.{handle_stands}
+use Rattle.h3_c.proofs.ProgramCalls.{ByHistory, Made, call_made}
+use Rattle.h3_c.proofs.ProgramGives.{bytes_given, empty_given, end_given, given_to, read_by, reset_given, rest_given, taken_from, taken_so}
 use Rattle.h3_c.proofs.ProgramHistories.{MadeAt, at_ends, by_history}
-use Rattle.h3_c.proofs.ProgramMoves.{AreOfC, CallsAreSteps, of_both, run_on, stays_same}
-use Rattle.h3_c.proofs.ProgramReads.{read_made}
-use Rattle.h3_c.proofs.UnorderedSteps.{IsOfC, both_unordered}
-
--- What an act that goes from v to r is: no event, and nothing has changed; or an event with this answer.
-abbrev Goes : (EndpointState → EndpointState → Answer → EndpointState → EndpointState → Type 0) → (Answer → Type 0) → Told → Seen → Seen → Seen → Seen → Type 0
-Goes event tells n v w r s =
-    ((n ≡ rejected) × (w ≡ v) × (s ≡ r)) ⊎ ((a : Answer) × tells a × event v.endpoint r.endpoint a w.endpoint s.endpoint)
+use Rattle.h3_c.proofs.ProgramMoves.{CallsAreSteps, Moves, Stand, StaysSo, ThenSo, of_both, run_on, stays_same, views_of}
+use Rattle.h3_c.proofs.ProgramReads.{carrying_here, pair, read_made}
+use Rattle.h3_c.proofs.UnorderedSteps.{both_unordered}
+use Rattle.h3_c.proofs.Views.{plain, seen}
+use Rattle.h3_c.proofs.ViewsSteps.{AreOfC, both_seen}
 
 -- a delivery is rejected, or is a call
 delivered : {P : Type 0} {X : Type 0} (id : ℕ) (n : Told) (r s : Seen) (does : X → Type 0) (told : X → Told) → id < 2 ^ 62 → DeliversOn told id n r s does
@@ -47,112 +47,129 @@ delivered {P} id n r s does told below on rejects takes = by (is_rejected_in r.e
     by true is = rejects ((on.known below).refused is)
     by false is = takes ((on.known below).taken is)
 
-rejected_untaken : (n : Told) → n ≡ rejected → is_taken n ≡ false
-rejected_untaken n is = ap is_taken is
+-- What the handles are then.
+handles_are : (g : Handles) (client server : Seen) (carried : Side → ℕ → List ℕ) → g.client ≡ client → g.server ≡ server → g.carried ≡ carried → g ≡ record { client = client; server = server; carried = carried }
+handles_are g client server carried a b c =
+    ap (λ v. let x : Handles = record { client = v; server = g.server; carried = g.carried } in x) a ∙ ap (λ v. let x : Handles = record { client = client; server = v; carried = g.carried } in x) b
+    ∙ ap (λ v. let x : Handles = record { client = client; server = server; carried = v } in x) c
 
-bytes_go : (id : ℕ) (bytes : List ℕ) (n : Told) (v w r s : Seen) (e : EndpointHistory) → StandsFor r.endpoint e → programs.CarriesBytes id bytes n v w r s
-    → Goes (CarriesBytes id (length bytes)) (λ a. Tells (answer.Delivered (length bytes)) n a) n v w r s
-bytes_go id bytes n v w r s e stands c =
-    let below = (known_id id v v _ c.shown.call.1).0 in
-    delivered id n r s _ _ below c.delivered
-    (λ x. inl (x.0, c.left (rejected_untaken n x.0), x.1))
+given_is : (from : Side) (h g : Handles) (id : ℕ) (bytes : List ℕ) → handle_at g from ≡ handle_at h from → g.carried ≡ carrying h.carried from id bytes → g ≡ given_to from h (handle_at g (other from)) id bytes
+given_is Client h g id bytes there carried = handles_are g h.client g.server (carrying h.carried Client id bytes) there refl carried
+given_is Server h g id bytes there carried = handles_are g g.client h.server (carrying h.carried Server id bytes) refl there carried
+
+taken_is : (from : Side) (h g : Handles) (id : ℕ) (bytes : List ℕ) → handle_at g (other from) ≡ handle_at h (other from) → g.carried ≡ carrying h.carried from id (h.carried from id ++ bytes) → g ≡ taken_from from h (handle_at g from) id bytes
+taken_is Client h g id bytes there carried = handles_are g g.client h.server (carrying h.carried Client id (h.carried Client id ++ bytes)) refl there carried
+taken_is Server h g id bytes there carried = handles_are g h.client g.server (carrying h.carried Server id (h.carried Server id ++ bytes)) there refl carried
+
+pair_is : (from : Side) (h : Handles) → pair from (handle_at h from) (handle_at h (other from)) h.carried ≡ h
+pair_is Client h = refl
+pair_is Server h = refl
+
+pair_given : (from : Side) (h : Handles) (s : Seen) (id : ℕ) (bytes : List ℕ) → pair from (handle_at h from) s (carrying h.carried from id bytes) ≡ given_to from h s id bytes
+pair_given Client h s id bytes = refl
+pair_given Server h s id bytes = refl
+
+-- an end or a reset came, and as much is carried
+then_rest : (from : Side) (h : Handles) (s : Seen) (id : ℕ) (rest : List ℕ) (e : Event) (a : Answer) → Moves h (read_by from h s) (e ∷ []) (a ∷ []) → h.carried from id ≡ rest → Moves h (given_to from h s id rest) (e ∷ []) (a ∷ [])
+then_rest Client h s id rest e a moves is = ThenSo moves (rest_given (read_by Client h s) Client id rest is)
+then_rest Server h s id rest e a moves is = ThenSo moves (rest_given (read_by Server h s) Server id rest is)
+
+-- it was rejected
+rejected_moves : (from : Side) (h : Handles) (s : Seen) (id : ℕ) (rest : List ℕ) → s ≡ handle_at h (other from) → h.carried from id ≡ rest → Moves h (given_to from h s id rest) [] []
+rejected_moves Client h s id rest same is = ThenSo (StaysSo {h = h} {g = read_by Client h s} (stays_same h.client h.client refl) (stays_same h.server s same) refl) (rest_given (read_by Client h s) Client id rest is)
+rejected_moves Server h s id rest same is = ThenSo (StaysSo {h = h} {g = read_by Server h s} (stays_same h.client s same) (stays_same h.server h.server refl) refl) (rest_given (read_by Server h s) Server id rest is)
+
+-- so an act comes to this
+made_moves : (act : Act) (h g x : Handles) (events : List Event) (answers : List Answer) → g ≡ x → Comes act h g events answers → Moves h x events answers → Made act h g
+made_moves act h g x events answers is comes moves = record { events = events; answers = answers; comes = comes; moves = subst (λ y. Moves h y events answers) (sym is) moves }
+
+-- what is left of bytes that were taken, or not
+all_dropped : (bytes : List ℕ) → drop (length bytes) bytes ≡ []
+all_dropped [] = refl
+all_dropped (x ∷ bytes) = all_dropped bytes
+
+left_of : (taken : Bool) (bytes : List ℕ) → (if taken then [] else bytes) ≡ drop (taken_of taken (length bytes)) bytes
+left_of true bytes = sym (all_dropped bytes)
+left_of false bytes = refl
+
+-- bytes that were rejected were not taken
+untaken : (n : Told) → n ≡ rejected → is_taken n ≡ false
+untaken n is = ap is_taken is
+
+stands_at : {h : Handles} {ends : Ends} → Stand h ends → (side : Side) → StandsFor (handle_at h side).endpoint (end_at ends side)
+stands_at stand Client = stand.client
+stands_at stand Server = stand.server
+
+bytes_made : (from : Side) (id : ℕ) (bytes : List ℕ) (n : Told) (h g : Handles) (ends : Ends) → Stand h ends → Happens (Bytes from id bytes n) h g → Made (Bytes from id bytes n) h g
+bytes_made from id bytes n h g ends stand (gives, tells) =
+    let below = (tells_stream (handle_at h from) id _ tells).0 in
+    let s = handle_at g (other from) in
+    delivered id n (handle_at h (other from)) s _ _ below gives.given
+    (λ x.
+    let same : drop (taken_of (is_taken n) (length bytes)) bytes ≡ bytes = ap (λ b. drop (taken_of b (length bytes)) bytes) (untaken n x.0) in
+    made_moves (Bytes from id bytes n) h g _ [] [] (given_is from h g id _ gives.there gives.carried) (IsRefused refl (inr x.0))
+    (rejected_moves from h s id _ x.1 (gives.first ∙ ap (λ l. l ++ gives.rest) (sym same))))
     (λ k.
     let result = k.answer in
-    let same = ap is_taken k.is ∙ taken_so r.endpoint s.endpoint _ result e stands k.done.receives in
-    let few = shown_front v id c.buffer bytes c.count c.past c.fin c.shown c.within c.front in
-    let took : is_stored result ≡ true → Advances v.endpoint w.endpoint id (length bytes) = λ stored f h.
-    (((known_id id v w _ (c.taken (same ∙ stored))).1.few f h (few f h).1).1 f h) in
-    inr (
-      answer_of (answer.Delivered (length bytes)) (delivery_refused result),
-      delivery_tells (answer.Delivered (length bytes)) n result (refl, refl) k.is,
-      bytes_carried v.endpoint w.endpoint r.endpoint s.endpoint id (length bytes) bytes result k.done took (λ untaken. ap (λ (x : Seen). x.endpoint) (c.left (same ∙ untaken)))
-          (goes_there v id c.buffer bytes c.count c.past c.fin c.shown c.within c.front c.some) few,
-    ))
+    let stored = ap is_taken k.is ∙ told_taken (handle_at h (other from)).endpoint s.endpoint _ result (end_at ends (other from)) (stands_at stand (other from)) k.done.receives in
+    let left : (if is_stored result then [] else bytes) ++ gives.rest ≡ drop (taken_of (is_taken n) (length bytes)) bytes ++ gives.rest =
+    ap (λ b. (if b then [] else bytes) ++ gives.rest) (sym stored) ∙ ap (λ l. l ++ gives.rest) (left_of (is_taken n) bytes) in
+    made_moves (Bytes from id bytes n) h g _ (event.Deliver from id (length bytes) ∷ []) (answer_of (answer.Delivered (length bytes)) (delivery_refused result) ∷ [])
+    (given_is from h g id _ gives.there gives.carried ∙ ap (λ l. given_to from h s id l) (sym left))
+    (IsEvent refl (delivery_tells (answer.Delivered (length bytes)) n result (refl, refl) k.is))
+    (bytes_given h s id from bytes gives.rest result gives.first (goes_told (handle_at h from) id tells) k.done))
 
-end_goes : (id : ℕ) (n : Told) (v w r s : Seen) → programs.CarriesEnd id n v w r s → Goes (CarriesEnd id) (λ a. Tells answer.Done n a) n v w r s
-end_goes id n v w r s c =
-    let below = (known_id id v v _ c.shown.call.1).0 in
-    delivered id n r s _ _ below c.delivered
-    (λ x. inl (x.0, c.same, x.1))
-    (λ k. inr (
-      told_answer k.answer,
-      delivery_tells answer.Done n k.answer (refl, refl) k.is,
-      subst (λ (x : Seen). CarriesEnd id v.endpoint r.endpoint (told_answer k.answer) x.endpoint s.endpoint) (sym c.same)
-          (end_carried v.endpoint r.endpoint s.endpoint id k.answer k.done (λ f h. (shown_finished v id c.buffer 0 0 c.shown f h, shown_none v id c.buffer c.shown f h))),
-    ))
+end_made : (from : Side) (id : ℕ) (n : Told) (h g : Handles) → Happens (End from id n) h g → Made (End from id n) h g
+end_made from id n h g (gives, (none, tells)) =
+    let below = (tells_stream (handle_at h from) id _ tells).0 in
+    let s = handle_at g (other from) in
+    delivered id n (handle_at h (other from)) s _ _ below gives.given
+    (λ x. made_moves (End from id n) h g _ [] [] (given_is from h g id gives.rest gives.there gives.carried) (IsRefused refl (inr x.0)) (rejected_moves from h s id gives.rest x.1 gives.first))
+    (λ k. made_moves (End from id n) h g _ (event.DeliverEnd from id ∷ []) (answer_of answer.Done (delivery_refused k.answer) ∷ []) (given_is from h g id gives.rest gives.there gives.carried)
+    (IsEvent refl (delivery_tells answer.Done n k.answer (refl, refl) k.is))
+    (then_rest from h s id gives.rest _ _ (end_given h s id from k.answer none (ended_told (handle_at h from) id tells) k.done) gives.first))
 
-bit_true : (b : Bool) (n : ℕ) → n ≡ bit b → n ≡ 1 → b ≡ true
-bit_true true n is one = refl
-bit_true false n is one = absurd (omega (arith, is, one))
+reset_made : (from : Side) (id : ℕ) (n : Told) (h g : Handles) → Happens (Reset from id n) h g → Made (Reset from id n) h g
+reset_made from id n h g (gives, tells) =
+    let below = (tells_stream (handle_at h from) id _ tells).0 in
+    let s = handle_at g (other from) in
+    delivered id n (handle_at h (other from)) s _ _ below gives.given
+    (λ x. made_moves (Reset from id n) h g _ [] [] (given_is from h g id gives.rest gives.there gives.carried) (IsRefused refl (inr x.0)) (rejected_moves from h s id gives.rest x.1 gives.first))
+    (λ k. made_moves (Reset from id n) h g _ (event.DeliverReset from id ∷ []) (answer_of answer.Done (delivery_refused k.answer) ∷ []) (given_is from h g id gives.rest gives.there gives.carried)
+    (IsEvent refl (delivery_tells answer.Done n k.answer (refl, refl) k.is))
+    (then_rest from h s id gives.rest _ _ (reset_given h s id from k.answer (reset_told (handle_at h from) id tells) k.done) gives.first))
 
-reset_goes : (id : ℕ) (n : Told) (v w r s : Seen) → programs.CarriesReset id n v w r s → Goes (CarriesReset id) (λ a. Tells answer.Done n a) n v w r s
-reset_goes id n v w r s c =
-    let k = known_id id v v _ c.shown.1 in
-    delivered id n r s _ _ k.0 c.delivered
-    (λ x. inl (x.0, c.same, x.1))
-    (λ d. inr (
-      told_answer d.answer,
-      delivery_tells answer.Done n d.answer (refl, refl) d.is,
-      subst (λ (x : Seen). CarriesReset id v.endpoint r.endpoint (told_answer d.answer) x.endpoint s.endpoint) (sym c.same)
-          (reset_carried v.endpoint r.endpoint s.endpoint id d.answer d.done
-          (λ f h. let was = bit_true (is_reset f id) c.state.is_reset (k.1.1 f h).is_reset c.was_reset in (resets_there f id was, was))),
-    ))
-
-empty_goes : (id : ℕ) (v w r s : Seen) → programs.IsEmpty id v w r s → Goes (CarriesBytes id 1) (λ a. a ≡ answer.Short 0) ok v w r s
-empty_goes id v w r s c =
-    let k = known_id id v v _ c.shown.1 in
-    inr (
-      answer.Short 0,
-      refl,
-      subst (λ (x : Seen). CarriesBytes id 1 v.endpoint r.endpoint (answer.Short 0) x.endpoint s.endpoint) (sym c.same.0)
-          (subst (λ (x : Seen). CarriesBytes id 1 v.endpoint r.endpoint (answer.Short 0) v.endpoint x.endpoint) (sym c.same.1)
-          (none_carried v.endpoint r.endpoint id
-          (λ f h. (bit_true (has_outgoing f id) c.state.has_outgoing (k.1.1 f h).has_outgoing c.there, sym (k.1.1 f h).waiting ∙ c.none)))),
-    )
-
--- so an act from a side comes to this
-goes_made : (act : Act) (e : Event) (n : Told) (goes : EndpointState → EndpointState → Answer → EndpointState → EndpointState → Type 0) (tells : Answer → Type 0) (from : Side) (h g : Handles)
-    → event_of act ≡ Some (e, n) → IsOfC e → ((a : Answer) → tells a → LearnsOf act g a)
-    → ((a : Answer) → FromOne from goes h.client.endpoint h.server.endpoint a g.client.endpoint g.server.endpoint → Acts e h.client.endpoint h.server.endpoint a g.client.endpoint g.server.endpoint)
-    → FromTo from (Goes goes tells n) h g → Made act h g
-goes_made act e n goes tells Client h g is of learns acts (inl x) =
-    made_none act h g (stays_same h.client g.client x.1) (stays_same h.server g.server x.2) (IsRefused is (inr x.0))
-goes_made act e n goes tells Client h g is of learns acts (inr x) = made_event act h g e n x.0 is (learns x.0 x.1) of (acts x.0 x.2)
-goes_made act e n goes tells Server h g is of learns acts (inl x) =
-    made_none act h g (stays_same h.client g.client x.2) (stays_same h.server g.server x.1) (IsRefused is (inr x.0))
-goes_made act e n goes tells Server h g is of learns acts (inr x) = made_event act h g e n x.0 is (learns x.0 x.1) of (acts x.0 x.2)
+take_made : (from : Side) (id : ℕ) (bytes : List ℕ) (h g : Handles) → Takes from id bytes h g → Made (Take from id bytes) h g
+take_made from id bytes h g t =
+    made_moves (Take from id bytes) h g _ [] [] (taken_is from h g id bytes t.there t.carried) (HasNone refl refl tt)
+    (taken_so h from (handle_at g from) id bytes (λ e stands.
+    let front = shown_front (handle_at h from) id bytes t.shown e stands in
+    let all : min (length bytes) (length (bytes_waiting e id)) ≡ length bytes = let few = front.1 in omega (arith, few) in
+    (front.0, subst (λ n. StandsFor (handle_at g from).endpoint (advance e id n)) all (((known_id id _ _ _ t.taken).1.few e stands front.1).1 e stands))))
 
 -- **What happens comes to events that both endpoints answer.**
-pub act_made : CallsAreSteps → (act : Act) (h g : Handles) (ends : Ends) → StandsFor h.client.endpoint ends.client → StandsFor h.server.endpoint ends.server → Happens act h g → MadeAt act h g ends
-act_made law (Call side c) h g ends client server happens = by (call_made side h g happens.3 c happens.0 happens.1 happens.2)
+pub act_made : CallsAreSteps → (act : Act) (h g : Handles) (ends : Ends) → Stand h ends → Happens act h g → MadeAt act h g ends
+act_made law (Call side c) h g ends stand happens = by (call_made side h g happens.3 happens.4 c happens.0 happens.1 happens.2)
   where
     by : Made (Call side c) h g ⊎ ByHistory c → MadeAt (Call side c) h g ends
-    by (inl made) = at_ends law ends client server made
-    by (inr history) = by_history side h g happens.3 ends client server c history happens.2
-act_made law (Bytes Client id bytes n) h g ends client server happens = at_ends law ends client server (
-    goes_made (Bytes Client id bytes n) (event.Deliver Client id (length bytes)) n (CarriesBytes id (length bytes)) (λ a. Tells (answer.Delivered (length bytes)) n a) Client h g refl tt (λ a t. t) (λ a x. x)
-    (bytes_go id bytes n h.client g.client h.server g.server ends.server server happens))
-act_made law (Bytes Server id bytes n) h g ends client server happens = at_ends law ends client server (
-    goes_made (Bytes Server id bytes n) (event.Deliver Server id (length bytes)) n (CarriesBytes id (length bytes)) (λ a. Tells (answer.Delivered (length bytes)) n a) Server h g refl tt (λ a t. t) (λ a x. x)
-    (bytes_go id bytes n h.server g.server h.client g.client ends.client client happens))
-act_made law (Read Client id bytes fin used item n) h g ends client server happens =
-    let made = read_made Client id bytes fin used item n h.client g.client h.server g.server happens in
-    at_ends law ends client server (record { events = made.events; answers = made.answers; comes = IsRead refl made.comes; moves = made.moves })
-act_made law (Read Server id bytes fin used item n) h g ends client server happens =
-    let made = read_made Server id bytes fin used item n h.server g.server h.client g.client happens in
-    at_ends law ends client server (record { events = made.events; answers = made.answers; comes = IsRead refl made.comes; moves = made.moves })
-act_made law (End Client id n) h g ends client server happens = at_ends law ends client server (
-    goes_made (End Client id n) (event.DeliverEnd Client id) n (CarriesEnd id) (λ a. Tells answer.Done n a) Client h g refl tt (λ a t. t) (λ a x. x) (end_goes id n h.client g.client h.server g.server happens))
-act_made law (End Server id n) h g ends client server happens = at_ends law ends client server (
-    goes_made (End Server id n) (event.DeliverEnd Server id) n (CarriesEnd id) (λ a. Tells answer.Done n a) Server h g refl tt (λ a t. t) (λ a x. x) (end_goes id n h.server g.server h.client g.client happens))
-act_made law (Reset Client id n) h g ends client server happens = at_ends law ends client server (
-    goes_made (Reset Client id n) (event.DeliverReset Client id) n (CarriesReset id) (λ a. Tells answer.Done n a) Client h g refl tt (λ a t. t) (λ a x. x) (reset_goes id n h.client g.client h.server g.server happens))
-act_made law (Reset Server id n) h g ends client server happens = at_ends law ends client server (
-    goes_made (Reset Server id n) (event.DeliverReset Server id) n (CarriesReset id) (λ a. Tells answer.Done n a) Server h g refl tt (λ a t. t) (λ a x. x) (reset_goes id n h.server g.server h.client g.client happens))
-act_made law (Empty Client id) h g ends client server happens = at_ends law ends client server (
-    goes_made (Empty Client id) (event.Deliver Client id 1) ok (CarriesBytes id 1) (λ a. a ≡ answer.Short 0) Client h g refl tt (λ a t. t) (λ a x. x) (empty_goes id h.client g.client h.server g.server happens))
-act_made law (Empty Server id) h g ends client server happens = at_ends law ends client server (
-    goes_made (Empty Server id) (event.Deliver Server id 1) ok (CarriesBytes id 1) (λ a. a ≡ answer.Short 0) Server h g refl tt (λ a t. t) (λ a x. x) (empty_goes id h.server g.server h.client g.client happens))
+    by (inl made) = at_ends law ends stand made
+    by (inr history) = by_history side h g happens.3 happens.4 ends stand c history happens.2
+act_made law (Take from id bytes) h g ends stand happens = at_ends law ends stand (take_made from id bytes h g happens)
+act_made law (Bytes from id bytes n) h g ends stand happens = at_ends law ends stand (bytes_made from id bytes n h g ends stand happens)
+act_made law (Read from id bytes fin used before item n) h g ends stand (gives, tells, ended) =
+    let v = handle_at h from in
+    let s = handle_at g (other from) in
+    let made = read_made from id bytes fin used before item n v (handle_at h (other from)) s h.carried gives.rest (tells_stream v id _ tells).0 gives.first (goes_told v id tells)
+    (λ ends_so. let none = ended ends_so in (sym (carried_here g (drop used bytes ++ gives.rest) gives.carried) ∙ none.0, ended_told v id (subst (λ x. Tells x id HasEnded) gives.there none.1))) gives.given in
+    at_ends law ends stand (made_moves (Read from id bytes fin used before item n) h g _ made.events made.answers (given_is from h g id (drop used bytes ++ gives.rest) gives.there gives.carried) (IsRead refl made.comes)
+    (subst (λ x. Moves h x made.events made.answers) (pair_given from h s id (drop used bytes ++ gives.rest)) (subst (λ x. Moves x (pair from v s (carrying h.carried from id (drop used bytes ++ gives.rest))) made.events made.answers) (pair_is from h) made.moves)))
+  where
+    carried_here : (g : Handles) (bytes : List ℕ) → g.carried ≡ carrying h.carried from id bytes → g.carried from id ≡ bytes
+    carried_here g bytes is = ap (λ c. c from id) is ∙ carrying_here h.carried from id bytes
+act_made law (End from id n) h g ends stand happens = at_ends law ends stand (end_made from id n h g happens)
+act_made law (Reset from id n) h g ends stand happens = at_ends law ends stand (reset_made from id n h g happens)
+act_made law (Empty from id) h g ends stand ((none, tells), same) =
+    at_ends law ends stand (made_moves (Empty from id) h g h (event.Deliver from id 1 ∷ []) (answer.Short 0 ∷ []) same (IsEvent refl refl) (empty_given h from id none (empty_told (handle_at h from) id tells)))
 
 -- what two programs come to
 pub record RanTo (ends : Ends) (h : Handles) (acts : List Act) (g : Handles) : Type 0 where
@@ -161,19 +178,59 @@ pub record RanTo (ends : Ends) (h : Handles) (acts : List Act) (g : Handles) : T
   pub stand : StandFor h acts events answers g
   pub of : AreOfC events
   pub new : Ends
-  pub run : EndsRun (both_unordered ends) events answers new
+  pub run : EndsRun (both_seen (views_of h.carried) ends) events answers new
 
-pub acts_run : CallsAreSteps → (acts : List Act) (h g : Handles) (ends : Ends) → StandsFor h.client.endpoint ends.client → StandsFor h.server.endpoint ends.server → Happen h acts g → RanTo ends h acts g
-acts_run law [] h g ends client server happen = subst (λ x. RanTo ends h [] x) (sym happen) (record { events = []; answers = []; stand = Nothing; of = tt; new = both_unordered ends; run = refl })
-acts_run law (act ∷ acts) h g ends client server (next, happens, happen) =
-    let made = act_made law act h next ends client server happens in
+pub acts_run : CallsAreSteps → (acts : List Act) (h g : Handles) (ends : Ends) → Stand h ends → Happen h acts g → RanTo ends h acts g
+acts_run law [] h g ends stand happen = subst (λ x. RanTo ends h [] x) (sym happen) (record { events = []; answers = []; stand = Nothing; of = tt; new = both_seen (views_of h.carried) ends; run = refl })
+acts_run law (act ∷ acts) h g ends stand (next, happens, happen) =
+    let made = act_made law act h next ends stand happens in
     let on = made.left in
-    let rest = acts_run law acts next g on.new on.client_stands on.server_stands happen in
+    let rest = acts_run law acts next g on.new on.stand happen in
     record {
       events = made.events ++ rest.events;
       answers = made.answers ++ rest.answers;
       stand = Then happens made.comes rest.stand;
       of = of_both made.events rest.events on.of rest.of;
       new = rest.new;
-      run = run_on made.events rest.events made.answers rest.answers (both_unordered ends) (both_unordered on.new) rest.new on.run rest.run;
+      run = run_on made.events rest.events made.answers rest.answers (both_seen (views_of h.carried) ends) (both_seen (views_of next.carried) on.new) rest.new on.run rest.run;
     }
+
+-- At the beginning nothing is carried.
+same_if : (a b c : Bool) (n : ℕ) → (if a then n else (if b then n else (if c then n else n))) ≡ n
+same_if true b c n = refl
+same_if false true c n = refl
+same_if false false true n = refl
+same_if false false false n = refl
+
+new_carries : (side : Side) (announced : Announced) (carried : ℕ → List ℕ) → ((id : ℕ) → carried id ≡ []) → Carries side carried (new_endpoint side announced)
+new_carries side announced carried none =
+    let e = new_endpoint side announced in
+    record {
+      side_is = refl;
+      flies = λ id. subst (λ l. Flies (own_text e id) (own_taken e id) l) (sym (none id))
+          (record { before = []; rest = own_text e id; is = refl; count = same_if (id == control_id side) (id == encoder_id side) (id == decoder_id side) 0 });
+      silent = refl;
+      apart = λ id own. refl;
+      next = 0;
+      next_is = refl;
+      fresh = λ client id behind. refl;
+    }
+
+new_seen : (side : Side) (announced : Announced) (carried : ℕ → List ℕ) → seen (lagging side carried) (new_endpoint side announced) ≡ seen plain (new_endpoint side announced)
+new_seen side announced carried =
+    let e = new_endpoint side announced in
+    ap (λ o. record (seen plain e) { own = o })
+    (own_lags e.own _ _ _ _ _ _ (none_less (length (carried (control_id side)))) (none_less (length (carried (encoder_id side)))) (none_less (length (carried (decoder_id side)))))
+
+pub new_stand : {setup : Setup} {h : Handles} → AreMade setup h → Stand h (new_ends setup)
+new_stand {setup = setup} {h = h} made = record {
+  client = handle_stands made.client;
+  server = handle_stands made.server;
+  client_carries = new_carries Client setup.client (h.carried Client) (made.none Client);
+  server_carries = new_carries Server setup.server (h.carried Server) (made.none Server);
+}
+
+pub new_both : (setup : Setup) (carried : Side → ℕ → List ℕ) → both_seen (views_of carried) (new_ends setup) ≡ both_unordered (new_ends setup)
+new_both setup carried =
+    ap (λ e. let x : Ends = record { client = e; server = seen (lagging Server (carried Server)) (new_ends setup).server } in x) (new_seen Client setup.client (carried Client))
+    ∙ ap (λ e. let x : Ends = record { client = seen plain (new_ends setup).client; server = e } in x) (new_seen Server setup.server (carried Server))

@@ -2,7 +2,6 @@
 -- nothing.
 use Rattle.std.proofs.Common.{◌≡◌, ℕ, Bool, true, false, if◌then◌else◌, List, [], ◌∷◌, take, refl, sym, ap, subst, ◌∙◌, Option, Some, None}
 use Rattle.std.specs.Prelude.{◌==◌, ◌&&◌, not, is_none, is_some, option_map, unwrap_or}
-use Rattle.std.proofs.lemmas.Bool.{eqb-true}
 use Rattle.h3_capsule.specs.Datagram.{datagram_of}
 use Rattle.h3_priority.specs.Priority.{PriorityParameters}
 use Rattle.h3_proto.specs.StreamIds.{is_request_stream}
@@ -17,7 +16,7 @@ use Rattle.h3_connection.specs.Refusals.{first_of}
 use Rattle.h3_connection.specs.Sending.{closed_or, does, is_open, outgoing_at, with_outgoing}
 use Rattle.h3_connection.specs.SendingContracts.{DoesOrRefuses}
 use Rattle.h3_connection.specs.State.{EndpointState, RequestState, StandsFor, SameAt, IsOfOutgoing}
-use Rattle.h3_connection.specs.StreamSets.{Streams, set_stream, stream_at}
+use Rattle.h3_connection.specs.StreamSets.{Streams, stream_at}
 use Rattle.h3_connection.specs.declared.event.Refusal.{Refusal}
 use Rattle.h3_connection.specs.declared.event.Refusal.TheVariants as refusal
 use Rattle.h3_connection.specs.declared.order.PrioritySource.{PrioritySource}
@@ -26,7 +25,8 @@ use Rattle.h3_session.specs.Datagrams.{is_off, quarter_read, read_datagram, read
 use Rattle.h3_session.specs.declared.endpoint.datagrams.DatagramRead.{DatagramRead}
 use Rattle.h3_session.specs.declared.endpoint.datagrams.DatagramRead.TheVariants.{For, Early, Late, Off, Fault}
 use Rattle.h3_c.specs.Datagrams.{read_given}
-use Rattle.h3_c.proofs.Unordered.{unordered, unordered_out, unordered_streams}
+use Rattle.h3_c.proofs.Unordered.{unordered}
+use Rattle.h3_c.proofs.Views.{plain, seen_as, unordered_out}
 
 -- Where nothing has changed, the same histories are stood for.
 pub stands_unchanged : (s t : EndpointState) (e : EndpointHistory) → IsSame s t → StandsFor s e → StandsFor t e
@@ -66,28 +66,8 @@ pub record Stays (new : EndpointState) (e : EndpointHistory) : Type 0 where
   pub stands : StandsFor new after
   pub same : unordered after ≡ unordered e
 
--- a stream that is known to say the same
-same_some : (o p : Out) → Some o ≡ Some p → o ≡ p
-same_some o p is = cc
-
-set_by : (q id : ℕ) (x o p : Out) (streams : Streams Out) → (if q == id then Some x else stream_at streams id) ≡ Some o → unordered_out p ≡ unordered_out o
-    → (stream_at streams id ≡ Some o → unordered_streams (set_stream streams id p) ≡ unordered_streams streams) → (b : Bool) → (q == id) ≡ b
-    → unordered_streams (if q == id then (id, p) ∷ streams else (q, x) ∷ set_stream streams id p) ≡ (q, unordered_out x) ∷ unordered_streams streams
-set_by q id x o p streams at is later true here =
-    let first : x ≡ o = same_some x o (sym (ap (λ b. if b then Some x else stream_at streams id) here) ∙ at) in
-    let id_is : q ≡ id = eqb-true q id here in
-    ap (λ b. unordered_streams (if b then (id, p) ∷ streams else (q, x) ∷ set_stream streams id p)) here ∙ ap (λ y. (id, y) ∷ unordered_streams streams) (is ∙ ap unordered_out (sym first))
-    ∙ ap (λ n. (n, unordered_out x) ∷ unordered_streams streams) (sym id_is)
-set_by q id x o p streams at is later false other =
-    let behind : stream_at streams id ≡ Some o = sym (ap (λ b. if b then Some x else stream_at streams id) other) ∙ at in
-    ap (λ b. unordered_streams (if b then (id, p) ∷ streams else (q, x) ∷ set_stream streams id p)) other ∙ ap (λ l. (q, unordered_out x) ∷ l) (later behind)
-
-set_same : (streams : Streams Out) (id : ℕ) (o p : Out) → stream_at streams id ≡ Some o → unordered_out p ≡ unordered_out o → unordered_streams (set_stream streams id p) ≡ unordered_streams streams
-set_same [] id o p at is = absurd (let never : None ≡ Some o = at in cc)
-set_same ((q, x) ∷ streams) id o p at is = set_by q id x o p streams at is (λ behind. set_same streams id o p behind is) (q == id) refl
-
 pub with_same : (e : EndpointHistory) (id : ℕ) (o p : Out) → stream_at e.outgoing id ≡ Some o → unordered_out p ≡ unordered_out o → unordered (with_outgoing e id p) ≡ unordered e
-with_same e id o p at is = ap (λ l. record (unordered e) { outgoing = l }) (set_same e.outgoing id o p at is)
+with_same e id o p at is = ap (λ l. record (unordered e) { outgoing = l }) (seen_as e.outgoing plain.out plain.out id o p at is (λ i x differs. refl))
 
 -- `h3_end_taken`
 end_same : (e : EndpointHistory) (id : ℕ) (o : Option Out) → stream_at e.outgoing id ≡ o → unordered (end_taken_at e id o).1 ≡ unordered e

@@ -1,6 +1,6 @@
--- Two programs in C, a client and a server: their calls in the order of time, and the bytes that go from one to the other. And the schedule
--- that these stand for, with its answers.
-use Rattle.std.specs.Prelude.{if◌then◌else◌, ◌≡◌, ◌⊎◌, ◌<◌, ◌≤◌, ℕ, zero, suc, ◌+◌, Bool, true, false, ◌||◌, ◌==◌, List, [], ◌∷◌, ◌++◌, length, take, Option, Some, None, is_none, Ok}
+-- Two programs in C, a client and a server: their calls in the order of time, and the bytes that QUIC carries from one to the other, those of a stream in
+-- order (RFC 9000, section 2.2). And the schedule that these stand for, with its answers.
+use Rattle.std.specs.Prelude.{if◌then◌else◌, ◌≡◌, ◌⊎◌, ◌<◌, ◌≤◌, ℕ, zero, suc, ◌+◌, Bool, true, false, ◌||◌, ◌==◌, List, [], ◌∷◌, ◌++◌, drop, length, take, Option, Some, None, Ok}
 use Rattle.h3_proto.specs.declared.stream.Side.{Side}
 use Rattle.h3_proto.specs.declared.stream.Side.TheVariants.{Client, Server}
 use Rattle.h3_connection.specs.OwnIds.{other}
@@ -17,26 +17,27 @@ use Rattle.h3_world.specs.declared.event.Event.{Event}
 use Rattle.h3_world.specs.declared.event.Event.TheVariants as event
 use Rattle.h3_world.specs.declared.lists.ListItem.TheVariants as listed
 use Rattle.h3_world.specs.declared.lists.ListPull.TheVariants as list
+use Rattle.h3_headline.specs.Messages.{is_on}
 use Rattle.h3_session.specs.OpeningAt.{to_open}
 use Rattle.h3_session.specs.Running.{answer_of}
-use Rattle.h3_c.specs.Asked.{GivesBytes, Learns, Tells, asked, is_left_out, pull_listed}
-use Rattle.h3_c.specs.Bits.{bit}
+use Rattle.h3_c.specs.Asked.{GivesBytes, Learns, Tells as TellsAnswer, asked, is_left_out, pull_listed}
 use Rattle.h3_c.specs.Configs.{MakesGiven, announced_of, side_of}
 use Rattle.h3_c.specs.Does.{CallOfC, Does}
-use Rattle.h3_c.specs.Does.CallOfC.{Advance, CloseStream, Deliver, DeliverEnd, DeliverReset, OpenRequestAt, Outgoing, Read as ReadOfC, Shutdown, ShutdownNotice, Stream}
-use Rattle.h3_c.specs.Numbers.{argument, memory, ok, rejected}
+use Rattle.h3_c.specs.Does.CallOfC.{Advance, CloseStream, Deliver, DeliverEnd, DeliverReset, OpenRequestAt, Outgoing, Read as ReadOfC, Reset as ResetOfC, Shutdown, ShutdownNotice, Stream}
+use Rattle.h3_c.specs.Numbers.{argument, memory, ok, refusal_told, rejected}
 use Rattle.h3_c.specs.Items.{shown}
-use Rattle.h3_c.specs.Reads.{ends_with, place_shown}
+use Rattle.h3_c.specs.Reads.{ends_with, place_shown, taken_of}
 use Rattle.h3_c.specs.Seen.{Seen}
 use Rattle.h3_c.specs.declared.config.GivenConfig.{GivenConfig}
 use Rattle.h3_c.specs.declared.items.PulledItem.{PulledItem}
 use Rattle.h3_c.specs.declared.numbers.Told.{Told}
 use Rattle.h3_c.specs.declared.state.StreamState.{StreamState}
 
--- what both handles own
+-- what both handles own, and what QUIC carries: of each stream of a side the bytes that it took and has not given to the other side, in order
 pub record Handles : Type 0 where
   pub client : Seen
   pub server : Seen
+  pub carried : Side → ℕ → List ℕ
 
 abbrev pub handle_at : Handles → Side → Seen
 handle_at h Client = h.client
@@ -56,97 +57,91 @@ pub record AreMade (setup : Setup) (h : Handles) : Type 0 where
   pub client : IsMadeFor Client setup.client h.client
   pub server : IsMadeFor Server setup.server h.server
   pub take : takes_settings setup ≡ true
+  pub none : (side : Side) (id : ℕ) → h.carried side id ≡ []
 
--- What happens: a side makes a call; or QUIC carries bytes of a stream from a side to the other one, which delivers or reads them, or its end, or its
--- reset, and n is what that returns; or it is seen that nothing is left to be carried of a stream.
+-- What happens: a side makes a call; or QUIC takes bytes of a stream from a side (`h3_advance`); or it gives them to the other side, which delivers or
+-- reads them, or the end of the stream, or its reset, and n is what that returns; or it is seen that nothing is left to be given of a stream.
 pub data Act : Type 0 where
   Call : (side : Side) (call : CallOfC) → Act
+  Take : (from : Side) (id : ℕ) (bytes : List ℕ) → Act
   Bytes : (from : Side) (id : ℕ) (bytes : List ℕ) (n : Told) → Act
-  Read : (from : Side) (id : ℕ) (bytes : List ℕ) (fin used : ℕ) (item : PulledItem) (n : Told) → Act
+  Read : (from : Side) (id : ℕ) (bytes : List ℕ) (fin used : ℕ) (before item : PulledItem) (n : Told) → Act
   End : (from : Side) (id : ℕ) (n : Told) → Act
   Reset : (from : Side) (id : ℕ) (n : Told) → Act
   Empty : (from : Side) (id : ℕ) → Act
 
--- `h3_outgoing` shows of a stream so many bytes at the front of this buffer, and whether they are the last ones
-pub record Shows (v : Seen) (id : ℕ) (buffer : List ℕ) (count past fin : ℕ) : Type 0 where
+-- `h3_outgoing` shows these bytes at the front of what waits on the stream
+pub record Shows (v : Seen) (id : ℕ) (bytes : List ℕ) : Type 0 where
   pub before : List ℕ
+  pub buffer : List ℕ
   pub count_before : ℕ
+  pub count : ℕ
   pub past_before : ℕ
+  pub past : ℕ
   pub fin_before : ℕ
+  pub fin : ℕ
   pub call : Does (Outgoing id before buffer count_before count past_before past fin_before fin ok) v v
+  pub within : length bytes ≤ count
+  pub front : bytes ≡ take (length bytes) buffer
+
+-- `h3_stream` tells this of the stream
+pub record Tells (v : Seen) (id : ℕ) (tells : StreamState → Type 0) : Type 0 where
+  pub before : StreamState
+  pub state : StreamState
+  pub call : Does (Stream id before state ok) v v
+  pub told : tells state
+
+-- of the stream these bytes are carried
+abbrev pub carrying : (Side → ℕ → List ℕ) → Side → ℕ → List ℕ → Side → ℕ → List ℕ
+carrying carried from id bytes = λ side i. if is_on from id side i then bytes else carried side i
+
+-- QUIC takes bytes: it carries them behind those that it carries.
+pub record Takes (from : Side) (id : ℕ) (bytes : List ℕ) (h g : Handles) : Type 0 where
+  pub shown : Shows (handle_at h from) id bytes
+  pub taken : Does (Advance id (length bytes) ok) (handle_at h from) (handle_at g from)
+  pub there : handle_at g (other from) ≡ handle_at h (other from)
+  pub carried : g.carried ≡ carrying h.carried from id (h.carried from id ++ bytes)
+
+-- The other side is given bytes, the first that are carried, by this call, and so many of them are not carried any more.
+pub record Gives (from : Side) (id : ℕ) (bytes : List ℕ) (used : ℕ) (call : CallOfC) (h g : Handles) : Type 0 where
+  pub rest : List ℕ
+  pub first : h.carried from id ≡ bytes ++ rest
+  pub given : Does call (handle_at h (other from)) (handle_at g (other from))
+  pub there : handle_at g from ≡ handle_at h from
+  pub carried : g.carried ≡ carrying h.carried from id (drop used bytes ++ rest)
+
+-- Bytes come of a stream that was not reset, its end behind all of them, and its reset if it was reset.
+abbrev pub GoesOn : StreamState → Type 0
+GoesOn state = (state.has_outgoing ≡ 1) × (state.is_reset ≡ 0)
+
+abbrev pub HasEnded : StreamState → Type 0
+HasEnded state = (state.is_finished ≡ 1) × (state.waiting ≡ 0)
+
+abbrev pub WasReset : StreamState → Type 0
+WasReset state = state.is_reset ≡ 1
+
+abbrev pub IsEmpty : StreamState → Type 0
+IsEmpty state = (state.has_outgoing ≡ 1) × (state.waiting ≡ 0)
+
+-- nothing is carried, and this is told
+abbrev pub NothingLeft : Side → ℕ → (StreamState → Type 0) → Handles → Type 0
+NothingLeft from id tells h = (h.carried from id ≡ []) × Tells (handle_at h from) id tells
 
 -- H3_OK and H3_KEPT: the other side has the bytes
 abbrev pub is_taken : Told → Bool
 is_taken n = (n.number == 0) || (n.number == 5)
 
--- Bytes that `h3_outgoing` shows are given to `h3_deliver`: some, or none in front of the end. If that has them, `h3_advance` takes them. v and w
--- are of the side from which they go, before and after it, and r and s of the other one.
-pub record CarriesBytes (id : ℕ) (bytes : List ℕ) (n : Told) (v w r s : Seen) : Type 0 where
-  pub buffer : List ℕ
-  pub count : ℕ
-  pub past : ℕ
-  pub fin : ℕ
-  pub shown : Shows v id buffer count past fin
-  pub within : length bytes ≤ count
-  pub front : bytes ≡ take (length bytes) buffer
-  pub some : (0 < length bytes) ⊎ (fin ≡ 1)
-  pub delivered : Does (Deliver id bytes n) r s
-  pub taken : is_taken n ≡ true → Does (Advance id (length bytes) ok) v w
-  pub left : is_taken n ≡ false → w ≡ v
-
--- Bytes that `h3_outgoing` shows are given to `h3_read`, and `h3_advance` takes what that used. Where the end stands behind what was used,
--- `h3_outgoing` would show no more bytes, and the end.
-pub record CarriesRead (id : ℕ) (bytes : List ℕ) (fin used : ℕ) (item : PulledItem) (n : Told) (v w r s : Seen) : Type 0 where
-  pub buffer : List ℕ
-  pub count : ℕ
-  pub past : ℕ
-  pub shown_fin : ℕ
-  pub before : PulledItem
-  pub shown : Shows v id buffer count past shown_fin
-  pub within : length bytes ≤ count
-  pub front : bytes ≡ take (length bytes) buffer
-  pub some : (0 < length bytes) ⊎ (shown_fin ≡ 1)
-  pub read : Does (ReadOfC id bytes fin used before item n) r s
-  pub taken : Does (Advance id used ok) v w
-  pub ended : ends_with fin bytes used ≡ true → (left : List ℕ) × Shows w id left 0 0 1
-
--- The end goes over where `h3_outgoing` would show no bytes, and the end behind them.
-pub record CarriesEnd (id : ℕ) (n : Told) (v w r s : Seen) : Type 0 where
-  pub buffer : List ℕ
-  pub shown : Shows v id buffer 0 0 1
-  pub delivered : Does (DeliverEnd id n) r s
-  pub same : w ≡ v
-
--- The reset goes over where `h3_stream` shows it, with the code H3_REQUEST_CANCELLED.
-pub record CarriesReset (id : ℕ) (n : Told) (v w r s : Seen) : Type 0 where
-  pub before : StreamState
-  pub state : StreamState
-  pub shown : Does (Stream id before state ok) v v
-  pub was_reset : state.is_reset ≡ 1
-  pub delivered : Does (DeliverReset id reset_code n) r s
-  pub same : w ≡ v
-
--- Nothing is left on the stream: `h3_stream` shows it, and no byte that waits.
-pub record IsEmpty (id : ℕ) (v w r s : Seen) : Type 0 where
-  pub before : StreamState
-  pub state : StreamState
-  pub shown : Does (Stream id before state ok) v v
-  pub there : state.has_outgoing ≡ 1
-  pub none : state.waiting ≡ 0
-  pub same : (w ≡ v) × (s ≡ r)
-
-abbrev pub FromTo : Side → (Seen → Seen → Seen → Seen → Type 0) → Handles → Handles → Type 0
-FromTo Client carries h g = carries h.client g.client h.server g.server
-FromTo Server carries h g = carries h.server g.server h.client g.client
-
 -- One thing happens.
 abbrev pub Happens : Act → Handles → Handles → Type 0
-Happens (Call side call) h g = (is_left_out call (handle_at h side) ≡ false) × GivesBytes call × Does call (handle_at h side) (handle_at g side) × (handle_at g (other side) ≡ handle_at h (other side))
-Happens (Bytes from id bytes n) h g = FromTo from (CarriesBytes id bytes n) h g
-Happens (Read from id bytes fin used item n) h g = FromTo from (CarriesRead id bytes fin used item n) h g
-Happens (End from id n) h g = FromTo from (CarriesEnd id n) h g
-Happens (Reset from id n) h g = FromTo from (CarriesReset id n) h g
-Happens (Empty from id) h g = FromTo from (IsEmpty id) h g
+Happens (Call side call) h g =
+    (is_left_out call (handle_at h side) ≡ false) × GivesBytes call × Does call (handle_at h side) (handle_at g side) × (handle_at g (other side) ≡ handle_at h (other side)) × (g.carried ≡ h.carried)
+Happens (Take from id bytes) h g = Takes from id bytes h g
+Happens (Bytes from id bytes n) h g = Gives from id bytes (taken_of (is_taken n) (length bytes)) (Deliver id bytes n) h g × Tells (handle_at h from) id GoesOn
+Happens (Read from id bytes fin used before item n) h g =
+    Gives from id bytes used (ReadOfC id bytes fin used before item n) h g × Tells (handle_at h from) id GoesOn × (ends_with fin bytes used ≡ true → NothingLeft from id HasEnded g)
+Happens (End from id n) h g = Gives from id [] 0 (DeliverEnd id n) h g × NothingLeft from id HasEnded h
+Happens (Reset from id n) h g = Gives from id [] 0 (DeliverReset id reset_code n) h g × Tells (handle_at h from) id WasReset
+Happens (Empty from id) h g = NothingLeft from id IsEmpty h × (g ≡ h)
 
 -- **Two programs do this, in this order.**
 abbrev pub Happen : Handles → List Act → Handles → Type 0
@@ -154,9 +149,10 @@ Happen h [] g = g ≡ h
 Happen h (act ∷ acts) g = (next : Handles) × Happens act h next × Happen next acts g
 
 -- What it stands for: an event with the answer that C learns. Or no event, since nothing is told of it or nothing was done: the call has none, or it
--- is answered H3_ARGUMENT or H3_REJECTED, or H3_MEMORY where no list was made of what C gave. Four calls are others (`Comes`).
+-- is answered H3_ARGUMENT or H3_REJECTED, or H3_MEMORY where no list was made of what C gave. Five calls are others (`Comes`).
 abbrev pub event_of : Act → Option (Event × Told)
-event_of (Read from id bytes fin used item n) = None
+event_of (Take from id bytes) = None
+event_of (Read from id bytes fin used before item n) = None
 event_of (Call side call) = asked side call
 event_of (Bytes from id bytes n) = Some (event.Deliver from id (length bytes), n)
 event_of (End from id n) = Some (event.DeliverEnd from id, n)
@@ -165,10 +161,11 @@ event_of (Empty from id) = Some (event.Deliver from id 1, ok)
 
 abbrev pub LearnsOf : Act → Handles → Answer → Type 0
 LearnsOf (Call side call) g a = Learns call (handle_at g side) a
-LearnsOf (Bytes from id bytes n) g a = Tells (answer.Delivered (length bytes)) n a
-LearnsOf (Read from id bytes fin used item n) g a = ⊥
-LearnsOf (End from id n) g a = Tells answer.Done n a
-LearnsOf (Reset from id n) g a = Tells answer.Done n a
+LearnsOf (Take from id bytes) g a = ⊥
+LearnsOf (Bytes from id bytes n) g a = TellsAnswer (answer.Delivered (length bytes)) n a
+LearnsOf (Read from id bytes fin used before item n) g a = ⊥
+LearnsOf (End from id n) g a = TellsAnswer answer.Done n a
+LearnsOf (Reset from id n) g a = TellsAnswer answer.Done n a
 LearnsOf (Empty from id) g a = a ≡ answer.Short 0
 
 abbrev pub is_list : Event → Bool
@@ -178,7 +175,7 @@ is_list _ = false
 
 -- acts that are events, though none that `event_of` tells: a read, and a call that closes a stream or opens requests up to an id, where that did it
 abbrev pub are_events : Act → Bool
-are_events (Read from id bytes fin used item n) = true
+are_events (Read from id bytes fin used before item n) = true
 are_events (Call side (CloseStream id stop_before stop reset_before reset n)) = n.number == 0
 are_events (Call side (OpenRequestAt id n)) = (n.number == 0) || (n.number == 18)
 are_events _ = false
@@ -229,25 +226,27 @@ pub data ComesOfRead (from : Side) (id : ℕ) (bytes : List ℕ) (fin used : ℕ
       → ComesOfRead from id bytes fin used item n s (bytes_events from id used ++ event.DeliverEnd from id ∷ event.PullFields (other from) id ∷ [])
       (bytes_answers used ++ a ∷ answer.Listed (pull_listed s.last) ∷ [])
   -- a delivery alone, whose number C gets
-  Stops : (a : Answer) (count : ℕ) → count ≤ length bytes → Tells (answer.Delivered count) n a → ComesOfRead from id bytes fin used item n s (event.Deliver from id count ∷ []) (a ∷ [])
+  Stops : (a : Answer) (count : ℕ) → count ≤ length bytes → TellsAnswer (answer.Delivered count) n a → ComesOfRead from id bytes fin used item n s (event.Deliver from id count ∷ []) (a ∷ [])
   -- a delivery, where there were bytes, and that of the end, whose number C gets
-  StopsEnd : (a : Answer) → ends_with fin bytes used ≡ true → Tells answer.Done n a → ComesOfRead from id bytes fin used item n s (bytes_events from id used ++ event.DeliverEnd from id ∷ []) (bytes_answers used ++ a ∷ [])
+  StopsEnd : (a : Answer) → ends_with fin bytes used ≡ true → TellsAnswer answer.Done n a → ComesOfRead from id bytes fin used item n s (bytes_events from id used ++ event.DeliverEnd from id ∷ []) (bytes_answers used ++ a ∷ [])
 
 pub data Comes (act : Act) (h g : Handles) : List Event → List Answer → Type 0 where
   IsEvent : {e : Event} {n : Told} {a : Answer} → event_of act ≡ Some (e, n) → LearnsOf act g a → Comes act h g (e ∷ []) (a ∷ [])
   HasNone : are_events act ≡ false → event_of act ≡ None → WritesNone act h g → Comes act h g [] []
   IsRefused : {e : Event} {n : Told} → event_of act ≡ Some (e, n) → (n ≡ argument) ⊎ (n ≡ rejected) → Comes act h g [] []
+  -- a reset of a stream that was sent to its end
+  IsOver : {side : Side} {id : ℕ} {n : Told} → act ≡ Call side (ResetOfC id n) → n ≡ refusal_told refusal.Ended → Comes act h g [] []
   LacksList : {e : Event} {n : Told} → event_of act ≡ Some (e, n) → is_list e ≡ true → n ≡ memory → g ≡ h → Comes act h g [] []
   -- a call that shuts a connection down, where it writes a GOAWAY: of an id that C did not give
   GoesAway : {side : Side} {n : Told} (id : ℕ) → (act ≡ Call side (ShutdownNotice n)) ⊎ (act ≡ Call side (Shutdown n)) → n ≡ ok → goaway_at g side ≡ Some id → Comes act h g (event.Goaway side id ∷ []) (answer.Done ∷ [])
-  -- a stream that is closed both ways is canceled and reset, each unless that is over
-  Closes : {side : Side} {id stop_before stop reset_before reset : ℕ} {n : Told} (canceled sent_off : Option Refusal) → act ≡ Call side (CloseStream id stop_before stop reset_before reset n) → n ≡ ok
-      → (canceled ≡ None) ⊎ (canceled ≡ Some refusal.Ended) → reset ≡ bit (is_none sent_off)
-      → Comes act h g (event.Cancel side id ∷ event.Reset side id ∷ []) (answer_of answer.Done canceled ∷ answer_of answer.Done sent_off ∷ [])
+  -- a stream that is closed both ways is canceled, unless that is over, and reset where C is to reset it
+  Closes : {side : Side} {id stop_before stop reset_before reset : ℕ} {n : Told} (canceled : Option Refusal) → act ≡ Call side (CloseStream id stop_before stop reset_before reset n) → n ≡ ok
+      → (canceled ≡ None) ⊎ (canceled ≡ Some refusal.Ended)
+      → Comes act h g (event.Cancel side id ∷ (if reset == 0 then [] else event.Reset side id ∷ [])) (answer_of answer.Done canceled ∷ (if reset == 0 then [] else answer.Done ∷ []))
   -- requests are opened up to an id that C gave
   OpensUpTo : {side : Side} {id : ℕ} {n : Told} (count : ℕ) → act ≡ Call side (OpenRequestAt id n) → OpensSoMany n (to_open (handle_at h side).endpoint.next_id id) count
       → Comes act h g (opened_events side count) (opened_answers (handle_at h side).endpoint.next_id count)
-  IsRead : {from : Side} {id fin used : ℕ} {bytes : List ℕ} {item : PulledItem} {n : Told} {events : List Event} {answers : List Answer} → act ≡ Read from id bytes fin used item n
+  IsRead : {from : Side} {id fin used : ℕ} {bytes : List ℕ} {before item : PulledItem} {n : Told} {events : List Event} {answers : List Answer} → act ≡ Read from id bytes fin used before item n
       → ComesOfRead from id bytes fin used item n (handle_at g (other from)) events answers → Comes act h g events answers
 
 -- **All that happens stands for these events with these answers.**

@@ -7,8 +7,8 @@ ghost use Rattle.h3_world.specs.Setup.{Setup};
 ghost use Rattle.h3_faithful.specs.Faithful.{Faithful};
 ghost use Rattle.h3_c.specs.Programs.{Act, AreMade, Handles, Happen, StandFor};
 
-/// Whatever a client and a server in C call, with the bytes that go between them, it stands for a schedule of events and their answers. Of
-/// these `Faithful` holds: each side is given what the other one sent.
+/// Whatever a client and a server in C call, while the bytes of each stream go from one to the other in order, it stands for a schedule of
+/// events and their answers. Of these `Faithful` holds: each side is given what the other one sent.
 pub fn each_program_gets_what_the_other_sent()
     ensures { (setup : Setup) (h g : Handles) (acts : List Act) → AreMade setup h → Happen h acts g →
         (events : List Event) × (answers : List Answer) × StandFor h acts events answers g × (AreSmall events → Faithful setup events answers) }

@@ -1,14 +1,16 @@
+use Rattle.std.proofs.Common.{subst}
+use Rattle.h3_memory.specs.Refused.{EndsRun}
 use Rattle.h3_world.specs.Ends.{new_ends}
 use Rattle.h3_c.proofs.GivenBytes.{are_typed}
-use Rattle.h3_c.proofs.MadeHandles.{handle_stands, setup_stands}
+use Rattle.h3_c.proofs.MadeHandles.{setup_stands}
 use Rattle.h3_c.proofs.OrderedRuns.{run_ordered}
-use Rattle.h3_c.proofs.ProgramRuns.{acts_run}
+use Rattle.h3_c.proofs.ProgramRuns.{acts_run, new_both, new_stand}
 use Rattle.h3_c.proofs.laws.each_program_gets_what_the_other_sent.Goals as goal
 
 pub returns : goal.returns
 returns c = λ setup h g acts made happen.
-    let on = acts_run c.calls_are_steps_of_two_endpoints.ensures.steps acts h g (new_ends setup) (handle_stands made.client) (handle_stands made.server) happen in
-    let run = run_ordered on.events on.answers (new_ends setup) on.new on.of on.run in (
+    let on = acts_run c.calls_are_steps_of_two_endpoints.ensures.steps acts h g (new_ends setup) (new_stand made) happen in
+    let run = run_ordered on.events on.answers (new_ends setup) on.new on.of (subst (λ x. EndsRun x on.events on.answers on.new) (new_both setup h.carried) on.run) in (
       on.events,
       on.answers,
       on.stand,

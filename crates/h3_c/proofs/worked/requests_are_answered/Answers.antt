@@ -44,3 +44,14 @@ returns-clause-answered c = refl
 pub returns-clause-back : goal.returns-clause-back
 unfolding encoding static_field static_name chars encode varint_at split_of bits code_word octets huffman static_table frame_by frame_of known_by is_token_byte is_utf8 kind_of head_of head_of_any unhuffman hear_up_to listen_up_to fields_in decode_section skipped read_peer pull_stream violation_of_request violation_of_response violation_of_trailer fields_cut
 returns-clause-back c = refl
+
+pub returns-clause-taken : goal.returns-clause-taken
+unfolding encoding static_field static_name chars encode varint_at split_of bits code_word octets huffman static_table frame_by frame_of known_by is_token_byte is_utf8 kind_of head_of head_of_any unhuffman hear_up_to listen_up_to fields_in decode_section skipped read_peer pull_stream violation_of_request violation_of_response violation_of_trailer fields_cut
+returns-clause-taken c = refl
+
+pub returns-clause-given : goal.returns-clause-given
+unfolding encoding static_field static_name chars encode varint_at split_of bits code_word octets huffman static_table frame_by frame_of known_by is_token_byte is_utf8 kind_of head_of head_of_any unhuffman hear_up_to listen_up_to fields_in decode_section skipped read_peer pull_stream violation_of_request violation_of_response violation_of_trailer fields_cut
+returns-clause-given c = refl
+
+pub returns-clause-others : goal.returns-clause-others
+returns-clause-others c = (refl, refl)
