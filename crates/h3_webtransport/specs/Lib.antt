@@ -5,3 +5,4 @@ pub mod Sought
 pub mod Begun
 pub mod Closing
 pub mod Sessions
+pub mod Codes

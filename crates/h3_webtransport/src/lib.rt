@@ -2,6 +2,7 @@
 //! reads.
 #![tactic(auto)]
 
+pub mod codes;
 mod front;
 mod receiver;
 mod sender;

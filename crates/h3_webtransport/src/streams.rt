@@ -1,23 +1,13 @@
 //! All streams of the sessions of one endpoint.
-ghost use Rattle.std.specs.List.{concat};
-ghost use Rattle.std.specs.Prelude.{◌≡◌, ◌≢◌, ◌+◌, ◌<◌, ◌≤◌, ◌^◌, ◌++◌, ℕ, length, take, drop, min, unwrap_or, true, false, is_some, Ok, Some, None, IfErr, IfNone, IfOk, IfSome, OnErr, OnOk, option_bind, option_map};
-ghost use Rattle.h3_connection.specs.Answers.{call_refused};
+ghost use Rattle.std.specs.Prelude.{◌≡◌, ◌≢◌, ◌+◌, ◌<◌, ◌^◌, ℕ, is_some, None, IfSome, OnErr, OnOk};
 ghost use Rattle.h3_connection.specs.Calls.{AllSame, Sets};
 ghost use Rattle.h3_connection.specs.NextWaiting.{IsLeast};
 ghost use Rattle.h3_connection.specs.State.{kept_at};
-ghost use Rattle.h3_connection.specs.declared.event.Pull.TheVariants.{NoMessages};
-ghost use Rattle.h3_connection.specs.declared.event.Refusal.TheVariants.{IdsUsedUp, NotOpen, OutOfMemory};
-ghost use Rattle.h3_webtransport.specs.Begun.{Delivers, stream_or_unseen};
-ghost use Rattle.h3_webtransport.specs.Closing.{Closes};
-ghost use Rattle.h3_webtransport.specs.Receiver.{canceled, pulled};
-ghost use Rattle.h3_webtransport.specs.Sender.{cut_off, end_told, finished, goes_on, held, sent};
-ghost use Rattle.h3_webtransport.specs.SessionStream.{Acts, answer_at, both_ways, entered, has_something, is_of, one_way, passes, receiver_of, receiving, sender_of, sending, session_of, takes, takes_turns, unread_of, waiting_of};
-ghost use Rattle.h3_webtransport.specs.Sessions.{OpensNext, no_streams, turn_over};
+ghost use Rattle.h3_webtransport.specs.SessionStream.{both_ways, entered, has_something, is_of, one_way, passes, receiver_of, session_of, takes_turns};
+ghost use Rattle.h3_webtransport.specs.Sessions.{OpensNext, no_streams};
 
-use crate::receiver::Begun;
 use crate::stream::{Sought, StoredStream};
-use bytes::Bytes;
-use h3_connection::event::{DeliverError, Pull, Refusal};
+use h3_connection::event::Refusal;
 use h3_proto::stream::{Side, StreamId};
 use h3_proto::webtransport::SessionId;
 use std::alloc::{AllocError, Global};
@@ -25,6 +15,8 @@ use std::collections::BTreeMap;
 use std::marker::Model;
 
 mod map;
+mod receiving;
+mod sending;
 
 /// The streams of sessions, no id twice. A contract sees them as the definitions' `SessionsState`.
 #[derive(Drop)]

@@ -70,10 +70,7 @@ pub(super) fn send(
 }
 
 /// All was sent on the stream of this id.
-pub(super) fn finish(
-    streams: &mut BTreeMap<u64, StoredStream>,
-    id: StreamId,
-) -> Result<(), Refusal>
+pub(super) fn finish(streams: &mut BTreeMap<u64, StoredStream>, id: StreamId) -> Result<(), Refusal>
     ensures { Acts (Some NotOpen) (sending (Some NotOpen) finished) streams.old.entries streams.new.entries id (call_refused result) }
 {
     match streams.get_mut(&id.into_inner()) {
@@ -116,11 +113,7 @@ pub(super) fn end_taken(streams: &mut BTreeMap<u64, StoredStream>, id: StreamId)
 }
 
 /// QUIC has no credit for the stream of this id, or has it again. It answers whether this side sends on it.
-pub(super) fn hold(
-    streams: &mut BTreeMap<u64, StoredStream>,
-    id: StreamId,
-    is_held: bool,
-) -> bool
+pub(super) fn hold(streams: &mut BTreeMap<u64, StoredStream>, id: StreamId, is_held: bool) -> bool
     ensures { Acts false (sending false (λ s. (true, held s is_held))) streams.old.entries streams.new.entries id result }
 {
     match streams.get_mut(&id.into_inner()) {
@@ -263,12 +256,7 @@ pub(super) fn close(
 }
 
 // Whether the stream of this id is there, is not before `from`, and is looked for.
-fn is_next(
-    streams: &BTreeMap<u64, StoredStream>,
-    id: u64,
-    sought: Sought,
-    from: u64,
-) -> bool
+fn is_next(streams: &BTreeMap<u64, StoredStream>, id: u64, sought: Sought, from: u64) -> bool
     ensures { result ≡ is_next sought from id (kept_at streams.now.entries id) }
 {
     if id < from {
@@ -281,11 +269,7 @@ fn is_next(
 }
 
 /// The least id from `from` on of a stream that is looked for. It goes over all streams.
-pub(super) fn next(
-    streams: &BTreeMap<u64, StoredStream>,
-    sought: Sought,
-    from: u64,
-) -> Option<u64>
+pub(super) fn next(streams: &BTreeMap<u64, StoredStream>, sought: Sought, from: u64) -> Option<u64>
     ensures value { IsLeast (λ id. passes (is_sought sought) (kept_at streams.now.entries id)) from result }
     ensures fits { IfSome result (λ id. id < 2 ^ 64) }
 {
