@@ -4,10 +4,10 @@ ghost use Rattle.std.specs.Prelude.{◌≡◌, ◌+◌, ◌<◌, ◌^◌, length
 ghost use Rattle.h3_connection.specs.Answers.{call_refused};
 ghost use Rattle.h3_connection.specs.declared.event.Pull.TheVariants.{NoMessages};
 ghost use Rattle.h3_connection.specs.declared.event.Refusal.TheVariants.{NotOpen};
-ghost use Rattle.h3_webtransport.specs.Begun.{begun_by, refusal_of};
-ghost use Rattle.h3_webtransport.specs.Closing.{closing};
-ghost use Rattle.h3_webtransport.specs.Receiver.{came, canceled, pulled};
-ghost use Rattle.h3_webtransport.specs.SessionStream.{receiving, told_by, unread_of};
+ghost use Rattle.h3_webtransport_streams.specs.Begun.{begun_by, refusal_of};
+ghost use Rattle.h3_webtransport_streams.specs.Closing.{closing};
+ghost use Rattle.h3_webtransport_streams.specs.Receiver.{came, canceled, pulled};
+ghost use Rattle.h3_webtransport_streams.specs.SessionStream.{receiving, told_by, unread_of};
 
 use super::StoredStream;
 use crate::receiver::Begun;

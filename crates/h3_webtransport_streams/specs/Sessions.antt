@@ -7,7 +7,7 @@ use Rattle.h3_connection.specs.NextWaiting.{IsLeast}
 use Rattle.h3_connection.specs.StreamSets.{Streams}
 use Rattle.h3_connection.specs.declared.event.Refusal.{Refusal}
 use Rattle.h3_connection.specs.declared.event.Refusal.TheVariants.{IdsUsedUp, OutOfMemory}
-use Rattle.h3_webtransport.specs.SessionStream.{SessionStream}
+use Rattle.h3_webtransport_streams.specs.SessionStream.{SessionStream}
 
 pub record SessionsState : Type 0 where
   pub streams : Streams SessionStream

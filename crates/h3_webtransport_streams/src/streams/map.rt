@@ -7,12 +7,12 @@ ghost use Rattle.h3_connection.specs.NextWaiting.{IsLeast};
 ghost use Rattle.h3_connection.specs.State.{kept_at};
 ghost use Rattle.h3_connection.specs.declared.event.Pull.TheVariants.{NoMessages};
 ghost use Rattle.h3_connection.specs.declared.event.Refusal.TheVariants.{NotOpen, OutOfMemory};
-ghost use Rattle.h3_webtransport.specs.Begun.{Delivers, TakesBytes, refusal_of, stream_or_unseen};
-ghost use Rattle.h3_webtransport.specs.Closing.{Closes, closing};
-ghost use Rattle.h3_webtransport.specs.Receiver.{canceled, pulled};
-ghost use Rattle.h3_webtransport.specs.Sender.{cut_off, end_told, finished, held, sent};
-ghost use Rattle.h3_webtransport.specs.SessionStream.{Acts, answer_at, passes, receiving, sending, takes, unread_of};
-ghost use Rattle.h3_webtransport.specs.Sought.{is_next, is_sought, lesser_of};
+ghost use Rattle.h3_webtransport_streams.specs.Begun.{Delivers, TakesBytes, refusal_of, stream_or_unseen};
+ghost use Rattle.h3_webtransport_streams.specs.Closing.{Closes, closing};
+ghost use Rattle.h3_webtransport_streams.specs.Receiver.{canceled, pulled};
+ghost use Rattle.h3_webtransport_streams.specs.Sender.{cut_off, end_told, finished, held, sent};
+ghost use Rattle.h3_webtransport_streams.specs.SessionStream.{Acts, answer_at, passes, receiving, sending, takes, unread_of};
+ghost use Rattle.h3_webtransport_streams.specs.Sought.{is_next, is_sought, lesser_of};
 
 use crate::receiver::Begun;
 use crate::stream::{Sought, StoredStream};

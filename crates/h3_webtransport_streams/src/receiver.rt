@@ -2,8 +2,8 @@
 ghost use Rattle.std.specs.Prelude.{◌≡◌, ◌+◌, ◌<◌, ◌≤◌, ◌^◌, ℕ, length, drop, Some, None, option_copied, IfErr, IfOk, IfSome};
 ghost use Rattle.std.specs.List.{concat};
 ghost use Rattle.h3_connection.specs.Answers.{call_refused};
-ghost use Rattle.h3_webtransport.specs.Begun.{ArrivesAs};
-ghost use Rattle.h3_webtransport.specs.Receiver.{Receiver, answering, came, canceled, is_closed, is_done, pulled, raw, told_or_raw, untold, with_bytes, with_end, with_reset};
+ghost use Rattle.h3_webtransport_streams.specs.Begun.{ArrivesAs};
+ghost use Rattle.h3_webtransport_streams.specs.Receiver.{Receiver, answering, came, canceled, is_closed, is_done, pulled, raw, told_or_raw, untold, with_bytes, with_end, with_reset};
 
 use crate::front::BOTH_WAYS;
 use bytes::{Buf, Bytes};
@@ -41,7 +41,7 @@ pub(crate) struct ReceivingHalf {
 impl Model for ReceivingHalf {
     ghost use Rattle.std.specs.Prelude.{option_map};
     ghost use Rattle.h3_capsule.specs.ReaderStates.{place_of_state};
-    ghost use Rattle.h3_webtransport.specs.Receiver.{Receiver};
+    ghost use Rattle.h3_webtransport_streams.specs.Receiver.{Receiver};
 
     ghost Value = { Receiver };
 

@@ -2,8 +2,8 @@
 ghost use Rattle.std.specs.Prelude.{◌≡◌, ◌≤◌, ◌++◌, length, take, drop, min, unwrap_or, true, false, Some, None, IfErr, OnOk};
 ghost use Rattle.h3_connection.specs.Answers.{call_refused};
 ghost use Rattle.h3_connection.specs.declared.event.Refusal.TheVariants.{NotOpen, OutOfMemory};
-ghost use Rattle.h3_webtransport.specs.Sender.{cut_off, end_told, finished, goes_on, held, sent, taken};
-ghost use Rattle.h3_webtransport.specs.SessionStream.{passes, sending, takes, waiting_of};
+ghost use Rattle.h3_webtransport_streams.specs.Sender.{cut_off, end_told, finished, goes_on, held, sent, taken};
+ghost use Rattle.h3_webtransport_streams.specs.SessionStream.{passes, sending, takes, waiting_of};
 
 use super::StoredStream;
 use bytes::Bytes;

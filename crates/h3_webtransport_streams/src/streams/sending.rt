@@ -4,9 +4,9 @@ ghost use Rattle.h3_connection.specs.Answers.{call_refused};
 ghost use Rattle.h3_connection.specs.Calls.{AllSame};
 ghost use Rattle.h3_connection.specs.State.{kept_at};
 ghost use Rattle.h3_connection.specs.declared.event.Refusal.TheVariants.{NotOpen, OutOfMemory};
-ghost use Rattle.h3_webtransport.specs.Sender.{cut_off, end_told, finished, goes_on, held, sent};
-ghost use Rattle.h3_webtransport.specs.SessionStream.{Acts, answer_at, passes, sender_of, sending, takes, takes_turns, waiting_of};
-ghost use Rattle.h3_webtransport.specs.Sessions.{IsTurn, turn_over};
+ghost use Rattle.h3_webtransport_streams.specs.Sender.{cut_off, end_told, finished, goes_on, held, sent};
+ghost use Rattle.h3_webtransport_streams.specs.SessionStream.{Acts, answer_at, passes, sender_of, sending, takes, takes_turns, waiting_of};
+ghost use Rattle.h3_webtransport_streams.specs.Sessions.{IsTurn, turn_over};
 
 use super::{SessionStreams, map};
 use bytes::Bytes;

@@ -3,9 +3,9 @@ use Rattle.std.specs.Prelude.{◌≡◌, ℕ, [], Option, Some, None, Result, Ok
 use Rattle.h3_connection.specs.Calls.{Sets}
 use Rattle.h3_connection.specs.StreamSets.{Streams}
 use Rattle.h3_connection.specs.declared.event.DeliverError.{DeliverError}
-use Rattle.h3_webtransport.specs.Begun.{LeavesBytes, refusal_of, stream_or_unseen}
-use Rattle.h3_webtransport.specs.Receiver.{Receiver, with_end, with_reset}
-use Rattle.h3_webtransport.specs.SessionStream.{SessionStream}
+use Rattle.h3_webtransport_streams.specs.Begun.{LeavesBytes, refusal_of, stream_or_unseen}
+use Rattle.h3_webtransport_streams.specs.Receiver.{Receiver, with_end, with_reset}
+use Rattle.h3_webtransport_streams.specs.SessionStream.{SessionStream}
 
 -- its end (no code), or its reset
 abbrev pub closed_by : Option ℕ → Receiver → Receiver

@@ -1,7 +1,7 @@
 //! One stream of a session, both ways.
 ghost use Rattle.std.specs.Prelude.{◌≡◌, IfOk};
-ghost use Rattle.h3_webtransport.specs.SessionStream.{both_ways, entered, one_way, unseen};
-ghost use Rattle.h3_webtransport.specs.Sought.{is_sought};
+ghost use Rattle.h3_webtransport_streams.specs.SessionStream.{both_ways, entered, one_way, unseen};
+ghost use Rattle.h3_webtransport_streams.specs.Sought.{is_sought};
 
 use crate::front::{both_ways_front, one_way_front};
 use crate::receiver::ReceivingHalf;
@@ -33,7 +33,7 @@ pub(crate) struct StoredStream {
 }
 
 impl Model for StoredStream {
-    ghost use Rattle.h3_webtransport.specs.SessionStream.{SessionStream};
+    ghost use Rattle.h3_webtransport_streams.specs.SessionStream.{SessionStream};
 
     ghost Value = { SessionStream };
 

@@ -1,8 +1,8 @@
 -- Which streams are looked for.
 use Rattle.std.specs.Prelude.{ℕ, Bool, false, ◌&&◌, nat_le, nat_lt, Option, Some, None, if◌then◌else◌}
-use Rattle.h3_webtransport.specs.SessionStream.{SessionStream, has_something, is_of, passes, takes_turns}
-use Rattle.h3_webtransport.specs.declared.stream.Sought.{Sought}
-use Rattle.h3_webtransport.specs.declared.stream.Sought.TheVariants as sought
+use Rattle.h3_webtransport_streams.specs.SessionStream.{SessionStream, has_something, is_of, passes, takes_turns}
+use Rattle.h3_webtransport_streams.specs.declared.stream.Sought.{Sought}
+use Rattle.h3_webtransport_streams.specs.declared.stream.Sought.TheVariants as sought
 
 abbrev pub is_sought : Sought → SessionStream → Bool
 is_sought sought.ToSend s = has_something s

@@ -1,7 +1,7 @@
 //! The codes with which an application resets streams of its sessions (draft-ietf-webtrans-http3-02, section 4.3): HTTP/3 has them behind one
 //! another, and leaves out the codes that are reserved.
 ghost use Rattle.std.specs.Prelude.{◌≡◌, ◌<◌, ◌^◌};
-ghost use Rattle.h3_webtransport.specs.Codes.{code_of, number_of};
+ghost use Rattle.h3_webtransport_streams.specs.Codes.{code_of, number_of};
 
 /// The code of number 0.
 const FIRST: u64 = 0x52e4a40fa8db;

@@ -5,10 +5,10 @@ ghost use Rattle.h3_connection.specs.Answers.{call_refused};
 ghost use Rattle.h3_connection.specs.State.{kept_at};
 ghost use Rattle.h3_connection.specs.declared.event.Pull.TheVariants.{NoMessages};
 ghost use Rattle.h3_connection.specs.declared.event.Refusal.TheVariants.{NotOpen};
-ghost use Rattle.h3_webtransport.specs.Begun.{Delivers, stream_or_unseen};
-ghost use Rattle.h3_webtransport.specs.Closing.{Closes};
-ghost use Rattle.h3_webtransport.specs.Receiver.{canceled, pulled};
-ghost use Rattle.h3_webtransport.specs.SessionStream.{Acts, receiving, unread_of};
+ghost use Rattle.h3_webtransport_streams.specs.Begun.{Delivers, stream_or_unseen};
+ghost use Rattle.h3_webtransport_streams.specs.Closing.{Closes};
+ghost use Rattle.h3_webtransport_streams.specs.Receiver.{canceled, pulled};
+ghost use Rattle.h3_webtransport_streams.specs.SessionStream.{Acts, receiving, unread_of};
 
 use super::{SessionStreams, map};
 use crate::receiver::Begun;

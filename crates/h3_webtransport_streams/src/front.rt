@@ -1,6 +1,6 @@
 //! What a stream of a session begins with (draft-ietf-webtrans-http3-02, sections 4.1 and 4.2): its type, and the session's id.
 ghost use Rattle.std.specs.Prelude.{◌≡◌, IfOk};
-ghost use Rattle.h3_webtransport.specs.Sender.{front_both_ways, front_one_way};
+ghost use Rattle.h3_webtransport_streams.specs.Sender.{front_both_ways, front_one_way};
 
 use bytes::Bytes;
 use h3_capsule::capsule;

@@ -2,7 +2,7 @@
 ghost use Rattle.std.specs.Prelude.{◌≡◌, ◌≤◌, ◌++◌, ℕ, length, take, drop, min, unwrap_or, Some, None, IfErr, IfOk, OnOk};
 ghost use Rattle.h3_connection.specs.Answers.{call_refused};
 ghost use Rattle.h3_connection.specs.declared.event.Refusal.TheVariants.{OutOfMemory};
-ghost use Rattle.h3_webtransport.specs.Sender.{beginning, cut_off, end_told, finished, goes_on, has_to_send, held, is_end_next, is_sent_off, sends, sent, taken};
+ghost use Rattle.h3_webtransport_streams.specs.Sender.{beginning, cut_off, end_told, finished, goes_on, has_to_send, held, is_end_next, is_sent_off, sends, sent, taken};
 
 use bytes::{Buf, Bytes};
 use h3_connection::event::Refusal;
@@ -22,7 +22,7 @@ pub(crate) struct SendingHalf {
 
 impl Model for SendingHalf {
     ghost use Rattle.std.specs.List.{concat};
-    ghost use Rattle.h3_webtransport.specs.Sender.{Sender};
+    ghost use Rattle.h3_webtransport_streams.specs.Sender.{Sender};
 
     ghost Value = { Sender };
 

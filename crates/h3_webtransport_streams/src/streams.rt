@@ -3,8 +3,8 @@ ghost use Rattle.std.specs.Prelude.{◌≡◌, ◌≢◌, ◌+◌, ◌<◌, ◌^
 ghost use Rattle.h3_connection.specs.Calls.{AllSame, Sets};
 ghost use Rattle.h3_connection.specs.NextWaiting.{IsLeast};
 ghost use Rattle.h3_connection.specs.State.{kept_at};
-ghost use Rattle.h3_webtransport.specs.SessionStream.{both_ways, entered, has_something, is_of, one_way, passes, receiver_of, session_of, takes_turns};
-ghost use Rattle.h3_webtransport.specs.Sessions.{OpensNext, no_streams};
+ghost use Rattle.h3_webtransport_streams.specs.SessionStream.{both_ways, entered, has_something, is_of, one_way, passes, receiver_of, session_of, takes_turns};
+ghost use Rattle.h3_webtransport_streams.specs.Sessions.{OpensNext, no_streams};
 
 use crate::stream::{Sought, StoredStream};
 use h3_connection::event::Refusal;
@@ -29,7 +29,7 @@ pub struct SessionStreams {
 }
 
 impl Model for SessionStreams {
-    ghost use Rattle.h3_webtransport.specs.Sessions.{SessionsState};
+    ghost use Rattle.h3_webtransport_streams.specs.Sessions.{SessionsState};
 
     ghost Value = { SessionsState };
 

@@ -3,9 +3,9 @@ use Rattle.std.specs.Prelude.{◌≡◌, ℕ, Bool, false, ◌==◌, List, [], l
 use Rattle.h3_connection.specs.Calls.{AllSame, Sets}
 use Rattle.h3_connection.specs.State.{kept_at}
 use Rattle.h3_connection.specs.StreamSets.{Streams}
-use Rattle.h3_webtransport.specs.Sender.{Sender, beginning, front_both_ways, front_one_way, sends, has_to_send, taken}
-use Rattle.h3_webtransport.specs.Receiver.{Receiver, Arrived, answering, untold}
-use Rattle.h3_webtransport.specs.Receiver.Arrived.{Taken, NoFront, NoSession}
+use Rattle.h3_webtransport_streams.specs.Sender.{Sender, beginning, front_both_ways, front_one_way, sends, has_to_send, taken}
+use Rattle.h3_webtransport_streams.specs.Receiver.{Receiver, Arrived, answering, untold}
+use Rattle.h3_webtransport_streams.specs.Receiver.Arrived.{Taken, NoFront, NoSession}
 
 pub record SessionStream : Type 0 where
   -- the session's id, which is that of its CONNECT request. None: what came does not tell it yet

@@ -8,11 +8,11 @@ use Rattle.h3_connection.specs.declared.event.DeliverError.{DeliverError}
 use Rattle.h3_connection.specs.declared.event.DeliverError.TheVariants as deliver_error
 use Rattle.h3_connection.specs.declared.event.Refusal.{Refusal}
 use Rattle.h3_connection.specs.declared.event.Refusal.TheVariants.{NotReceiving}
-use Rattle.h3_webtransport.specs.Receiver.{Receiver, Arrived, came, closed_refusal}
-use Rattle.h3_webtransport.specs.Receiver.Arrived.{Taken, NoFront, NoSession}
-use Rattle.h3_webtransport.specs.SessionStream.{SessionStream, told_by, unseen}
-use Rattle.h3_webtransport.specs.declared.receiver.Begun.{Begun}
-use Rattle.h3_webtransport.specs.declared.receiver.Begun.TheVariants as begun
+use Rattle.h3_webtransport_streams.specs.Receiver.{Receiver, Arrived, came, closed_refusal}
+use Rattle.h3_webtransport_streams.specs.Receiver.Arrived.{Taken, NoFront, NoSession}
+use Rattle.h3_webtransport_streams.specs.SessionStream.{SessionStream, told_by, unseen}
+use Rattle.h3_webtransport_streams.specs.declared.receiver.Begun.{Begun}
+use Rattle.h3_webtransport_streams.specs.declared.receiver.Begun.TheVariants as begun
 
 -- a receiver's answer says what the bytes did; if they are no front of a session's stream nothing changes
 abbrev pub ArrivesAs : Receiver → Receiver → Begun → Arrived → Type 0
