@@ -1,16 +1,11 @@
 -- What another part of a connection asks of its endpoint, one beside it that has streams of its own.
-use Rattle.std.specs.Prelude.{◌≡◌, ◌+◌, ℕ, Option, Some, None, Result, Ok, unwrap_or}
+use Rattle.std.specs.Prelude.{◌≡◌, ◌+◌, ℕ, Option, Some, Result, Ok, unwrap_or}
 use Rattle.h3_connection.specs.Answers.{call_refused}
 use Rattle.h3_connection.specs.Endpoint.{EndpointHistory}
-use Rattle.h3_connection.specs.ReadingContracts.{Shows}
 use Rattle.h3_connection.specs.Sending.{does, open_refusal}
 use Rattle.h3_connection.specs.SendingContracts.{DoesAlways}
 use Rattle.h3_connection.specs.State.{EndpointState, StandsFor}
 use Rattle.h3_connection.specs.declared.event.Refusal.{Refusal}
-
--- `fault`
-abbrev pub ShowsFault : EndpointState → Option ℕ → Type 0
-ShowsFault s result = Shows (λ e. e.closed) s result
 
 -- the next id of a request is passed over
 abbrev pub take_request_id : EndpointHistory → Option Refusal × EndpointHistory
@@ -26,6 +21,5 @@ abbrev pub closed_for : ℕ → EndpointHistory → EndpointHistory
 closed_for code e = record e { closed = Some (unwrap_or e.closed code) }
 
 -- `close_for`
-pub record ClosesFor (old new : EndpointState) (code first : ℕ) : Type 0 where
-  pub stands : (e : EndpointHistory) → StandsFor old e → (first ≡ unwrap_or e.closed code) × StandsFor new (closed_for code e)
-  pub rest : new ≡ record old { closed = new.closed }
+abbrev pub ClosesFor : EndpointState → EndpointState → ℕ → Type 0
+ClosesFor old new code = (e : EndpointHistory) → StandsFor old e → StandsFor new (closed_for code e)

@@ -1,5 +1,5 @@
 //! One stream of a session, both ways.
-ghost use Rattle.std.specs.Prelude.{◌≡◌, IfOk};
+ghost use Rattle.std.specs.Prelude.{◌≡◌, IfOk, Some};
 ghost use Rattle.h3_webtransport_streams.specs.SessionStream.{both_ways, entered, one_way, unseen};
 ghost use Rattle.h3_webtransport_streams.specs.Sought.{is_sought};
 
@@ -107,6 +107,13 @@ impl StoredStream {
         ensures { result ≡ self.now.session }
     {
         self.session
+    }
+
+    /// It is of this session.
+    pub(crate) fn set_session(&mut self, session: SessionId)
+        ensures { self.new ≡ record self.old { session = Some session } }
+    {
+        self.session = Some(session);
     }
 
     /// Whether it is looked for.

@@ -1,9 +1,9 @@
 //! All streams of the sessions of one endpoint.
-ghost use Rattle.std.specs.Prelude.{◌≡◌, ◌≢◌, ◌+◌, ◌<◌, ◌^◌, ℕ, is_some, None, IfSome, OnErr, OnOk};
+ghost use Rattle.std.specs.Prelude.{◌≡◌, ◌≢◌, ◌+◌, ◌<◌, ◌^◌, ℕ, is_some, Some, None, IfSome, OnErr, OnOk};
 ghost use Rattle.h3_connection.specs.Calls.{AllSame, Sets};
 ghost use Rattle.h3_connection.specs.NextWaiting.{IsLeast};
 ghost use Rattle.h3_connection.specs.State.{kept_at};
-ghost use Rattle.h3_webtransport_streams.specs.SessionStream.{both_ways, entered, has_something, is_of, one_way, passes, receiver_of, session_of, takes_turns};
+ghost use Rattle.h3_webtransport_streams.specs.SessionStream.{Acts, both_ways, entered, has_something, is_of, one_way, passes, receiver_of, session_of, takes_turns};
 ghost use Rattle.h3_webtransport_streams.specs.Sessions.{OpensNext, no_streams};
 
 use crate::stream::{Sought, StoredStream};
@@ -143,6 +143,14 @@ impl SessionStreams {
     {
         let stream = StoredStream::entered(self.alloc, session, answers);
         map::put(&mut self.streams, id, stream)
+    }
+
+    /// A stream that was entered is of this session.
+    pub fn set_session(&mut self, id: StreamId, session: SessionId)
+        ensures acts { Acts tt (λ s. (tt, record s { session = Some session })) self.old.streams self.new.streams id tt }
+        ensures rest { self.new ≡ record self.old { streams = self.new.streams } }
+    {
+        map::set_session(&mut self.streams, id, session);
     }
 
     /// Nothing is kept of a stream any longer.

@@ -8,8 +8,8 @@ ghost use Rattle.h3_session.specs.Events.{nothing_seen};
 ghost use Rattle.h3_incoming.specs.declared.fields.FieldsPull.TheVariants as answer;
 
 use super::Connection;
-use crate::config::{GivenConfig, endpoint_with};
-use crate::numbers::{ARGUMENT, MEMORY, Told, unmade};
+use crate::config::{GivenConfig, endpoint_with, side_of};
+use crate::numbers::{ARGUMENT, MEMORY, NO_SETTING, Told, unmade};
 use crate::owned::boxed;
 use h3_proto::frame::RESERVED_NUMBERS;
 use std::alloc::Global;
@@ -71,8 +71,14 @@ pub(crate) fn made_with(
     if given.grease >= RESERVED_NUMBERS {
         return Err(ARGUMENT);
     }
+    if given.lacks_settings() {
+        return Err(NO_SETTING);
+    }
     match endpoint_with(alloc, given, further.as_slice()) {
-        Ok(endpoint) => match boxed(alloc, Connection::of(alloc, endpoint)) {
+        Ok(endpoint) => match boxed(
+            alloc,
+            Connection::of(alloc, endpoint, side_of(given), given.sessions != 0),
+        ) {
             Ok(connection) => Ok(connection),
             Err(_) => Err(MEMORY),
         },

@@ -11,9 +11,10 @@ ghost use Rattle.h3_incoming.specs.declared.fields.FieldsPull.TheVariants as ans
 
 use super::{Connection, GivenPairs};
 use crate::config::{GivenConfig, endpoint_resumed};
-use crate::numbers::{ARGUMENT, MEMORY, NONE, OK, ROOM, Told, unmade};
+use crate::numbers::{ARGUMENT, MEMORY, NO_SETTING, NONE, OK, ROOM, Told, unmade};
 use crate::owned::boxed;
 use h3_proto::frame::{RESERVED_NUMBERS, Settings};
+use h3_proto::stream::Side;
 use std::alloc::Global;
 
 impl Connection {
@@ -80,8 +81,14 @@ pub(crate) fn made_resumed(
     if given.grease >= RESERVED_NUMBERS {
         return Err(ARGUMENT);
     }
+    if given.lacks_settings() {
+        return Err(NO_SETTING);
+    }
     match endpoint_resumed(alloc, given, further.as_slice(), remembered) {
-        Ok(endpoint) => match boxed(alloc, Connection::of(alloc, endpoint)) {
+        Ok(endpoint) => match boxed(
+            alloc,
+            Connection::of(alloc, endpoint, Side::Client, given.sessions != 0),
+        ) {
             Ok(connection) => Ok(connection),
             Err(_) => Err(MEMORY),
         },

@@ -1,6 +1,6 @@
 //! What another part of a connection needs of its endpoint, one beside it that has streams of its own.
-ghost use Rattle.std.specs.Prelude.{◌≡◌};
-ghost use Rattle.h3_session.specs.Beside.{ClosesFor, ShowsFault, TakesId};
+ghost use Rattle.std.specs.Prelude.{◌≡◌, Some, unwrap_or};
+ghost use Rattle.h3_session.specs.Beside.{ClosesFor, TakesId};
 
 use super::Endpoint;
 use h3_connection::event::Refusal;
@@ -10,7 +10,7 @@ use h3_proto::stream::StreamId;
 impl Endpoint {
     /// The fault that closed the connection.
     pub fn fault(&self) -> Option<Code>
-        ensures { ShowsFault self.now result }
+        ensures { result ≡ self.now.closed }
     {
         self.closed
     }
@@ -33,7 +33,9 @@ impl Endpoint {
     /// A fault of the connection was found on a stream that is read elsewhere: it closes the endpoint, unless another one did, and the one
     /// that closed it is answered.
     pub fn close_for(&mut self, code: Code) -> Code
-        ensures { ClosesFor self.old self.new code result }
+        ensures stands { ClosesFor self.old self.new code }
+        ensures first { result ≡ unwrap_or self.old.closed code }
+        ensures rest { self.new ≡ record self.old { closed = Some result } }
     {
         if let Some(first) = self.closed {
             return first;

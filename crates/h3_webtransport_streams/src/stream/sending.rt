@@ -1,5 +1,5 @@
 //! The half of a stream that is sent.
-ghost use Rattle.std.specs.Prelude.{◌≡◌, ◌≤◌, ◌++◌, length, take, drop, min, unwrap_or, true, false, Some, None, IfErr, OnOk};
+ghost use Rattle.std.specs.Prelude.{◌≡◌, ◌≤◌, ◌++◌, [], length, take, drop, min, unwrap_or, true, false, Some, None, IfErr, OnOk};
 ghost use Rattle.h3_connection.specs.Answers.{call_refused};
 ghost use Rattle.h3_connection.specs.declared.event.Refusal.TheVariants.{NotOpen, OutOfMemory};
 ghost use Rattle.h3_webtransport_streams.specs.Sender.{cut_off, end_told, finished, goes_on, held, sent, taken};
@@ -59,6 +59,22 @@ impl StoredStream {
         match &self.sender {
             Some(sender) => sender.copy_to(out),
             None => 0,
+        }
+    }
+
+    /// Why bytes are refused, out of memory aside.
+    pub(crate) fn send_refusal(&self) -> Option<Refusal>
+        ensures { result ≡ (sending (Some NotOpen) (λ s. sent s []) self.now).0 }
+    {
+        match &self.sender {
+            Some(sender) => {
+                if sender.goes_on() {
+                    None
+                } else {
+                    Some(Refusal::OutOfOrder)
+                }
+            }
+            None => Some(Refusal::NotOpen),
         }
     }
 

@@ -19,6 +19,7 @@ use crate::stream::{Sought, StoredStream};
 use bytes::Bytes;
 use h3_connection::event::{DeliverError, Pull, Refusal};
 use h3_proto::stream::StreamId;
+use h3_proto::webtransport::SessionId;
 use std::alloc::{AllocError, Global};
 use std::collections::BTreeMap;
 
@@ -43,6 +44,19 @@ pub(super) fn put(
         return Err(AllocError);
     };
     Ok(())
+}
+
+/// The stream of this id is of this session.
+pub(super) fn set_session(
+    streams: &mut BTreeMap<u64, StoredStream>,
+    id: StreamId,
+    session: SessionId,
+)
+    ensures { Acts tt (λ s. (tt, record s { session = Some session })) streams.old.entries streams.new.entries id tt }
+{
+    if let Some(stream) = streams.get_mut(&id.into_inner()) {
+        stream.set_session(session);
+    }
 }
 
 /// Takes the stream of this id out, if there is one.
@@ -166,7 +180,10 @@ fn open(
 }
 
 /// Why what comes on the stream of this id is refused.
-fn arrival_refusal(streams: &BTreeMap<u64, StoredStream>, id: StreamId) -> Option<Refusal>
+pub(super) fn arrival_refusal(
+    streams: &BTreeMap<u64, StoredStream>,
+    id: StreamId,
+) -> Option<Refusal>
     ensures { result ≡ refusal_of (stream_or_unseen streams.now.entries id).receiver }
 {
     match streams.get(&id.into_inner()) {

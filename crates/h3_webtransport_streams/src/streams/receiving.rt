@@ -5,7 +5,7 @@ ghost use Rattle.h3_connection.specs.Answers.{call_refused};
 ghost use Rattle.h3_connection.specs.State.{kept_at};
 ghost use Rattle.h3_connection.specs.declared.event.Pull.TheVariants.{NoMessages};
 ghost use Rattle.h3_connection.specs.declared.event.Refusal.TheVariants.{NotOpen};
-ghost use Rattle.h3_webtransport_streams.specs.Begun.{Delivers, stream_or_unseen};
+ghost use Rattle.h3_webtransport_streams.specs.Begun.{Delivers, refusal_of, stream_or_unseen};
 ghost use Rattle.h3_webtransport_streams.specs.Closing.{Closes};
 ghost use Rattle.h3_webtransport_streams.specs.Receiver.{canceled, pulled};
 ghost use Rattle.h3_webtransport_streams.specs.SessionStream.{Acts, receiving, unread_of};
@@ -22,6 +22,13 @@ impl SessionStreams {
         ensures { result ≡ length (concat (unread_of (stream_or_unseen self.now.streams id).receiver)) }
     {
         map::unread_len(&self.streams, id)
+    }
+
+    /// Why what comes on a stream is refused.
+    pub fn arrival_refusal(&self, id: StreamId) -> Option<Refusal>
+        ensures { result ≡ refusal_of (stream_or_unseen self.now.streams id).receiver }
+    {
+        map::arrival_refusal(&self.streams, id)
     }
 
     /// Bytes came on a stream, which they open if it is not there. Refused are first what comes on one that is read elsewhere, then what

@@ -1,5 +1,5 @@
 //! What is sent on streams of sessions.
-ghost use Rattle.std.specs.Prelude.{◌≡◌, ◌++◌, length, take, drop, min, unwrap_or, true, false, Some, None, IfErr, OnOk};
+ghost use Rattle.std.specs.Prelude.{◌≡◌, ◌++◌, [], length, take, drop, min, unwrap_or, true, false, Some, None, IfErr, OnOk};
 ghost use Rattle.h3_connection.specs.Answers.{call_refused};
 ghost use Rattle.h3_connection.specs.Calls.{AllSame};
 ghost use Rattle.h3_connection.specs.State.{kept_at};
@@ -64,6 +64,16 @@ impl SessionStreams {
         match map::get(&self.streams, id) {
             Some(stream) => stream.copy_to(out),
             None => 0,
+        }
+    }
+
+    /// Why bytes are refused on a stream, out of memory aside.
+    pub fn send_refusal(&self, id: StreamId) -> Option<Refusal>
+        ensures { result ≡ answer_at (Some NotOpen) (sending (Some NotOpen) (λ s. sent s [])) (kept_at self.now.streams id) }
+    {
+        match map::get(&self.streams, id) {
+            Some(stream) => stream.send_refusal(),
+            None => Some(Refusal::NotOpen),
         }
     }
 
