@@ -1,1 +1,6 @@
 pub mod Joint
+pub mod Parts
+pub mod Sending
+pub mod Ordering
+pub mod Opening
+pub mod Receiving

@@ -1,4 +1,7 @@
 //! Which stream sends next, those of sessions among them.
+ghost use Rattle.std.specs.Prelude.{◌≡◌, ◌<◌, ◌^◌, IfSome};
+ghost use Rattle.h3_webtransport.specs.Ordering.{lower_of, turn_of, AdvancesOn, HoldsOn, SendsInTurn, SendsLowest};
+
 use crate::sessions::Sessions;
 use h3_connection::event::Refusal;
 use h3_proto::stream::StreamId;
@@ -6,7 +9,9 @@ use h3_session::endpoint::Endpoint;
 
 impl Sessions {
     /// Takes the first bytes that wait on a stream, at most all.
-    pub fn advance(&mut self, endpoint: &mut Endpoint, id: StreamId, count: usize) {
+    pub fn advance(&mut self, endpoint: &mut Endpoint, id: StreamId, count: usize)
+        ensures { AdvancesOn endpoint.old endpoint.new self.old self.new id count }
+    {
         if self.has(id) {
             self.streams.advance(id, count);
             if count > 0 {
@@ -21,7 +26,9 @@ impl Sessions {
     }
 
     /// The first stream from this id on on which bytes wait to be sent, or an end.
-    pub fn next_to_send(&self, endpoint: &Endpoint, from: u64) -> Option<StreamId> {
+    pub fn next_to_send(&self, endpoint: &Endpoint, from: u64) -> Option<StreamId>
+        ensures { SendsLowest endpoint.now self.now from result }
+    {
         let first = endpoint.next_to_send(from);
         if !self.is_on {
             return first;
@@ -37,7 +44,9 @@ impl Sessions {
 
     /// The stream that sends next. Where a request's and one of a session send they take turns: a stream of a session is next once bytes of a
     /// request's were taken, and the other way round.
-    pub fn next_by_priority(&self, endpoint: &mut Endpoint) -> Option<StreamId> {
+    pub fn next_by_priority(&self, endpoint: &mut Endpoint) -> Option<StreamId>
+        ensures { SendsInTurn endpoint.old endpoint.new self.now result }
+    {
         let first = endpoint.next_by_priority();
         if !self.is_on {
             return first;
@@ -57,7 +66,9 @@ impl Sessions {
         endpoint: &mut Endpoint,
         id: StreamId,
         is_held: bool,
-    ) -> Result<(), Refusal> {
+    ) -> Result<(), Refusal>
+        ensures { HoldsOn endpoint.old endpoint.new self.old self.new id is_held result }
+    {
         if !self.has(id) {
             return endpoint.hold(id, is_held);
         }

@@ -1,4 +1,7 @@
 //! What comes on streams, those of sessions among them.
+ghost use Rattle.std.specs.Prelude.{◌≡◌, Some, None};
+ghost use Rattle.h3_webtransport.specs.Receiving.{CancelsOn, DeliversOn, EndsOn};
+
 use crate::sessions::Sessions;
 use bytes::Bytes;
 use h3_connection::event::{DeliverError, Fault, Refusal};
@@ -39,7 +42,9 @@ impl Sessions {
         endpoint: &mut Endpoint,
         id: StreamId,
         bytes: Bytes,
-    ) -> Result<(), DeliverError> {
+    ) -> Result<(), DeliverError>
+        ensures { DeliversOn endpoint.old endpoint.new self.old self.new id bytes result }
+    {
         if !self.reads(id) {
             return endpoint.deliver(id, bytes);
         }
@@ -55,11 +60,9 @@ impl Sessions {
     }
 
     /// The end of a stream came.
-    pub fn deliver_end(
-        &mut self,
-        endpoint: &mut Endpoint,
-        id: StreamId,
-    ) -> Result<(), DeliverError> {
+    pub fn deliver_end(&mut self, endpoint: &mut Endpoint, id: StreamId) -> Result<(), DeliverError>
+        ensures { EndsOn endpoint.old endpoint.new self.old self.new id None result }
+    {
         if !self.reads(id) {
             return endpoint.deliver_end(id);
         }
@@ -75,7 +78,9 @@ impl Sessions {
         endpoint: &mut Endpoint,
         id: StreamId,
         code: u64,
-    ) -> Result<(), DeliverError> {
+    ) -> Result<(), DeliverError>
+        ensures { EndsOn endpoint.old endpoint.new self.old self.new id (Some code) result }
+    {
         if !self.reads(id) {
             return endpoint.deliver_reset(id, code);
         }
@@ -155,7 +160,9 @@ impl Sessions {
     }
 
     /// Nothing more of a stream is needed.
-    pub fn cancel(&mut self, endpoint: &mut Endpoint, id: StreamId) -> Result<(), Refusal> {
+    pub fn cancel(&mut self, endpoint: &mut Endpoint, id: StreamId) -> Result<(), Refusal>
+        ensures { CancelsOn endpoint.old endpoint.new self.old self.new id result }
+    {
         if !self.reads(id) {
             return endpoint.cancel(id);
         }

@@ -1,4 +1,10 @@
 //! What is sent on streams, those of sessions among them.
+ghost use Rattle.std.specs.Prelude.{◌≡◌, ◌≤◌, ◌+◌, [], length, true, false};
+ghost use Rattle.h3_connection.specs.ReadingContracts.{ShowsFinished, ShowsOutgoing, ShowsReset, ShowsWaiting};
+ghost use Rattle.h3_session.specs.Copied.{CopiesTo, TellsEnd};
+ghost use Rattle.h3_webtransport.specs.Joint.{has_stream, stored_at};
+ghost use Rattle.h3_webtransport.specs.Sending.{raw_finished, raw_refusal, raw_reset, raw_waiting, CopiesRaw, FinishesOn, ResetsOn, SendsRaw, TakesEndOn};
+
 use crate::sessions::Sessions;
 use bytes::Bytes;
 use h3_connection::event::Refusal;
@@ -13,7 +19,9 @@ impl Sessions {
         endpoint: &Endpoint,
         id: StreamId,
         bytes: Bytes,
-    ) -> Result<(), (Refusal, Bytes)> {
+    ) -> Result<(), (Refusal, Bytes)>
+        ensures { SendsRaw endpoint.now self.old self.new id bytes result }
+    {
         if let Some(code) = endpoint.fault() {
             return Err((Refusal::Closed(code), bytes));
         }
@@ -21,7 +29,9 @@ impl Sessions {
     }
 
     /// Why `send_raw` refuses bytes on a stream, out of memory aside.
-    pub fn raw_refusal(&self, endpoint: &Endpoint, id: StreamId) -> Option<Refusal> {
+    pub fn raw_refusal(&self, endpoint: &Endpoint, id: StreamId) -> Option<Refusal>
+        ensures { result ≡ raw_refusal endpoint.now.closed (stored_at self.now id) [] }
+    {
         if let Some(code) = endpoint.fault() {
             return Some(Refusal::Closed(code));
         }
@@ -29,7 +39,9 @@ impl Sessions {
     }
 
     /// All was sent on a stream.
-    pub fn finish(&mut self, endpoint: &mut Endpoint, id: StreamId) -> Result<(), Refusal> {
+    pub fn finish(&mut self, endpoint: &mut Endpoint, id: StreamId) -> Result<(), Refusal>
+        ensures { FinishesOn endpoint.old endpoint.new self.old self.new id result }
+    {
         if !self.has(id) {
             return endpoint.finish(id);
         }
@@ -40,7 +52,9 @@ impl Sessions {
     }
 
     /// Sending on a stream ends here, and what waits is dropped.
-    pub fn reset(&mut self, endpoint: &mut Endpoint, id: StreamId) -> Result<(), Refusal> {
+    pub fn reset(&mut self, endpoint: &mut Endpoint, id: StreamId) -> Result<(), Refusal>
+        ensures { ResetsOn endpoint.old endpoint.new self.old self.new id result }
+    {
         if !self.has(id) {
             return endpoint.reset(id);
         }
@@ -87,7 +101,9 @@ impl Sessions {
     }
 
     /// Whether anything can be sent on a stream.
-    pub fn has_outgoing(&self, endpoint: &Endpoint, id: StreamId) -> bool {
+    pub fn has_outgoing(&self, endpoint: &Endpoint, id: StreamId) -> bool
+        ensures other { has_stream self.now id ≡ false → ShowsOutgoing endpoint.now id result }
+    {
         if self.has(id) {
             return self.streams.send_refusal(id) != Some(Refusal::NotOpen);
         }
@@ -95,7 +111,10 @@ impl Sessions {
     }
 
     /// Whether sending on a stream was finished.
-    pub fn is_finished(&self, endpoint: &Endpoint, id: StreamId) -> bool {
+    pub fn is_finished(&self, endpoint: &Endpoint, id: StreamId) -> bool
+        ensures own { has_stream self.now id ≡ true → result ≡ raw_finished self.now id }
+        ensures other { has_stream self.now id ≡ false → ShowsFinished endpoint.now id result }
+    {
         if self.has(id) {
             return self.streams.is_finished(id);
         }
@@ -103,7 +122,10 @@ impl Sessions {
     }
 
     /// Whether sending on a stream was reset.
-    pub fn is_reset(&self, endpoint: &Endpoint, id: StreamId) -> bool {
+    pub fn is_reset(&self, endpoint: &Endpoint, id: StreamId) -> bool
+        ensures own { has_stream self.now id ≡ true → result ≡ raw_reset self.now id }
+        ensures other { has_stream self.now id ≡ false → ShowsReset endpoint.now id result }
+    {
         if self.has(id) {
             return self.streams.is_reset(id);
         }
@@ -111,7 +133,10 @@ impl Sessions {
     }
 
     /// How many bytes wait on a stream.
-    pub fn waiting(&self, endpoint: &Endpoint, id: StreamId) -> usize {
+    pub fn waiting(&self, endpoint: &Endpoint, id: StreamId) -> usize
+        ensures own { has_stream self.now id ≡ true → result ≡ length (raw_waiting self.now id) }
+        ensures other { has_stream self.now id ≡ false → ShowsWaiting endpoint.now id result }
+    {
         if self.has(id) {
             return self.streams.waiting(id);
         }
@@ -124,7 +149,11 @@ impl Sessions {
         endpoint: &Endpoint,
         id: StreamId,
         out: &mut [u8],
-    ) -> (usize, usize, bool) {
+    ) -> (usize, usize, bool)
+        ensures own { has_stream self.now id ≡ true → CopiesRaw self.now id out.old out.new result.0 result.1 result.2 }
+        ensures other { has_stream self.now id ≡ false → CopiesTo endpoint.now id result.0 result.1 out.old out.new × TellsEnd endpoint.now id (result.0 + result.1) result.2 }
+        ensures within { result.0 ≤ length out.old }
+    {
         if !self.has(id) {
             return endpoint.copy_with_end(id, out);
         }
@@ -134,7 +163,9 @@ impl Sessions {
     }
 
     /// QUIC took the FIN of a stream.
-    pub fn end_taken(&mut self, endpoint: &mut Endpoint, id: StreamId) -> bool {
+    pub fn end_taken(&mut self, endpoint: &mut Endpoint, id: StreamId) -> bool
+        ensures { TakesEndOn endpoint.old endpoint.new self.old self.new id result }
+    {
         if self.has(id) {
             return self.streams.end_taken(id);
         }

@@ -21,7 +21,7 @@ pub(crate) enum Sought {
     /// On which they do, and which is not held.
     Turn,
     /// Of the session of this id.
-    Session(SessionId),
+    Session(u64),
 }
 
 /// A stream. A contract sees it as the definitions' `SessionStream`.
@@ -130,7 +130,7 @@ impl StoredStream {
                 None => false,
             },
             Sought::Session(session) => match self.session {
-                Some(id) => id.into_inner() == session.into_inner(),
+                Some(id) => id.into_inner() == session,
                 None => false,
             },
         }

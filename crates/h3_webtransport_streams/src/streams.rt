@@ -175,7 +175,7 @@ impl SessionStreams {
         ensures value { IsLeast (λ id. passes (is_of session) (kept_at self.now.streams id)) from result }
         ensures fits { IfSome result (λ id. id < 2 ^ 64) }
     {
-        map::next(&self.streams, Sought::Session(session), from)
+        map::next(&self.streams, Sought::Session(session.into_inner()), from)
     }
 
     // The least id from `from` on of a stream that sends and is not held.
