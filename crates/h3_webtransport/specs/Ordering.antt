@@ -11,7 +11,7 @@ use Rattle.h3_connection.specs.State.{EndpointState}
 use Rattle.h3_connection.specs.declared.event.Refusal.{Refusal}
 use Rattle.h3_connection.specs.declared.event.Refusal.TheVariants.{NotOpen}
 use Rattle.h3_webtransport_streams.specs.Sender.{held}
-use Rattle.h3_webtransport_streams.specs.SessionStream.{Acts, has_something, passes, sending, takes, takes_turns}
+use Rattle.h3_webtransport_streams.specs.SessionStream.{Changes, has_something, passes, sending, takes, takes_turns}
 use Rattle.h3_webtransport_streams.specs.Sessions.{IsTurn, turn_over}
 use Rattle.h3_webtransport.specs.Joint.{Joint, has_stream, stored_at}
 use Rattle.h3_webtransport.specs.Parts.{Parts, ActsHere, UnlessClosed}
@@ -32,7 +32,7 @@ other_taken s id count = record s { is_next = if not (count == 0) && is_request_
 abbrev pub AdvancesOn : EndpointState → EndpointState → Joint → Joint → ℕ → ℕ → Type 0
 AdvancesOn e f s t id count =
     Parts (has_stream s id)
-    ((f ≡ e) × Acts tt (λ x. (tt, takes x count)) s.sessions.streams t.sessions.streams id tt × (t ≡ raw_taken s t id count))
+    ((f ≡ e) × Changes (λ x. takes x count) s.sessions.streams t.sessions.streams id × (t ≡ raw_taken s t id count))
     ((t ≡ other_taken s id count) × Advances e f id count)
 
 -- of two streams the lower one

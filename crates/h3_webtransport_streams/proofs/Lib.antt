@@ -1,1 +1,6 @@
 pub mod Least
+pub mod Heads
+pub mod Carried
+pub mod Sent
+pub mod CodesBack
+pub mod RowsHold

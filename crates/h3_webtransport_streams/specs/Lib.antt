@@ -6,3 +6,6 @@ pub mod Begun
 pub mod Closing
 pub mod Sessions
 pub mod Codes
+pub mod Carrying
+pub mod Sent
+pub mod Rows

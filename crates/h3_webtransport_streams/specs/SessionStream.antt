@@ -53,6 +53,14 @@ ActsOn absent act old new id answer (Some s) = (answer ≡ (act s).0) × Sets ol
 abbrev pub Acts : {A : Type 0} → A → (SessionStream → A × SessionStream) → Streams SessionStream → Streams SessionStream → ℕ → A → Type 0
 Acts absent act old new id answer = ActsOn absent act old new id answer (kept_at old id)
 
+-- The same of a change that answers nothing.
+abbrev pub ChangesOn : (SessionStream → SessionStream) → Streams SessionStream → Streams SessionStream → ℕ → Option SessionStream → Type 0
+ChangesOn change old new id None = AllSame old new
+ChangesOn change old new id (Some s) = Sets old new id (change s)
+
+abbrev pub Changes : (SessionStream → SessionStream) → Streams SessionStream → Streams SessionStream → ℕ → Type 0
+Changes change old new id = ChangesOn change old new id (kept_at old id)
+
 abbrev pub answer_at : {A : Type 0} → A → (SessionStream → A × SessionStream) → Option SessionStream → A
 answer_at absent act None = absent
 answer_at absent act (Some s) = (act s).0

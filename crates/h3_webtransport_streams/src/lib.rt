@@ -4,6 +4,7 @@
 
 pub mod codes;
 mod front;
+pub mod laws;
 mod receiver;
 mod sender;
 mod stream;

@@ -1,5 +1,5 @@
 //! What is sent on a stream of a session.
-ghost use Rattle.std.specs.Prelude.{◌≡◌, ◌≤◌, ◌++◌, ℕ, length, take, drop, min, unwrap_or, Some, None, IfErr, IfOk, OnOk};
+ghost use Rattle.std.specs.Prelude.{◌≡◌, ◌≤◌, ◌++◌, [], length, take, drop, min, unwrap_or, Some, None, IfErr, IfOk, OnOk};
 ghost use Rattle.h3_connection.specs.Answers.{call_refused};
 ghost use Rattle.h3_connection.specs.declared.event.Refusal.TheVariants.{OutOfMemory};
 ghost use Rattle.h3_webtransport_streams.specs.Sender.{beginning, cut_off, end_told, finished, goes_on, has_to_send, held, is_end_next, is_sent_off, sends, sent, taken};

@@ -3,7 +3,7 @@ ghost use Rattle.std.specs.Prelude.{◌≡◌, ◌≢◌, ◌+◌, ◌<◌, ◌^
 ghost use Rattle.h3_connection.specs.Calls.{AllSame, Sets};
 ghost use Rattle.h3_connection.specs.NextWaiting.{IsLeast};
 ghost use Rattle.h3_connection.specs.State.{kept_at};
-ghost use Rattle.h3_webtransport_streams.specs.SessionStream.{Acts, both_ways, entered, has_something, is_of, one_way, passes, receiver_of, session_of, takes_turns};
+ghost use Rattle.h3_webtransport_streams.specs.SessionStream.{Changes, both_ways, entered, has_something, is_of, one_way, passes, receiver_of, session_of, takes_turns};
 ghost use Rattle.h3_webtransport_streams.specs.Sessions.{OpensNext, no_streams};
 
 use crate::stream::{Sought, StoredStream};
@@ -147,7 +147,7 @@ impl SessionStreams {
 
     /// A stream that was entered is of this session.
     pub fn set_session(&mut self, id: StreamId, session: SessionId)
-        ensures acts { Acts tt (λ s. (tt, record s { session = Some session })) self.old.streams self.new.streams id tt }
+        ensures acts { Changes (λ s. record s { session = Some session }) self.old.streams self.new.streams id }
         ensures rest { self.new ≡ record self.old { streams = self.new.streams } }
     {
         map::set_session(&mut self.streams, id, session);

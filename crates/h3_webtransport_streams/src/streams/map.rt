@@ -11,7 +11,7 @@ ghost use Rattle.h3_webtransport_streams.specs.Begun.{Delivers, TakesBytes, refu
 ghost use Rattle.h3_webtransport_streams.specs.Closing.{Closes, closing};
 ghost use Rattle.h3_webtransport_streams.specs.Receiver.{canceled, pulled};
 ghost use Rattle.h3_webtransport_streams.specs.Sender.{cut_off, end_told, finished, held, sent};
-ghost use Rattle.h3_webtransport_streams.specs.SessionStream.{Acts, answer_at, passes, receiving, sending, takes, unread_of};
+ghost use Rattle.h3_webtransport_streams.specs.SessionStream.{Acts, Changes, answer_at, passes, receiving, sending, takes, unread_of};
 ghost use Rattle.h3_webtransport_streams.specs.Sought.{is_next, is_sought, lesser_of};
 
 use crate::receiver::Begun;
@@ -52,7 +52,7 @@ pub(super) fn set_session(
     id: StreamId,
     session: SessionId,
 )
-    ensures { Acts tt (λ s. (tt, record s { session = Some session })) streams.old.entries streams.new.entries id tt }
+    ensures { Changes (λ s. record s { session = Some session }) streams.old.entries streams.new.entries id }
 {
     if let Some(stream) = streams.get_mut(&id.into_inner()) {
         stream.set_session(session);
@@ -109,7 +109,7 @@ pub(super) fn reset(
 
 /// Takes the first bytes that wait on the stream of this id, at most all.
 pub(super) fn advance(streams: &mut BTreeMap<u64, StoredStream>, id: StreamId, count: usize)
-    ensures { Acts tt (λ s. (tt, takes s count)) streams.old.entries streams.new.entries id tt }
+    ensures { Changes (λ s. takes s count) streams.old.entries streams.new.entries id }
 {
     if let Some(stream) = streams.get_mut(&id.into_inner()) {
         stream.advance(count);

@@ -5,7 +5,7 @@ ghost use Rattle.h3_connection.specs.Calls.{AllSame};
 ghost use Rattle.h3_connection.specs.State.{kept_at};
 ghost use Rattle.h3_connection.specs.declared.event.Refusal.TheVariants.{NotOpen, OutOfMemory};
 ghost use Rattle.h3_webtransport_streams.specs.Sender.{cut_off, end_told, finished, goes_on, held, sent};
-ghost use Rattle.h3_webtransport_streams.specs.SessionStream.{Acts, answer_at, passes, sender_of, sending, takes, takes_turns, waiting_of};
+ghost use Rattle.h3_webtransport_streams.specs.SessionStream.{Acts, Changes, answer_at, passes, sender_of, sending, takes, takes_turns, waiting_of};
 ghost use Rattle.h3_webtransport_streams.specs.Sessions.{IsTurn, turn_over};
 
 use super::{SessionStreams, map};
@@ -108,7 +108,7 @@ impl SessionStreams {
 
     /// Takes the first bytes that wait on a stream, at most all. Its turn is over then.
     pub fn advance(&mut self, id: StreamId, count: usize)
-        ensures acts { Acts tt (λ s. (tt, takes s count)) self.old.streams self.new.streams id tt }
+        ensures acts { Changes (λ s. takes s count) self.old.streams self.new.streams id }
         ensures rest { self.new ≡ record self.old { streams = self.new.streams; from = turn_over self.old.from id count } }
     {
         if count > 0 {
