@@ -55,6 +55,7 @@ class Answer(_Numbers):
     UNFINISHED_LIMIT = 28
     NO_DATAGRAMS = 29
     REJECTED = 30
+    NO_SESSIONS = 31
     ARGUMENT = 32
     NO_ENDPOINT = 33
 
