@@ -17,8 +17,8 @@ use Rattle.h3_webtransport_streams.proofs.Heads.{IsHead, pending, told_whole}
 
 -- One of two beginnings of a list begins the other.
 data Split (xs ys us vs : List ℕ) : Type 0 where
-  less : (r : List ℕ) → 0 < length r → us ≡ xs ++ r → ys ≡ r ++ vs → Split xs ys us vs
-  more : (r : List ℕ) → xs ≡ us ++ r → vs ≡ r ++ ys → Split xs ys us vs
+  short : (r : List ℕ) → 0 < length r → us ≡ xs ++ r → ys ≡ r ++ vs → Split xs ys us vs
+  past : (r : List ℕ) → xs ≡ us ++ r → vs ≡ r ++ ys → Split xs ys us vs
 
 head_same : (x u : ℕ) (xs us : List ℕ) → x ∷ xs ≡ u ∷ us → x ≡ u
 head_same x u xs us e = cc
@@ -27,13 +27,13 @@ tail_same : (x u : ℕ) (xs us : List ℕ) → x ∷ xs ≡ u ∷ us → xs ≡ 
 tail_same x u xs us e = cc
 
 longer : (x u : ℕ) (xs ys us vs : List ℕ) → x ≡ u → Split xs ys us vs → Split (x ∷ xs) ys (u ∷ us) vs
-longer x u xs ys us vs same (less r some p q) = less r some (ap (λ l. u ∷ l) p ∙ ap (λ n. n ∷ (xs ++ r)) (sym same)) q
-longer x u xs ys us vs same (more r p q) = more r (ap (λ l. x ∷ l) p ∙ ap (λ n. n ∷ (us ++ r)) same) q
+longer x u xs ys us vs same (short r some p q) = short r some (ap (λ l. u ∷ l) p ∙ ap (λ n. n ∷ (xs ++ r)) (sym same)) q
+longer x u xs ys us vs same (past r p q) = past r (ap (λ l. x ∷ l) p ∙ ap (λ n. n ∷ (us ++ r)) same) q
 
 split : (xs ys us vs : List ℕ) → xs ++ ys ≡ us ++ vs → Split xs ys us vs
-split [] ys [] vs e = more [] refl (sym e)
-split [] ys (u ∷ us) vs e = less (u ∷ us) (omega arith) refl e
-split (x ∷ xs) ys [] vs e = more (x ∷ xs) refl (sym e)
+split [] ys [] vs e = past [] refl (sym e)
+split [] ys (u ∷ us) vs e = short (u ∷ us) (omega arith) refl e
+split (x ∷ xs) ys [] vs e = past (x ∷ xs) refl (sym e)
 split (x ∷ xs) ys (u ∷ us) vs e = longer x u xs ys us vs (head_same x u (xs ++ ys) (us ++ vs) e) (split xs ys us vs (tail_same x u (xs ++ ys) (us ++ vs) e))
 
 drop_front : (xs ys : List ℕ) → drop (length xs) (xs ++ ys) ≡ ys
@@ -82,28 +82,31 @@ from_bytes session more (Asks ∷ steps) (p ∷ pieces) true =
     subst (Begins (p ++ handed (at_bytes session pieces true) steps)) (sym (append_assoc p (concat pieces) (coming steps ++ more)))
     (put_before p (handed (at_bytes session pieces true) steps) (concat pieces ++ (coming steps ++ more)) (from_bytes session more steps pieces true))
 
--- and in front of that nothing is
-from_front : (session : ℕ) (sent more : List ℕ) (steps : List Step) (c tail : List ℕ) → (session % 4 == 0) ≡ true → IsHead (c ++ tail) 0x41 session → 0 < length tail
-    → coming steps ++ more ≡ tail ++ sent → Begins (handed (at_front c) steps) sent
+-- and in front of that nothing is: where bytes come, and what comes later is known
+abbrev Later : ℕ → List ℕ → List ℕ → List Step → Type 0
+Later session sent more steps = (c tail : List ℕ) → IsHead (c ++ tail) 0x41 session → 0 < length tail → coming steps ++ more ≡ tail ++ sent → Begins (handed (at_front c) steps) sent
 
 come : (session : ℕ) (sent more bytes : List ℕ) (steps : List Step) (c tail : List ℕ) → (session % 4 == 0) ≡ true → IsHead (c ++ tail) 0x41 session → 0 < length tail
-    → Split bytes (coming steps ++ more) tail sent → Begins (handed (after (at_front c) (Comes bytes)) steps) sent
-from_front session sent more [] c tail is head some e = record { rest = sent; parts = refl }
-from_front session sent more (Asks ∷ steps) c tail is head some e = from_front session sent more steps c tail is head some e
-from_front session sent more (Comes bytes ∷ steps) c tail is head some e =
-    come session sent more bytes steps c tail is head some (split bytes (coming steps ++ more) tail sent (sym (append_assoc bytes (coming steps) more) ∙ e))
-come session sent more bytes steps c tail is head some (less r left p q) =
+    → Later session sent more steps → Split bytes (coming steps ++ more) tail sent → Begins (handed (after (at_front c) (Comes bytes)) steps) sent
+come session sent more bytes steps c tail is head some later (short r left p q) =
     let whole : IsHead (c ++ (bytes ++ r)) 0x41 session = subst (λ l. IsHead (c ++ l) 0x41 session) p head in
     let stays : after (at_front c) (Comes bytes) ≡ at_front (c ++ bytes) = still_front c bytes (c ++ bytes) (length bytes) (pending c bytes r 0x41 session whole left) in
     let head_left : IsHead ((c ++ bytes) ++ r) 0x41 session = subst (λ l. IsHead l 0x41 session) (sym (append_assoc c bytes r)) whole in
-    subst (λ s. Begins (handed s steps) sent) (sym stays) (from_front session sent more steps (c ++ bytes) r is head_left left q)
-come session sent more bytes steps c tail is head some (more r p q) =
+    subst (λ s. Begins (handed s steps) sent) (sym stays) (later (c ++ bytes) r head_left left q)
+come session sent more bytes steps c tail is head some later (past r p q) =
     let ends : after (at_front c) (Comes bytes) ≡ at_bytes session (with_piece [] (drop (length tail) bytes)) false =
     whole_front session c bytes (length tail) is (ap (in_head c) p ∙ told_whole c tail r 0x41 session head some) in
     let rest : drop (length tail) bytes ≡ r = ap (drop (length tail)) p ∙ drop_front tail r in
     let at : after (at_front c) (Comes bytes) ≡ at_bytes session (with_piece [] r) false = ends ∙ ap (λ l. at_bytes session (with_piece [] l) false) rest in
     let sent_is : concat (with_piece [] r) ++ (coming steps ++ more) ≡ sent = ap (λ l. l ++ (coming steps ++ more)) (concat_piece [] r) ∙ sym q in
     subst (λ s. Begins (handed s steps) sent) (sym at) (subst (Begins (handed (at_bytes session (with_piece [] r) false) steps)) sent_is (from_bytes session more steps (with_piece [] r) false))
+
+from_front : (session : ℕ) (sent more : List ℕ) (steps : List Step) → (session % 4 == 0) ≡ true → Later session sent more steps
+from_front session sent more [] is c tail head some e = record { rest = sent; parts = refl }
+from_front session sent more (Asks ∷ steps) is c tail head some e = from_front session sent more steps is c tail head some e
+from_front session sent more (Comes bytes ∷ steps) is c tail head some e =
+    come session sent more bytes steps c tail is head some (from_front session sent more steps is)
+    (split bytes (coming steps ++ more) tail sent (sym (append_assoc bytes (coming steps) more) ∙ e))
 
 -- The front of a session is read as a head.
 front_head : (session : ℕ) → session < 2 ^ 62 → IsHead ([] ++ front_both_ways session) 0x41 session
@@ -118,11 +121,11 @@ quarter : (session : ℕ) → session % 4 ≡ 0 → (session % 4 == 0) ≡ true
 quarter session is = rw is refl
 
 some_front : (session : ℕ) → session < 2 ^ 62 → 0 < length (front_both_ways session)
-some_front session below = omega (arith, shorter 0x41 (front_both_ways session) (encoding session) (front_head session below).kind_is)
+some_front session below = omega (arith, shorter 0x41 (encoding 0x41 ++ encoding session) (encoding session) (reads_shortest 0x41 (encoding session) (omega arith)))
 
 pub hands_out : (session : ℕ) (sent more : List ℕ) (steps : List Step) → session < 2 ^ 62 → session % 4 ≡ 0 → coming steps ++ more ≡ front_both_ways session ++ sent → Begins (handed unseen steps) sent
 hands_out session sent more steps below is e =
-    from_front session sent more steps [] (front_both_ways session) (quarter session is) (front_head session below) (some_front session below) e
+    from_front session sent more steps (quarter session is) [] (front_both_ways session) (front_head session below) (some_front session below) e
 
 -- Which session is told: none any more once it was,
 none_more : (session : ℕ) (steps : List Step) (unread : List (List ℕ)) → sessions_told (at_bytes session unread true) steps ≡ []
@@ -137,26 +140,30 @@ tells_behind session [] unread = record { rest = session ∷ []; parts = refl }
 tells_behind session (Comes bytes ∷ steps) unread = tells_behind session steps (with_piece unread bytes)
 tells_behind session (Asks ∷ steps) unread = record { rest = []; parts = ap (λ l. session ∷ (l ++ [])) (sym (none_more session steps unread)) }
 
-tells_front : (session : ℕ) (sent more : List ℕ) (steps : List Step) (c tail : List ℕ) → (session % 4 == 0) ≡ true → IsHead (c ++ tail) 0x41 session → 0 < length tail
-    → coming steps ++ more ≡ tail ++ sent → Begins (sessions_told (at_front c) steps) (session ∷ [])
+abbrev TellsLater : ℕ → List ℕ → List ℕ → List Step → Type 0
+TellsLater session sent more steps =
+    (c tail : List ℕ) → IsHead (c ++ tail) 0x41 session → 0 < length tail → coming steps ++ more ≡ tail ++ sent → Begins (sessions_told (at_front c) steps) (session ∷ [])
 
 tells_come : (session : ℕ) (sent more bytes : List ℕ) (steps : List Step) (c tail : List ℕ) → (session % 4 == 0) ≡ true → IsHead (c ++ tail) 0x41 session → 0 < length tail
-    → Split bytes (coming steps ++ more) tail sent → Begins (sessions_told (after (at_front c) (Comes bytes)) steps) (session ∷ [])
-tells_front session sent more [] c tail is head some e = record { rest = session ∷ []; parts = refl }
-tells_front session sent more (Asks ∷ steps) c tail is head some e = tells_front session sent more steps c tail is head some e
-tells_front session sent more (Comes bytes ∷ steps) c tail is head some e =
-    tells_come session sent more bytes steps c tail is head some (split bytes (coming steps ++ more) tail sent (sym (append_assoc bytes (coming steps) more) ∙ e))
-tells_come session sent more bytes steps c tail is head some (less r left p q) =
+    → TellsLater session sent more steps → Split bytes (coming steps ++ more) tail sent → Begins (sessions_told (after (at_front c) (Comes bytes)) steps) (session ∷ [])
+tells_come session sent more bytes steps c tail is head some later (short r left p q) =
     let whole : IsHead (c ++ (bytes ++ r)) 0x41 session = subst (λ l. IsHead (c ++ l) 0x41 session) p head in
     let stays : after (at_front c) (Comes bytes) ≡ at_front (c ++ bytes) = still_front c bytes (c ++ bytes) (length bytes) (pending c bytes r 0x41 session whole left) in
     let head_left : IsHead ((c ++ bytes) ++ r) 0x41 session = subst (λ l. IsHead l 0x41 session) (sym (append_assoc c bytes r)) whole in
-    subst (λ s. Begins (sessions_told s steps) (session ∷ [])) (sym stays) (tells_front session sent more steps (c ++ bytes) r is head_left left q)
-tells_come session sent more bytes steps c tail is head some (more r p q) =
+    subst (λ s. Begins (sessions_told s steps) (session ∷ [])) (sym stays) (later (c ++ bytes) r head_left left q)
+tells_come session sent more bytes steps c tail is head some later (past r p q) =
     let ends : after (at_front c) (Comes bytes) ≡ at_bytes session (with_piece [] (drop (length tail) bytes)) false =
     whole_front session c bytes (length tail) is (ap (in_head c) p ∙ told_whole c tail r 0x41 session head some) in
     subst (λ s. Begins (sessions_told s steps) (session ∷ [])) (sym ends) (tells_behind session steps (with_piece [] (drop (length tail) bytes)))
 
+tells_front : (session : ℕ) (sent more : List ℕ) (steps : List Step) → (session % 4 == 0) ≡ true → TellsLater session sent more steps
+tells_front session sent more [] is c tail head some e = record { rest = session ∷ []; parts = refl }
+tells_front session sent more (Asks ∷ steps) is c tail head some e = tells_front session sent more steps is c tail head some e
+tells_front session sent more (Comes bytes ∷ steps) is c tail head some e =
+    tells_come session sent more bytes steps c tail is head some (tells_front session sent more steps is)
+    (split bytes (coming steps ++ more) tail sent (sym (append_assoc bytes (coming steps) more) ∙ e))
+
 pub tells_session : (session : ℕ) (sent more : List ℕ) (steps : List Step) → session < 2 ^ 62 → session % 4 ≡ 0 → coming steps ++ more ≡ front_both_ways session ++ sent
     → Begins (sessions_told unseen steps) (session ∷ [])
 tells_session session sent more steps below is e =
-    tells_front session sent more steps [] (front_both_ways session) (quarter session is) (front_head session below) (some_front session below) e
+    tells_front session sent more steps (quarter session is) [] (front_both_ways session) (front_head session below) (some_front session below) e

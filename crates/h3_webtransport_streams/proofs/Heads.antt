@@ -1,5 +1,5 @@
 -- The front of a stream in any pieces: it is told with its last byte, as the type and length of a capsule are.
-use Rattle.std.proofs.Common.{◌≡◌, ℕ, ◌+◌, ◌<◌, inl, inr, List, [], ◌∷◌, ◌++◌, length, Some, None, refl, ap, sym, ◌∙◌, arith, append_assoc, append-nil, length-append, add_comm}
+use Rattle.std.proofs.Common.{◌≡◌, ℕ, ◌+◌, ◌<◌, inl, inr, List, [], ◌∷◌, ◌++◌, length, Some, None, refl, ap, sym, ◌∙◌, suc, arith, append_assoc, append-nil, length-append}
 use Rattle.h3_coding.specs.Varint.{varint_at}
 use Rattle.h3_coding.specs.VarintLaws.{reads_more, cases_number}
 use Rattle.h3_capsule.specs.Capsule.{head_of, in_head, in_value, one_more}
@@ -36,6 +36,9 @@ no_head front more kind len h some = elim (cases_number front) [
       rw (read.2, none) refl
 ]
 
+next : (n : ℕ) → n + 1 ≡ suc n
+next n = omega arith
+
 -- bytes that do not make it whole
 pub pending : (front bytes rest : List ℕ) (kind len : ℕ) → IsHead (front ++ (bytes ++ rest)) kind len → 0 < length rest → in_head front bytes ≡ (length bytes, Pending, InHead (front ++ bytes))
 pending front [] rest kind len h some = ap (λ l. (0, Pending, InHead l)) (sym (append-nil front))
@@ -44,8 +47,8 @@ pending front (b ∷ bytes) rest kind len h some =
     let whole : IsHead ((front ++ b ∷ []) ++ (bytes ++ rest)) kind len = rw parts h in
     let none = no_head (front ++ b ∷ []) (bytes ++ rest) kind len whole (omega (arith, some, length-append bytes rest)) in
     rw none (ap one_more (pending (front ++ b ∷ []) bytes rest kind len whole some)
-    ∙ ap (λ n. (n, Pending, InHead ((front ++ b ∷ []) ++ bytes))) (add_comm (length bytes) 1)
-    ∙ ap (λ l. (1 + length bytes, Pending, InHead l)) (append_assoc front (b ∷ []) bytes))
+    ∙ ap (λ n. (n, Pending, InHead ((front ++ b ∷ []) ++ bytes))) (next (length bytes))
+    ∙ ap (λ l. (suc (length bytes), Pending, InHead l)) (append_assoc front (b ∷ []) bytes))
 
 -- bytes that do, and others behind them
 pub told_whole : (front tail more : List ℕ) (kind len : ℕ) → IsHead (front ++ tail) kind len → 0 < length tail → in_head front (tail ++ more) ≡ (length tail, Head kind len, in_value len)
@@ -56,4 +59,4 @@ told_whole front (b ∷ (c ∷ tail)) more kind len h some =
     let whole : IsHead ((front ++ b ∷ []) ++ (c ∷ tail)) kind len = rw parts h in
     let none = no_head (front ++ b ∷ []) (c ∷ tail) kind len whole (omega arith) in
     rw none (ap one_more (told_whole (front ++ b ∷ []) (c ∷ tail) more kind len whole (omega arith))
-    ∙ ap (λ n. (n, Head kind len, in_value len)) (add_comm (length (c ∷ tail)) 1))
+    ∙ ap (λ n. (n, Head kind len, in_value len)) (next (length (c ∷ tail))))

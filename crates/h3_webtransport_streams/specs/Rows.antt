@@ -1,5 +1,5 @@
 -- Worked examples of streams of sessions.
-use Rattle.std.specs.Prelude.{◌≡◌, ℕ, ◌+◌, ◌^◌, Bool, true, false, List, [], ◌∷◌, ◌++◌, Option, Some, None, codes}
+use Rattle.std.specs.Prelude.{◌≡◌, ℕ, ◌-◌, ◌^◌, Bool, true, false, List, [], ◌∷◌, ◌++◌, Option, Some, None, codes}
 use Rattle.std.specs.List.{AllByRecursion}
 use Rattle.h3_webtransport_streams.specs.Carrying.{Step, handed, sessions_told}
 use Rattle.h3_webtransport_streams.specs.Carrying.Step.{Asks, Comes}
