@@ -3,12 +3,12 @@ ghost use Rattle.std.specs.Prelude.{◌≡◌, ◌<◌, slice_get, unwrap_or};
 ghost use Rattle.h3_connection.specs.Remembering.{remembering};
 ghost use Rattle.h3_connection.specs.SendingContracts.{Creates, CreatesWith};
 ghost use Rattle.h3_proto.specs.declared.stream.Side.TheVariants.{Client};
-ghost use Rattle.h3_c.specs.Configs.{default_config, side_of, config_of, config_given, lacks_settings, least_for, limit_of_given, announced_of, numbers_of};
+ghost use Rattle.h3_c.specs.Configs.{default_config, side_of, config_of, config_given, lacks_settings, least_for, limit_of_given, announced_of, numbers_of, without_settings};
 
 use h3_coding::varint::VarInt;
 use h3_connection::setup::{Limits, NewError};
 use h3_proto::config::Config;
-use h3_proto::frame::Settings;
+use h3_proto::frame::{SettingId, Settings, SettingsError};
 use h3_proto::stream::Side;
 use h3_session::endpoint::Endpoint;
 use std::alloc::Global;
@@ -155,7 +155,7 @@ impl GivenConfig {
     }
 
     /// Whether it asks for sessions without the settings that they need.
-    pub(crate) fn lacks_settings(&self) -> bool
+    fn lacks_settings(&self) -> bool
         ensures { result ≡ lacks_settings self.now }
     {
         self.sessions != 0
@@ -230,6 +230,13 @@ fn config_of(given: &GivenConfig) -> Config
         .with_other_streams(given.other_streams != 0)
 }
 
+// Sessions of WebTransport need their setting, with those that it needs.
+fn without_settings() -> NewError
+    ensures { result ≡ without_settings }
+{
+    NewError::Settings(SettingsError::InvalidSettingValue(SettingId::ENABLE_WEBTRANSPORT, 1))
+}
+
 /// The endpoint that is asked for, with these further settings.
 pub(crate) fn endpoint_with(
     alloc: Global,
@@ -239,6 +246,9 @@ pub(crate) fn endpoint_with(
     requires { given.now.grease < 0x210842108421083 }
     ensures { CreatesWith (side_of given.now) (announced_of given.now) further.now result }
 {
+    if given.lacks_settings() {
+        return Err(without_settings());
+    }
     let limits = Limits {
         table: given.table,
         blocked: given.blocked,
@@ -263,6 +273,9 @@ pub(crate) fn endpoint_resumed(
     requires { given.now.grease < 0x210842108421083 }
     ensures { CreatesWith Client (remembering (announced_of given.now) remembered) further.now result }
 {
+    if given.lacks_settings() {
+        return Err(without_settings());
+    }
     let limits = Limits {
         table: given.table,
         blocked: given.blocked,
@@ -282,6 +295,9 @@ pub(crate) fn endpoint_of(alloc: Global, given: &GivenConfig) -> Result<Endpoint
     requires { given.now.grease < 0x210842108421083 }
     ensures { Creates (side_of given.now) (announced_of given.now) result }
 {
+    if given.lacks_settings() {
+        return Err(without_settings());
+    }
     let limits = Limits {
         table: given.table,
         blocked: given.blocked,

@@ -1,13 +1,14 @@
 //! What a handle owns.
 ghost use Rattle.std.specs.Prelude.{◌≡◌, ◌<◌, ◌≤◌, IfOk, IfErr, Ok};
 ghost use Rattle.h3_connection.specs.SendingContracts.{Creates};
-ghost use Rattle.h3_c.specs.Configs.{side_of, announced_of, Unmakes};
+ghost use Rattle.h3_c.specs.Configs.{side_of, announced_of, sessions_of, Unmakes};
+ghost use Rattle.h3_webtransport.specs.Joint.{first_joint};
 ghost use Rattle.h3_c.specs.Numbers.{argument};
 ghost use Rattle.h3_session.specs.Events.{nothing_seen};
 ghost use Rattle.h3_incoming.specs.declared.fields.FieldsPull.TheVariants as answer;
 
 use crate::config::{GivenConfig, endpoint_of, side_of};
-use crate::numbers::{ARGUMENT, MEMORY, NO_SETTING, Told, unmade};
+use crate::numbers::{ARGUMENT, MEMORY, Told, unmade};
 use crate::owned::boxed;
 use h3_field::HeaderField;
 use h3_incoming::BlockPull;
@@ -87,6 +88,7 @@ impl Connection {
 pub(crate) fn made(alloc: Global, given: &GivenConfig) -> Result<Box<Connection>, Told>
     ensures near { IfOk result (λ b. given.now.grease < 0x210842108421083) }
     ensures made { IfOk result (λ b. Creates (side_of given.now) (announced_of given.now) (Ok b.value.endpoint)) }
+    ensures sessions { IfOk result (λ b. b.value.sessions ≡ sessions_of (side_of given.now) given.now) }
     ensures last { IfOk result (λ b. b.value.last ≡ answer.Pending) }
     ensures events { IfOk result (λ b. b.value.events ≡ nothing_seen) }
     ensures far { IfErr result (λ told. 0x210842108421083 ≤ given.now.grease → told ≡ argument) }
@@ -95,9 +97,6 @@ pub(crate) fn made(alloc: Global, given: &GivenConfig) -> Result<Box<Connection>
     if given.grease >= RESERVED_NUMBERS {
         return Err(ARGUMENT);
     }
-    if given.lacks_settings() {
-        return Err(NO_SETTING);
-    }
     made_in_range(alloc, given)
 }
 
@@ -105,6 +104,7 @@ pub(crate) fn made(alloc: Global, given: &GivenConfig) -> Result<Box<Connection>
 fn made_in_range(alloc: Global, given: &GivenConfig) -> Result<Box<Connection>, Told>
     requires { given.now.grease < 0x210842108421083 }
     ensures made { IfOk result (λ b. Creates (side_of given.now) (announced_of given.now) (Ok b.value.endpoint)) }
+    ensures sessions { IfOk result (λ b. b.value.sessions ≡ sessions_of (side_of given.now) given.now) }
     ensures last { IfOk result (λ b. b.value.last ≡ answer.Pending) }
     ensures events { IfOk result (λ b. b.value.events ≡ nothing_seen) }
     ensures refused { IfErr result (Unmakes given.now) }

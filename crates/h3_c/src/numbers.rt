@@ -64,12 +64,6 @@ pub(crate) const REJECTED: Told = Told {
     detail: 0x10b,
 };
 
-/// `H3_SETTING`, with the setting of WebTransport.
-pub(crate) const NO_SETTING: Told = Told {
-    number: 21,
-    detail: 0x2b603742,
-};
-
 /// `H3_NO_SESSIONS`.
 pub(crate) const NO_SESSIONS: Told = Told {
     number: 31,

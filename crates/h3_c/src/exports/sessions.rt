@@ -1,4 +1,7 @@
 //! What C calls: streams of WebTransport sessions.
+ghost use Rattle.std.specs.Prelude.{◌≡◌, IsSome};
+ghost use Rattle.h3_webtransport_streams.specs.Codes.{code_of};
+
 use crate::handle::{Handle, kept, opened};
 use crate::numbers::{NONE, OK};
 use h3_webtransport_streams::codes;

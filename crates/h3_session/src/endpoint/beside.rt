@@ -17,6 +17,7 @@ impl Endpoint {
 
     /// Takes the id that `open_request` would give next, for a stream that is no request: nothing is opened, and no request gets that id.
     /// Refused as `open_request`. It takes no memory.
+    #[tactic(auto, using(crate::proofs::Beside::refuses_id, crate::proofs::Beside::takes_id, crate::proofs::Beside::takes_far))]
     pub fn take_request_id(&mut self) -> Result<StreamId, Refusal>
         ensures { TakesId self.old self.new result }
     {
@@ -32,6 +33,7 @@ impl Endpoint {
 
     /// A fault of the connection was found on a stream that is read elsewhere: it closes the endpoint, unless another one did, and the one
     /// that closed it is answered.
+    #[tactic(auto, using(crate::proofs::Beside::closes_first, crate::proofs::Beside::closes_now))]
     pub fn close_for(&mut self, code: Code) -> Code
         ensures stands { ClosesFor self.old self.new code }
         ensures first { result ≡ unwrap_or self.old.closed code }
