@@ -1,7 +1,8 @@
 -- What comes on streams, with sessions beside an endpoint.
-use Rattle.std.specs.Prelude.{◌≡◌, ◌≢◌, ◌%◌, ◌==◌, ℕ, Bool, true, false, [], List, Option, Some, None, Result, Ok, Err, is_some, if◌then◌else◌}
+use Rattle.std.specs.Prelude.{◌≡◌, ◌≢◌, ◌%◌, ◌==◌, ℕ, Bool, true, false, [], List, Option, Some, None, Result, Ok, Err, is_some, unwrap_or, if◌then◌else◌}
 use Rattle.h3_proto.specs.StreamIds.{is_request_stream}
 use Rattle.h3_connection.specs.Answers.{call_refused}
+use Rattle.h3_connection.specs.Calls.{AllSame, Sets}
 use Rattle.h3_connection.specs.Codes.{id_error, stream_creation_error}
 use Rattle.h3_connection.specs.ReceivingContracts.{Delivers, DeliversEnd, DeliversReset, PullsNext}
 use Rattle.h3_connection.specs.SendingContracts.{Cancels, Resets}
@@ -83,3 +84,34 @@ PullsThere s t id answer (Some there) = ActsHere pull.NoMessages pulls_raw s t i
 abbrev pub PullsRaw : Option ℕ → Joint → Joint → ℕ → Pull → Type 0
 PullsRaw (Some code) s t id answer = (answer ≡ pull.Fault (Closing code)) × (t ≡ s)
 PullsRaw None s t id answer = PullsThere s t id answer (stored_at s id)
+
+-- A stream that the endpoint reads, and that may turn out to be of a session.
+abbrev pub session_of : Pull → Option ℕ
+session_of (pull.Item (item.Session session)) = Some session
+session_of _ = None
+
+-- it is entered, and no message goes out on it
+abbrev pub Enters : EndpointState → EndpointState → ℕ → Bool → Type 0
+Enters e f id true = (result : Result Unit Refusal) × Resets e f id result
+Enters e f id false = f ≡ e
+
+abbrev pub Begins : Bool → EndpointState → EndpointState → Joint → Joint → ℕ → ℕ → Pull → Pull → Type 0
+Begins true e f s t id session inner answer =
+    (answer ≡ inner) × Sets s.sessions.streams t.sessions.streams id (entered session (is_request_stream id)) × Enters e f id (is_request_stream id)
+Begins false e f s t id session inner answer =
+    (answer ≡ pull.Fault (Closing (unwrap_or e.closed id_error))) × AllSame s.sessions.streams t.sessions.streams × (f ≡ record e { closed = Some (unwrap_or e.closed id_error) })
+
+abbrev pub Begun : Option ℕ → EndpointState → EndpointState → Joint → Joint → ℕ → Pull → Pull → Type 0
+Begun None e f s t id inner answer = (answer ≡ inner) × (f ≡ e) × AllSame s.sessions.streams t.sessions.streams
+Begun (Some session) e f s t id inner answer = Begins (is_request_stream session) e f s t id session inner answer
+
+-- there was no room for it, and nothing was pulled; or it was pulled
+pub data PullsFirst (e f : EndpointState) (s t : Joint) (id : ℕ) (answer : Pull) : Type 0 where
+  lacks : answer ≡ pull.Fault Memory → f ≡ e → AllSame s.sessions.streams t.sessions.streams → PullsFirst e f s t id answer
+  pulls : (inner : Pull) (next : EndpointState) → PullsNext e next id inner → Begun (session_of inner) next f s t id inner answer → PullsFirst e f s t id answer
+
+-- `pull_block`
+pub record PullsOn (e f : EndpointState) (s t : Joint) (id : ℕ) (answer : Pull) : Type 0 where
+  pub first : may_begin s id ≡ true → PullsFirst e f s t id answer × StreamsAlone s t
+  pub own : is_read s id ≡ true → (f ≡ e) × PullsRaw e.closed s t id answer
+  pub other : may_begin s id ≡ false → is_read s id ≡ false → (t ≡ s) × PullsNext e f id answer

@@ -1,6 +1,6 @@
 //! Streams that this side opens for a session.
 ghost use Rattle.std.specs.Prelude.{◌≡◌};
-ghost use Rattle.h3_webtransport.specs.Opening.{OpensStream, opening_refused, sessions_known};
+ghost use Rattle.h3_webtransport.specs.Opening.{OpensBothWays, OpensAtClient, OpensOn, open_error, takes_sessions};
 
 use crate::sessions::Sessions;
 use h3_connection::event::Refusal;
@@ -40,7 +40,9 @@ impl Sessions {
         endpoint: &mut Endpoint,
         session: StreamId,
         both_ways: bool,
-    ) -> Result<StreamId, OpenError> {
+    ) -> Result<StreamId, OpenError>
+        ensures { OpensOn endpoint.old endpoint.new self.old self.new session both_ways result }
+    {
         if let Some(error) = self.open_refusal(endpoint, session) {
             return Err(error);
         }

@@ -1,6 +1,7 @@
 //! What comes on streams, those of sessions among them.
 ghost use Rattle.std.specs.Prelude.{◌≡◌, Some, None};
-ghost use Rattle.h3_webtransport.specs.Receiving.{CancelsOn, DeliversOn, EndsOn};
+ghost use Rattle.h3_incoming.specs.FieldsPulls.{pull_of};
+ghost use Rattle.h3_webtransport.specs.Receiving.{CancelsOn, DeliversOn, EndsOn, PullsOn};
 
 use crate::sessions::Sessions;
 use bytes::Bytes;
@@ -111,7 +112,9 @@ impl Sessions {
 
     /// What comes next on a stream. A stream that the endpoint reads is one of a session from the answer on that tells the session; it is answered if it
     /// goes both ways. With sessions on an id that is none of a session is a fault of the connection, H3_ID_ERROR.
-    pub fn pull_block(&mut self, endpoint: &mut Endpoint, id: StreamId, out: &mut BlockPull) {
+    pub fn pull_block(&mut self, endpoint: &mut Endpoint, id: StreamId, out: &mut BlockPull)
+        ensures { PullsOn endpoint.old endpoint.new self.old self.new id (pull_of out.new) }
+    {
         if self.may_begin(id) {
             return self.pull_first(endpoint, id, out);
         }
