@@ -1,6 +1,7 @@
 //! Sessions of WebTransport over an endpoint of HTTP/3 (draft-ietf-webtrans-http3-02).
 #![tactic(auto)]
 
+pub mod laws;
 mod opening;
 mod ordering;
 mod receiving;
