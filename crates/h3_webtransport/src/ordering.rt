@@ -1,5 +1,5 @@
 //! Which stream sends next, those of sessions among them.
-ghost use Rattle.std.specs.Prelude.{◌≡◌, ◌<◌, ◌^◌, IfSome};
+ghost use Rattle.std.specs.Prelude.{◌≡◌};
 ghost use Rattle.h3_webtransport.specs.Ordering.{lower_of, turn_of, AdvancesOn, HoldsOn, SendsInTurn, SendsLowest};
 
 use crate::sessions::Sessions;
@@ -26,38 +26,26 @@ impl Sessions {
     }
 
     /// The first stream from this id on on which bytes wait to be sent, or an end.
-    pub fn next_to_send(&self, endpoint: &Endpoint, from: u64) -> Option<StreamId>
+    pub fn next_to_send(&self, endpoint: &Endpoint, from: u64) -> Option<u64>
         ensures { SendsLowest endpoint.now self.now from result }
     {
-        let first = endpoint.next_to_send(from);
+        let first = number_of(endpoint.next_to_send(from));
         if !self.is_on {
             return first;
         }
-        let Some(id) = stream_of(self.streams.next_to_send(from)) else {
-            return first;
-        };
-        match first {
-            Some(other) if other.into_inner() < id.into_inner() => first,
-            _ => Some(id),
-        }
+        lower(first, self.streams.next_to_send(from))
     }
 
     /// The stream that sends next. Where a request's and one of a session send they take turns: a stream of a session is next once bytes of a
     /// request's were taken, and the other way round.
-    pub fn next_by_priority(&self, endpoint: &mut Endpoint) -> Option<StreamId>
+    pub fn next_by_priority(&self, endpoint: &mut Endpoint) -> Option<u64>
         ensures { SendsInTurn endpoint.old endpoint.new self.now result }
     {
-        let first = endpoint.next_by_priority();
+        let first = number_of(endpoint.next_by_priority());
         if !self.is_on {
             return first;
         }
-        let Some(id) = stream_of(self.streams.next_in_turn()) else {
-            return first;
-        };
-        match first {
-            Some(other) if !other.is_request() || !self.is_next => first,
-            _ => Some(id),
-        }
+        turn(self.is_next, first, self.streams.next_in_turn())
     }
 
     /// QUIC has no credit for a stream, or has it again.
@@ -83,13 +71,39 @@ impl Sessions {
     }
 }
 
-// The stream of this number.
-fn stream_of(number: Option<u64>) -> Option<StreamId> {
-    let Some(number) = number else {
-        return None;
-    };
-    match StreamId::try_from(number) {
-        Ok(id) => Some(id),
-        Err(_) => None,
+fn number_of(id: Option<StreamId>) -> Option<u64>
+    ensures { result ≡ id }
+{
+    match id {
+        Some(id) => Some(id.into_inner()),
+        None => None,
+    }
+}
+
+// The lower of two streams.
+fn lower(first: Option<u64>, raw: Option<u64>) -> Option<u64>
+    ensures { result ≡ lower_of first raw }
+{
+    match (first, raw) {
+        (Some(other), Some(id)) => { if other < id { first } else { raw } }
+        (_, None) => first,
+        (None, Some(_)) => raw,
+    }
+}
+
+// Which of two streams sends: that of the endpoint, or that of a session.
+fn turn(is_next: bool, first: Option<u64>, raw: Option<u64>) -> Option<u64>
+    ensures { result ≡ turn_of is_next first raw }
+{
+    match (first, raw) {
+        (Some(other), Some(_)) => {
+            if other % 4 != 0 || !is_next {
+                first
+            } else {
+                raw
+            }
+        }
+        (_, None) => first,
+        (None, Some(_)) => raw,
     }
 }

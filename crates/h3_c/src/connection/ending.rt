@@ -28,7 +28,7 @@ impl Connection {
         let Some(next) = self.sessions.next_to_send(&self.endpoint, from) else {
             return NONE;
         };
-        *id = next.into_inner();
+        *id = next;
         OK
     }
 }

@@ -84,7 +84,7 @@ impl Connection {
         let Some(next) = self.sessions.next_by_priority(&mut self.endpoint) else {
             return NONE;
         };
-        *id = next.into_inner();
+        *id = next;
         OK
     }
 }
