@@ -1,6 +1,8 @@
 //! Streams that this side opens for a session.
 ghost use Rattle.std.specs.Prelude.{◌≡◌};
-ghost use Rattle.h3_webtransport.specs.Opening.{OpensBothWays, OpensAtClient, OpensOn, open_error, takes_sessions};
+ghost use Rattle.h3_webtransport.specs.Opening.{OpensBothWays, OpensAtClient, OpensOn, is_one, open_error, takes_sessions};
+ghost use Rattle.h3_connection.specs.Endpoint.{EndpointHistory};
+ghost use Rattle.h3_connection.specs.State.{StandsFor};
 
 use crate::sessions::Sessions;
 use h3_connection::event::Refusal;
@@ -18,14 +20,26 @@ pub enum OpenError {
     NoSessions,
 }
 
+fn is_one(setting: Option<u64>) -> bool
+    ensures { result ≡ is_one setting }
+{
+    match setting {
+        Some(value) => value == 1,
+        None => false,
+    }
+}
+
 // Whether the peer takes sessions, by its settings.
-fn knows_sessions(endpoint: &Endpoint, side: Side) -> bool {
-    let has = |id| endpoint.peer_setting(id) == Some(1);
+fn takes_sessions(endpoint: &Endpoint, side: Side) -> bool
+    ensures { (e : EndpointHistory) → StandsFor endpoint.now e → e.side ≡ side → result ≡ takes_sessions e }
+{
     let connects = match side {
-        Side::Client => has(SettingId::ENABLE_CONNECT_PROTOCOL),
+        Side::Client => is_one(endpoint.peer_setting(SettingId::ENABLE_CONNECT_PROTOCOL)),
         Side::Server => true,
     };
-    connects && has(SettingId::ENABLE_WEBTRANSPORT) && has(SettingId::H3_DATAGRAM)
+    connects
+        && is_one(endpoint.peer_setting(SettingId::ENABLE_WEBTRANSPORT))
+        && is_one(endpoint.peer_setting(SettingId::H3_DATAGRAM))
 }
 
 impl Sessions {
@@ -58,11 +72,13 @@ impl Sessions {
     }
 
     // Why no stream of this session is opened, whichever way it goes.
-    fn open_refusal(&self, endpoint: &Endpoint, session: StreamId) -> Option<OpenError> {
+    fn open_refusal(&self, endpoint: &Endpoint, session: StreamId) -> Option<OpenError>
+        ensures { (e : EndpointHistory) → StandsFor endpoint.now e → e.side ≡ self.now.side → result ≡ open_error e self.now.is_on session }
+    {
         if let Some(code) = endpoint.fault() {
             return Some(OpenError::Refused(Refusal::Closed(code)));
         }
-        if !self.is_on || !knows_sessions(endpoint, self.side) {
+        if !self.is_on || !takes_sessions(endpoint, self.side) {
             return Some(OpenError::NoSessions);
         }
         if !session.is_request() {
@@ -78,7 +94,10 @@ impl Sessions {
         &mut self,
         endpoint: &mut Endpoint,
         session: SessionId,
-    ) -> Result<StreamId, Refusal> {
+    ) -> Result<StreamId, Refusal>
+        ensures opens { OpensBothWays self.old.side endpoint.old endpoint.new self.old.sessions self.new.sessions session result }
+        ensures rest { self.new ≡ record self.old { sessions = self.new.sessions } }
+    {
         match self.side {
             Side::Server => self.streams.open_both_ways(session),
             Side::Client => self.open_beside_requests(endpoint, session),
@@ -90,7 +109,10 @@ impl Sessions {
         &mut self,
         endpoint: &mut Endpoint,
         session: SessionId,
-    ) -> Result<StreamId, Refusal> {
+    ) -> Result<StreamId, Refusal>
+        ensures opens { OpensAtClient endpoint.old endpoint.new self.old.sessions self.new.sessions session result }
+        ensures rest { self.new ≡ record self.old { sessions = self.new.sessions } }
+    {
         let id = match endpoint.next_request() {
             Ok(id) => id,
             Err(refusal) => return Err(refusal),

@@ -1,5 +1,6 @@
 //! What is sent on streams, those of sessions among them.
-ghost use Rattle.std.specs.Prelude.{◌≡◌, ◌≤◌, ◌+◌, [], length, true, false};
+ghost use Rattle.std.specs.Prelude.{◌≡◌, ◌≤◌, ◌+◌, [], length, is_some, true, false};
+ghost use Rattle.h3_webtransport_streams.specs.SessionStream.{sender_of};
 ghost use Rattle.h3_connection.specs.ReadingContracts.{ShowsFinished, ShowsOutgoing, ShowsReset, ShowsWaiting};
 ghost use Rattle.h3_session.specs.Copied.{CopiesTo, TellsEnd};
 ghost use Rattle.h3_webtransport.specs.Joint.{has_stream, stored_at};
@@ -102,10 +103,11 @@ impl Sessions {
 
     /// Whether anything can be sent on a stream.
     pub fn has_outgoing(&self, endpoint: &Endpoint, id: StreamId) -> bool
+        ensures own { has_stream self.now id ≡ true → result ≡ is_some (sender_of (stored_at self.now id)) }
         ensures other { has_stream self.now id ≡ false → ShowsOutgoing endpoint.now id result }
     {
         if self.has(id) {
-            return self.streams.send_refusal(id) != Some(Refusal::NotOpen);
+            return self.streams.has_sender(id);
         }
         endpoint.has_outgoing(id)
     }

@@ -1,5 +1,5 @@
 //! The half of a stream that is sent.
-ghost use Rattle.std.specs.Prelude.{◌≡◌, ◌≤◌, ◌++◌, [], length, take, drop, min, unwrap_or, true, false, Some, None, IfErr, OnOk};
+ghost use Rattle.std.specs.Prelude.{◌≡◌, ◌≤◌, ◌++◌, [], length, take, drop, is_some, min, unwrap_or, true, false, Some, None, IfErr, OnOk};
 ghost use Rattle.h3_connection.specs.Answers.{call_refused};
 ghost use Rattle.h3_connection.specs.declared.event.Refusal.TheVariants.{NotOpen, OutOfMemory};
 ghost use Rattle.h3_webtransport_streams.specs.Sender.{cut_off, end_told, finished, goes_on, held, sent, taken};
@@ -19,6 +19,13 @@ impl StoredStream {
             Some(sender) => sender.goes_on(),
             None => false,
         }
+    }
+
+    /// Whether this side sends on it.
+    pub(crate) fn has_sender(&self) -> bool
+        ensures { result ≡ is_some self.now.sender }
+    {
+        self.sender.is_some()
     }
 
     /// Whether sending was finished.

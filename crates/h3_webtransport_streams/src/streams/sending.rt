@@ -1,5 +1,5 @@
 //! What is sent on streams of sessions.
-ghost use Rattle.std.specs.Prelude.{◌≡◌, ◌++◌, [], length, take, drop, min, unwrap_or, true, false, Some, None, IfErr, OnOk};
+ghost use Rattle.std.specs.Prelude.{◌≡◌, ◌++◌, [], length, take, drop, is_some, min, unwrap_or, true, false, Some, None, IfErr, OnOk};
 ghost use Rattle.h3_connection.specs.Answers.{call_refused};
 ghost use Rattle.h3_connection.specs.Calls.{AllSame};
 ghost use Rattle.h3_connection.specs.State.{kept_at};
@@ -20,6 +20,16 @@ impl SessionStreams {
     {
         match map::get(&self.streams, id) {
             Some(stream) => stream.goes_on(),
+            None => false,
+        }
+    }
+
+    /// Whether this side sends on a stream.
+    pub fn has_sender(&self, id: StreamId) -> bool
+        ensures { result ≡ is_some (sender_of (kept_at self.now.streams id)) }
+    {
+        match map::get(&self.streams, id) {
+            Some(stream) => stream.has_sender(),
             None => false,
         }
     }
