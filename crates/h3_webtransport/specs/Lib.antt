@@ -4,3 +4,4 @@ pub mod Sending
 pub mod Ordering
 pub mod Opening
 pub mod Receiving
+pub mod Closing

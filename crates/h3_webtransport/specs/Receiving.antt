@@ -43,6 +43,11 @@ abbrev pub UnlessFaulty : Option ℕ → EndpointState → EndpointState → Joi
 UnlessFaulty (Some code) e f s t result goes = (result ≡ Err (Refused (Connection code))) × (f ≡ e) × (t ≡ s)
 UnlessFaulty None e f s t result goes = goes
 
+-- `bytes_refusal` of such a stream
+abbrev pub read_refusal : Option ℕ → Option Refusal → Option Refusal
+read_refusal (Some code) later = Some (Connection code)
+read_refusal None later = later
+
 -- bytes on a stream that is read beside the endpoint
 pub record Arrives (e f : EndpointState) (s t : Joint) (id : ℕ) (bytes : List ℕ) (result : Result Unit DeliverError) : Type 0 where
   pub inner : Result Begun DeliverError

@@ -1,7 +1,13 @@
 //! What comes on streams, those of sessions among them.
-ghost use Rattle.std.specs.Prelude.{◌≡◌, Some, None};
+ghost use Rattle.std.specs.Prelude.{◌≡◌, Some, None, true, false, length};
+ghost use Rattle.std.specs.List.{concat};
+ghost use Rattle.h3_connection.specs.Unread.{ShowsUnread};
 ghost use Rattle.h3_incoming.specs.FieldsPulls.{pull_of};
-ghost use Rattle.h3_webtransport.specs.Receiving.{CancelsOn, DeliversOn, EndsOn, PullsOn};
+ghost use Rattle.h3_session.specs.Lacking.{RefusesDeliveries};
+ghost use Rattle.h3_webtransport_streams.specs.Begun.{refusal_of, stream_or_unseen};
+ghost use Rattle.h3_webtransport_streams.specs.SessionStream.{unread_of};
+ghost use Rattle.h3_webtransport.specs.Joint.{is_read};
+ghost use Rattle.h3_webtransport.specs.Receiving.{CancelsOn, DeliversOn, EndsOn, PullsOn, read_refusal};
 
 use crate::sessions::Sessions;
 use bytes::Bytes;
@@ -92,7 +98,10 @@ impl Sessions {
     }
 
     /// Why bytes on a stream are refused.
-    pub fn bytes_refusal(&self, endpoint: &Endpoint, id: StreamId) -> Option<Refusal> {
+    pub fn bytes_refusal(&self, endpoint: &Endpoint, id: StreamId) -> Option<Refusal>
+        ensures own { is_read self.now id ≡ true → result ≡ read_refusal endpoint.now.closed (refusal_of (stream_or_unseen self.now.sessions.streams id).receiver) }
+        ensures other { is_read self.now id ≡ false → RefusesDeliveries endpoint.now id result }
+    {
         if !self.reads(id) {
             return endpoint.bytes_refusal(id);
         }
@@ -103,7 +112,10 @@ impl Sessions {
     }
 
     /// How many bytes of a stream came and are held.
-    pub fn unread(&self, endpoint: &Endpoint, id: StreamId) -> u64 {
+    pub fn unread(&self, endpoint: &Endpoint, id: StreamId) -> u64
+        ensures own { is_read self.now id ≡ true → result ≡ length (concat (unread_of (stream_or_unseen self.now.sessions.streams id).receiver)) }
+        ensures other { is_read self.now id ≡ false → ShowsUnread endpoint.now id result }
+    {
         if self.reads(id) {
             return self.streams.unread(id) as u64;
         }

@@ -1,15 +1,16 @@
 //! What is sent on streams, those of sessions among them.
 ghost use Rattle.std.specs.Prelude.{◌≡◌, ◌≤◌, ◌+◌, [], length, is_some, true, false};
-ghost use Rattle.h3_webtransport_streams.specs.SessionStream.{sender_of};
+ghost use Rattle.h3_webtransport_streams.specs.SessionStream.{receiver_of, sender_of};
 ghost use Rattle.h3_connection.specs.ReadingContracts.{ShowsFinished, ShowsOutgoing, ShowsReset, ShowsWaiting};
 ghost use Rattle.h3_session.specs.Copied.{CopiesTo, TellsEnd};
+ghost use Rattle.h3_webtransport.specs.Closing.{ClosesOn, Stops};
 ghost use Rattle.h3_webtransport.specs.Joint.{has_stream, stored_at};
 ghost use Rattle.h3_webtransport.specs.Sending.{raw_finished, raw_refusal, raw_reset, raw_waiting, CopiesRaw, FinishesOn, ResetsOn, SendsRaw, TakesEndOn};
 
 use crate::sessions::Sessions;
 use bytes::Bytes;
 use h3_connection::event::Refusal;
-use h3_proto::stream::{Side, StreamId};
+use h3_proto::stream::StreamId;
 use h3_session::endpoint::{ClosedStream, Endpoint};
 
 impl Sessions {
@@ -71,14 +72,19 @@ impl Sessions {
         &mut self,
         endpoint: &mut Endpoint,
         id: StreamId,
-    ) -> Result<ClosedStream, Refusal> {
+    ) -> Result<ClosedStream, Refusal>
+        ensures { ClosesOn endpoint.old endpoint.new self.old self.new id result }
+    {
         if !self.has(id) {
             return endpoint.close_stream(id);
         }
         if let Some(code) = endpoint.fault() {
             return Err(Refusal::Closed(code));
         }
-        let stop_sending = self.stop(endpoint, id)?;
+        let stop_sending = match self.stop(endpoint, id) {
+            Ok(stop_sending) => stop_sending,
+            Err(refusal) => return Err(refusal),
+        };
         let reset_stream = self.streams.reset(id).is_ok();
         self.streams.forget(id);
         Ok(ClosedStream {
@@ -88,7 +94,9 @@ impl Sessions {
     }
 
     // What comes on a stream of a session is given up, where the endpoint reads it as a request. Answers whether the end or a reset is still to come.
-    fn stop(&mut self, endpoint: &mut Endpoint, id: StreamId) -> Result<bool, Refusal> {
+    fn stop(&self, endpoint: &mut Endpoint, id: StreamId) -> Result<bool, Refusal>
+        ensures { Stops (receiver_of (stored_at self.now id)) endpoint.old endpoint.new id result }
+    {
         if self.streams.receives(id) {
             return Ok(self.streams.arrival_refusal(id).is_none());
         }
