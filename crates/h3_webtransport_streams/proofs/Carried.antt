@@ -1,6 +1,7 @@
 -- What a reader of a session's stream hands out is what was sent on it.
-use Rattle.std.proofs.Common.{◌≡◌, ℕ, ◌%◌, ◌^◌, ◌<◌, ◌==◌, Bool, true, false, List, [], ◌∷◌, ◌++◌, length, drop, Some, None, refl, ap, sym, subst, ◌∙◌, arith, append_assoc, append-nil, if◌then◌else◌}
+use Rattle.std.proofs.Common.{◌≡◌, ℕ, ◌%◌, ◌^◌, ◌<◌, nat_lt, Bool, true, false, List, [], ◌∷◌, ◌++◌, length, drop, Some, None, refl, ap, sym, subst, ◌∙◌, arith, append_assoc, append-nil, if◌then◌else◌}
 use Rattle.std.specs.List.{concat}
+use Rattle.std.proofs.lemmas.Bool.Decides.{nat_tests}
 use Rattle.h3_coding.specs.Encodings.{encoding}
 use Rattle.h3_coding.specs.VarintLaws.{reads_shortest, shorter}
 use Rattle.h3_coding.specs.Varint.{varint_at}
@@ -10,7 +11,7 @@ use Rattle.h3_capsule.specs.declared.capsule.Capsule.TheVariants.{Head, Pending}
 use Rattle.h3_wire.specs.Pieces.{with_piece}
 use Rattle.h3_webtransport_streams.specs.Carrying.{Begins, Step, after, asked, coming, handed, sessions_told}
 use Rattle.h3_webtransport_streams.specs.Carrying.Step.{Asks, Comes}
-use Rattle.h3_webtransport_streams.specs.Receiver.{untold}
+use Rattle.h3_webtransport_streams.specs.Receiver.{names_session, untold}
 use Rattle.h3_webtransport_streams.specs.Sender.{beginning, front_both_ways}
 use Rattle.h3_webtransport_streams.specs.SessionStream.{SessionStream, unseen}
 use Rattle.h3_webtransport_streams.proofs.Heads.{IsHead, pending, told_whole}
@@ -60,7 +61,7 @@ still_front : (c bytes d : List ℕ) (n : ℕ) → in_head c bytes ≡ (n, Pendi
 unfolding read_on
 still_front c bytes d n e = rw e refl
 
-whole_front : (session : ℕ) (c bytes : List ℕ) (n : ℕ) → (session % 4 == 0) ≡ true → in_head c bytes ≡ (n, Head 0x41 session, in_value session)
+whole_front : (session : ℕ) (c bytes : List ℕ) (n : ℕ) → names_session session ≡ true → in_head c bytes ≡ (n, Head 0x41 session, in_value session)
     → after (at_front c) (Comes bytes) ≡ at_bytes session (with_piece [] (drop n bytes)) false
 unfolding read_on
 whole_front session c bytes n is e = rw (e, is) refl
@@ -86,7 +87,7 @@ from_bytes session more (Asks ∷ steps) (p ∷ pieces) true =
 abbrev Later : ℕ → List ℕ → List ℕ → List Step → Type 0
 Later session sent more steps = (c tail : List ℕ) → IsHead (c ++ tail) 0x41 session → 0 < length tail → coming steps ++ more ≡ tail ++ sent → Begins (handed (at_front c) steps) sent
 
-come : (session : ℕ) (sent more bytes : List ℕ) (steps : List Step) (c tail : List ℕ) → (session % 4 == 0) ≡ true → IsHead (c ++ tail) 0x41 session → 0 < length tail
+come : (session : ℕ) (sent more bytes : List ℕ) (steps : List Step) (c tail : List ℕ) → names_session session ≡ true → IsHead (c ++ tail) 0x41 session → 0 < length tail
     → Later session sent more steps → Split bytes (coming steps ++ more) tail sent → Begins (handed (after (at_front c) (Comes bytes)) steps) sent
 come session sent more bytes steps c tail is head some later (short r left p q) =
     let whole : IsHead (c ++ (bytes ++ r)) 0x41 session = subst (λ l. IsHead (c ++ l) 0x41 session) p head in
@@ -101,7 +102,7 @@ come session sent more bytes steps c tail is head some later (past r p q) =
     let sent_is : concat (with_piece [] r) ++ (coming steps ++ more) ≡ sent = ap (λ l. l ++ (coming steps ++ more)) (concat_piece [] r) ∙ sym q in
     subst (λ s. Begins (handed s steps) sent) (sym at) (subst (Begins (handed (at_bytes session (with_piece [] r) false) steps)) sent_is (from_bytes session more steps (with_piece [] r) false))
 
-from_front : (session : ℕ) (sent more : List ℕ) (steps : List Step) → (session % 4 == 0) ≡ true → Later session sent more steps
+from_front : (session : ℕ) (sent more : List ℕ) (steps : List Step) → names_session session ≡ true → Later session sent more steps
 from_front session sent more [] is c tail head some e = record { rest = sent; parts = refl }
 from_front session sent more (Asks ∷ steps) is c tail head some e = from_front session sent more steps is c tail head some e
 from_front session sent more (Comes bytes ∷ steps) is c tail head some e =
@@ -117,15 +118,18 @@ front_head session below =
       len_is = ap varint_at (sym (append-nil (encoding session))) ∙ reads_shortest session [] below;
     }
 
-quarter : (session : ℕ) → session % 4 ≡ 0 → (session % 4 == 0) ≡ true
-quarter session is = rw is refl
+names : (session : ℕ) → session < 2 ^ 62 → session % 4 ≡ 0 → names_session session ≡ true
+unfolding names_session
+names session below is =
+    let small : nat_lt session (2 ^ 62) ≡ true = grind (arith, nat_tests) in
+    rw (small, is) refl
 
 some_front : (session : ℕ) → session < 2 ^ 62 → 0 < length (front_both_ways session)
 some_front session below = omega (arith, shorter 0x41 (encoding 0x41 ++ encoding session) (encoding session) (reads_shortest 0x41 (encoding session) (omega arith)))
 
 pub hands_out : (session : ℕ) (sent more : List ℕ) (steps : List Step) → session < 2 ^ 62 → session % 4 ≡ 0 → coming steps ++ more ≡ front_both_ways session ++ sent → Begins (handed unseen steps) sent
 hands_out session sent more steps below is e =
-    from_front session sent more steps (quarter session is) [] (front_both_ways session) (front_head session below) (some_front session below) e
+    from_front session sent more steps (names session below is) [] (front_both_ways session) (front_head session below) (some_front session below) e
 
 -- Which session is told: none any more once it was,
 none_more : (session : ℕ) (steps : List Step) (unread : List (List ℕ)) → sessions_told (at_bytes session unread true) steps ≡ []
@@ -144,7 +148,7 @@ abbrev TellsLater : ℕ → List ℕ → List ℕ → List Step → Type 0
 TellsLater session sent more steps =
     (c tail : List ℕ) → IsHead (c ++ tail) 0x41 session → 0 < length tail → coming steps ++ more ≡ tail ++ sent → Begins (sessions_told (at_front c) steps) (session ∷ [])
 
-tells_come : (session : ℕ) (sent more bytes : List ℕ) (steps : List Step) (c tail : List ℕ) → (session % 4 == 0) ≡ true → IsHead (c ++ tail) 0x41 session → 0 < length tail
+tells_come : (session : ℕ) (sent more bytes : List ℕ) (steps : List Step) (c tail : List ℕ) → names_session session ≡ true → IsHead (c ++ tail) 0x41 session → 0 < length tail
     → TellsLater session sent more steps → Split bytes (coming steps ++ more) tail sent → Begins (sessions_told (after (at_front c) (Comes bytes)) steps) (session ∷ [])
 tells_come session sent more bytes steps c tail is head some later (short r left p q) =
     let whole : IsHead (c ++ (bytes ++ r)) 0x41 session = subst (λ l. IsHead (c ++ l) 0x41 session) p head in
@@ -156,7 +160,7 @@ tells_come session sent more bytes steps c tail is head some later (past r p q) 
     whole_front session c bytes (length tail) is (ap (in_head c) p ∙ told_whole c tail r 0x41 session head some) in
     subst (λ s. Begins (sessions_told s steps) (session ∷ [])) (sym ends) (tells_behind session steps (with_piece [] (drop (length tail) bytes)))
 
-tells_front : (session : ℕ) (sent more : List ℕ) (steps : List Step) → (session % 4 == 0) ≡ true → TellsLater session sent more steps
+tells_front : (session : ℕ) (sent more : List ℕ) (steps : List Step) → names_session session ≡ true → TellsLater session sent more steps
 tells_front session sent more [] is c tail head some e = record { rest = session ∷ []; parts = refl }
 tells_front session sent more (Asks ∷ steps) is c tail head some e = tells_front session sent more steps is c tail head some e
 tells_front session sent more (Comes bytes ∷ steps) is c tail head some e =
@@ -166,4 +170,4 @@ tells_front session sent more (Comes bytes ∷ steps) is c tail head some e =
 pub tells_session : (session : ℕ) (sent more : List ℕ) (steps : List Step) → session < 2 ^ 62 → session % 4 ≡ 0 → coming steps ++ more ≡ front_both_ways session ++ sent
     → Begins (sessions_told unseen steps) (session ∷ [])
 tells_session session sent more steps below is e =
-    tells_front session sent more steps (quarter session is) [] (front_both_ways session) (front_head session below) (some_front session below) e
+    tells_front session sent more steps (names session below is) [] (front_both_ways session) (front_head session below) (some_front session below) e

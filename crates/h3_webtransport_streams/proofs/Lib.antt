@@ -4,3 +4,4 @@ pub mod Carried
 pub mod Sent
 pub mod CodesBack
 pub mod RowsHold
+pub mod Reading

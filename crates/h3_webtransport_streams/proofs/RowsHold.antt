@@ -4,6 +4,7 @@ use Rattle.std.specs.List.{AllByRecursion}
 use Rattle.h3_coding.specs.Encodings.{encoding}
 use Rattle.h3_coding.specs.Varint.{varint_at}
 use Rattle.h3_capsule.specs.Capsule.{head_of, read_on}
+use Rattle.h3_webtransport_streams.specs.Receiver.{names_session}
 use Rattle.h3_webtransport_streams.specs.Rows.{IsCodeRow, IsFaultRow, IsFrontRow, IsNoCode, IsReadRow, RowsHold, faults, fronts, numbers, others, reads}
 
 fronts_are : AllByRecursion IsFrontRow fronts
@@ -11,11 +12,11 @@ unfolding encoding
 fronts_are = ((refl, refl), ((refl, refl), ((refl, refl), tt)))
 
 reads_are : AllByRecursion IsReadRow reads
-unfolding read_on head_of varint_at
+unfolding read_on head_of varint_at names_session
 reads_are = ((refl, refl), ((refl, refl), ((refl, refl), ((refl, refl), tt))))
 
 faults_are : AllByRecursion IsFaultRow faults
-unfolding read_on head_of varint_at
+unfolding read_on head_of varint_at names_session
 faults_are = (refl, (refl, (refl, (refl, (refl, tt)))))
 
 numbers_are : AllByRecursion IsCodeRow numbers

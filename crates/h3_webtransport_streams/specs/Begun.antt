@@ -1,5 +1,5 @@
 -- What bytes did that came on a stream, by what its receiving half answers.
-use Rattle.std.specs.Prelude.{◌≡◌, ◌+◌, ◌<◌, ◌^◌, ℕ, List, length, Option, Some, None, unwrap_or, Result, Ok, Err}
+use Rattle.std.specs.Prelude.{◌≡◌, ◌+◌, ◌<◌, ◌^◌, ℕ, List, length, drop, Option, Some, None, unwrap_or, Result, Ok, Err}
 use Rattle.std.specs.List.{concat}
 use Rattle.h3_connection.specs.Calls.{AllSame, Sets}
 use Rattle.h3_connection.specs.State.{kept_at}
@@ -8,17 +8,31 @@ use Rattle.h3_connection.specs.declared.event.DeliverError.{DeliverError}
 use Rattle.h3_connection.specs.declared.event.DeliverError.TheVariants as deliver_error
 use Rattle.h3_connection.specs.declared.event.Refusal.{Refusal}
 use Rattle.h3_connection.specs.declared.event.Refusal.TheVariants.{NotReceiving}
-use Rattle.h3_webtransport_streams.specs.Receiver.{Receiver, Arrived, came, closed_refusal}
+use Rattle.h3_capsule.specs.ReaderStates.{place_of_state}
+use Rattle.h3_webtransport_streams.specs.Receiver.{Receiver, Arrived, came, closed_refusal, with_bytes}
 use Rattle.h3_webtransport_streams.specs.Receiver.Arrived.{Taken, NoFront, NoSession}
 use Rattle.h3_webtransport_streams.specs.SessionStream.{SessionStream, told_by, unseen}
 use Rattle.h3_webtransport_streams.specs.declared.receiver.Begun.{Begun}
 use Rattle.h3_webtransport_streams.specs.declared.receiver.Begun.TheVariants as begun
+use Rattle.h3_webtransport_streams.specs.declared.receiver.FrontRead.{FrontRead}
+use Rattle.h3_webtransport_streams.specs.declared.receiver.FrontRead.TheVariants as front
 
 -- a receiver's answer says what the bytes did; if they are no front of a session's stream nothing changes
 abbrev pub ArrivesAs : Receiver → Receiver → Begun → Arrived → Type 0
 ArrivesAs old new (begun.Taken session) arrived = arrived ≡ Taken session new
 ArrivesAs old new begun.NoFront arrived = (arrived ≡ NoFront) × (new ≡ old)
 ArrivesAs old new begun.NoSession arrived = (arrived ≡ NoSession) × (new ≡ old)
+
+-- what bytes told of a front, and the receiver behind them
+abbrev pub arrived_by : FrontRead → Receiver → List ℕ → Arrived
+arrived_by (front.Partly state) r bytes = Taken None (record r { front = Some (place_of_state state) })
+arrived_by (front.Whole session used) r bytes = Taken (Some session) (with_bytes r (drop used bytes))
+arrived_by front.NoFront r bytes = NoFront
+arrived_by front.NoSession r bytes = NoSession
+
+abbrev pub used_of : FrontRead → ℕ
+used_of (front.Whole session used) = used
+used_of _ = 0
 
 -- what is answered of it
 abbrev pub begun_by : Arrived → Begun

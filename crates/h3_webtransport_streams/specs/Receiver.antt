@@ -1,5 +1,5 @@
 -- What comes on a stream of a session that no other part reads: a server's stream both ways at its client, and the other half of an own one.
-use Rattle.std.specs.Prelude.{ℕ, ◌%◌, ◌==◌, Bool, true, false, ◌||◌, List, [], ◌∷◌, drop, Option, Some, None, is_some, if◌then◌else◌}
+use Rattle.std.specs.Prelude.{ℕ, ◌%◌, ◌^◌, ◌==◌, nat_lt, Bool, true, false, ◌&&◌, ◌||◌, List, [], ◌∷◌, drop, Option, Some, None, is_some, if◌then◌else◌}
 use Rattle.h3_capsule.specs.Capsule.{Place, Answer, read_on}
 use Rattle.h3_capsule.specs.Capsule.Place.{InHead}
 use Rattle.h3_capsule.specs.declared.capsule.Capsule.TheVariants.{Head}
@@ -37,9 +37,13 @@ answering = record untold { front = None; is_told = true }
 abbrev pub is_closed : Receiver → Bool
 is_closed r = r.ended || is_some r.reset_code
 
--- the bytes behind the front, which are thrown away of a stream that was given up
+-- the bytes behind the front, of which none are kept where the stream was given up
 abbrev pub with_bytes : Receiver → List ℕ → Receiver
-with_bytes r bytes = record r { front = None; unread = if r.is_canceled then [] else with_piece r.unread bytes }
+with_bytes r bytes = record r { front = None; unread = if r.is_canceled then r.unread else with_piece r.unread bytes }
+
+-- the id of a session is that of a request stream
+unfoldable pub names_session : ℕ → Bool
+names_session n = nat_lt n (2 ^ 62) && (n % 4 == 0)
 
 -- What bytes do to a stream: the session that its front names, and the receiver after it; or they are no front of a session's stream, or
 -- name no session, which is named by a request stream.
@@ -50,7 +54,7 @@ pub data Arrived : Type 0 where
 
 abbrev pub behind_front : Receiver → List ℕ → (kind session used : ℕ) → Arrived
 behind_front r bytes kind session used =
-    if kind == 0x41 then (if session % 4 == 0 then Taken (Some session) (with_bytes r (drop used bytes)) else NoSession) else NoFront
+    if kind == 0x41 then (if names_session session then Taken (Some session) (with_bytes r (drop used bytes)) else NoSession) else NoFront
 
 abbrev pub read_front : Receiver → List ℕ → Answer → Arrived
 read_front r bytes (used, Head kind session, place) = behind_front r bytes kind session used

@@ -1,9 +1,11 @@
 //! What comes on a stream of a session that no other part reads.
-ghost use Rattle.std.specs.Prelude.{◌≡◌, ◌+◌, ◌<◌, ◌≤◌, ◌^◌, ℕ, length, drop, Some, None, option_copied, IfErr, IfOk, IfSome};
+ghost use Rattle.std.specs.Prelude.{◌≡◌, ◌+◌, ◌<◌, ◌≤◌, ◌^◌, ℕ, length, IfErr, IfOk};
 ghost use Rattle.std.specs.List.{concat};
 ghost use Rattle.h3_connection.specs.Answers.{call_refused};
-ghost use Rattle.h3_webtransport_streams.specs.Begun.{ArrivesAs};
-ghost use Rattle.h3_webtransport_streams.specs.Receiver.{Receiver, answering, came, canceled, is_closed, is_done, pulled, raw, told_or_raw, untold, with_bytes, with_end, with_reset};
+ghost use Rattle.h3_capsule.specs.Capsule.{read_on};
+ghost use Rattle.h3_capsule.specs.ReaderStates.{place_of_state};
+ghost use Rattle.h3_webtransport_streams.specs.Begun.{ArrivesAs, arrived_by, used_of};
+ghost use Rattle.h3_webtransport_streams.specs.Receiver.{Receiver, answering, came, canceled, is_closed, is_done, pulled, raw, read_front, told_or_raw, untold, with_end, with_reset};
 
 use crate::front::BOTH_WAYS;
 use bytes::{Buf, Bytes};
@@ -22,6 +24,18 @@ pub enum Begun {
     /// They are no front of a session's stream.
     NoFront,
     /// The front names no session.
+    NoSession,
+}
+
+/// What bytes tell of a front.
+enum FrontRead {
+    /// It is not whole with them: so far it is read.
+    Partly(ReaderState),
+    /// It is whole with so many of them, and names this session.
+    Whole(SessionId, usize),
+    /// It is none of a session's stream.
+    NoFront,
+    /// It names no session.
     NoSession,
 }
 
@@ -101,22 +115,8 @@ impl ReceivingHalf {
         self.unread.remaining()
     }
 
-    // Keeps the bytes behind the front, for which there is room. A stream that was given up keeps none.
-    fn keep(&mut self, mut bytes: Bytes, used: usize)
-        requires inside { used ≤ length bytes }
-        requires fits { length (concat self.old.unread) + length bytes < 2 ^ 64 }
-        ensures { self.new ≡ with_bytes self.old (drop used bytes) }
-    {
-        self.front = None;
-        if self.is_canceled {
-            return;
-        }
-        bytes.advance(used);
-        self.unread.keep_reserved(bytes);
-    }
-
     /// Bytes come. An `Err` returns them and changes nothing: an allocation failed.
-    pub(crate) fn arrive(&mut self, bytes: Bytes) -> Result<Begun, Bytes>
+    pub(crate) fn arrive(&mut self, mut bytes: Bytes) -> Result<Begun, Bytes>
         requires { length (concat self.old.unread) + length bytes < 2 ^ 64 }
         ensures ok { IfOk result (λ begun. ArrivesAs self.old self.new begun (came self.old bytes)) }
         ensures err { IfErr result (λ back. (back ≡ bytes) × (self.new ≡ self.old)) }
@@ -124,34 +124,24 @@ impl ReceivingHalf {
         if self.unread.reserve().is_err() {
             return Err(bytes);
         }
-        let Some(state) = self.front else {
-            self.keep(bytes, 0);
-            return Ok(Begun::Taken(None));
-        };
-        Ok(self.read_front(state, bytes))
-    }
-
-    // The same while the front is not whole, with room for the bytes behind it.
-    fn read_front(&mut self, state: ReaderState, bytes: Bytes) -> Begun {
-        let mut reader = CapsuleReader::of_state(state);
-        let (used, told) = reader.read(bytes.as_slice());
-        let Capsule::Head(kind, number) = told else {
-            self.front = Some(reader.state());
-            return Begun::Taken(None);
-        };
-        if kind != BOTH_WAYS {
-            return Begun::NoFront;
-        }
-        match SessionId::try_from(number) {
-            Ok(session) => {
-                if number % 4 != 0 {
-                    return Begun::NoSession;
+        let (session, used) = match self.front {
+            None => (None, 0),
+            Some(state) => match read_front(state, bytes.as_slice()) {
+                FrontRead::Partly(state) => {
+                    self.front = Some(state);
+                    return Ok(Begun::Taken(None));
                 }
-                self.keep(bytes, used);
-                Begun::Taken(Some(session))
-            }
-            Err(_) => unreachable!(),
+                FrontRead::Whole(session, used) => (Some(session), used),
+                FrontRead::NoFront => return Ok(Begun::NoFront),
+                FrontRead::NoSession => return Ok(Begun::NoSession),
+            },
+        };
+        self.front = None;
+        if !self.is_canceled {
+            bytes.advance(used);
+            self.unread.keep_reserved(bytes);
         }
+        Ok(Begun::Taken(session))
     }
 
     /// The end came. It takes no memory.
@@ -228,4 +218,27 @@ impl ReceivingHalf {
         self.is_canceled = true;
         Ok(())
     }
+}
+
+// Reads on in a front.
+#[tactic(auto, using(crate::proofs::Reading::within), unfolding(crate::specs::Receiver::names_session))]
+fn read_front(state: ReaderState, bytes: &[u8]) -> FrontRead
+    ensures tells { (r : Receiver) → arrived_by result r bytes.now ≡ read_front r bytes.now (read_on (place_of_state state) bytes.now) }
+    ensures within { used_of result ≤ length bytes.now }
+{
+    let mut reader = CapsuleReader::of_state(state);
+    let (used, told) = reader.read(bytes);
+    let Capsule::Head(kind, number) = told else {
+        return FrontRead::Partly(reader.state());
+    };
+    if kind != BOTH_WAYS {
+        return FrontRead::NoFront;
+    }
+    let Ok(session) = SessionId::try_from(number) else {
+        return FrontRead::NoSession;
+    };
+    if number % 4 != 0 {
+        return FrontRead::NoSession;
+    }
+    FrontRead::Whole(session, used)
 }

@@ -61,7 +61,10 @@ impl StoredStream {
         let Some(receiver) = &mut self.receiver else {
             unreachable!();
         };
-        let begun = receiver.arrive(bytes)?;
+        let begun = match receiver.arrive(bytes) {
+            Ok(begun) => begun,
+            Err(back) => return Err(back),
+        };
         if let Begun::Taken(Some(session)) = begun {
             self.session = Some(session);
             self.sender = Some(SendingHalf::behind_front(alloc));
