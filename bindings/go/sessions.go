@@ -34,7 +34,7 @@ func WebTransportCode(number uint32) uint64 {
 	return uint64(C.h3_webtransport_code(C.uint32_t(number)))
 }
 
-// WebTransportNumber is the number of an application for such a code; false: it is none.
+// WebTransportNumber is the number of an application for such a code; false: no number has it.
 func WebTransportNumber(code uint64) (uint32, bool) {
 	var number C.uint32_t
 	answer := C.h3_webtransport_number(C.uint64_t(code), &number)

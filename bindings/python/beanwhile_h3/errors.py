@@ -86,7 +86,7 @@ class Malformation(_Numbers):
 
 
 class Code(enum.IntEnum):
-    """Error codes of RFC 9114, section 8.1, of RFC 9204, section 6, and of RFC 9297, section 5.2."""
+    """Error codes of RFC 9114, section 8.1, of RFC 9204, section 6, of RFC 9297, section 5.2, and of WebTransport."""
 
     DATAGRAM_ERROR = 0x33
     NO_ERROR = 0x100
@@ -109,6 +109,8 @@ class Code(enum.IntEnum):
     QPACK_DECOMPRESSION_FAILED = 0x200
     QPACK_ENCODER_STREAM_ERROR = 0x201
     QPACK_DECODER_STREAM_ERROR = 0x202
+    WEBTRANSPORT_BUFFERED_STREAM_REJECTED = 0x3994BD84
+    WEBTRANSPORT_SESSION_GONE = 0x170D7B68
 
 
 _TEXTS = {

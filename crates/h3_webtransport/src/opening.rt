@@ -44,7 +44,7 @@ fn takes_sessions(endpoint: &Endpoint, side: Side) -> bool
 
 impl Sessions {
     /// Opens a stream of the session whose CONNECT request has this id, both ways or from this side alone. Its front waits on it, and `send_raw`
-    /// sends behind that. A client's stream both ways gets the id that `open_request` would give next, a server's 1, 5 and so on; one that
+    /// sends after that. A client's stream both ways gets the id that `open_request` would give next, a server's 1, 5 and so on; one that
     /// goes one way gets 14, 18 and so on from a client, 15, 19 and so on from a server. Refused are, in this order, every call after a
     /// connection fault, sessions that are off or that the peer does not take (`NoSessions`), the id of no request, and a session on whose
     /// request no header section was sent or on which sending has ended (`NotOpen`). Next is a stream both ways of a client after the peer's

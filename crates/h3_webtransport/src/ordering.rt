@@ -36,7 +36,7 @@ impl Sessions {
         lower(first, self.streams.next_to_send(from))
     }
 
-    /// The stream that sends next. Where a request's and one of a session send they take turns: a stream of a session is next once bytes of a
+    /// The stream that sends next. If a request's and one of a session send, they take turns: a stream of a session is next once bytes of a
     /// request's were taken, and the other way round.
     pub fn next_by_priority(&self, endpoint: &mut Endpoint) -> Option<u64>
         ensures { SendsInTurn endpoint.old endpoint.new self.now result }

@@ -123,7 +123,7 @@ impl Sessions {
     }
 
     /// What comes next on a stream. A stream that the endpoint reads is one of a session from the answer on that tells the session; it is answered if it
-    /// goes both ways. With sessions on an id that is none of a session is a fault of the connection, H3_ID_ERROR.
+    /// goes both ways. With sessions on, an id that no session has is a fault of the connection, H3_ID_ERROR.
     pub fn pull_block(&mut self, endpoint: &mut Endpoint, id: StreamId, out: &mut BlockPull)
         ensures { PullsOn endpoint.old endpoint.new self.old self.new id (pull_of out.new) }
     {
@@ -169,7 +169,7 @@ impl Sessions {
         }
         self.streams.set_session(id, session);
         if id.is_request() {
-            // (refused only where it was reset before)
+            // (refused only if it was reset before)
             let _reset = endpoint.reset(id);
         }
     }

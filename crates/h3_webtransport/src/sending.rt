@@ -93,7 +93,7 @@ impl Sessions {
         })
     }
 
-    // What comes on a stream of a session is given up, where the endpoint reads it as a request. Answers whether the end or a reset is still to come.
+    // What comes on a stream of a session is given up, by the endpoint if it reads it as a request. Answers whether the end or a reset is still to come.
     fn stop(&self, endpoint: &mut Endpoint, id: StreamId) -> Result<bool, Refusal>
         ensures { Stops (receiver_of (stored_at self.now id)) endpoint.old endpoint.new id result }
     {

@@ -12,8 +12,8 @@ use std::alloc::Global;
 use std::marker::Model;
 
 /// The sessions of one connection. Who has them makes each call that is here with the endpoint in place of the call of the endpoint itself, on whatever
-/// stream: it is passed on if the stream is none of a session. All other calls are the endpoint's.
-/// Where sessions are off each call is the endpoint's, and costs one test.
+/// stream: it is passed on if no session has the stream. All other calls are the endpoint's.
+/// If sessions are off, each call is the endpoint's, and costs one test.
 #[derive(Drop)]
 pub struct Sessions {
     pub(crate) streams: SessionStreams,

@@ -1,4 +1,4 @@
-//! The codes with which an application resets streams of its sessions (draft-ietf-webtrans-http3-02, section 4.3): HTTP/3 has them behind one
+//! The codes with which an application resets streams of its sessions (draft-ietf-webtrans-http3-02, section 4.3): HTTP/3 has them one after
 //! another, and leaves out the codes that are reserved.
 ghost use Rattle.std.specs.Prelude.{◌≡◌, ◌<◌, ◌^◌};
 ghost use Rattle.h3_webtransport_streams.specs.Codes.{code_of, number_of};
@@ -14,7 +14,7 @@ pub fn code_of(number: u32) -> u64
     FIRST + number + number / 30
 }
 
-/// The number of an application for this code of HTTP/3, unless it is none.
+/// The number of an application for this code of HTTP/3, if it has one.
 pub fn number_of(code: u64) -> Option<u32>
     ensures { result ≡ number_of code }
 {

@@ -7,7 +7,7 @@ ghost use Rattle.h3_webtransport_streams.specs.Sender.{Sender, beginning, front_
 ghost use Rattle.h3_webtransport_streams.specs.Sent.{Call, all_done, all_taken, all_written};
 ghost use Rattle.h3_webtransport_streams.specs.SessionStream.{unseen};
 
-/// What QUIC took of a stream and what waits are its front and the bytes that were sent behind it, over any calls but a reset.
+/// What QUIC took of a stream and what waits are its front and the bytes that were sent after it, over any calls but a reset.
 #[tactic(auto, using(crate::proofs::Sent::taken_was_sent))]
 pub fn what_is_taken_was_sent()
     ensures { (front : List ℕ) (calls : List Call)
@@ -22,7 +22,7 @@ pub fn hands_out_what_was_sent()
         → coming steps ++ more ≡ front_both_ways session ++ sent → Begins (handed unseen steps) sent }
 {}
 
-/// No other session is told of it, and none twice.
+/// No other session is named, and none twice.
 #[tactic(auto, using(crate::proofs::Carried::tells_session))]
 pub fn tells_its_session()
     ensures { (session : ℕ) (sent more : List ℕ) (steps : List Step) → session < 2 ^ 62 → session % 4 ≡ 0

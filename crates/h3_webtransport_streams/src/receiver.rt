@@ -33,7 +33,7 @@ enum FrontRead {
     Partly(ReaderState),
     /// It is whole with so many of them, and names this session.
     Whole(SessionId, usize),
-    /// It is none of a session's stream.
+    /// No session's stream begins so.
     NoFront,
     /// It names no session.
     NoSession,
@@ -191,7 +191,7 @@ impl ReceivingHalf {
         Pull::Item(Item::Session(session))
     }
 
-    /// What comes next, of a stream of this session, if that is told.
+    /// What comes next, of a stream of this session, if that is known.
     pub(crate) fn pull(&mut self, session: Option<SessionId>) -> Pull
         ensures { pulled self.old session ≡ (result, self.new) }
     {

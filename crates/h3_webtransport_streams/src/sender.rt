@@ -36,7 +36,7 @@ impl Model for SendingHalf {
 }
 
 impl SendingHalf {
-    /// Nothing was sent behind this front.
+    /// Nothing was sent after this front.
     pub(crate) fn new(alloc: Global, front: Bytes) -> Result<SendingHalf, AllocError>
         ensures { IfOk result (λ half. half ≡ beginning front) }
     {
@@ -53,7 +53,7 @@ impl SendingHalf {
         })
     }
 
-    /// The same where the peer wrote the front. It takes no memory.
+    /// The same if the peer wrote the front. It takes no memory.
     pub(crate) fn behind_front(alloc: Global) -> SendingHalf
         ensures { result ≡ beginning [] }
     {

@@ -71,7 +71,7 @@ impl SessionStreams {
         }
     }
 
-    /// The session of a stream, if it is told.
+    /// The session of a stream, if it is known.
     pub fn session(&self, id: StreamId) -> Option<SessionId>
         ensures { result ≡ session_of (kept_at self.now.streams id) }
     {

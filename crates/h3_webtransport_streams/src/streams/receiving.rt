@@ -32,7 +32,7 @@ impl SessionStreams {
     }
 
     /// Bytes came on a stream, which they open if it is not there. Refused are first what comes on one that is read elsewhere, then what
-    /// comes behind the end or a reset. `OutOfMemory` returns the bytes, and nothing has changed. The answer says whether the first bytes
+    /// comes after the end or a reset. `OutOfMemory` returns the bytes, and nothing has changed. The answer says whether the first bytes
     /// are the front of a session's stream.
     pub fn deliver(&mut self, id: StreamId, bytes: Bytes) -> Result<Begun, DeliverError>
         ensures delivers { Delivers self.old.streams self.new.streams id bytes result }
