@@ -239,8 +239,8 @@
  * H3_END. A stream of the peer both ways is answered with h3_send_raw after its H3_SESSION. It may
  * come before the request of its session: keep it, or end it with
  * H3_CODE_WEBTRANSPORT_BUFFERED_STREAM_REJECTED.
- * When QUIC has closed a stream of a session call h3_close_stream: then nothing is kept of it. When
- * a session ends, end all its streams:
+ * When QUIC has closed a stream of a session call h3_close_stream: then nothing is kept of it, and
+ * nothing more of it may be delivered. When a session ends, end all its streams:
  *   for (uint64_t s = 0; !h3_next_of_session(&e, session, s, &s); s++)
  *     if (!h3_close_stream(&e, s, &stop_sending, &reset_stream, NULL)) .. send these frames with
  *       H3_CODE_WEBTRANSPORT_SESSION_GONE ..
