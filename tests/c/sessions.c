@@ -465,7 +465,33 @@ static void of_choice_off(void) {
   drop();
 }
 
+/* bytes of a session are one piece, whatever frames they may look like */
+static void of_reads(void) {
+  static const uint8_t zeros[100];
+  uint8_t front[103] = {0x40, 0x41, 0x00}, got[100];
+  size_t used = 0, n = 0;
+  h3_item item;
+  make_both(1);
+  HOLDS(begin() == 0);
+  HOLDS(opened(SERVER, 0, 1) == 1);
+  IS(h3_read(&ends[CLIENT], 1, front, sizeof front, 0, &used, &item, NULL), H3_OK);
+  HOLDS(item.kind == H3_SESSION && item.number == 0 && used == sizeof front);
+  IS(h3_read(&ends[CLIENT], 1, NULL, 0, 0, &used, &item, NULL), H3_OK);
+  HOLDS(item.kind == H3_RAW && item.len == 100);
+  for (int fin = 0; fin < 2; fin++) {
+    IS(h3_read(&ends[CLIENT], 1, zeros, sizeof zeros, (uint32_t)fin, &used, &item, NULL), H3_OK);
+    HOLDS(item.kind == H3_RAW && item.len == 100 && used == 100);
+    IS(h3_item_bytes(&ends[CLIENT], 0, got, sizeof got, &n), H3_OK);
+    HOLDS(n == 100 && !memcmp(got, zeros, n));
+  }
+  IS(h3_read(&ends[CLIENT], 1, NULL, 0, 1, &used, &item, NULL), H3_OK);
+  IS(item.kind, H3_END);
+  IS(h3_read(&ends[CLIENT], 1, zeros, 1, 0, &used, &item, NULL), H3_AFTER_END);
+  drop();
+}
+
 int main(void) {
+  of_reads();
   of_fronts();
   of_refusals();
   of_goaway();

@@ -73,13 +73,14 @@ impl Connection {
     }
 
     // How many of the bytes are delivered at once. If nothing of the stream is held and the end of the frame that they begin with is known:
-    // up to that end. A body after it is then read in its place. Else all.
+    // up to that end. A body after it is then read in its place. Else, and on a stream of a session, all.
     fn front_len(&self, id: StreamId, bytes: &[u8]) -> usize
         ensures within { result ≤ length bytes.now }
         ensures some { 0 < length bytes.now → 0 < result }
     {
         let count = first_frame_len(bytes);
-        if count < bytes.len() && self.sessions.unread(&self.endpoint, id) > 0 {
+        let is_whole = count == bytes.len();
+        if !is_whole && (self.sessions.has(id) || self.sessions.unread(&self.endpoint, id) > 0) {
             return bytes.len();
         }
         count
