@@ -1,1 +1,2 @@
 pub mod Off
+pub mod Refusing

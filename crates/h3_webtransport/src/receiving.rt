@@ -3,11 +3,10 @@ ghost use Rattle.std.specs.Prelude.{◌≡◌, Some, None, true, false, length};
 ghost use Rattle.std.specs.List.{concat};
 ghost use Rattle.h3_connection.specs.Unread.{ShowsUnread};
 ghost use Rattle.h3_incoming.specs.FieldsPulls.{pull_of};
-ghost use Rattle.h3_session.specs.Lacking.{RefusesDeliveries};
-ghost use Rattle.h3_webtransport_streams.specs.Begun.{refusal_of, stream_or_unseen};
+ghost use Rattle.h3_webtransport_streams.specs.Begun.{stream_or_unseen};
 ghost use Rattle.h3_webtransport_streams.specs.SessionStream.{unread_of};
 ghost use Rattle.h3_webtransport.specs.Joint.{is_read};
-ghost use Rattle.h3_webtransport.specs.Receiving.{CancelsOn, DeliversOn, EndsOn, PullsOn, read_refusal};
+ghost use Rattle.h3_webtransport.specs.Receiving.{CancelsOn, DeliversOn, EndsOn, PullsOn, RefusesDeliveriesOn};
 
 use crate::sessions::Sessions;
 use bytes::Bytes;
@@ -98,9 +97,9 @@ impl Sessions {
     }
 
     /// Why bytes on a stream are refused.
+    #[tactic(auto, using(crate::proofs::Refusing::refuses_other, crate::proofs::Refusing::refuses_closed, crate::proofs::Refusing::refuses_here))]
     pub fn bytes_refusal(&self, endpoint: &Endpoint, id: StreamId) -> Option<Refusal>
-        ensures own { is_read self.now id ≡ true → result ≡ read_refusal endpoint.now.closed (refusal_of (stream_or_unseen self.now.sessions.streams id).receiver) }
-        ensures other { is_read self.now id ≡ false → RefusesDeliveries endpoint.now id result }
+        ensures { RefusesDeliveriesOn endpoint.now self.now id result }
     {
         if !self.reads(id) {
             return endpoint.bytes_refusal(id);
