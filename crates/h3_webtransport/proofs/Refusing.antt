@@ -19,8 +19,8 @@ pub refuses_closed : (e : EndpointState) (s : Joint) (id code : ℕ) → is_read
 refuses_closed e s id code read closed bytes = record { own = λ _. rw closed (refl, refl, refl); other = λ not_read. absurd (let never : true ≡ false = sym read ∙ not_read in cc) }
 
 leaves : (streams : Streams SessionStream) (bytes : List ℕ) (why there : Option Refusal) → why ≡ there → LeavesBytes streams streams bytes there (delivery_error why bytes)
-leaves streams bytes (Some r) there is = (sym is, λ q. refl)
-leaves streams bytes None there is = (sym is, refl, λ q. refl)
+leaves streams bytes (Some r) there is = (sym is, record { each = λ q. refl })
+leaves streams bytes None there is = (sym is, refl, record { each = λ q. refl })
 
 -- and one that is read here
 pub refuses_here : (e : EndpointState) (s : Joint) (id : ℕ) (why : Option Refusal) → is_read s id ≡ true → e.closed ≡ None → why ≡ refusal_of (stream_or_unseen s.sessions.streams id).receiver → RefusesDeliveriesOn e s id why
