@@ -228,6 +228,26 @@
  * To leave, it finishes its requests, and closes the connection when h3_is_drained says 1 or, if
  * its server sent no GOAWAY, when its requests have ended.
  *
+ * WEBTRANSPORT (draft-ietf-webtrans-http3-02), with `sessions` of h3_config
+ *
+ * A session is a request of the client with :method CONNECT and :protocol webtransport, and a
+ * response with status 200; its id is that of the request's stream. Both sides send and read
+ * capsules on it (h3_read_capsule), and datagrams for it (h3_datagram_head). The session ends with
+ * that stream, or by a capsule of type 0x2843.
+ *   h3_open_session_stream(&e, session, both_ways, &id, NULL);   // then QUIC opens stream `id`
+ *   h3_send_raw(&e, id, bytes, len, NULL);                       // and h3_finish, h3_reset
+ * On such a stream every call is as on a request's, but header sections, bodies and trailer
+ * sections. h3_read and h3_pull return H3_SESSION first, if the peer opened it, and then H3_RAW and
+ * H3_END. A stream of the peer both ways is answered with h3_send_raw after its H3_SESSION. It may
+ * come before the request of its session: keep it, or end it with
+ * H3_CODE_WEBTRANSPORT_BUFFERED_STREAM_REJECTED.
+ * When QUIC has closed a stream of a session call h3_close_stream: then nothing is kept of it, and
+ * nothing more of it may be delivered. When a session ends, end all its streams:
+ *   for (uint64_t s = 0; !h3_next_of_session(&e, session, s, &s); s++)
+ *     if (!h3_close_stream(&e, s, &stop_sending, &reset_stream, NULL)) .. send these frames with
+ *       H3_CODE_WEBTRANSPORT_SESSION_GONE ..
+ * An application resets a stream with a number of its own, which h3_webtransport_code makes a code.
+ *
  * WHAT IS PROVED, TESTED, TRUSTED: see crates/h3_c/README.md. You are trusted: pointers and lengths
  * are right, a handle is used as said above, malloc and realloc align to 16 bytes and belong to one
  * free. */
@@ -315,6 +335,9 @@ enum h3_answer {
   /* of a server that shuts down */
   H3_REJECTED = 30,          /* the request is rejected: nothing was delivered; detail:
                                 H3_CODE_REQUEST_REJECTED */
+  /* of WebTransport */
+  H3_NO_SESSIONS = 31,       /* `sessions` of h3_config is 0; or the peer's settings have not come,
+                              * or do not have what sessions need */
   /* programming errors */
   H3_ARGUMENT = 32,          /* an argument is out of the range that the call's comment gives, or a
                                 NULL that may not be; nothing was done */
@@ -341,6 +364,7 @@ static inline const char *h3_answer_text(uint32_t answer) {
     case H3_ROOM: return "H3_ROOM"; case H3_MALFORMED: return "H3_MALFORMED";
     case H3_UNFINISHED_LIMIT: return "H3_UNFINISHED_LIMIT";
     case H3_NO_DATAGRAMS: return "H3_NO_DATAGRAMS"; case H3_REJECTED: return "H3_REJECTED";
+    case H3_NO_SESSIONS: return "H3_NO_SESSIONS";
     case H3_ARGUMENT: return "H3_ARGUMENT"; case H3_NO_ENDPOINT: return "H3_NO_ENDPOINT";
     default: return "an unknown answer";
   }
@@ -370,6 +394,11 @@ static inline const char *h3_answer_text(uint32_t answer) {
 #define H3_CODE_QPACK_ENCODER_STREAM_ERROR UINT64_C(0x201)
 #define H3_CODE_QPACK_DECODER_STREAM_ERROR UINT64_C(0x202)
 
+/* Of WebTransport (draft-ietf-webtrans-http3-02, section 8.5): a stream whose session is not there
+ * yet, and one whose session has ended. */
+#define H3_CODE_WEBTRANSPORT_BUFFERED_STREAM_REJECTED UINT64_C(0x3994bd84)
+#define H3_CODE_WEBTRANSPORT_SESSION_GONE UINT64_C(0x170d7b68)
+
 /* The name of a code, for a log, or "an unknown code". */
 static inline const char *h3_code_text(uint64_t code) {
   switch (code) {
@@ -394,6 +423,9 @@ static inline const char *h3_code_text(uint64_t code) {
     case H3_CODE_QPACK_DECOMPRESSION_FAILED: return "QPACK_DECOMPRESSION_FAILED";
     case H3_CODE_QPACK_ENCODER_STREAM_ERROR: return "QPACK_ENCODER_STREAM_ERROR";
     case H3_CODE_QPACK_DECODER_STREAM_ERROR: return "QPACK_DECODER_STREAM_ERROR";
+    case H3_CODE_WEBTRANSPORT_BUFFERED_STREAM_REJECTED:
+      return "WEBTRANSPORT_BUFFERED_STREAM_REJECTED";
+    case H3_CODE_WEBTRANSPORT_SESSION_GONE: return "WEBTRANSPORT_SESSION_GONE";
     default: return "an unknown code";
   }
 }
@@ -526,6 +558,10 @@ typedef struct {
                                        * of a reserved type (RFC 9114, section 6.2.3) or of
                                        * WebTransport's (0x54) is never an H3_STREAM_OTHER. With 0
                                        * what comes on them is dropped */
+  uint64_t sessions;                  /* whether streams of WebTransport sessions can be opened and
+                                       * answered (1): see WEBTRANSPORT. It needs `webtransport`,
+                                       * `extended_connect` and `datagram`: else H3_SETTING, with
+                                       * 0x2b603742. With 0 their bytes are only read */
 } h3_config;
 
 /* A client with limits for an untrusted peer: it takes field sections of at most 65,536 bytes, and
@@ -1043,6 +1079,38 @@ static inline uint32_t h3_capsule_head(uint64_t capsule_type, uint64_t length, v
 static inline uint32_t h3_priority_read(const void *value, size_t len, uint32_t *urgency,
                                         uint32_t *incremental);
 
+/* ---- WebTransport ---- */
+
+/* Opens a stream of the session whose request has this id: both ways (both_ways 1), or from this
+ * side alone (0). Its id goes to *id: of a client's stream both ways the one that h3_open_request
+ * would give next, of a server's 1, 5, ..; of one that goes one way 14, 18, .. of a client, 15,
+ * 19, .. of a server. QUIC opens the stream of this id. What it begins with waits on it.
+ * Refused, in this order: H3_ARGUMENT (session not below 2^62; both_ways above 1), H3_CLOSED,
+ * H3_NO_SESSIONS, H3_NOT_REQUEST_ID (session is no multiple of 4), H3_NOT_OPEN (on the session's
+ * request no final header section was sent, or sending has ended), H3_GOING_AWAY (both ways, by a
+ * client), H3_IDS_USED_UP, H3_MEMORY. */
+static inline uint32_t h3_open_session_stream(h3_endpoint *endpoint, uint64_t session,
+                                              uint32_t both_ways, uint64_t *id, uint64_t *detail);
+
+/* Sends bytes on a stream of a session, as they are. Refused, in this order: H3_ARGUMENT (id not
+ * below 2^62), H3_CLOSED, H3_NOT_OPEN (no stream of a session, or only the peer sends on it),
+ * H3_OUT_OF_ORDER (it was finished or reset), H3_MEMORY. */
+static inline uint32_t h3_send_raw(h3_endpoint *endpoint, uint64_t id, const void *bytes,
+                                   size_t len, uint64_t *detail);
+
+/* The lowest id, `from` or above, of a stream of this session: each that was opened here, and each
+ * of the peer's of which H3_SESSION was returned, until h3_close_stream. Refused, in this order:
+ * H3_ARGUMENT (session not below 2^62), H3_NONE. Takes no memory. */
+static inline uint32_t h3_next_of_session(h3_endpoint *endpoint, uint64_t session, uint64_t from,
+                                          uint64_t *id);
+
+/* The code with which a stream of a session is reset for this number of an application
+ * (draft-ietf-webtrans-http3-02, section 4.3): 0x52e4a40fa8db for 0. */
+static inline uint64_t h3_webtransport_code(uint32_t number);
+
+/* The number of an application for such a code, in *number. H3_NONE: it is no such code. */
+static inline uint32_t h3_webtransport_number(uint64_t code, uint32_t *number);
+
 /* ---- what can be read ---- */
 
 typedef struct {
@@ -1200,6 +1268,14 @@ uint32_t h3_raw_reset(h3_endpoint endpoint, uint64_t id, uint64_t *detail, h3_en
 uint32_t h3_raw_cancel(h3_endpoint endpoint, uint64_t id, uint64_t *detail, h3_endpoint *out);
 uint32_t h3_raw_close_stream(h3_endpoint endpoint, uint64_t id, uint32_t *stop_sending,
                              uint32_t *reset_stream, uint64_t *detail, h3_endpoint *out);
+uint32_t h3_raw_open_session_stream(h3_endpoint endpoint, uint64_t session, uint32_t both_ways,
+                                    uint64_t *id, uint64_t *detail, h3_endpoint *out);
+uint32_t h3_raw_send_raw(h3_endpoint endpoint, uint64_t id, const uint8_t *bytes, size_t len,
+                         uint64_t *detail, h3_endpoint *out);
+uint32_t h3_raw_next_of_session(h3_endpoint endpoint, uint64_t session, uint64_t from,
+                                uint64_t *id, h3_endpoint *out);
+uint64_t h3_raw_webtransport_code(uint32_t number);
+uint32_t h3_raw_webtransport_number(uint64_t code, uint32_t *number);
 uint32_t h3_raw_goaway(h3_endpoint endpoint, uint64_t id, uint64_t *detail, h3_endpoint *out);
 uint32_t h3_raw_shutdown_notice(h3_endpoint endpoint, uint64_t *detail, h3_endpoint *out);
 uint32_t h3_raw_shutdown(h3_endpoint endpoint, uint64_t *detail, h3_endpoint *out);
@@ -1393,6 +1469,34 @@ static inline uint32_t h3_cancel(h3_endpoint *endpoint, uint64_t id, uint64_t *d
   uint64_t none;
   if (!endpoint || !endpoint->at) return H3_NO_ENDPOINT;
   return h3_raw_cancel(*endpoint, id, detail ? detail : &none, endpoint);
+}
+static inline uint32_t h3_open_session_stream(h3_endpoint *endpoint, uint64_t session,
+                                              uint32_t both_ways, uint64_t *id, uint64_t *detail) {
+  uint64_t none;
+  if (!endpoint || !endpoint->at) return H3_NO_ENDPOINT;
+  if (!id) return H3_ARGUMENT;
+  return h3_raw_open_session_stream(*endpoint, session, both_ways, id, detail ? detail : &none,
+                                    endpoint);
+}
+static inline uint32_t h3_send_raw(h3_endpoint *endpoint, uint64_t id, const void *bytes,
+                                   size_t len, uint64_t *detail) {
+  uint64_t none;
+  if (!endpoint || !endpoint->at) return H3_NO_ENDPOINT;
+  if (!bytes && len) return H3_ARGUMENT;
+  return h3_raw_send_raw(*endpoint, id, h3_in_(bytes), len, detail ? detail : &none, endpoint);
+}
+static inline uint32_t h3_next_of_session(h3_endpoint *endpoint, uint64_t session, uint64_t from,
+                                          uint64_t *id) {
+  if (!endpoint || !endpoint->at) return H3_NO_ENDPOINT;
+  if (!id) return H3_ARGUMENT;
+  return h3_raw_next_of_session(*endpoint, session, from, id, endpoint);
+}
+static inline uint64_t h3_webtransport_code(uint32_t number) {
+  return h3_raw_webtransport_code(number);
+}
+static inline uint32_t h3_webtransport_number(uint64_t code, uint32_t *number) {
+  if (!number) return H3_ARGUMENT;
+  return h3_raw_webtransport_number(code, number);
 }
 static inline uint32_t h3_close_stream(h3_endpoint *endpoint, uint64_t id, uint32_t *stop_sending,
                                        uint32_t *reset_stream, uint64_t *detail) {

@@ -326,6 +326,19 @@ class endpoint {
     return h3_is_drained(&raw_, &drained) == H3_OK && drained == 1;
   }
 
+  /* ---- sessions of WebTransport ---- */
+
+  /* A stream of a session of WebTransport: `id` gets its id. */
+  result open_session_stream(std::uint64_t session, bool both_ways, std::uint64_t &id) noexcept {
+    return call(h3_open_session_stream, session, both_ways ? 1u : 0u, &id);
+  }
+  result send_raw(std::uint64_t id, bytes piece) noexcept { return call(h3_send_raw, id, piece.data(), piece.size()); }
+  std::optional<std::uint64_t> next_of_session(std::uint64_t session, std::uint64_t from) noexcept {
+    std::uint64_t id;
+    if (h3_next_of_session(&raw_, session, from, &id) != H3_OK) return std::nullopt;
+    return id;
+  }
+
   /* ---- what waits to be sent ---- */
 
   /* The lowest stream from `from` on that has bytes or an end to send. */

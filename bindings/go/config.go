@@ -49,6 +49,8 @@ type Config struct {
 	// OtherStreams: unidirectional streams of the peer whose types are not known here are delivered, as StreamOther. Without it what comes on
 	// them is dropped.
 	OtherStreams bool
+	// Sessions: streams of WebTransport sessions can be opened and answered. It needs WebTransport, ExtendedConnect and Datagram.
+	Sessions bool
 }
 
 // DefaultConfig has the limits of h3_config_default, which are fit for a peer that is not trusted. Header and trailer sections may have at
@@ -82,6 +84,7 @@ func DefaultConfig(server bool) Config {
 		PriorityUpdates:         uint64(raw.priority_updates),
 		OtherSettings:           uint64(raw.other_settings),
 		OtherStreams:            raw.other_streams != 0,
+		Sessions:                raw.sessions != 0,
 	}
 }
 
@@ -120,5 +123,6 @@ func (c Config) raw() C.h3_config {
 	raw.priority_updates = C.uint64_t(c.PriorityUpdates)
 	raw.other_settings = C.uint64_t(c.OtherSettings)
 	raw.other_streams = number(c.OtherStreams)
+	raw.sessions = number(c.Sessions)
 	return raw
 }

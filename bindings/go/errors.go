@@ -37,6 +37,7 @@ const (
 	Malformed       Answer = C.H3_MALFORMED         // a strict peer would call the message malformed; detail: the Malformation
 	NoDatagrams     Answer = C.H3_NO_DATAGRAMS      // a side announced no HTTP datagrams, or the peer's settings have not come
 	Rejected        Answer = C.H3_REJECTED          // the request is rejected, nothing was delivered; detail: CodeRequestRejected
+	NoSessions      Answer = C.H3_NO_SESSIONS       // Sessions of Config is false, or the peer takes none
 	Argument        Answer = C.H3_ARGUMENT          // an argument is out of range
 	NoEndpoint      Answer = C.H3_NO_ENDPOINT       // the endpoint was closed
 )
@@ -72,6 +73,7 @@ var refusals = map[Answer]string{
 	FieldCount:      "too many fields",
 	NoDatagrams:     "a side announced no HTTP datagrams",
 	Rejected:        "the request is rejected",
+	NoSessions:      "there are no sessions",
 	Argument:        "an argument is out of range",
 	NoEndpoint:      "the endpoint was closed",
 }

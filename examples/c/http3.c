@@ -60,6 +60,15 @@ static http3_request *add(http3 *h, uint64_t id) {
   return request;
 }
 
+/* A stream of a WebTransport session. Of an own one that goes one way nothing comes. */
+static http3_request *add_raw(http3 *h, uint64_t id, bool comes) {
+  http3_request *request = add(h, id);
+  if (!request) return NULL;
+  request->raw = true;
+  request->settled = !comes;
+  return request;
+}
+
 /* Grants the peer credit for what came on a stream and is no longer held. */
 static void grant(http3 *h, uint64_t id, size_t *owed, size_t held) {
   if (held >= *owed) return;
@@ -108,7 +117,9 @@ static void drop(http3_request *request) {
   http3 *h = request->connection;
   for (chunk *chunk; (chunk = take_held(request));) free(chunk);
   if (request->settled) grant_request(request);
-  if (!request->sent) h3_reset(&h->endpoint, request->entry.id, NULL);
+  uint32_t stop_sending, reset_stream;
+  if (request->raw) h3_close_stream(&h->endpoint, request->entry.id, &stop_sending, &reset_stream, NULL); /* nothing is kept of it */
+  else if (!request->sent) h3_reset(&h->endpoint, request->entry.id, NULL);
   table_remove(&h->found, &request->entry);
   TAILQ_REMOVE(&h->requests, request, order);
   h->setup->events->freed(request);
@@ -179,10 +190,13 @@ static void tell_too_long(http3_request *request) {
   h->setup->events->head(request, &(h3_item){.kind = H3_TOO_LARGE_HEAD});
 }
 
+static bool is_both_ways(uint64_t id) { return id % 4 < 2; }
+
 /* The peer's message is over: an end, or a fault. */
 static void settle(http3_request *request, const h3_item *item) {
   http3 *h = request->connection;
   request->settled = true;
+  if (!is_both_ways(request->entry.id)) request->closed = true; /* nothing else is told of the peer's unidirectional streams */
   if (item->kind == H3_END) return h->setup->events->end(request);
   if (item->kind == H3_FAULT_MALFORMED && item->number == H3_TOO_LONG && h->setup->server && !request->has_head) return tell_too_long(request);
   if (item->kind == H3_FAULT_MALFORMED || item->kind == H3_FAULT_RESET)
@@ -202,6 +216,7 @@ static bool tell(http3_request *request, const h3_item *item, const uint8_t *giv
   case H3_BODY:
   case H3_RAW: tell_kept(request, item); return true;
   case H3_SESSION:
+    request->raw = true;
     if (h->setup->events->session) h->setup->events->session(request, item->number);
     else http3_give_up(request, H3_CODE_REQUEST_REJECTED);
     return true;
@@ -389,10 +404,18 @@ static http3_request *take(http3 *h, uint64_t id) {
   return find(h, id);
 }
 
+/* The request on a stream, or the stream both ways that a server opened for a session. NULL: it is over, or unidirectional. */
+static http3_request *take_both_ways(http3 *h, uint64_t id) {
+  if (is_request(id)) return take(h, id);
+  if (!is_both_ways(id) || h->setup->server || h->setup->sessions == 0) return NULL;
+  http3_request *found = find(h, id);
+  return found ? found : add_raw(h, id, true);
+}
+
 static void received(void *owner, int64_t stream, const uint8_t *bytes, size_t count, bool end) {
   http3 *h = owner;
   uint64_t id = (uint64_t)stream;
-  http3_request *request = is_request(id) ? take(h, id) : NULL;
+  http3_request *request = take_both_ways(h, id);
   size_t *owed = request ? &request->owed : is_request(id) ? NULL : owed_for(h, id);
   if (!owed) return quic_consumed(h->quic, stream, count); /* it is over */
   *owed += count;
@@ -404,8 +427,8 @@ static void received(void *owner, int64_t stream, const uint8_t *bytes, size_t c
 static void was_reset(void *owner, int64_t stream, uint64_t reason) {
   http3 *h = owner;
   uint64_t id = (uint64_t)stream, code = 0;
-  http3_request *request = is_request(id) ? take(h, id) : NULL;
-  if (is_request(id) && (!request || request->settled)) return;
+  http3_request *request = take_both_ways(h, id);
+  if (request ? request->settled : is_request(id)) return;
   for (chunk *chunk; request && (chunk = take_held(request));) free(chunk);
   uint32_t answer = h3_deliver_reset(&h->endpoint, id, reason, &code);
   if (answer == H3_REJECTED && request) return reject(request, code);
@@ -415,10 +438,21 @@ static void was_reset(void *owner, int64_t stream, uint64_t reason) {
   else pull_others(h, id);
 }
 
+/* A datagram for a request that is there. Any other one is dropped, as one that was lost on its way. */
+static void datagram_came(void *owner, const uint8_t *bytes, size_t count) {
+  http3 *h = owner;
+  uint64_t id = 0, code = 0;
+  size_t from = 0;
+  uint32_t answer = h3_read_datagram(&h->endpoint, bytes, count, &id, &from, &code);
+  if (answer == H3_CONNECTION) return quic_close(h->quic, code);
+  http3_request *request = answer == H3_OK ? find(h, id) : NULL;
+  if (request && !request->settled && h->setup->events->datagram) h->setup->events->datagram(request, bytes + from, count - from);
+}
+
 static void was_stopped(void *owner, int64_t stream) {
   http3 *h = owner;
   http3_request *request = find(h, (uint64_t)stream);
-  if (!is_request((uint64_t)stream)) {
+  if (!request && !is_request((uint64_t)stream)) {
     if ((uint64_t)stream <= h3_decoder_id(h->setup->server)) quic_close(h->quic, 0x104); /* H3_CLOSED_CRITICAL_STREAM */
     return;
   }
@@ -566,6 +600,7 @@ static void *opened(quic_connection *quic, void *user) {
   config.webtransport = config.datagram = setup->sessions > 0;
   config.extended_connect = setup->sessions > 0 || setup->tunnels;
   config.max_webtransport_sessions = setup->sessions;
+  config.sessions = setup->sessions > 0;
   bool made = h3_new(&h->endpoint, &config, NULL) == H3_OK;
   for (int64_t id = (int64_t)h3_control_id(setup->server), i = 0; made && i < 3; i++, id += 4) /* the peer's heads may wait for them */
     made = quic_open(quic, true) == id;
@@ -591,7 +626,7 @@ static void closed(void *owner, const quic_ending *ending) {
   free(h);
 }
 
-const quic_events http3_over_quic = {opened, received, was_reset, was_stopped, stream_closed, fill, next, more, held, closed};
+const quic_events http3_over_quic = {opened, received, was_reset, was_stopped, stream_closed, fill, next, more, held, datagram_came, closed};
 
 void http3_leave(void *owner) {
   http3 *h = owner;
@@ -609,7 +644,7 @@ void http3_leave(void *owner) {
 http3_request *http3_open(http3 *h, bool *going_away) {
   uint64_t id;
   *going_away = false;
-  if (quic_may_open(h->quic) == 0) return NULL;
+  if (quic_may_open(h->quic, false) == 0) return NULL;
   uint32_t answer = h3_open_request(&h->endpoint, &id, NULL);
   *going_away = answer == H3_GOING_AWAY || answer == H3_CLOSED;
   if (answer != H3_OK) return NULL;
@@ -697,27 +732,42 @@ bool http3_body_of(http3_request *request, size_t count) {
   return body_given(request, h3_send_body_of(&request->connection->endpoint, request->entry.id, count, NULL), count);
 }
 
+http3_request *http3_open_stream(http3_request *session, bool both_ways) {
+  http3 *h = session->connection;
+  uint64_t id;
+  if (quic_may_open(h->quic, !both_ways) == 0) return NULL;
+  if (h3_open_session_stream(&h->endpoint, session->entry.id, both_ways, &id, NULL) != H3_OK) return NULL;
+  http3_request *request = quic_open(h->quic, !both_ways) == (int64_t)id ? add_raw(h, id, both_ways) : NULL;
+  if (!request) quic_close(h->quic, H3_CODE_INTERNAL_ERROR);
+  else quic_wake(h->quic, 0);
+  return request;
+}
+
 bool http3_raw(http3_request *request, const uint8_t *bytes, size_t count, bool end) {
   http3 *h = request->connection;
-  if (end) h3_reset(&h->endpoint, request->entry.id, NULL); /* it sends nothing on such a stream, and can forget it */
-  return quic_send(h->quic, (int64_t)request->entry.id, bytes, count, end);
+  if (h3_send_raw(&h->endpoint, request->entry.id, bytes, count, NULL) != H3_OK) return false;
+  request->sending = true;
+  request->unsent += count;
+  quic_wake(h->quic, 0);
+  if (end) http3_finish(request);
+  return true;
 }
 
-/* A variable-length integer (RFC 9000, section 16) of eight bytes. */
-static void write_number(uint8_t *bytes, uint64_t number) {
-  for (int i = 7; i >= 0; i--, number >>= 8) bytes[i] = (uint8_t)number;
-  bytes[0] |= 0xc0;
+bool http3_datagram(http3_request *session, const uint8_t *bytes, size_t count) {
+  http3 *h = session->connection;
+  uint8_t all[PIECE];
+  size_t head;
+  if (h3_datagram_head(&h->endpoint, session->entry.id, all, sizeof all, &head, NULL) != H3_OK || count > sizeof all - head) return false;
+  memcpy(all + head, bytes, count);
+  return quic_datagram(h->quic, all, head + count);
 }
 
-bool http3_raw_stream(http3 *h, uint64_t session, const uint8_t *bytes, size_t count) {
-  uint8_t head[16];
-  int64_t id = quic_open(h->quic, true);
-  if (id < 0) return false;
-  write_number(head, 0x54); /* the type of such a stream */
-  write_number(head + 8, session);
-  if (quic_send(h->quic, id, head, sizeof head, false) && quic_send(h->quic, id, bytes, count, true)) return true;
-  quic_reset(h->quic, id, H3_CODE_INTERNAL_ERROR);
-  return false;
+void http3_end_session(http3_request *session) {
+  http3 *h = session->connection;
+  for (uint64_t id = 0; h3_next_of_session(&h->endpoint, session->entry.id, id, &id) == H3_OK; id++) {
+    http3_request *request = find(h, id);
+    if (request) http3_give_up(request, H3_CODE_WEBTRANSPORT_SESSION_GONE);
+  }
 }
 
 void http3_finish(http3_request *request) {

@@ -30,6 +30,7 @@ typedef struct http3_request {
   bool has_head;  /* a header section came */
   bool settled;   /* the end or a fault was told: nothing more comes */
   bool closed;    /* QUIC has forgotten the stream */
+  bool raw;       /* it is a stream of a WebTransport session, of which nothing is a message */
 } http3_request;
 
 /* What a program learns. Each may send, finish or give up any request. Those that say so may be NULL. */
@@ -49,13 +50,14 @@ typedef struct {
   void (*freed)(http3_request *);                                  /* the last call: free what is in `data` */
   void (*going_away)(http3 *, void *user);                         /* a client's: no more requests can be opened. May be NULL */
   void (*over)(void *user, const quic_ending *);                   /* the connection has ended */
-  void (*session)(http3_request *, uint64_t id);                   /* no request: a stream of the WebTransport session whose CONNECT has
-                                                                    * this id; its bytes come by `body`. NULL: no sessions are taken */
+  void (*session)(http3_request *, uint64_t id);                   /* no request: a stream that the peer opened for the WebTransport session
+                                                                    * whose CONNECT has this id; its bytes come by `body`. NULL: no sessions are taken */
+  void (*datagram)(http3_request *, const uint8_t *bytes, size_t count); /* for this request, as the CONNECT of a session. NULL: dropped */
 } http3_events;
 
 typedef struct {
   bool server;
-  uint64_t sessions; /* a server's: so many WebTransport sessions are taken on a connection, as the settings say; 0: none */
+  uint64_t sessions; /* so many WebTransport sessions are taken on a connection, as a server's settings say; 0: none */
   bool tunnels;      /* a server's: extended CONNECT is announced (RFC 9220). `:protocol` may be any token of at most 31 bytes */
   uint64_t requests; /* a server's: at most so many are taken on a connection, and GOAWAY sends the client to another before; 0: no limit */
   size_t data;       /* how many bytes `data` of a request has; 0: it is NULL at first */
@@ -157,10 +159,15 @@ bool http3_body(http3_request *, const uint8_t *bytes, size_t count);
 bool http3_body_of(http3_request *, size_t count);
 /* The message is whole. */
 void http3_finish(http3_request *);
-/* Sends bytes on a bidirectional stream of a WebTransport session, as they are, and with `end` its end. false: out of memory. */
+/* Opens a stream of the WebTransport session of this request, both ways or from this side alone. NULL: the peer allows no more of them now, the
+ * session is not there or has ended, or out of memory. */
+http3_request *http3_open_stream(http3_request *session, bool both_ways);
+/* Sends bytes on a stream of a session, as they are, and with `end` its end. false: refused. */
 bool http3_raw(http3_request *, const uint8_t *bytes, size_t count, bool end);
-/* Sends a whole unidirectional stream of a WebTransport session. false: the peer allows no more of them, or out of memory. */
-bool http3_raw_stream(http3 *, uint64_t session, const uint8_t *bytes, size_t count);
+/* Sends a datagram for the session. false: it is lost, since there is no room, or refused. */
+bool http3_datagram(http3_request *session, const uint8_t *bytes, size_t count);
+/* The session is over: all its streams are given up. */
+void http3_end_session(http3_request *session);
 
 /* ---- receiving ---- */
 

@@ -37,6 +37,7 @@ typedef struct {
   bool (*more)(void *owner, int64_t stream);                               /* its next piece, by quic_send; none: it has to wait. Other calls here
                                                                             * have to wait. false: nothing more of it can be sent */
   void (*held)(void *owner, int64_t stream, bool held);                    /* it is not to be next, or it may be again */
+  void (*datagram)(void *owner, const uint8_t *bytes, size_t count);       /* DATAGRAM came (RFC 9221). NULL: dropped */
   void (*closed)(void *owner, const quic_ending *ending);                  /* the last call; the owner frees itself */
 } quic_events;
 
@@ -61,6 +62,7 @@ typedef struct {
   uint64_t kept;          /* bytes of a connection that wait for acknowledgment; beyond it 16 KiB for each stream that has none */
   uint64_t idle;          /* seconds of silence after which a connection ends */
   uint64_t keep_alive;    /* of a client: seconds of silence after which it sends PING, so that the connection does not end; 0: it sends none */
+  uint64_t opened;        /* of a client: streams both ways that its server may have open at once */
   bool one_by_one;        /* each packet by a system call of its own, as a capture wants them */
 } quic_limits;
 
@@ -108,8 +110,8 @@ void quic_free(quic_socket *);
 
 /* Who the peer is: an address and port, as text. */
 void quic_peer(quic_connection *, char text[QUIC_PLACE]);
-/* How many streams for requests the peer lets a client open now. */
-uint64_t quic_may_open(quic_connection *);
+/* How many streams, both ways or unidirectional, the peer lets this side open now. */
+uint64_t quic_may_open(quic_connection *, bool unidirectional);
 /* Opens a stream. -1: the peer allows no more just now. */
 int64_t quic_open(quic_connection *, bool unidirectional);
 /* How many bytes may be given to a stream now. It is 0 if too many wait for their acknowledgment, if the peer has granted no credit for
@@ -122,6 +124,9 @@ bool quic_is_read(const quic_connection *, int64_t stream);
 bool quic_send(quic_connection *, int64_t stream, const uint8_t *bytes, size_t count, bool end);
 /* The same with no copy: the next `count` bytes (not 0) are those that the caller writes here, before any other call. NULL: out of memory. */
 uint8_t *quic_send_here(quic_connection *, int64_t stream, size_t count);
+/* Sends a DATAGRAM frame with these bytes, copied: it may be lost, as on the way. false: there is no room for it now, it is longer than a packet,
+ * or the peer takes none. */
+bool quic_datagram(quic_connection *, const uint8_t *bytes, size_t count);
 /* RESET_STREAM: nothing more is sent on the stream. */
 void quic_reset(quic_connection *, int64_t stream, uint64_t code);
 /* STOP_SENDING: nothing more is wanted of the stream. */

@@ -70,6 +70,15 @@ static int on_data(ngtcp2_conn *conn, uint32_t flags, int64_t id, uint64_t offse
   return 0;
 }
 
+static int on_datagram(ngtcp2_conn *conn, uint32_t flags, const uint8_t *bytes, size_t count, void *user) {
+  (void)conn, (void)flags;
+  quic_connection *connection = user;
+  const quic_events *events = connection->socket->events;
+  connection->heard_at = quic_now();
+  if (events->datagram && connection->owner && !connection->close_asked) events->datagram(connection->owner, bytes, count);
+  return 0;
+}
+
 static int on_acknowledged(ngtcp2_conn *conn, int64_t id, uint64_t offset, uint64_t count, void *user, void *stream_user) {
   (void)conn, (void)stream_user;
   quic_connection *connection = user;
@@ -141,6 +150,7 @@ static const ngtcp2_callbacks CALLBACKS = {
     .delete_crypto_aead_ctx = ngtcp2_crypto_delete_crypto_aead_ctx_cb,
     .delete_crypto_cipher_ctx = ngtcp2_crypto_delete_crypto_cipher_ctx_cb,
     .get_path_challenge_data = ngtcp2_crypto_get_path_challenge_data_cb,
+    .recv_datagram = on_datagram,
     .version_negotiation = ngtcp2_crypto_version_negotiation_cb,
 };
 
@@ -155,10 +165,10 @@ static void settle(const quic_socket *socket, ngtcp2_settings *settings, ngtcp2_
   params->initial_max_data = socket->limits.window;
   params->initial_max_stream_data_bidi_local = params->initial_max_stream_data_bidi_remote = socket->limits.stream_window;
   params->initial_max_stream_data_uni = socket->limits.stream_window;
-  params->initial_max_streams_bidi = socket->server ? QUIC_STREAMS : 0;
+  params->initial_max_streams_bidi = socket->server ? QUIC_STREAMS : socket->limits.opened;
   params->initial_max_streams_uni = QUIC_OTHERS;
   params->max_idle_timeout = socket->limits.idle * NGTCP2_SECONDS;
-  params->max_datagram_frame_size = 65535; /* WebTransport asks for it; datagrams that come are dropped */
+  params->max_datagram_frame_size = 65535; /* WebTransport asks for it */
   params->active_connection_id_limit = 7;
 }
 
@@ -169,6 +179,7 @@ void quic_delete(quic_connection *connection) {
   if (!connection->gone) quic_leave(connection, QUIC_CLOSED_HERE);
   if (connection->owner && !connection->told) socket->events->closed(connection->owner, &connection->ending);
   for (stream *stream; (stream = table_any(&connection->streams));) quic_forget(connection, stream);
+  quic_forget_datagrams(connection);
   while (connection->ids) forget_id(connection, &connection->ids->cid);
   if (connection->due) TAILQ_REMOVE(&socket->due, connection, turn);
   timers_remove(&socket->timers, &connection->timer);
@@ -193,6 +204,7 @@ static quic_connection *make_connection(quic_socket *socket, const char *host) {
   connection->credentials->users++;
   TAILQ_INIT(&connection->ready);
   TAILQ_INIT(&connection->blocked);
+  STAILQ_INIT(&connection->datagrams);
   LIST_INSERT_HEAD(&socket->connections, connection, others);
   socket->count++;
   socket->open++;
@@ -411,8 +423,9 @@ void quic_peer(quic_connection *connection, char text[QUIC_PLACE]) {
     snprintf(text, QUIC_PLACE, has_colons ? "[%.46s]:%.5s" : "%.46s:%.5s", address, port);
 }
 
-uint64_t quic_may_open(quic_connection *connection) {
-  return connection->gone ? 0 : ngtcp2_conn_get_streams_bidi_left(connection->conn);
+uint64_t quic_may_open(quic_connection *connection, bool unidirectional) {
+  if (connection->gone) return 0;
+  return unidirectional ? ngtcp2_conn_get_streams_uni_left(connection->conn) : ngtcp2_conn_get_streams_bidi_left(connection->conn);
 }
 
 int64_t quic_open(quic_connection *connection, bool unidirectional) {

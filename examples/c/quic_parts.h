@@ -27,6 +27,13 @@ typedef struct stream {
 
 typedef TAILQ_HEAD(streams, stream) stream_list;
 
+/* A datagram that has not gone out. */
+typedef struct datagram {
+  STAILQ_ENTRY(datagram) order;
+  size_t count;
+  uint8_t bytes[];
+} datagram;
+
 /* An id by which packets name a connection. */
 typedef struct known_id {
   struct known_id *next;  /* of those that have the same place */
@@ -50,6 +57,8 @@ struct quic_connection {
   stream_list ready;      /* streams that have something for a packet, by turns */
   stream_list blocked;    /* those of which nothing more goes into one in this round */
   stream *piece;          /* one of `ready`, whose bytes answer `more`: the owner is asked for the next piece behind them. NULL: none */
+  STAILQ_HEAD(, datagram) datagrams;
+  size_t datagram_count;
   uint64_t kept, untaken; /* bytes in the buffers of all streams, and those of them that QUIC has not taken */
   bool close_asked, gone, told, shook; /* `shook`: the handshake is done */
   bool more;              /* could go out, but for what a burst may have, or the socket */
@@ -101,6 +110,7 @@ void quic_due(quic_connection *);
 stream *quic_find(const quic_connection *, int64_t id);
 void quic_acknowledged(quic_connection *, stream *, uint64_t offset);
 void quic_forget(quic_connection *, stream *);
+void quic_forget_datagrams(quic_connection *);
 /* Sends one packet. One that does not go out is lost, as one in the network: QUIC sends its frames again. */
 void quic_put(quic_socket *, const uint8_t *packet, size_t count, const ngtcp2_addr *to);
 /* Sends the batch. false: the socket is full, and what is left of the batch is kept. */

@@ -6,7 +6,8 @@
 
 enum {
   KEPT_LIMIT = 256 * 1024, /* bytes of a stream that may wait for their acknowledgment */
-  FIRST_PIECE = 16 * 1024  /* of a stream that has none, however many the others have */
+  FIRST_PIECE = 16 * 1024, /* of a stream that has none, however many the others have */
+  DATAGRAMS = 64           /* that wait for a packet at once */
 };
 
 /* ---- streams ---- */
@@ -128,6 +129,31 @@ void quic_reset(quic_connection *connection, int64_t id, uint64_t code) {
   if (!connection->gone) ngtcp2_conn_shutdown_stream_write(connection->conn, 0, id, code);
 }
 
+/* ---- datagrams ---- */
+
+bool quic_datagram(quic_connection *connection, const uint8_t *bytes, size_t count) {
+  if (connection->gone || connection->datagram_count == DATAGRAMS || count > PACKET) return false;
+  datagram *datagram = malloc(sizeof *datagram + count);
+  if (!datagram) return false;
+  datagram->count = count;
+  memcpy(datagram->bytes, bytes, count);
+  STAILQ_INSERT_TAIL(&connection->datagrams, datagram, order);
+  connection->datagram_count++;
+  quic_due(connection);
+  return true;
+}
+
+static void forget_first(quic_connection *connection) {
+  datagram *first = STAILQ_FIRST(&connection->datagrams);
+  STAILQ_REMOVE_HEAD(&connection->datagrams, order);
+  connection->datagram_count--;
+  free(first);
+}
+
+void quic_forget_datagrams(quic_connection *connection) {
+  while (!STAILQ_EMPTY(&connection->datagrams)) forget_first(connection);
+}
+
 /* ---- packets ---- */
 
 void quic_put(quic_socket *socket, const uint8_t *packet, size_t count, const ngtcp2_addr *to) {
@@ -206,6 +232,17 @@ static ngtcp2_ssize write_stream(quic_connection *connection, stream *stream, ng
   return done;
 }
 
+/* Puts the first datagram into a packet. Returns what ngtcp2 returns. One that fits into no packet is lost. */
+static ngtcp2_ssize write_datagram(quic_connection *connection, ngtcp2_path *path, uint8_t *packet, ngtcp2_tstamp time) {
+  datagram *first = STAILQ_FIRST(&connection->datagrams);
+  ngtcp2_vec piece = {first->bytes, first->count};
+  ngtcp2_pkt_info info;
+  int is_taken = 0;
+  ngtcp2_ssize done = ngtcp2_conn_writev_datagram(connection->conn, path, &info, packet, PACKET, &is_taken, NGTCP2_WRITE_DATAGRAM_FLAG_MORE, 0, &piece, 1, time);
+  if (is_taken || done == NGTCP2_ERR_INVALID_ARGUMENT || done == NGTCP2_ERR_INVALID_STATE) forget_first(connection);
+  return done == NGTCP2_ERR_INVALID_ARGUMENT || done == NGTCP2_ERR_INVALID_STATE ? NGTCP2_ERR_WRITE_MORE : done;
+}
+
 /* The place of a stream after what ngtcp2 returned: it has its next turn after the others if something of it was taken, or it has none. Returns
  * whether this was an error of this stream alone. */
 static bool next_turn(quic_connection *connection, stream *stream, ngtcp2_ssize done) {
@@ -246,9 +283,10 @@ void quic_write_packets(quic_connection *connection) {
   unblock_all(connection);
   while (!connection->more) {
     ask(connection);
-    stream *stream = TAILQ_FIRST(&connection->ready);
+    stream *stream = STAILQ_EMPTY(&connection->datagrams) ? TAILQ_FIRST(&connection->ready) : NULL;
     ngtcp2_path_storage_zero(&path);
-    ngtcp2_ssize done = write_stream(connection, stream, &path.path, batch->bytes + batch->count, time);
+    ngtcp2_ssize done = STAILQ_EMPTY(&connection->datagrams) ? write_stream(connection, stream, &path.path, batch->bytes + batch->count, time)
+                                                            : write_datagram(connection, &path.path, batch->bytes + batch->count, time);
     if ((stream && next_turn(connection, stream, done)) || done == NGTCP2_ERR_WRITE_MORE) continue;
     if (done < 0) return quic_fail(connection, (int)done);
     if (done == 0) break;

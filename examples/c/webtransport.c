@@ -1,7 +1,7 @@
 /* webtransport ADDRESS PORT CERTIFICATE KEY: a server of WebTransport sessions (draft-ietf-webtrans-http3-02), over HTTP/3. A session is taken
- * on any path. Each stream of it is answered, when it has ended, with the count and the SHA-256 of its bytes: a bidirectional one on
- * itself, a unidirectional one on one of the server's. A session ends with its CONNECT request, or by the capsule that closes it. Datagrams
- * are dropped.
+ * on any path. Each stream of it is answered, when it has ended, with the count and the SHA-256 of its bytes: one both ways on itself, and one that
+ * goes one way on a stream that the server opens, which goes one way too, or both ways if the path is "/both". A datagram comes back as it is. A
+ * session ends with its CONNECT request, or by the capsule that closes it.
  *
  * SIGTERM and SIGINT: GOAWAY on each connection, and what was begun ends. The second signal cuts it off. */
 #include "digest.h"
@@ -17,8 +17,7 @@ enum {
   DRAIN = 60    /* seconds that what was begun has at the end */
 };
 
-static const uint64_t BUFFERED_STREAM_REJECTED = 0x3994bd84, SESSION_GONE = 0x170d7b68; /* section 8.5 of the draft */
-static const uint64_t CLOSE_SESSION = 0x2843;                                           /* a type of capsules, section 5 of the draft */
+static const uint64_t CLOSE_SESSION = 0x2843; /* a type of capsules, section 5 of the draft */
 
 /* The CONNECT request of a session, or a stream of one. */
 typedef struct work {
@@ -27,6 +26,7 @@ typedef struct work {
   uint64_t session;           /* the id of its CONNECT request */
   digest digest;              /* of a stream: none when it was answered */
   h3_capsule_reader capsules; /* of a CONNECT request */
+  bool answers_both_ways;     /* what goes one way is answered on a stream both ways */
   bool is_closing;            /* the capsule that closes the session comes */
   bool is_over;
 } work;
@@ -42,8 +42,12 @@ static work *add(http3_request *request, uint64_t session) {
   return request->data = work;
 }
 
-static bool is_of(const work *work, const http3 *connection, uint64_t session) {
-  return work->request->connection == connection && work->session == session;
+/* The session of this id on a connection. Its streams may overtake it: then there is none yet. */
+static work *find(const http3 *connection, uint64_t session) {
+  work *work;
+  TAILQ_FOREACH(work, &works, order)
+    if (work->request->connection == connection && work->request->entry.id == session && work->session == session) return work;
+  return NULL;
 }
 
 /* ---- sessions ---- */
@@ -57,38 +61,37 @@ static void refuse(http3_request *request, const char *status) {
 
 static void on_head(http3_request *request, const h3_item *head) {
   http3_field fields[] = {{":status", "200"}, {"sec-webtransport-http3-draft", "draft02"}};
-  char protocol[32];
-  http3_wanted wanted = {.name = ":protocol", .value = protocol, .room = sizeof protocol};
+  char protocol[32], path[8];
+  http3_wanted wanted[] = {{.name = ":protocol", .value = protocol, .room = sizeof protocol},
+                           {.name = ":path", .value = path, .room = sizeof path, .optional = true}};
   if (request->data || head->kind == H3_TRAILER) return;
   if (head->kind == H3_TOO_LARGE_HEAD) return refuse(request, "431");
-  if (!http3_values(request->connection, head, &wanted, 1)) return refuse(request, "404");
+  if (!http3_values(request->connection, head, wanted, 2)) return refuse(request, "404");
   if (strcmp(protocol, "webtransport") != 0) return refuse(request, "501"); /* RFC 9220, section 3 */
-  if (!add(request, request->entry.id) || !http3_head_of(request, fields, 2)) http3_give_up(request, H3_CODE_INTERNAL_ERROR);
+  work *session = add(request, request->entry.id);
+  if (!session || !http3_head_of(request, fields, 2)) return http3_give_up(request, H3_CODE_INTERNAL_ERROR);
+  session->answers_both_ways = wanted[1].found && strcmp(path, "/both") == 0;
 }
 
 /* The session is over, and so are its streams. A code: its request was no valid message. */
 static void end_session(work *session, uint64_t code) {
-  const work *work;
   if (session->is_over) return;
   session->is_over = true;
-  TAILQ_FOREACH(work, &works, order)
-    if (work->digest.hash && is_of(work, session->request->connection, session->session)) http3_give_up(work->request, SESSION_GONE);
+  http3_end_session(session->request);
   if (code) http3_give_up(session->request, code);
   else http3_finish(session->request);
 }
 
-/* ---- streams ---- */
-
-/* Is there a session? Its streams may overtake it, and are refused then: a client that waits for the answer to its CONNECT sees none of it. */
-static bool is_open(const http3 *connection, uint64_t session) {
-  const work *work;
-  TAILQ_FOREACH(work, &works, order) if (is_of(work, connection, session) && work->request->entry.id == session) return true;
-  return false;
+static void on_datagram(http3_request *request, const uint8_t *bytes, size_t count) {
+  if (request->data) http3_datagram(request, bytes, count);
 }
 
+/* ---- streams ---- */
+
+/* A stream that comes before its session is refused: a client that waits for the answer to its CONNECT sees none of it. */
 static void on_session(http3_request *request, uint64_t session) {
-  work *work = is_open(request->connection, session) ? add(request, session) : NULL;
-  if (!work) return http3_give_up(request, BUFFERED_STREAM_REJECTED);
+  work *work = find(request->connection, session) ? add(request, session) : NULL;
+  if (!work) return http3_give_up(request, H3_CODE_WEBTRANSPORT_BUFFERED_STREAM_REJECTED);
   if (!digest_begin(&work->digest)) http3_give_up(request, H3_CODE_INTERNAL_ERROR);
 }
 
@@ -113,19 +116,22 @@ static void on_body(http3_request *request, const uint8_t *bytes, size_t count) 
   else digest_add(&work->digest, bytes, count);
 }
 
-static void answer(const work *work, const char *text) {
-  bool is_both_ways = work->request->entry.id % 4 == 0;
-  if (is_both_ways ? http3_raw(work->request, (const uint8_t *)text, strlen(text), true)
-                   : http3_raw_stream(work->request->connection, work->session, (const uint8_t *)text, strlen(text)))
-    return;
-  http3_give_up(work->request, H3_CODE_INTERNAL_ERROR);
+/* On the stream itself, if it goes both ways, or on one of the server's. */
+static http3_request *answer_to(const work *stream) {
+  if (stream->request->entry.id % 4 == 0) return stream->request;
+  work *session = find(stream->request->connection, stream->session);
+  return session ? http3_open_stream(session->request, session->answers_both_ways) : NULL;
 }
 
 static void on_end(http3_request *request) {
   work *work = request->data;
   char text[DIGEST_TEXT];
   if (!work) return;
-  if (digest_end(&work->digest, text)) return answer(work, text);
+  if (digest_end(&work->digest, text)) {
+    http3_request *answer = answer_to(work);
+    if (!answer || !http3_raw(answer, (const uint8_t *)text, strlen(text), true)) http3_give_up(request, H3_CODE_INTERNAL_ERROR);
+    return;
+  }
   if (!is_session(work)) return;
   uint32_t ends_here = 0;
   h3_capsule_ends(&work->capsules, &ends_here);
@@ -154,7 +160,7 @@ static void on_over(void *user, const quic_ending *ending) { (void)user, (void)e
 
 int main(int count, char **arguments) {
   static const http3_events events = {.ready = on_ready, .head = on_head, .body = on_body, .end = on_end, .failed = on_failed,
-                                      .freed = on_freed, .over = on_over, .session = on_session};
+                                      .freed = on_freed, .over = on_over, .session = on_session, .datagram = on_datagram};
   http3_setup setup = {.server = true, .sessions = SESSIONS, .events = &events};
   if (count != 5) {
     fprintf(stderr, "webtransport ADDRESS PORT CERTIFICATE KEY\n");

@@ -151,7 +151,8 @@ def snake(name):
 
 NAMES = {"H3_OUT_OF_MEMORY": "H3_MEMORY"}
 # are called where there is no endpoint
-WITHOUT = ("h3_version", "h3_config_default", "h3_new", "h3_priority_read", "h3_read_capsule", "h3_capsule_ends", "h3_capsule_head")
+WITHOUT = ("h3_version", "h3_config_default", "h3_new", "h3_priority_read", "h3_read_capsule", "h3_capsule_ends", "h3_capsule_head",
+           "h3_webtransport_code", "h3_webtransport_number")
 bad = 0
 
 

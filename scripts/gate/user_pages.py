@@ -20,7 +20,7 @@ import tempfile
 from texts import ROOT, read, say
 
 PAGES = ["README.md", "CONTRIBUTING.md", "SECURITY.md", "CHANGELOG.md", "docs/INSTALL.md", "docs/QUICKSTART.md", "docs/GUIDE.md", "docs/C_API.md", "docs/DATAGRAMS.md",
-         "docs/EXTENSIONS.md", "docs/RFC.md", "docs/DIFFERENCES.md", "docs/PERFORMANCE.md", "bindings/go/README.md", "bindings/rust/README.md", "bindings/python/README.md",
+         "docs/WEBTRANSPORT.md", "docs/EXTENSIONS.md", "docs/RFC.md", "docs/DIFFERENCES.md", "docs/PERFORMANCE.md", "bindings/go/README.md", "bindings/rust/README.md", "bindings/python/README.md",
          "examples/c/README.md", "examples/go/README.md", "examples/rust/README.md", "examples/PEERS.md", "compat/nghttp3/README.md",
          "bench/COSTS.md", "bench/LOAD.md"]
 TASKS = ["install", "first request", "first response", "read fields", "body with back-pressure", "trailers", "reset, cancel", "WebSocket", "priorities",

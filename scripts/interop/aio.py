@@ -6,6 +6,7 @@
     aio.py lost ..                             some of these cases, where packets are lost
     aio.py limited ..                          a case for a server that takes 150 requests on a connection
     aio.py sessions ..                         cases for a server of WebTransport sessions: each stream is answered as a POST is
+    aio.py sessions-serve PORT CERTIFICATE KEY a server of such sessions, which answers as examples/c/webtransport does
     aio.py websockets ..                       cases for a server of WebSockets that sends messages back (frames by Debian's python3-wsproto)
     aio.py leaving ..                          a WebSocket, and a line 'open': the server ends then
 
@@ -23,7 +24,7 @@ from aioquic.asyncio import connect, serve
 from aioquic.asyncio.protocol import QuicConnectionProtocol
 from aioquic.buffer import encode_uint_var
 from aioquic.h3.connection import FrameType, H3Connection, HeadersState, encode_frame
-from aioquic.h3.events import DataReceived, HeadersReceived, WebTransportStreamDataReceived
+from aioquic.h3.events import DatagramReceived, DataReceived, HeadersReceived, WebTransportStreamDataReceived
 from aioquic.quic.configuration import QuicConfiguration
 from aioquic.quic.events import ConnectionTerminated, ProtocolNegotiated, StopSendingReceived, StreamReset
 from wsproto.connection import Connection as Frames, ConnectionType
@@ -76,7 +77,7 @@ class Protocol(QuicConnectionProtocol):
 
     def __init__(self, *arguments, **words):
         super().__init__(*arguments, **words)
-        self.http, self.streams, self.over, self.ends = None, {}, None, []
+        self.http, self.streams, self.over, self.ends, self.datagrams = None, {}, None, [], []
 
     def connection_made(self, transport):
         """room for the packets that come while Python is slow"""
@@ -102,6 +103,8 @@ class Protocol(QuicConnectionProtocol):
 
     def took(self, it):
         stream = self.stream(it.stream_id)
+        if isinstance(it, DatagramReceived):
+            self.datagrams.append((it.stream_id, it.data))
         if isinstance(it, HeadersReceived):
             stream["heads"].append(dict(it.headers))
         elif isinstance(it, (DataReceived, WebTransportStreamDataReceived)):
@@ -200,6 +203,43 @@ async def serve_folder(port, certificate, key, folder):
     configuration.load_cert_chain(certificate, key)
     Server.folder = folder
     await serve("127.0.0.1", int(port), configuration=configuration, create_protocol=Server)
+    await asyncio.Future()
+
+
+class SessionServer(Protocol):
+    """sessions on any path: each stream is answered with the count and hash of its bytes, one that goes one way on one of the server's, which goes both ways on
+    the path /both; datagrams come back; a session ends with its request"""
+
+    has_sessions = True
+
+    def took(self, it):
+        super().took(it)
+        stream = self.stream(it.stream_id)
+        if isinstance(it, HeadersReceived):
+            self.http.send_headers(it.stream_id, [(b":status", b"200"), (b"sec-webtransport-http3-draft", b"draft02")])
+        elif isinstance(it, DatagramReceived):
+            self.http.send_datagram(it.stream_id, it.data)
+        elif isinstance(it, WebTransportStreamDataReceived):
+            stream["session"] = it.session_id
+        if stream["ended"] and not stream.get("answered"):
+            stream["answered"] = True
+            self.end(it.stream_id, stream)
+        self.transmit()
+
+    def end(self, stream_id, stream):
+        if stream["heads"]:
+            self.http.send_data(stream_id, b"", end_stream=True)
+        elif stream_id % 4 == 0:
+            self._quic.send_stream_data(stream_id, answer_to(stream["body"]), True)
+        elif stream_id % 4 == 2:
+            is_back = self.stream(stream["session"])["heads"][0][b":path"] == b"/both"
+            self._quic.send_stream_data(self.http.open_stream(stream["session"], not is_back), answer_to(stream["body"]), True)
+
+
+async def serve_sessions(port, certificate, key):
+    configuration = QuicConfiguration(alpn_protocols=["h3"], is_client=False, max_data=1 << 24, max_stream_data=1 << 22, max_datagram_frame_size=65536)
+    configuration.load_cert_chain(certificate, key)
+    await serve("127.0.0.1", int(port), configuration=configuration, create_protocol=SessionServer)
     await asyncio.Future()
 
 
@@ -334,9 +374,9 @@ def answer_to(data):
     return f"{len(data)} {hashlib.sha256(data).hexdigest()}\n".encode()
 
 
-async def begin_session(client):
+async def begin_session(client, path=b"/"):
     session = client._quic.get_next_available_stream_id()
-    head = [(b":method", b"CONNECT"), (b":protocol", b"webtransport"), (b":scheme", b"https"), (b":authority", client.authority), (b":path", b"/")]
+    head = [(b":method", b"CONNECT"), (b":protocol", b"webtransport"), (b":scheme", b"https"), (b":authority", client.authority), (b":path", path)]
     client.http.send_headers(session, head + [(b"sec-webtransport-http3-draft02", b"1")])
     client.transmit()
     stream = await client.until(session, lambda it: it["heads"] or it["ended"] or it["reset"] is not None)
@@ -397,6 +437,26 @@ async def case_session_ends(client, words):
     await client.until(session, lambda it: it["ended"])
     stream = await client.until(open_one, lambda it: it["reset"] is not None)
     want(stream["reset"] == 0x170D7B68, f"another code than SESSION_GONE: {stream['reset']:#x}")
+
+
+async def case_datagrams(client, words):
+    session = await begin_session(client)
+    for data in (b"", b"x", bytes(1000)):
+        while (session, data) not in client.datagrams:  # some may be lost on their way
+            client.http.send_datagram(session, data)
+            client.transmit()
+            await asyncio.sleep(0.1)
+
+
+async def case_back(client, words):
+    """what goes one way is answered on a stream both ways, which the server opens"""
+    session = await begin_session(client, b"/both")
+    for i, data in enumerate((os.urandom(3_000_000), b"", b"x")):
+        send_on(client, session, data, is_unidirectional=True)
+        stream = await client.until(1 + 4 * i, lambda it: it["ended"])
+        want(stream["body"] == answer_to(data), f"another answer: {stream['body'][:100]}")
+        client._quic.send_stream_data(1 + 4 * i, b"", True)
+        client.transmit()
 
 
 async def case_no_session(client, words):
@@ -614,6 +674,8 @@ SESSIONS = {
     "a session, unidirectional streams": case_one_way,
     "a session, 60 streams at once": case_many_streams,
     "a session, streams that are reset": case_streams_reset,
+    "a session, datagrams": case_datagrams,
+    "a session, streams both ways from the server": case_back,
     "a session that ends": case_session_ends,
     "a stream of no session": case_no_session,
 }
@@ -659,6 +721,8 @@ def main():
     words = sys.argv[1:]
     if words[0] == "serve":
         asyncio.run(serve_folder(*words[1:]))
+    elif words[0] == "sessions-serve":
+        asyncio.run(serve_sessions(*words[1:]))
     else:
         cases = {"client": CASES, "lost": LOST, "limited": LIMITED, "sessions": SESSIONS, "websockets": WEBSOCKETS,
                  "leaving": LEAVING}[words[0]]

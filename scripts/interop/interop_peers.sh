@@ -20,7 +20,7 @@ fi
 make_served
 ours=("$work/checked/fetch" --address 127.0.0.1 --trust "$cert")
 go_ours=("$work/h3go" fetch)
-mapfile -t ports < <(python3 scripts/interop/ports.py 26)
+mapfile -t ports < <(python3 scripts/interop/ports.py 28)
 start "${ports[0]}" serve.log "$work/checked/serve" 127.0.0.1 "${ports[0]}" "$cert" "$key" "$folder"
 start "${ports[1]}" serve150.log "$work/checked/serve" --requests 150 127.0.0.1 "${ports[1]}" "$cert" "$key" "$folder"
 start "${ports[2]}" h3go.log "$work/h3go" serve "127.0.0.1:${ports[2]}" "$cert" "$key" "$folder"
@@ -264,6 +264,10 @@ debian13() {
   aioquic_cases webtransport "" sessions "${ports[21]}"
   aioquic_cases webtransport ", packets lost" sessions "${ports[22]}"
   logs+=(webtransport.log)
+  start13 "${ports[26]}" aioquic_sessions.log python3 $there/aio.py sessions-serve "${ports[26]}" $there/cert.pem $there/key.pem
+  relay "${ports[27]}" "${ports[26]}"
+  check "webtransport_client, aioquic: streams of each kind from both sides, datagrams" own_session "${ports[26]}"
+  check "webtransport_client, aioquic, packets lost: streams of each kind from both sides, datagrams" own_session "${ports[27]}"
   if [ -x "$work/checked/websocket" ]; then websockets13; else echo "skipped aioquic's WebSockets: there is no libwslay-dev"; fi
 
   start13 "${ports[6]}" aioquic.log python3 $there/aio.py serve "${ports[6]}" $there/cert.pem $there/key.pem $there/folder

@@ -83,7 +83,7 @@ session() { # PORT of a server that has the page, PORT of one of sessions
   local hash
   hash=$(openssl x509 -in "$cert" -outform der | openssl dgst -sha256 -binary | base64 | sed 's/+/%2B/g; s,/,%2F,g; s/=/%3D/g')
   chromium_sees "$1" "/session.html?port=$2&hash=$hash" && grep -q '"seen">ready$' "$work/seen" && grep -q "^both ways true$" "$work/seen" &&
-    grep -q "^one way true$" "$work/seen" && grep -q "^closed$" "$work/seen"
+    grep -q "^one way true$" "$work/seen" && grep -q "^datagram true$" "$work/seen" && grep -q "^closed$" "$work/seen" && grep -q "^back true$" "$work/seen"
 }
 websocket_seen() { # PORT of a server that has the page, PORT of one of WebSockets
   local line
@@ -249,8 +249,10 @@ check "serve, fetch: a link climbs out" refuses "status 404" "${ours[@]}" "$(url
 start "${ports[17]}" webtransport.log "$work/checked/webtransport" 127.0.0.1 "${ports[17]}" "$cert" "$key"
 sessions=$last
 relay "${ports[18]}" "${ports[17]}"
-check "webtransport, Chromium: a session, a stream both ways and one each way" session "${ports[0]}" "${ports[17]}"
-check "webtransport, Chromium, packets lost: a session, a stream both ways and one each way" session "${ports[0]}" "${ports[18]}"
+check "webtransport, Chromium: sessions, streams of each kind from both sides, datagrams" session "${ports[0]}" "${ports[17]}"
+check "webtransport, Chromium, packets lost: sessions, streams of each kind from both sides, datagrams" session "${ports[0]}" "${ports[18]}"
+check "webtransport, webtransport_client: streams of each kind from both sides, datagrams" own_session "${ports[17]}"
+check "webtransport, webtransport_client, packets lost: streams of each kind from both sides, datagrams" own_session "${ports[18]}"
 check "webtransport: it ends" stop "$sessions"
 check "webtransport: no leak and no error of memory" is_silent webtransport.log
 start "${ports[19]}" websocket.log "$work/checked/websocket" 127.0.0.1 "${ports[19]}" "$cert" "$key"

@@ -579,7 +579,7 @@ static void of_default(void) {
   HOLDS(c.max_field_section_size == 65536 && c.table == 4096 && c.blocked == 16);
   HOLDS(c.max_webtransport_sessions == 0 && c.grease == 0 && c.server == 0 && c.send_grease == 0 && c.webtransport == 0);
   HOLDS(c.extended_connect == 0 && c.datagram == 0 && c.reject_requests == 1 && c.any_protocol == 1);
-  HOLDS(c.guard_secrets == 1 && c.shortest_strings == 1 && c.strict_connection == 1 && c.priority_updates == 100 && c.other_settings == 0 && c.other_streams == 0);
+  HOLDS(c.guard_secrets == 1 && c.shortest_strings == 1 && c.strict_connection == 1 && c.priority_updates == 100 && c.other_settings == 0 && c.other_streams == 0 && c.sessions == 0);
   IS(h3_new(&e, &c, NULL), H3_OK);
   IS(h3_outgoing(&e, h3_control_id(0), b, sizeof b, &n, NULL, NULL), H3_OK);
   HOLDS(n == sizeof announced && !memcmp(b, announced, n));

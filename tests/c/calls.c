@@ -238,6 +238,7 @@ static void choose(h3_config *config, const char *word) {
       {"priority_updates", offsetof(h3_config, priority_updates)},
       {"other_settings", offsetof(h3_config, other_settings)},
       {"other_streams", offsetof(h3_config, other_streams)},
+      {"sessions", offsetof(h3_config, sessions)},
   };
   size_t len = strcspn(word, "=");
   uint64_t value = word[len] ? strtoull(word + len + 1, NULL, 10) : 1;

@@ -20,7 +20,7 @@ void *__wrap_malloc(size_t size) { return counted(__real_malloc(size), size); }
 void *__wrap_realloc(void *old, size_t size) { return counted(__real_realloc(old, size), size); }
 
 enum { KIB = 1024, MIB = 1024 * 1024, BODY = 16 * MIB, FIELDS = 1000, VALUE = 64 * KIB };
-enum { STREAMS = 10000, HEADS = 2000, NEW_FIELDS = 50, GOAWAYS = 110000 };
+enum { STREAMS = 10000, RAW_STREAMS = 1000, HEADS = 2000, NEW_FIELDS = 50, GOAWAYS = 110000 };
 
 static void fail(const char *what, uint64_t id, uint64_t number) {
   printf("failed sizes: %s, stream %llu, %llu (%ld of %ld allocations refused)\n", what, (unsigned long long)id, (unsigned long long)number, refused,
@@ -365,6 +365,84 @@ static void deliveries(void) {
   drop();
 }
 
+/* a session on a request, on which each side announced what it needs */
+static uint64_t with_session(void) {
+  static list head;
+  uint64_t id;
+  for (int side = 0; side < 2; side++) {
+    h3_config c;
+    h3_config_default(&c);
+    c.server = (uint32_t)side;
+    c.webtransport = c.extended_connect = c.datagram = c.sessions = c.max_webtransport_sessions = 1;
+    DONE(h3_new(&ends[side], &c, NULL), "h3_new", side);
+  }
+  carry_own();
+  id = opened();
+  head.count = head.len = 0;
+  add(&head, ":method", "CONNECT", 7);
+  add(&head, ":scheme", "https", 5);
+  add(&head, ":authority", "localhost", 9);
+  add(&head, ":path", "/", 1);
+  add(&head, ":protocol", "webtransport", 12);
+  for (int side = 0; side < 2; side++) {
+    DONE(h3_send_head(&ends[side], id, head.sizes, NULL, head.count, head.bytes, head.len, NULL), "h3_send_head", id);
+    carry_own();
+    carry(side, id);
+    pulled(!side, id, H3_HEAD);
+    begin(&head, 1);
+  }
+  return id;
+}
+
+/* these bytes go over on a stream of a session, and its end */
+static void send_raw(int side, uint64_t id, size_t len) {
+  DONE(h3_send_raw(&ends[side], id, body, len, NULL), "h3_send_raw", id);
+  DONE(h3_finish(&ends[side], id, NULL), "h3_finish", id);
+}
+static void take_raw(int side, uint64_t id, size_t len) {
+  for (size_t n, at = 0; at < len; at += n) {
+    h3_item item = pulled(side, id, H3_RAW);
+    DONE(h3_item_bytes(&ends[side], 0, piece, BODY + MIB, &n), "h3_item_bytes", id);
+    WANT(n && n == item.len && n <= len - at && !memcmp(piece, body + at, n), "other bytes", id, n);
+  }
+  pulled(side, id, H3_END);
+}
+
+/* streams of a session: 16 MiB both ways, many with few bytes, and its end */
+static void sessions(void) {
+  uint64_t session = with_session(), id, seen = 0;
+  uint32_t stop, reset, number;
+  DONE(h3_open_session_stream(&ends[1], session, 1, &id, NULL), "h3_open_session_stream", session);
+  send_raw(1, id, BODY);
+  carry(1, id);
+  WANT(pulled(0, id, H3_SESSION).number == session, "another session", id, 0);
+  take_raw(0, id, BODY);
+  send_raw(0, id, BODY);
+  carry(0, id);
+  take_raw(1, id, BODY);
+  for (uint64_t n = 0; n < RAW_STREAMS; n++) {
+    DONE(h3_open_session_stream(&ends[0], session, 0, &id, NULL), "h3_open_session_stream", n);
+    WANT(id == 14 + 4 * n, "another id", id, n);
+    send_raw(0, id, 100);
+  }
+  for (id = 0; next(0, id, &id) == H3_OK; id++, seen++) carry(0, id);
+  WANT(seen == RAW_STREAMS, "streams to be sent are left out", 0, seen);
+  for (uint64_t n = 0; n < RAW_STREAMS; n++) {
+    WANT(pulled(1, 14 + 4 * n, H3_SESSION).number == session, "another session", 14 + 4 * n, 0);
+    take_raw(1, 14 + 4 * n, 100);
+  }
+  seen = 0;
+  for (uint64_t s = 0; !h3_next_of_session(&ends[1], session, s, &s); s++, seen++) {
+    DONE(h3_close_stream(&ends[1], s, &stop, &reset, NULL), "h3_close_stream", s);
+    WANT(!stop && !reset, "a frame is to be sent of what is over", s, seen);
+  }
+  WANT(seen == RAW_STREAMS + 1, "streams of a session are left out", session, seen);
+  WANT(h3_webtransport_code(30) == UINT64_C(0x52e4a40fa8fa), "another code", 30, h3_webtransport_code(30));
+  DONE(h3_webtransport_number(h3_webtransport_code(UINT32_MAX), &number), "h3_webtransport_number", 0);
+  WANT(number == UINT32_MAX, "another number", 0, number);
+  drop();
+}
+
 /* a body of 16 MiB in one frame, in one piece behind its head: it is read where it lies, and nothing of it is kept */
 static void reads(void) {
   h3_item item;
@@ -472,6 +550,7 @@ int main(void) {
     read_messages();
     priorities();
     capsules();
+    sessions();
     WANT(!refused && allocations > 100000 * (by_length + 1), "allocations were refused, or not counted", (uint64_t)by_length, 0);
   }
   free(piece);

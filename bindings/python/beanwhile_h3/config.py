@@ -71,6 +71,8 @@ class Config:
     other_streams: bool
     """Unidirectional streams of the peer whose types are not known here are delivered, as `StreamType.OTHER`. Without it what comes on them is
     dropped."""
+    sessions: bool
+    """Streams of WebTransport sessions can be opened and answered. It needs `webtransport`, `extended_connect` and `datagram`."""
 
     @classmethod
     def client(cls) -> Self:

@@ -236,6 +236,31 @@ class Endpoint:
         self._call("h3_raw_close_stream", _number(id), byref(stop_sending), byref(reset_stream))
         return ClosedStream(stop_sending.value == 1, reset_stream.value == 1)
 
+    def open_session_stream(self, session: int, both_ways: bool = True) -> int:
+        """Opens a stream of the WebTransport session whose request has this id: both ways, or from this side alone. QUIC opens the stream of
+        the id that it returns.
+
+        Raises `Answer.CLOSED`, `NO_SESSIONS`, `NOT_REQUEST_ID`, `NOT_OPEN` (no header section was sent on the session's request, or sending
+        there has ended), `GOING_AWAY`, `IDS_USED_UP`, `MEMORY`."""
+        found = c_uint64()
+        self._call("h3_raw_open_session_stream", _number(session), int(both_ways), byref(found))
+        return found.value
+
+    def send_raw(self, id: int, data: Bytes) -> None:
+        """Sends bytes on a stream of a WebTransport session, as they are.
+
+        Raises `Answer.CLOSED`, `NOT_OPEN`, `OUT_OF_ORDER` (it was finished or reset), `MEMORY`."""
+        data = _as_bytes(data)
+        self._call("h3_raw_send_raw", _number(id), data, len(data))
+
+    def next_of_session(self, session: int, start: int = 0) -> int | None:
+        """The lowest id from `start` on of a stream of a WebTransport session. When the session ends, close each of them."""
+        found = c_uint64()
+        answer = self._answer("h3_raw_next_of_session", _number(session), _number(start), byref(found))
+        if answer not in (Answer.OK, Answer.NONE):
+            raise refused(answer)
+        return None if answer else found.value
+
     def goaway(self, id: int) -> None:
         """A server processes no request from this id on (a multiple of 4), a client no push (RFC 9114, section 5.2).
 

@@ -55,6 +55,7 @@ class Answer(_Numbers):
     UNFINISHED_LIMIT = 28
     NO_DATAGRAMS = 29
     REJECTED = 30
+    NO_SESSIONS = 31
     ARGUMENT = 32
     NO_ENDPOINT = 33
 
@@ -85,7 +86,7 @@ class Malformation(_Numbers):
 
 
 class Code(enum.IntEnum):
-    """Error codes of RFC 9114, section 8.1, of RFC 9204, section 6, and of RFC 9297, section 5.2."""
+    """Error codes of RFC 9114, section 8.1, of RFC 9204, section 6, of RFC 9297, section 5.2, and of WebTransport."""
 
     DATAGRAM_ERROR = 0x33
     NO_ERROR = 0x100
@@ -108,6 +109,8 @@ class Code(enum.IntEnum):
     QPACK_DECOMPRESSION_FAILED = 0x200
     QPACK_ENCODER_STREAM_ERROR = 0x201
     QPACK_DECODER_STREAM_ERROR = 0x202
+    WEBTRANSPORT_BUFFERED_STREAM_REJECTED = 0x3994BD84
+    WEBTRANSPORT_SESSION_GONE = 0x170D7B68
 
 
 _TEXTS = {
@@ -136,6 +139,7 @@ _TEXTS = {
     Answer.FIELD_COUNT: "too many different field names",
     Answer.UNFINISHED_LIMIT: "`unfinished_limit` is below four times what is announced",
     Answer.NO_DATAGRAMS: "this side or the peer announced no HTTP datagrams",
+    Answer.NO_SESSIONS: "this side or the peer takes no WebTransport sessions",
     Answer.REJECTED: "the request is rejected, {detail:#x}",
     Answer.ARGUMENT: "an argument is out of range",
     Answer.NO_ENDPOINT: "the endpoint was closed",

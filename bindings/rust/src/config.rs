@@ -1,7 +1,7 @@
 use crate::raw;
 
 /// How many numbers `h3_config` has: its size, and those of [`Config`].
-pub(crate) const NUMBERS: usize = 25;
+pub(crate) const NUMBERS: usize = 26;
 
 /// What an endpoint is and announces, as `h3_config`.
 ///
@@ -73,6 +73,8 @@ pub struct Config {
     /// Unidirectional streams of the peer whose types are not known here are delivered, as `StreamType::Other`. Without it what comes on them
     /// is dropped.
     pub other_streams: bool,
+    /// Streams of WebTransport sessions can be opened and answered. It needs `webtransport`, `extended_connect` and `datagram`.
+    pub sessions: bool,
 }
 
 impl Config {
@@ -114,6 +116,7 @@ impl Config {
             priority_updates: numbers[22],
             other_settings: numbers[23],
             other_streams: numbers[24] != 0,
+            sessions: numbers[25] != 0,
         }
     }
 
@@ -145,6 +148,7 @@ impl Config {
             self.priority_updates,
             self.other_settings,
             self.other_streams.into(),
+            self.sessions.into(),
         ]
     }
 }

@@ -273,6 +273,37 @@ impl Endpoint {
         })
     }
 
+    /// Opens a stream of the WebTransport session whose request has this id: both ways, or from this side alone. QUIC opens the stream of the
+    /// id that it returns.
+    ///
+    /// # Errors
+    ///
+    /// [`Error::Closed`], [`Error::NoSessions`], [`Error::NotRequestId`], [`Error::NotOpen`] (no header section was sent on the session's
+    /// request, or sending there has ended), [`Error::GoingAway`], [`Error::IdsUsedUp`], [`Error::Argument`] (the id is 2^62 or more),
+    /// [`Error::Memory`].
+    pub fn open_session_stream(&mut self, session: u64, both_ways: bool) -> Result<u64, Error> {
+        let mut id = 0;
+        self.call(|handle, detail, out| unsafe { raw::h3_raw_open_session_stream(handle, session, both_ways.into(), &mut id, detail, out) })?;
+        Ok(id)
+    }
+
+    /// Sends bytes on a stream of a WebTransport session, as they are.
+    ///
+    /// # Errors
+    ///
+    /// [`Error::Closed`], [`Error::NotOpen`], [`Error::OutOfOrder`] (it was finished or reset), [`Error::Argument`] (the id is 2^62 or more),
+    /// [`Error::Memory`].
+    pub fn send_raw(&mut self, id: u64, bytes: &[u8]) -> Result<(), Error> {
+        self.call(|handle, detail, out| unsafe { raw::h3_raw_send_raw(handle, id, bytes.as_ptr(), bytes.len(), detail, out) })
+    }
+
+    /// The lowest id from `from` on of a stream of a WebTransport session. When the session ends, close each of them.
+    pub fn next_of_session(&mut self, session: u64, from: u64) -> Option<u64> {
+        let mut id = 0;
+        self.call(|handle, _, out| unsafe { raw::h3_raw_next_of_session(handle, session, from, &mut id, out) }).ok()?;
+        Some(id)
+    }
+
     /// A server takes no request from this id on, a multiple of 4, or a client no push (RFC 9114, section 5.2).
     ///
     /// # Errors

@@ -20,6 +20,10 @@ pub mod code {
     pub const REQUEST_INCOMPLETE: u64 = 0x10d;
     /// A message is malformed.
     pub const MESSAGE_ERROR: u64 = 0x10e;
+    /// A stream of WebTransport came before its session.
+    pub const WEBTRANSPORT_BUFFERED_STREAM_REJECTED: u64 = 0x3994_bd84;
+    /// The session of a stream has ended.
+    pub const WEBTRANSPORT_SESSION_GONE: u64 = 0x170d_7b68;
 }
 
 /// Why a call was refused: an `h3_answer`, with the number that it names.
@@ -80,6 +84,8 @@ pub enum Error {
     NoDatagrams,
     /// The request is rejected, and nothing was delivered: end its stream both ways with this code.
     Rejected(u64),
+    /// `sessions` is false, or the peer's settings have not come or do not have those that sessions of WebTransport need.
+    NoSessions,
     /// An argument is out of range.
     Argument,
     /// An answer that this crate does not know, as of a later library.
@@ -117,6 +123,7 @@ impl Error {
             28 => Error::UnfinishedLimit,
             29 => Error::NoDatagrams,
             30 => Error::Rejected(detail),
+            31 => Error::NoSessions,
             32 => Error::Argument,
             other => Error::Other(other),
         }
@@ -165,6 +172,7 @@ impl fmt::Display for Error {
             Error::TableLimit => "the table is above its limit",
             Error::BlockedLimit => "the count of blocked streams is above its limit",
             Error::NoDatagrams => "this side or the peer announced no HTTP datagrams",
+            Error::NoSessions => "there are no sessions of WebTransport",
             Error::UnfinishedLimit => "the limit on what is unfinished is below four times what is announced",
             Error::FieldCount => "too many fields",
             Error::Argument => "an argument is out of range",

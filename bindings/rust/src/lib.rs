@@ -58,6 +58,7 @@ mod item;
 mod priority;
 mod raw;
 mod state;
+pub mod webtransport;
 
 pub use config::Config;
 pub use datagram::{capsule_head, Capsule, CapsuleReader, Datagram, HeadBytes};

@@ -93,6 +93,11 @@ extern "C" {
     pub(crate) fn h3_raw_reset(endpoint: Handle, id: u64, detail: *mut u64, out: *mut Handle) -> u32;
     pub(crate) fn h3_raw_cancel(endpoint: Handle, id: u64, detail: *mut u64, out: *mut Handle) -> u32;
     pub(crate) fn h3_raw_close_stream(endpoint: Handle, id: u64, stop_sending: *mut u32, reset_stream: *mut u32, detail: *mut u64, out: *mut Handle) -> u32;
+    pub(crate) fn h3_raw_open_session_stream(endpoint: Handle, session: u64, both_ways: u32, id: *mut u64, detail: *mut u64, out: *mut Handle) -> u32;
+    pub(crate) fn h3_raw_send_raw(endpoint: Handle, id: u64, bytes: *const u8, len: usize, detail: *mut u64, out: *mut Handle) -> u32;
+    pub(crate) fn h3_raw_next_of_session(endpoint: Handle, session: u64, from: u64, id: *mut u64, out: *mut Handle) -> u32;
+    pub(crate) fn h3_raw_webtransport_code(number: u32) -> u64;
+    pub(crate) fn h3_raw_webtransport_number(code: u64, number: *mut u32) -> u32;
     pub(crate) fn h3_raw_goaway(endpoint: Handle, id: u64, detail: *mut u64, out: *mut Handle) -> u32;
     pub(crate) fn h3_raw_shutdown_notice(endpoint: Handle, detail: *mut u64, out: *mut Handle) -> u32;
     pub(crate) fn h3_raw_shutdown(endpoint: Handle, detail: *mut u64, out: *mut Handle) -> u32;

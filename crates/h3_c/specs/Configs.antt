@@ -11,6 +11,9 @@ use Rattle.h3_incoming.specs.declared.fields.FieldsPull.TheVariants.{Pending}
 use Rattle.h3_connection.specs.declared.setup.Announced.{Announced}
 use Rattle.h3_connection.specs.declared.setup.Limits.{Limits}
 use Rattle.h3_connection.specs.declared.setup.NewError.{NewError}
+use Rattle.h3_connection.specs.declared.setup.NewError.TheVariants as new_error
+use Rattle.h3_proto.specs.declared.frame.SettingsError.TheVariants.{InvalidSettingValue}
+use Rattle.h3_webtransport.specs.Joint.{Joint, first_joint}
 use Rattle.h3_session.specs.Events.{nothing_seen}
 use Rattle.h3_c.specs.declared.config.GivenConfig.{GivenConfig}
 use Rattle.h3_c.specs.declared.numbers.Told.{Told}
@@ -46,12 +49,13 @@ default_config =
       priority_updates = 100;
       other_settings = 0;
       other_streams = 0;
+      sessions = 0;
     }
 
 -- the numbers of `h3_config`: its size, and the others in its order
 abbrev pub numbers_of : ℕ → GivenConfig → List ℕ
 numbers_of size c =
-    size ∷ c.max_field_section_size ∷ c.max_webtransport_sessions ∷ c.table ∷ c.blocked ∷ c.grease ∷ c.server ∷ c.send_grease ∷ c.webtransport ∷ c.extended_connect ∷ c.datagram ∷ c.strict ∷ c.count_acknowledgments ∷ c.encoder_table ∷ c.economical_table ∷ c.unfinished_limit ∷ c.kept_ids ∷ c.reject_requests ∷ c.any_protocol ∷ c.guard_secrets ∷ c.shortest_strings ∷ c.strict_connection ∷ c.priority_updates ∷ c.other_settings ∷ c.other_streams ∷ []
+    size ∷ c.max_field_section_size ∷ c.max_webtransport_sessions ∷ c.table ∷ c.blocked ∷ c.grease ∷ c.server ∷ c.send_grease ∷ c.webtransport ∷ c.extended_connect ∷ c.datagram ∷ c.strict ∷ c.count_acknowledgments ∷ c.encoder_table ∷ c.economical_table ∷ c.unfinished_limit ∷ c.kept_ids ∷ c.reject_requests ∷ c.any_protocol ∷ c.guard_secrets ∷ c.shortest_strings ∷ c.strict_connection ∷ c.priority_updates ∷ c.other_settings ∷ c.other_streams ∷ c.sessions ∷ []
 
 -- one of the numbers that a caller gave, or what it is where the caller has fewer
 abbrev pub number_at : List ℕ → ℕ → ℕ → ℕ
@@ -85,13 +89,14 @@ config_in numbers =
       priority_updates = number_at numbers 22 default_config.priority_updates;
       other_settings = number_at numbers 23 default_config.other_settings;
       other_streams = number_at numbers 24 default_config.other_streams;
+      sessions = number_at numbers 25 default_config.sessions;
     }
 
 -- what a caller asks for, whose first number is the size of all in bytes: of none but as many as are known here
 abbrev pub config_given : List ℕ → Option GivenConfig
 config_given [] = None
 config_given (size ∷ others) =
-    if (size == 8 * length (size ∷ others)) && nat_le (length (size ∷ others)) 25 then Some (config_in (size ∷ others)) else None
+    if (size == 8 * length (size ∷ others)) && nat_le (length (size ∷ others)) 26 then Some (config_in (size ∷ others)) else None
 
 -- a number other than 0 means yes
 abbrev pub is_on : ℕ → Bool
@@ -141,18 +146,30 @@ config_of given =
 abbrev pub limits_of : GivenConfig → Limits
 limits_of given = record { table = given.table; blocked = given.blocked }
 
+-- it asks for sessions of WebTransport without the settings that they need: that of WebTransport cannot be announced so
+abbrev pub lacks_settings : GivenConfig → Bool
+lacks_settings given = is_on given.sessions && not (is_on given.webtransport && is_on given.extended_connect && is_on given.datagram)
+
+abbrev pub without_settings : NewError
+without_settings = new_error.Settings (InvalidSettingValue 0x2b603742 1)
+
 -- what is announced, or the first refusal
 abbrev pub announced_of : GivenConfig → Result Announced NewError
-announced_of given = announced_by (announced (config_of given) given.grease) (limits_of given) (config_of given).choices
+announced_of given =
+    if lacks_settings given then Err without_settings else announced_by (announced (config_of given) given.grease) (limits_of given) (config_of given).choices
+
+-- no session, which there may be where that is asked for
+abbrev pub sessions_of : Side → GivenConfig → Joint
+sessions_of side given = first_joint side (is_on given.sessions)
 
 abbrev pub made_told : Result EndpointState NewError → Told
 made_told (Ok s) = ok
 made_told (Err e) = new_told e
 
 -- the handle owns the endpoint that was made, of which nothing was pulled or reported; and what it owned before where none was made
-abbrev pub IsMade : Result EndpointState NewError → Option Seen → Option Seen → Type 0
-IsMade (Ok s) before after = after ≡ Some (record { endpoint = s; last = Pending; events = nothing_seen })
-IsMade (Err e) before after = after ≡ before
+abbrev pub IsMade : Joint → Result EndpointState NewError → Option Seen → Option Seen → Type 0
+IsMade sessions (Ok s) before after = after ≡ Some (record { endpoint = s; sessions = sessions; last = Pending; events = nothing_seen })
+IsMade sessions (Err e) before after = after ≡ before
 
 -- why none is made
 pub record Unmakes (given : GivenConfig) (n : Told) : Type 0 where
@@ -164,7 +181,7 @@ pub record Makes (given : GivenConfig) (n : Told) (before after : Option Seen) :
   pub answer : Result EndpointState NewError
   pub is : n ≡ made_told answer
   pub done : Creates (side_of given) (announced_of given) answer
-  pub made : IsMade answer before after
+  pub made : IsMade (sessions_of (side_of given) given) answer before after
 
 -- What `h3_new` does with what it was given: a size that is none, and a number for `grease` out of its range, are refused.
 abbrev pub MakesGiven : Option GivenConfig → Told → Option Seen → Option Seen → Type 0

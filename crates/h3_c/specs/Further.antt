@@ -3,7 +3,7 @@ use Rattle.std.specs.Prelude.{◌≡◌, ◌≤◌, ◌<◌, ℕ, List, [], ◌�
 use Rattle.h3_connection.specs.SendingContracts.{CreatesWith}
 use Rattle.h3_connection.specs.State.{EndpointState}
 use Rattle.h3_connection.specs.declared.setup.NewError.{NewError}
-use Rattle.h3_c.specs.Configs.{IsMade, announced_of, made_told, side_of}
+use Rattle.h3_c.specs.Configs.{IsMade, announced_of, made_told, sessions_of, side_of}
 use Rattle.h3_c.specs.Numbers.{argument, new_told}
 use Rattle.h3_c.specs.Seen.{Seen}
 use Rattle.h3_c.specs.declared.config.GivenConfig.{GivenConfig}
@@ -29,7 +29,7 @@ pub record MakesWith (given : GivenConfig) (pairs : List (ℕ × ℕ)) (n : Told
   pub answer : Result EndpointState NewError
   pub is : n ≡ made_told answer
   pub done : CreatesWith (side_of given) (announced_of given) pairs answer
-  pub made : IsMade answer before after
+  pub made : IsMade (sessions_of (side_of given) given) answer before after
 
 -- What `h3_new_with` does with what it was given: what `h3_new` refuses as an argument, and a list that is none of at most eight pairs, are refused.
 abbrev pub MakesPaired : Option (List (ℕ × ℕ)) → GivenConfig → Told → Option Seen → Option Seen → Type 0

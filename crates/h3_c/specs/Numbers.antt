@@ -15,6 +15,8 @@ use Rattle.h3_proto.specs.declared.config.Choices.{Choices}
 use Rattle.h3_messages.specs.InvalidField.{invalid_field}
 use Rattle.h3_session.specs.declared.endpoint.datagrams.DatagramError.{DatagramError}
 use Rattle.h3_session.specs.declared.endpoint.datagrams.DatagramError.TheVariants as datagram_error
+use Rattle.h3_webtransport.specs.declared.opening.OpenError.{OpenError}
+use Rattle.h3_webtransport.specs.declared.opening.OpenError.TheVariants as open_error
 use Rattle.h3_c.specs.Items.{malformation_number}
 use Rattle.h3_c.specs.declared.numbers.Told.{Told}
 
@@ -132,6 +134,14 @@ TellsList (Err r) choices fields told = told ≡ refusal_told r
 -- `H3_NO_DATAGRAMS`
 abbrev pub no_datagrams : Told
 no_datagrams = number 29 0
+
+-- why no stream of a session is opened
+abbrev pub no_sessions : Told
+no_sessions = number 31 0
+
+abbrev pub open_told : OpenError → Told
+open_told (open_error.Refused r) = refusal_told r
+open_told open_error.NoSessions = no_sessions
 
 -- why a datagram may not be sent
 abbrev pub datagram_told : DatagramError → Told

@@ -12,7 +12,7 @@ use Rattle.h3_connection.specs.SendingContracts.{CreatesWith}
 use Rattle.h3_connection.specs.State.{EndpointState, StandsFor}
 use Rattle.h3_connection.specs.declared.setup.NewError.{NewError}
 use Rattle.h3_c.specs.Bits.{bit}
-use Rattle.h3_c.specs.Configs.{IsMade, announced_of, made_told, side_of}
+use Rattle.h3_c.specs.Configs.{IsMade, announced_of, made_told, sessions_of, side_of}
 use Rattle.h3_c.specs.Datagrams.{Put}
 use Rattle.h3_c.specs.Further.{pairs_given}
 use Rattle.h3_c.specs.Numbers.{argument, memory, new_told, none, ok, room}
@@ -51,7 +51,7 @@ pub record MakesResumed (given : GivenConfig) (pairs remembered : List (ℕ × �
   pub answer : Result EndpointState NewError
   pub is : n ≡ made_told answer
   pub done : CreatesWith Client (remembering (announced_of given) remembered) pairs answer
-  pub made : IsMade answer before after
+  pub made : IsMade (sessions_of Client given) answer before after
 
 -- why none is made
 pub record UnmakesResumed (given : GivenConfig) (pairs remembered : List (ℕ × ℕ)) (n : Told) : Type 0 where

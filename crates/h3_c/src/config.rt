@@ -3,18 +3,18 @@ ghost use Rattle.std.specs.Prelude.{◌≡◌, ◌<◌, slice_get, unwrap_or};
 ghost use Rattle.h3_connection.specs.Remembering.{remembering};
 ghost use Rattle.h3_connection.specs.SendingContracts.{Creates, CreatesWith};
 ghost use Rattle.h3_proto.specs.declared.stream.Side.TheVariants.{Client};
-ghost use Rattle.h3_c.specs.Configs.{default_config, side_of, config_of, config_given, least_for, limit_of_given, announced_of, numbers_of};
+ghost use Rattle.h3_c.specs.Configs.{default_config, side_of, config_of, config_given, lacks_settings, least_for, limit_of_given, announced_of, numbers_of, without_settings};
 
 use h3_coding::varint::VarInt;
 use h3_connection::setup::{Limits, NewError};
 use h3_proto::config::Config;
-use h3_proto::frame::Settings;
+use h3_proto::frame::{SettingId, Settings, SettingsError};
 use h3_proto::stream::Side;
 use h3_session::endpoint::Endpoint;
 use std::alloc::Global;
 
 /// How many numbers `h3_config` has: its size in bytes, and those of `GivenConfig`.
-const NUMBERS: usize = 25;
+const NUMBERS: usize = 26;
 
 /// The numbers of `h3_config` after its size, in its order. One other than 0 means yes.
 #[derive(Copy, Clone)]
@@ -43,6 +43,7 @@ pub struct GivenConfig {
     pub priority_updates: u64,
     pub other_settings: u64,
     pub other_streams: u64,
+    pub sessions: u64,
 }
 
 impl Default for GivenConfig {
@@ -74,6 +75,7 @@ impl Default for GivenConfig {
             priority_updates: 100,
             other_settings: 0,
             other_streams: 0,
+            sessions: 0,
         }
     }
 }
@@ -114,6 +116,7 @@ impl GivenConfig {
             priority_updates: number_or(numbers, 22, default.priority_updates),
             other_settings: number_or(numbers, 23, default.other_settings),
             other_streams: number_or(numbers, 24, default.other_streams),
+            sessions: number_or(numbers, 25, default.sessions),
         })
     }
 
@@ -147,7 +150,16 @@ impl GivenConfig {
             self.priority_updates,
             self.other_settings,
             self.other_streams,
+            self.sessions,
         ]
+    }
+
+    /// Whether it asks for sessions without the settings that they need.
+    fn lacks_settings(&self) -> bool
+        ensures { result ≡ lacks_settings self.now }
+    {
+        self.sessions != 0
+            && (self.webtransport == 0 || self.extended_connect == 0 || self.datagram == 0)
     }
 
     // The limit on what is unfinished. 0 stands for the least one that takes whatever a peer may send that keeps to what is announced.
@@ -218,6 +230,13 @@ fn config_of(given: &GivenConfig) -> Config
         .with_other_streams(given.other_streams != 0)
 }
 
+// Sessions of WebTransport need their setting, with those that it needs.
+fn without_settings() -> NewError
+    ensures { result ≡ without_settings }
+{
+    NewError::Settings(SettingsError::InvalidSettingValue(SettingId::ENABLE_WEBTRANSPORT, 1))
+}
+
 /// The endpoint that is asked for, with these further settings.
 pub(crate) fn endpoint_with(
     alloc: Global,
@@ -227,6 +246,9 @@ pub(crate) fn endpoint_with(
     requires { given.now.grease < 0x210842108421083 }
     ensures { CreatesWith (side_of given.now) (announced_of given.now) further.now result }
 {
+    if given.lacks_settings() {
+        return Err(without_settings());
+    }
     let limits = Limits {
         table: given.table,
         blocked: given.blocked,
@@ -251,6 +273,9 @@ pub(crate) fn endpoint_resumed(
     requires { given.now.grease < 0x210842108421083 }
     ensures { CreatesWith Client (remembering (announced_of given.now) remembered) further.now result }
 {
+    if given.lacks_settings() {
+        return Err(without_settings());
+    }
     let limits = Limits {
         table: given.table,
         blocked: given.blocked,
@@ -270,6 +295,9 @@ pub(crate) fn endpoint_of(alloc: Global, given: &GivenConfig) -> Result<Endpoint
     requires { given.now.grease < 0x210842108421083 }
     ensures { Creates (side_of given.now) (announced_of given.now) result }
 {
+    if given.lacks_settings() {
+        return Err(without_settings());
+    }
     let limits = Limits {
         table: given.table,
         blocked: given.blocked,

@@ -17,6 +17,7 @@ mod reading;
 mod receiving;
 mod remembered;
 mod sending;
+mod sessions;
 mod showing;
 mod shutdown;
 mod unblocked;

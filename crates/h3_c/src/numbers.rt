@@ -1,6 +1,6 @@
 //! The numbers that C sees: `enum h3_answer` of the header.
 ghost use Rattle.std.specs.Prelude.{◌≡◌, true, Some, is_some};
-ghost use Rattle.h3_c.specs.Numbers.{TellsField, TellsList, TellsMalformed, refusal_told, call_told, body_told, datagram_told, delivery_told, setting_of, new_told, told_or_memory};
+ghost use Rattle.h3_c.specs.Numbers.{TellsField, TellsList, TellsMalformed, refusal_told, call_told, body_told, datagram_told, delivery_told, open_told, setting_of, new_told, told_or_memory};
 ghost use Rattle.h3_connection.specs.Answers.{call_refused};
 ghost use Rattle.h3_connection.specs.declared.event.Refusal.TheVariants as refusal;
 ghost use Rattle.h3_messages.specs.InvalidField.{invalid_field};
@@ -13,6 +13,7 @@ use h3_connection::setup::NewError;
 use h3_field::HeaderField;
 use h3_proto::frame::SettingsError;
 use h3_session::endpoint::{DatagramError, Endpoint};
+use h3_webtransport::OpenError;
 
 /// What a call answers: a number, and the code, id or size that it names, else 0.
 #[derive(Clone, Copy)]
@@ -61,6 +62,12 @@ pub(crate) const NO_DATAGRAMS: Told = Told {
 pub(crate) const REJECTED: Told = Told {
     number: 30,
     detail: 0x10b,
+};
+
+/// `H3_NO_SESSIONS`.
+pub(crate) const NO_SESSIONS: Told = Told {
+    number: 31,
+    detail: 0,
 };
 
 /// `H3_ARGUMENT`.
@@ -216,6 +223,16 @@ pub(crate) fn unsent(e: DatagramError) -> Told
     match e {
         DatagramError::Refused(refusal) => refused(refusal),
         DatagramError::NoDatagrams => NO_DATAGRAMS,
+    }
+}
+
+/// Why no stream of a session was opened.
+pub(crate) fn unopened(e: OpenError) -> Told
+    ensures { result ≡ open_told e }
+{
+    match e {
+        OpenError::Refused(refusal) => refused(refusal),
+        OpenError::NoSessions => NO_SESSIONS,
     }
 }
 

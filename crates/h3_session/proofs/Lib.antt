@@ -7,6 +7,7 @@ pub mod SendingBodies
 pub mod Taking
 pub mod Next
 pub mod NextRequest
+pub mod Beside
 pub mod Draining
 pub mod Starting
 pub mod SectionsSent

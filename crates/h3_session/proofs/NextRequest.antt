@@ -25,7 +25,7 @@ pub shows_id : (s : EndpointState) (id : ℕ) → None ≡ open_refused s → id
 shows_id s id is same = λ e h. ap Ok same ∙ shows s None is e h
 
 -- an id past the last one is refused before
-used_up : (closed : Option ℕ) (side : Side) (last : Option ℕ) (later : Bool) → later ≡ true
+pub used_up : (closed : Option ℕ) (side : Side) (last : Option ℕ) (later : Bool) → later ≡ true
     → None ≡ closed_or closed (if not (is_client side) then Some refusal.NotClient else going_away last (if later then Some refusal.IdsUsedUp else None)) → ⊥
 used_up (Some code) side last true far is = absurd (cc)
 used_up None Server last true far is = absurd (cc)

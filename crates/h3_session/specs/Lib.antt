@@ -10,6 +10,7 @@ pub mod PeerKinds
 pub mod Unblocked
 pub mod Events
 pub mod Arriving
+pub mod Beside
 pub mod SendingFields
 pub mod Pulling
 pub mod Listing

@@ -19,6 +19,7 @@ use std::alloc::{AllocError, Global};
 use std::collections::VecDeque;
 use std::marker::Model;
 
+mod beside;
 mod bodies;
 mod closing;
 mod copying;

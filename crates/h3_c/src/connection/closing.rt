@@ -21,7 +21,7 @@ impl Connection {
         let Ok(id) = StreamId::try_from(id) else {
             return ARGUMENT;
         };
-        match self.endpoint.close_stream(id) {
+        match self.sessions.close_stream(&mut self.endpoint, id) {
             Ok(frames) => {
                 *stop_sending = frames.stop_sending as u32;
                 *reset_stream = frames.reset_stream as u32;

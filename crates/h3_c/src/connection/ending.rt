@@ -14,7 +14,7 @@ impl Connection {
         let Ok(stream) = StreamId::try_from(id) else {
             return ARGUMENT;
         };
-        if self.endpoint.end_taken(stream) {
+        if self.sessions.end_taken(&mut self.endpoint, stream) {
             OK
         } else {
             NONE
@@ -25,10 +25,10 @@ impl Connection {
     pub(crate) fn next_to_send(&self, from: u64, id: &mut u64) -> Told
         ensures { SendsNext self.now from result id.old id.new }
     {
-        let Some(next) = self.endpoint.next_to_send(from) else {
+        let Some(next) = self.sessions.next_to_send(&self.endpoint, from) else {
             return NONE;
         };
-        *id = next.into_inner();
+        *id = next;
         OK
     }
 }

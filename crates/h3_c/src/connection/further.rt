@@ -1,14 +1,14 @@
 //! Connections that announce further settings.
 ghost use Rattle.std.specs.Prelude.{◌≡◌, ◌<◌, ◌≤◌, IfOk, IfErr, IfSome, IsNone, Ok, Some, None, take};
 ghost use Rattle.h3_connection.specs.SendingContracts.{CreatesWith};
-ghost use Rattle.h3_c.specs.Configs.{announced_of, side_of};
+ghost use Rattle.h3_c.specs.Configs.{announced_of, sessions_of, side_of};
 ghost use Rattle.h3_c.specs.Further.{UnmakesWith, pairs_given};
 ghost use Rattle.h3_c.specs.Numbers.{argument};
 ghost use Rattle.h3_session.specs.Events.{nothing_seen};
 ghost use Rattle.h3_incoming.specs.declared.fields.FieldsPull.TheVariants as answer;
 
 use super::Connection;
-use crate::config::{GivenConfig, endpoint_with};
+use crate::config::{GivenConfig, endpoint_with, side_of};
 use crate::numbers::{ARGUMENT, MEMORY, Told, unmade};
 use crate::owned::boxed;
 use h3_proto::frame::RESERVED_NUMBERS;
@@ -63,6 +63,7 @@ pub(crate) fn made_with(
 ) -> Result<Box<Connection>, Told>
     ensures near { IfOk result (λ b. given.now.grease < 0x210842108421083) }
     ensures made { IfOk result (λ b. CreatesWith (side_of given.now) (announced_of given.now) (take further.now.len further.now.pairs) (Ok b.value.endpoint)) }
+    ensures sessions { IfOk result (λ b. b.value.sessions ≡ sessions_of (side_of given.now) given.now) }
     ensures last { IfOk result (λ b. b.value.last ≡ answer.Pending) }
     ensures events { IfOk result (λ b. b.value.events ≡ nothing_seen) }
     ensures far { IfErr result (λ told. 0x210842108421083 ≤ given.now.grease → told ≡ argument) }
@@ -72,7 +73,10 @@ pub(crate) fn made_with(
         return Err(ARGUMENT);
     }
     match endpoint_with(alloc, given, further.as_slice()) {
-        Ok(endpoint) => match boxed(alloc, Connection::of(alloc, endpoint)) {
+        Ok(endpoint) => match boxed(
+            alloc,
+            Connection::of(alloc, endpoint, side_of(given), given.sessions != 0),
+        ) {
             Ok(connection) => Ok(connection),
             Err(_) => Err(MEMORY),
         },

@@ -23,7 +23,8 @@ impl Connection {
             return ARGUMENT;
         };
         free_if_large(alloc, &mut self.last);
-        self.endpoint.pull_block(id, &mut self.last);
+        self.sessions
+            .pull_block(&mut self.endpoint, id, &mut self.last);
         show(&self.last, item);
         OK
     }

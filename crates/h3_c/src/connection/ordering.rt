@@ -74,17 +74,17 @@ impl Connection {
         let Some(is_held) = flag_given(held) else {
             return ARGUMENT;
         };
-        called(self.endpoint.hold(stream, is_held))
+        called(self.sessions.hold(&mut self.endpoint, stream, is_held))
     }
 
     /// The stream that sends next.
     pub(crate) fn next_by_priority(&mut self, id: &mut u64) -> Told
         ensures { SendsByPriority self.old self.new result id.old id.new }
     {
-        let Some(next) = self.endpoint.next_by_priority() else {
+        let Some(next) = self.sessions.next_by_priority(&mut self.endpoint) else {
             return NONE;
         };
-        *id = next.into_inner();
+        *id = next;
         OK
     }
 }

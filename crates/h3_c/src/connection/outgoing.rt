@@ -22,7 +22,7 @@ impl Connection {
         let Ok(id) = StreamId::try_from(id) else {
             return ARGUMENT;
         };
-        let (copied, follow, is_last) = self.endpoint.copy_with_end(id, out);
+        let (copied, follow, is_last) = self.sessions.copy_with_end(&self.endpoint, id, out);
         *count = copied;
         *past = follow;
         *fin = is_last as u32;
@@ -36,10 +36,10 @@ impl Connection {
         let Ok(stream) = StreamId::try_from(id) else {
             return ARGUMENT;
         };
-        if count > self.endpoint.waiting(stream) {
+        if count > self.sessions.waiting(&self.endpoint, stream) {
             return ARGUMENT;
         }
-        self.endpoint.advance(stream, count);
+        self.sessions.advance(&mut self.endpoint, stream, count);
         OK
     }
 }

@@ -115,13 +115,14 @@ impl Connection {
     }
 
     // How many of the bytes are delivered at once. If nothing of the stream is held and the end of the frame that they begin with is known:
-    // up to that end. A body after it is then read in its place. Else all.
+    // up to that end. A body after it is then read in its place. Else, and on a stream of a session, all.
     fn front_len(&self, id: StreamId, bytes: &[u8]) -> usize
         ensures within { result ≤ length bytes.now }
         ensures some { 0 < length bytes.now → 0 < result }
     {
         let count = first_frame_len(bytes);
-        if count < bytes.len() && self.endpoint.unread(id) > 0 {
+        let is_whole = count == bytes.len();
+        if !is_whole && (self.sessions.has(id) || self.sessions.unread(&self.endpoint, id) > 0) {
             return bytes.len();
         }
         count
@@ -141,11 +142,11 @@ impl Connection {
         }
         let Ok(copy) = Bytes::copy_from_slice(alloc, bytes) else {
             return Err(Stop {
-                told: or_memory(self.endpoint.bytes_refusal(id)),
+                told: or_memory(self.sessions.bytes_refusal(&self.endpoint, id)),
                 is_taken: false,
             });
         };
-        match self.endpoint.deliver(id, copy) {
+        match self.sessions.deliver(&mut self.endpoint, id, copy) {
             Ok(()) => Ok(()),
             Err(e) => Err(stopped(e)),
         }
@@ -171,7 +172,7 @@ impl Connection {
         ensures ok { OnOk result (EndsThere is_alone self.old.endpoint self.new.endpoint id) }
         ensures refused { IfErr result (λ told. RefusesEnd is_alone self.old.endpoint self.new.endpoint id told) }
     {
-        match self.endpoint.deliver_end(id) {
+        match self.sessions.deliver_end(&mut self.endpoint, id) {
             Ok(()) => Ok(()),
             Err(e) => {
                 if is_alone && is_after_end(&e) {

@@ -37,9 +37,9 @@ impl Connection {
             Err(told) => return told,
         };
         let Ok(bytes) = Bytes::copy_from_slice(alloc, bytes) else {
-            return or_memory(self.endpoint.bytes_refusal(id));
+            return or_memory(self.sessions.bytes_refusal(&self.endpoint, id));
         };
-        delivered(&self.endpoint.deliver(id, bytes))
+        delivered(&self.sessions.deliver(&mut self.endpoint, id, bytes))
     }
 
     /// The end of a stream came.
@@ -50,7 +50,7 @@ impl Connection {
             Ok(id) => id,
             Err(told) => return told,
         };
-        delivered(&self.endpoint.deliver_end(id))
+        delivered(&self.sessions.deliver_end(&mut self.endpoint, id))
     }
 
     /// The sender reset a stream.
@@ -61,6 +61,6 @@ impl Connection {
             Ok(id) => id,
             Err(told) => return told,
         };
-        delivered(&self.endpoint.deliver_reset(id, code))
+        delivered(&self.sessions.deliver_reset(&mut self.endpoint, id, code))
     }
 }

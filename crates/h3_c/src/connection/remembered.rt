@@ -3,7 +3,7 @@ ghost use Rattle.std.specs.Prelude.{◌≡◌, ◌⊎◌, ◌<◌, ◌≤◌, If
 ghost use Rattle.h3_connection.specs.Remembering.{remembering};
 ghost use Rattle.h3_connection.specs.SendingContracts.{CreatesWith};
 ghost use Rattle.h3_proto.specs.declared.stream.Side.TheVariants.{Client};
-ghost use Rattle.h3_c.specs.Configs.{announced_of};
+ghost use Rattle.h3_c.specs.Configs.{announced_of, sessions_of};
 ghost use Rattle.h3_c.specs.Numbers.{argument};
 ghost use Rattle.h3_c.specs.Remembered.{GivesSettings, LacksMemory, ShowsKept, UnmakesResumed};
 ghost use Rattle.h3_session.specs.Events.{nothing_seen};
@@ -14,6 +14,7 @@ use crate::config::{GivenConfig, endpoint_resumed};
 use crate::numbers::{ARGUMENT, MEMORY, NONE, OK, ROOM, Told, unmade};
 use crate::owned::boxed;
 use h3_proto::frame::{RESERVED_NUMBERS, Settings};
+use h3_proto::stream::Side;
 use std::alloc::Global;
 
 impl Connection {
@@ -72,6 +73,7 @@ pub(crate) fn made_resumed(
 ) -> Result<Box<Connection>, Told>
     ensures near { IfOk result (λ b. given.now.grease < 0x210842108421083) }
     ensures made { IfOk result (λ b. CreatesWith Client (remembering (announced_of given.now) remembered) (take further.now.len further.now.pairs) (Ok b.value.endpoint)) }
+    ensures sessions { IfOk result (λ b. b.value.sessions ≡ sessions_of Client given.now) }
     ensures last { IfOk result (λ b. b.value.last ≡ answer.Pending) }
     ensures events { IfOk result (λ b. b.value.events ≡ nothing_seen) }
     ensures far { IfErr result (λ told. 0x210842108421083 ≤ given.now.grease → told ≡ argument) }
@@ -81,7 +83,10 @@ pub(crate) fn made_resumed(
         return Err(ARGUMENT);
     }
     match endpoint_resumed(alloc, given, further.as_slice(), remembered) {
-        Ok(endpoint) => match boxed(alloc, Connection::of(alloc, endpoint)) {
+        Ok(endpoint) => match boxed(
+            alloc,
+            Connection::of(alloc, endpoint, Side::Client, given.sessions != 0),
+        ) {
             Ok(connection) => Ok(connection),
             Err(_) => Err(MEMORY),
         },

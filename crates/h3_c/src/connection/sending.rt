@@ -82,7 +82,7 @@ impl Connection {
         let Ok(id) = StreamId::try_from(id) else {
             return ARGUMENT;
         };
-        called(self.endpoint.finish(id))
+        called(self.sessions.finish(&mut self.endpoint, id))
     }
 
     /// Sending on a stream ends here.
@@ -92,7 +92,7 @@ impl Connection {
         let Ok(id) = StreamId::try_from(id) else {
             return ARGUMENT;
         };
-        called(self.endpoint.reset(id))
+        called(self.sessions.reset(&mut self.endpoint, id))
     }
 
     /// The caller needs nothing more of a stream.
@@ -102,7 +102,7 @@ impl Connection {
         let Ok(id) = StreamId::try_from(id) else {
             return ARGUMENT;
         };
-        called(self.endpoint.cancel(id))
+        called(self.sessions.cancel(&mut self.endpoint, id))
     }
 
     /// No request, or no push, is taken from this id on.

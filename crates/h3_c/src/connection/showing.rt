@@ -25,11 +25,11 @@ impl Connection {
             return ARGUMENT;
         };
         *state = StreamState {
-            waiting: self.endpoint.waiting(id) as u64,
-            unread: self.endpoint.unread(id),
-            has_outgoing: self.endpoint.has_outgoing(id) as u32,
-            is_finished: self.endpoint.is_finished(id) as u32,
-            is_reset: self.endpoint.is_reset(id) as u32,
+            waiting: self.sessions.waiting(&self.endpoint, id) as u64,
+            unread: self.sessions.unread(&self.endpoint, id),
+            has_outgoing: self.sessions.has_outgoing(&self.endpoint, id) as u32,
+            is_finished: self.sessions.is_finished(&self.endpoint, id) as u32,
+            is_reset: self.sessions.is_reset(&self.endpoint, id) as u32,
             tries: self.endpoint.block_tries(id) as u32,
         };
         OK

@@ -1,0 +1,58 @@
+//! Streams of WebTransport sessions.
+
+use super::Connection;
+use crate::numbers::{ARGUMENT, NONE, OK, Told, or_memory, sent, unopened};
+use bytes::Bytes;
+use h3_proto::stream::StreamId;
+use h3_proto::webtransport::SessionId;
+use std::alloc::Global;
+
+impl Connection {
+    /// Opens a stream of a session, whose id goes to `id`.
+    pub(crate) fn open_session_stream(
+        &mut self,
+        session: u64,
+        both_ways: u32,
+        id: &mut u64,
+    ) -> Told {
+        let Ok(session) = StreamId::try_from(session) else {
+            return ARGUMENT;
+        };
+        if both_ways > 1 {
+            return ARGUMENT;
+        }
+        match self
+            .sessions
+            .open_session_stream(&mut self.endpoint, session, both_ways == 1)
+        {
+            Ok(opened) => {
+                *id = opened.into_inner();
+                OK
+            }
+            Err(error) => unopened(error),
+        }
+    }
+
+    /// Sends bytes on a stream of a session, as they are.
+    pub(crate) fn send_raw(&mut self, alloc: Global, id: u64, bytes: &[u8]) -> Told {
+        let Ok(stream) = StreamId::try_from(id) else {
+            return ARGUMENT;
+        };
+        let Ok(bytes) = Bytes::copy_from_slice(alloc, bytes) else {
+            return or_memory(self.sessions.raw_refusal(&self.endpoint, stream));
+        };
+        sent(&self.sessions.send_raw(&self.endpoint, stream, bytes))
+    }
+
+    /// The lowest id from `from` on of a stream of a session.
+    pub(crate) fn next_of_session(&self, session: u64, from: u64, id: &mut u64) -> Told {
+        let Ok(session) = SessionId::try_from(session) else {
+            return ARGUMENT;
+        };
+        let Some(next) = self.sessions.next_of_session(session, from) else {
+            return NONE;
+        };
+        *id = next;
+        OK
+    }
+}

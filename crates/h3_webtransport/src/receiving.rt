@@ -1,0 +1,219 @@
+//! What comes on streams, those of sessions among them.
+ghost use Rattle.std.specs.Prelude.{◌≡◌, Some, None, true, false, length, option_map, unwrap_or};
+ghost use Rattle.h3_proto.specs.StreamIds.{is_request_stream};
+ghost use Rattle.h3_connection.specs.Calls.{Sets};
+ghost use Rattle.h3_connection.specs.Codes.{id_error};
+ghost use Rattle.h3_connection.specs.declared.event.DeliverError.TheVariants.{Refused};
+ghost use Rattle.h3_connection.specs.declared.event.Fault.TheVariants.{Connection as Closing};
+ghost use Rattle.h3_connection.specs.declared.event.Pull.TheVariants.{Fault};
+ghost use Rattle.h3_connection.specs.declared.event.Refusal.TheVariants.{Connection};
+ghost use Rattle.h3_webtransport.specs.Closing.{Forgets};
+ghost use Rattle.h3_webtransport.specs.Parts.{StreamsAlone};
+ghost use Rattle.std.specs.List.{concat};
+ghost use Rattle.h3_connection.specs.Unread.{ShowsUnread};
+ghost use Rattle.h3_incoming.specs.FieldsPulls.{list_of, pull_of};
+ghost use Rattle.h3_session.specs.Listing.{ListsNext};
+ghost use Rattle.h3_webtransport_streams.specs.Begun.{stream_or_unseen};
+ghost use Rattle.h3_webtransport_streams.specs.SessionStream.{entered, unread_of};
+ghost use Rattle.h3_webtransport.specs.Joint.{is_read, may_begin, stored_at};
+ghost use Rattle.h3_webtransport.specs.Receiving.{CancelsOn, DeliversOn, EndsOn, Enters, PullsFirst, PullsOn, RefusesDeliveriesOn, session_of};
+
+use crate::sessions::Sessions;
+use bytes::Bytes;
+use h3_connection::event::{DeliverError, Fault, Refusal};
+use h3_incoming::answer::{Plain, fail, give_made, pause};
+use h3_incoming::{BlockPull, Told};
+use h3_proto::error::Code;
+use h3_proto::stream::StreamId;
+use h3_proto::webtransport::SessionId;
+use h3_session::endpoint::Endpoint;
+use h3_webtransport_streams::Begun;
+
+// The session that an answer tells.
+fn session_of(answer: &BlockPull) -> Option<SessionId>
+    ensures { result ≡ session_of (pull_of answer.now) }
+{
+    match answer.told() {
+        Told::Plain(Plain::Session(session)) => Some(*session),
+        _ => None,
+    }
+}
+
+// Why nothing is taken after a connection fault.
+fn closed(endpoint: &Endpoint) -> Option<DeliverError>
+    ensures { result ≡ option_map (λ code. Refused (Connection code)) endpoint.now.closed }
+{
+    match endpoint.fault() {
+        Some(code) => Some(DeliverError::Refused(Refusal::Connection(code))),
+        None => None,
+    }
+}
+
+// The connection has this fault.
+fn fault(endpoint: &mut Endpoint, code: Code) -> DeliverError
+    ensures is { result ≡ Refused (Connection (unwrap_or endpoint.old.closed code)) }
+    ensures closes { endpoint.new ≡ record endpoint.old { closed = Some (unwrap_or endpoint.old.closed code) } }
+{
+    DeliverError::Refused(Refusal::Connection(endpoint.close_for(code)))
+}
+
+impl Sessions {
+    /// Bytes came on a stream. On one both ways that a server opened its client refuses other first bytes than those of a session's stream as a fault of
+    /// the connection, H3_STREAM_CREATION_ERROR, and the id of no session as H3_ID_ERROR.
+    pub fn deliver(
+        &mut self,
+        endpoint: &mut Endpoint,
+        id: StreamId,
+        bytes: Bytes,
+    ) -> Result<(), DeliverError>
+        ensures { DeliversOn endpoint.old endpoint.new self.old self.new id bytes result }
+    {
+        if !self.reads(id) {
+            return endpoint.deliver(id, bytes);
+        }
+        if let Some(error) = closed(endpoint) {
+            return Err(error);
+        }
+        match self.streams.deliver(id, bytes) {
+            Ok(Begun::Taken(_)) => Ok(()),
+            Ok(Begun::NoFront) => Err(fault(endpoint, Code::H3_STREAM_CREATION_ERROR)),
+            Ok(Begun::NoSession) => Err(fault(endpoint, Code::H3_ID_ERROR)),
+            Err(error) => Err(error),
+        }
+    }
+
+    /// The end of a stream came.
+    pub fn deliver_end(&mut self, endpoint: &mut Endpoint, id: StreamId) -> Result<(), DeliverError>
+        ensures { EndsOn endpoint.old endpoint.new self.old self.new id None result }
+    {
+        if !self.reads(id) {
+            return endpoint.deliver_end(id);
+        }
+        match closed(endpoint) {
+            Some(error) => Err(error),
+            None => self.streams.deliver_end(id),
+        }
+    }
+
+    /// A stream was reset by its sender, with this code.
+    pub fn deliver_reset(
+        &mut self,
+        endpoint: &mut Endpoint,
+        id: StreamId,
+        code: u64,
+    ) -> Result<(), DeliverError>
+        ensures { EndsOn endpoint.old endpoint.new self.old self.new id (Some code) result }
+    {
+        if !self.reads(id) {
+            return endpoint.deliver_reset(id, code);
+        }
+        match closed(endpoint) {
+            Some(error) => Err(error),
+            None => self.streams.deliver_reset(id, code),
+        }
+    }
+
+    /// Why bytes on a stream are refused.
+    #[tactic(auto, using(crate::proofs::Refusing::refuses_other, crate::proofs::Refusing::refuses_closed, crate::proofs::Refusing::refuses_here))]
+    pub fn bytes_refusal(&self, endpoint: &Endpoint, id: StreamId) -> Option<Refusal>
+        ensures { RefusesDeliveriesOn endpoint.now self.now id result }
+    {
+        if !self.reads(id) {
+            return endpoint.bytes_refusal(id);
+        }
+        match endpoint.fault() {
+            Some(code) => Some(Refusal::Connection(code)),
+            None => self.streams.arrival_refusal(id),
+        }
+    }
+
+    /// How many bytes of a stream came and are held.
+    pub fn unread(&self, endpoint: &Endpoint, id: StreamId) -> u64
+        ensures own { is_read self.now id ≡ true → result ≡ length (concat (unread_of (stream_or_unseen self.now.sessions.streams id).receiver)) }
+        ensures other { is_read self.now id ≡ false → ShowsUnread endpoint.now id result }
+    {
+        if self.reads(id) {
+            return self.streams.unread(id) as u64;
+        }
+        endpoint.unread(id)
+    }
+
+    /// What comes next on a stream. A stream that the endpoint reads is one of a session from the answer on that tells the session; it is answered if it
+    /// goes both ways. With sessions on, an id that no session has is a fault of the connection, H3_ID_ERROR.
+    pub fn pull_block(&mut self, endpoint: &mut Endpoint, id: StreamId, out: &mut BlockPull)
+        ensures pulls { PullsOn endpoint.old endpoint.new self.old self.new id (pull_of out.new) }
+        ensures list { is_read self.old id ≡ false → ListsNext endpoint.old id (list_of out.new) }
+    {
+        if self.may_begin(id) {
+            return self.pull_first(endpoint, id, out);
+        }
+        if !self.reads(id) {
+            return endpoint.pull_block(id, out);
+        }
+        if let Some(code) = endpoint.fault() {
+            return fail(out, Fault::Connection(code));
+        }
+        if !self.streams.contains(id) {
+            return pause(out);
+        }
+        give_made(out, self.streams.pull(id));
+    }
+
+    // The same of a stream that may turn out to be of a session: there is room for it before anything is pulled, so that nothing is lost.
+    #[tactic(auto, using(crate::proofs::Pulling::pulls_other, crate::proofs::Pulling::pulls_taken, crate::proofs::Pulling::pulls_wrong, crate::proofs::Pulling::is_free))]
+    fn pull_first(&mut self, endpoint: &mut Endpoint, id: StreamId, out: &mut BlockPull)
+        requires { may_begin self.old id ≡ true }
+        ensures first { PullsFirst endpoint.old endpoint.new self.old self.new id (pull_of out.new) }
+        ensures rest { StreamsAlone self.old self.new }
+        ensures list { ListsNext endpoint.old id (list_of out.new) }
+    {
+        let Ok(()) = self.streams.enter(id, SessionId::from(id), id.is_request()) else {
+            return fail(out, Fault::Memory);
+        };
+        endpoint.pull_block(id, out);
+        match session_of(out) {
+            Some(session) => self.begin(endpoint, id, session, out),
+            None => self.streams.forget(id),
+        }
+    }
+
+    // The stream is of this session. What is sent on it is no message.
+    fn begin(
+        &mut self,
+        endpoint: &mut Endpoint,
+        id: StreamId,
+        session: SessionId,
+        out: &mut BlockPull,
+    )
+        requires { stored_at self.old id ≡ Some (entered id (is_request_stream id)) }
+        ensures taken { is_request_stream session ≡ true → (out.new ≡ out.old) × Sets self.old.sessions.streams self.new.sessions.streams id (entered session (is_request_stream id))
+            × Enters endpoint.old endpoint.new id (is_request_stream id) }
+        ensures wrong { is_request_stream session ≡ false → (pull_of out.new ≡ Fault (Closing (unwrap_or endpoint.old.closed id_error))) × (list_of out.new ≡ None)
+            × Forgets self.old self.new id × (endpoint.new ≡ record endpoint.old { closed = Some (unwrap_or endpoint.old.closed id_error) }) }
+        ensures rest { StreamsAlone self.old self.new }
+    {
+        if session.into_inner() % 4 != 0 {
+            self.streams.forget(id);
+            let code = endpoint.close_for(Code::H3_ID_ERROR);
+            return fail(out, Fault::Connection(code));
+        }
+        self.streams.set_session(id, session);
+        if id.is_request() {
+            // (refused only if it was reset before)
+            let _reset = endpoint.reset(id);
+        }
+    }
+
+    /// Nothing more of a stream is needed.
+    pub fn cancel(&mut self, endpoint: &mut Endpoint, id: StreamId) -> Result<(), Refusal>
+        ensures { CancelsOn endpoint.old endpoint.new self.old self.new id result }
+    {
+        if !self.reads(id) {
+            return endpoint.cancel(id);
+        }
+        match endpoint.fault() {
+            Some(code) => Err(Refusal::Closed(code)),
+            None => self.streams.cancel(id),
+        }
+    }
+}

@@ -1,0 +1,184 @@
+//! What is sent on streams, those of sessions among them.
+ghost use Rattle.std.specs.Prelude.{◌≡◌, ◌≤◌, ◌+◌, [], length, is_some, true, false};
+ghost use Rattle.h3_webtransport_streams.specs.SessionStream.{receiver_of, sender_of};
+ghost use Rattle.h3_connection.specs.ReadingContracts.{ShowsFinished, ShowsOutgoing, ShowsReset, ShowsWaiting};
+ghost use Rattle.h3_session.specs.Copied.{CopiesTo, TellsEnd};
+ghost use Rattle.h3_webtransport.specs.Closing.{ClosesOn, Stops};
+ghost use Rattle.h3_webtransport.specs.Joint.{has_stream, stored_at};
+ghost use Rattle.h3_webtransport.specs.Sending.{raw_finished, raw_refusal, raw_reset, raw_waiting, CopiesRaw, FinishesOn, ResetsOn, SendsRaw, TakesEndOn};
+
+use crate::sessions::Sessions;
+use bytes::Bytes;
+use h3_connection::event::Refusal;
+use h3_proto::stream::StreamId;
+use h3_session::endpoint::{ClosedStream, Endpoint};
+
+impl Sessions {
+    /// Sends bytes on a stream of a session, as they are. Refused are first every call after a connection fault, then a stream of no session, and one
+    /// that this side did not open and that goes one way. Next is one that was finished or reset. `OutOfMemory` comes last. Refused bytes come back.
+    pub fn send_raw(
+        &mut self,
+        endpoint: &Endpoint,
+        id: StreamId,
+        bytes: Bytes,
+    ) -> Result<(), (Refusal, Bytes)>
+        ensures { SendsRaw endpoint.now self.old self.new id bytes result }
+    {
+        if let Some(code) = endpoint.fault() {
+            return Err((Refusal::Closed(code), bytes));
+        }
+        self.streams.send(id, bytes)
+    }
+
+    /// Why `send_raw` refuses bytes on a stream, out of memory aside.
+    pub fn raw_refusal(&self, endpoint: &Endpoint, id: StreamId) -> Option<Refusal>
+        ensures { result ≡ raw_refusal endpoint.now.closed (stored_at self.now id) [] }
+    {
+        if let Some(code) = endpoint.fault() {
+            return Some(Refusal::Closed(code));
+        }
+        self.streams.send_refusal(id)
+    }
+
+    /// All was sent on a stream.
+    pub fn finish(&mut self, endpoint: &mut Endpoint, id: StreamId) -> Result<(), Refusal>
+        ensures { FinishesOn endpoint.old endpoint.new self.old self.new id result }
+    {
+        if !self.has(id) {
+            return endpoint.finish(id);
+        }
+        if let Some(code) = endpoint.fault() {
+            return Err(Refusal::Closed(code));
+        }
+        self.streams.finish(id)
+    }
+
+    /// Sending on a stream ends here, and what waits is dropped.
+    pub fn reset(&mut self, endpoint: &mut Endpoint, id: StreamId) -> Result<(), Refusal>
+        ensures { ResetsOn endpoint.old endpoint.new self.old self.new id result }
+    {
+        if !self.has(id) {
+            return endpoint.reset(id);
+        }
+        if let Some(code) = endpoint.fault() {
+            return Err(Refusal::Closed(code));
+        }
+        self.streams.reset(id)
+    }
+
+    /// Gives a stream up both ways, as that of the endpoint does. Nothing is kept of a stream of a session then: also call it when QUIC has closed such
+    /// a stream.
+    pub fn close_stream(
+        &mut self,
+        endpoint: &mut Endpoint,
+        id: StreamId,
+    ) -> Result<ClosedStream, Refusal>
+        ensures { ClosesOn endpoint.old endpoint.new self.old self.new id result }
+    {
+        if !self.has(id) {
+            return endpoint.close_stream(id);
+        }
+        if let Some(code) = endpoint.fault() {
+            return Err(Refusal::Closed(code));
+        }
+        let stop_sending = match self.stop(endpoint, id) {
+            Ok(stop_sending) => stop_sending,
+            Err(refusal) => return Err(refusal),
+        };
+        let reset_stream = self.streams.reset(id).is_ok();
+        self.streams.forget(id);
+        Ok(ClosedStream {
+            stop_sending,
+            reset_stream,
+        })
+    }
+
+    // What comes on a stream of a session is given up, by the endpoint if it reads it as a request. Answers whether the end or a reset is still to come.
+    fn stop(&self, endpoint: &mut Endpoint, id: StreamId) -> Result<bool, Refusal>
+        ensures { Stops (receiver_of (stored_at self.now id)) endpoint.old endpoint.new id result }
+    {
+        if self.streams.receives(id) {
+            return Ok(self.streams.arrival_refusal(id).is_none());
+        }
+        if !id.is_request() {
+            return Ok(endpoint.bytes_refusal(id).is_none());
+        }
+        match endpoint.close_stream(id) {
+            Ok(frames) => Ok(frames.stop_sending),
+            Err(refusal) => Err(refusal),
+        }
+    }
+
+    /// Whether anything can be sent on a stream.
+    pub fn has_outgoing(&self, endpoint: &Endpoint, id: StreamId) -> bool
+        ensures own { has_stream self.now id ≡ true → result ≡ is_some (sender_of (stored_at self.now id)) }
+        ensures other { has_stream self.now id ≡ false → ShowsOutgoing endpoint.now id result }
+    {
+        if self.has(id) {
+            return self.streams.has_sender(id);
+        }
+        endpoint.has_outgoing(id)
+    }
+
+    /// Whether sending on a stream was finished.
+    pub fn is_finished(&self, endpoint: &Endpoint, id: StreamId) -> bool
+        ensures own { has_stream self.now id ≡ true → result ≡ raw_finished self.now id }
+        ensures other { has_stream self.now id ≡ false → ShowsFinished endpoint.now id result }
+    {
+        if self.has(id) {
+            return self.streams.is_finished(id);
+        }
+        endpoint.is_finished(id)
+    }
+
+    /// Whether sending on a stream was reset.
+    pub fn is_reset(&self, endpoint: &Endpoint, id: StreamId) -> bool
+        ensures own { has_stream self.now id ≡ true → result ≡ raw_reset self.now id }
+        ensures other { has_stream self.now id ≡ false → ShowsReset endpoint.now id result }
+    {
+        if self.has(id) {
+            return self.streams.is_reset(id);
+        }
+        endpoint.is_reset(id)
+    }
+
+    /// How many bytes wait on a stream.
+    pub fn waiting(&self, endpoint: &Endpoint, id: StreamId) -> usize
+        ensures own { has_stream self.now id ≡ true → result ≡ length (raw_waiting self.now id) }
+        ensures other { has_stream self.now id ≡ false → ShowsWaiting endpoint.now id result }
+    {
+        if self.has(id) {
+            return self.streams.waiting(id);
+        }
+        endpoint.waiting(id)
+    }
+
+    /// Copies the first bytes that wait on a stream to the front of `out`, as that of the endpoint does.
+    pub fn copy_with_end(
+        &self,
+        endpoint: &Endpoint,
+        id: StreamId,
+        out: &mut [u8],
+    ) -> (usize, usize, bool)
+        ensures own { has_stream self.now id ≡ true → CopiesRaw self.now id out.old out.new result.0 result.1 result.2 }
+        ensures other { has_stream self.now id ≡ false → CopiesTo endpoint.now id result.0 result.1 out.old out.new × TellsEnd endpoint.now id (result.0 + result.1) result.2 }
+        ensures within { result.0 ≤ length out.old }
+    {
+        if !self.has(id) {
+            return endpoint.copy_with_end(id, out);
+        }
+        let count = self.streams.copy_to(id, out);
+        let is_last = self.streams.is_finished(id) && self.streams.waiting(id) == count;
+        (count, 0, is_last)
+    }
+
+    /// QUIC took the FIN of a stream.
+    pub fn end_taken(&mut self, endpoint: &mut Endpoint, id: StreamId) -> bool
+        ensures { TakesEndOn endpoint.old endpoint.new self.old self.new id result }
+    {
+        if self.has(id) {
+            return self.streams.end_taken(id);
+        }
+        endpoint.end_taken(id)
+    }
+}

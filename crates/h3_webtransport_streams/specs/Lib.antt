@@ -1,0 +1,11 @@
+pub mod Sender
+pub mod Receiver
+pub mod SessionStream
+pub mod Sought
+pub mod Begun
+pub mod Closing
+pub mod Sessions
+pub mod Codes
+pub mod Carrying
+pub mod Sent
+pub mod Rows

@@ -1,0 +1,315 @@
+//! The streams in a map by their ids.
+ghost use Rattle.std.specs.List.{concat};
+ghost use Rattle.std.specs.Prelude.{◌≡◌, ◌≢◌, ℕ, ◌+◌, ◌<◌, ◌^◌, length, unwrap_or, true, false, is_none, Some, None, IfErr, IfNone, IfOk, IfSome, IsSome, OnErr, OnOk};
+ghost use Rattle.h3_connection.specs.Answers.{call_refused};
+ghost use Rattle.h3_connection.specs.Calls.{AllSame, Sets};
+ghost use Rattle.h3_connection.specs.NextWaiting.{IsLeast};
+ghost use Rattle.h3_connection.specs.State.{kept_at};
+ghost use Rattle.h3_connection.specs.declared.event.Pull.TheVariants.{NoMessages};
+ghost use Rattle.h3_connection.specs.declared.event.Refusal.TheVariants.{NotOpen, OutOfMemory};
+ghost use Rattle.h3_webtransport_streams.specs.Begun.{Delivers, TakesBytes, refusal_of, stream_or_unseen};
+ghost use Rattle.h3_webtransport_streams.specs.Closing.{Closes, closing};
+ghost use Rattle.h3_webtransport_streams.specs.Receiver.{canceled, pulled};
+ghost use Rattle.h3_webtransport_streams.specs.Sender.{cut_off, end_told, finished, held, sent};
+ghost use Rattle.h3_webtransport_streams.specs.SessionStream.{Acts, Changes, answer_at, passes, receiving, sending, takes, unread_of};
+ghost use Rattle.h3_webtransport_streams.specs.Sought.{is_next, is_sought, lesser_of};
+
+use crate::receiver::Begun;
+use crate::stream::{Sought, StoredStream};
+use bytes::Bytes;
+use h3_connection::event::{DeliverError, Pull, Refusal};
+use h3_proto::stream::StreamId;
+use h3_proto::webtransport::SessionId;
+use std::alloc::{AllocError, Global};
+use std::collections::BTreeMap;
+
+/// The stream of this id.
+pub(super) fn get(streams: &BTreeMap<u64, StoredStream>, id: StreamId) -> Option<&StoredStream>
+    ensures some { IfSome result (λ stream. kept_at streams.now.entries id ≡ Some stream.now) }
+    ensures none { IfNone result (kept_at streams.now.entries id ≡ None) }
+{
+    streams.get(&id.into_inner())
+}
+
+/// Puts a stream there. An `Err` changes nothing: an allocation failed.
+pub(super) fn put(
+    streams: &mut BTreeMap<u64, StoredStream>,
+    id: StreamId,
+    stream: StoredStream,
+) -> Result<(), AllocError>
+    ensures ok { OnOk result (Sets streams.old.entries streams.new.entries id stream) }
+    ensures err { OnErr result (AllSame streams.old.entries streams.new.entries) }
+{
+    let Ok(_) = streams.insert(id.into_inner(), stream) else {
+        return Err(AllocError);
+    };
+    Ok(())
+}
+
+/// The stream of this id is of this session.
+pub(super) fn set_session(
+    streams: &mut BTreeMap<u64, StoredStream>,
+    id: StreamId,
+    session: SessionId,
+)
+    ensures { Changes (λ s. record s { session = Some session }) streams.old.entries streams.new.entries id }
+{
+    if let Some(stream) = streams.get_mut(&id.into_inner()) {
+        stream.set_session(session);
+    }
+}
+
+/// Takes the stream of this id out, if there is one.
+pub(super) fn take_out(streams: &mut BTreeMap<u64, StoredStream>, id: StreamId)
+    ensures here { kept_at streams.new.entries id ≡ None }
+    ensures others { (q : ℕ) → q ≢ id → kept_at streams.new.entries q ≡ kept_at streams.old.entries q }
+{
+    drop(streams.remove(&id.into_inner()));
+}
+
+/// Sends bytes on the stream of this id.
+pub(super) fn send(
+    streams: &mut BTreeMap<u64, StoredStream>,
+    id: StreamId,
+    bytes: Bytes,
+) -> Result<(), (Refusal, Bytes)>
+    ensures ok { OnOk result (Acts (Some NotOpen) (sending (Some NotOpen) (λ s. sent s bytes)) streams.old.entries streams.new.entries id None) }
+    ensures why { IfErr result (λ e. e.0 ≡ unwrap_or (answer_at (Some NotOpen) (sending (Some NotOpen) (λ s. sent s bytes)) (kept_at streams.old.entries id)) OutOfMemory) }
+    ensures err { IfErr result (λ e. (e.1 ≡ bytes) × AllSame streams.old.entries streams.new.entries) }
+{
+    let Some(stream) = streams.get_mut(&id.into_inner()) else {
+        return Err((Refusal::NotOpen, bytes));
+    };
+    match stream.send(bytes) {
+        Ok(()) => Ok(()),
+        Err(refused) => Err(refused),
+    }
+}
+
+/// All was sent on the stream of this id.
+pub(super) fn finish(streams: &mut BTreeMap<u64, StoredStream>, id: StreamId) -> Result<(), Refusal>
+    ensures { Acts (Some NotOpen) (sending (Some NotOpen) finished) streams.old.entries streams.new.entries id (call_refused result) }
+{
+    match streams.get_mut(&id.into_inner()) {
+        Some(stream) => stream.finish(),
+        None => Err(Refusal::NotOpen),
+    }
+}
+
+/// Sending on the stream of this id ends here.
+pub(super) fn reset(
+    streams: &mut BTreeMap<u64, StoredStream>,
+    alloc: Global,
+    id: StreamId,
+) -> Result<(), Refusal>
+    ensures { Acts (Some NotOpen) (sending (Some NotOpen) cut_off) streams.old.entries streams.new.entries id (call_refused result) }
+{
+    match streams.get_mut(&id.into_inner()) {
+        Some(stream) => stream.reset(alloc),
+        None => Err(Refusal::NotOpen),
+    }
+}
+
+/// Takes the first bytes that wait on the stream of this id, at most all.
+pub(super) fn advance(streams: &mut BTreeMap<u64, StoredStream>, id: StreamId, count: usize)
+    ensures { Changes (λ s. takes s count) streams.old.entries streams.new.entries id }
+{
+    if let Some(stream) = streams.get_mut(&id.into_inner()) {
+        stream.advance(count);
+    }
+}
+
+/// QUIC took the end of the stream of this id, if that was next: it answers whether it was.
+pub(super) fn end_taken(streams: &mut BTreeMap<u64, StoredStream>, id: StreamId) -> bool
+    ensures { Acts false (sending false end_told) streams.old.entries streams.new.entries id result }
+{
+    match streams.get_mut(&id.into_inner()) {
+        Some(stream) => stream.end_taken(),
+        None => false,
+    }
+}
+
+/// QUIC has no credit for the stream of this id, or has it again. It answers whether this side sends on it.
+pub(super) fn hold(streams: &mut BTreeMap<u64, StoredStream>, id: StreamId, is_held: bool) -> bool
+    ensures { Acts false (sending false (λ s. (true, held s is_held))) streams.old.entries streams.new.entries id result }
+{
+    match streams.get_mut(&id.into_inner()) {
+        Some(stream) => stream.hold(is_held),
+        None => false,
+    }
+}
+
+/// What comes next on the stream of this id.
+pub(super) fn pull(streams: &mut BTreeMap<u64, StoredStream>, id: StreamId) -> Pull
+    ensures { Acts NoMessages (λ s. receiving NoMessages (λ r. pulled r s.session) s) streams.old.entries streams.new.entries id result }
+{
+    match streams.get_mut(&id.into_inner()) {
+        Some(stream) => stream.pull(),
+        None => Pull::NoMessages,
+    }
+}
+
+/// Nothing more of the stream of this id is needed.
+pub(super) fn cancel(
+    streams: &mut BTreeMap<u64, StoredStream>,
+    alloc: Global,
+    id: StreamId,
+) -> Result<(), Refusal>
+    ensures { Acts (Some NotOpen) (receiving (Some NotOpen) canceled) streams.old.entries streams.new.entries id (call_refused result) }
+{
+    match streams.get_mut(&id.into_inner()) {
+        Some(stream) => stream.cancel(alloc),
+        None => Err(Refusal::NotOpen),
+    }
+}
+
+/// Puts a stream there of which nothing came, if there is none, and returns whether there was none. An `Err` changes nothing.
+fn open(
+    streams: &mut BTreeMap<u64, StoredStream>,
+    alloc: Global,
+    id: StreamId,
+) -> Result<bool, AllocError>
+    ensures ok { OnOk result (Sets streams.old.entries streams.new.entries id (stream_or_unseen streams.old.entries id)) }
+    ensures absent { IfOk result (λ is_new. is_new ≡ is_none (kept_at streams.old.entries id)) }
+    ensures err { OnErr result (AllSame streams.old.entries streams.new.entries) }
+{
+    if streams.contains_key(&id.into_inner()) {
+        return Ok(false);
+    }
+    let Ok(_) = streams.insert(id.into_inner(), StoredStream::unseen(alloc)) else {
+        return Err(AllocError);
+    };
+    Ok(true)
+}
+
+/// Why what comes on the stream of this id is refused.
+pub(super) fn arrival_refusal(
+    streams: &BTreeMap<u64, StoredStream>,
+    id: StreamId,
+) -> Option<Refusal>
+    ensures { result ≡ refusal_of (stream_or_unseen streams.now.entries id).receiver }
+{
+    match streams.get(&id.into_inner()) {
+        Some(stream) => stream.arrival_refusal(),
+        None => None,
+    }
+}
+
+/// How many bytes came on the stream of this id and were not pulled.
+pub(super) fn unread_len(streams: &BTreeMap<u64, StoredStream>, id: StreamId) -> usize
+    ensures { result ≡ length (concat (unread_of (stream_or_unseen streams.now.entries id).receiver)) }
+{
+    match streams.get(&id.into_inner()) {
+        Some(stream) => stream.unread_len(),
+        None => 0,
+    }
+}
+
+/// Bytes come on a stream that is there, and takes them.
+fn arrive_there(
+    streams: &mut BTreeMap<u64, StoredStream>,
+    alloc: Global,
+    id: StreamId,
+    bytes: Bytes,
+) -> Result<Begun, Bytes>
+    requires there { IsSome (kept_at streams.old.entries id) }
+    requires takes { refusal_of (stream_or_unseen streams.old.entries id).receiver ≡ None }
+    requires fits { length (concat (unread_of (stream_or_unseen streams.old.entries id).receiver)) + length bytes < 2 ^ 64 }
+    ensures ok { IfOk result (TakesBytes streams.old.entries streams.new.entries id bytes (stream_or_unseen streams.old.entries id) (stream_or_unseen streams.old.entries id).receiver) }
+    ensures err { IfErr result (λ back. (back ≡ bytes) × AllSame streams.old.entries streams.new.entries) }
+{
+    let Some(stream) = streams.get_mut(&id.into_inner()) else {
+        unreachable!()
+    };
+    stream.arrive(alloc, bytes)
+}
+
+/// Bytes come, and open the stream if it is not there. An `Err` changes nothing.
+pub(super) fn deliver(
+    streams: &mut BTreeMap<u64, StoredStream>,
+    alloc: Global,
+    id: StreamId,
+    bytes: Bytes,
+) -> Result<Begun, DeliverError>
+    ensures { Delivers streams.old.entries streams.new.entries id bytes result }
+{
+    if let Some(refusal) = arrival_refusal(streams, id) {
+        return Err(DeliverError::Refused(refusal));
+    }
+    if unread_len(streams, id).checked_add(bytes.len()).is_none() {
+        return Err(DeliverError::OutOfMemory(bytes));
+    }
+    let Ok(is_new) = open(streams, alloc, id) else {
+        return Err(DeliverError::OutOfMemory(bytes));
+    };
+    match arrive_there(streams, alloc, id, bytes) {
+        Ok(begun) => Ok(begun),
+        Err(back) => {
+            if is_new {
+                take_out(streams, id);
+            }
+            Err(DeliverError::OutOfMemory(back))
+        }
+    }
+}
+
+/// The end of a stream comes (no code), or its reset, and opens it if it is not there. An `Err` changes nothing.
+pub(super) fn close(
+    streams: &mut BTreeMap<u64, StoredStream>,
+    alloc: Global,
+    id: StreamId,
+    code: Option<u64>,
+) -> Result<(), DeliverError>
+    ensures { Closes streams.old.entries streams.new.entries id code result }
+{
+    if let Some(refusal) = arrival_refusal(streams, id) {
+        return Err(DeliverError::Refused(refusal));
+    }
+    let Ok(_) = open(streams, alloc, id) else {
+        return Err(DeliverError::OutOfMemory(Bytes::new()));
+    };
+    let Some(stream) = streams.get_mut(&id.into_inner()) else {
+        unreachable!()
+    };
+    stream.close(alloc, code);
+    Ok(())
+}
+
+// Whether the stream of this id is there, is not before `from`, and is looked for.
+fn is_next(streams: &BTreeMap<u64, StoredStream>, id: u64, sought: Sought, from: u64) -> bool
+    ensures { result ≡ is_next sought from id (kept_at streams.now.entries id) }
+{
+    if id < from {
+        return false;
+    }
+    match streams.get(&id) {
+        Some(stream) => stream.is_sought(sought),
+        None => false,
+    }
+}
+
+/// The least id from `from` on of a stream that is looked for. It goes over all streams.
+pub(super) fn next(streams: &BTreeMap<u64, StoredStream>, sought: Sought, from: u64) -> Option<u64>
+    ensures value { IsLeast (λ id. passes (is_sought sought) (kept_at streams.now.entries id)) from result }
+    ensures fits { IfSome result (λ id. id < 2 ^ 64) }
+{
+    let mut found = None;
+    // (the label names the loop in its proof)
+    'ids: for id in streams.keys() {
+        if is_next(streams, *id, sought, from) {
+            found = lesser(found, Some(*id));
+        }
+    }
+    found
+}
+
+// The lesser of both, or the one that is there.
+fn lesser(one: Option<u64>, other: Option<u64>) -> Option<u64>
+    ensures { result ≡ lesser_of one other }
+{
+    match (one, other) {
+        (Some(first), Some(second)) => { if second < first { other } else { one } }
+        (Some(_), None) => one,
+        (None, _) => other,
+    }
+}
