@@ -1,5 +1,5 @@
 #!/usr/bin/env python3
-"""Through which functions does a header section go? The two walks of docs/ARCHITECTURE.md, by the sources.
+"""Through which functions does a header section go? The two walks of docs/WALKS.md, by the sources.
 
     python3 scripts/gate/walks.py           one line 'ok ..', or 'failed ..' for each function that does not stand so, and each wrong count
 
@@ -12,8 +12,8 @@ import sys
 
 from texts import ROOT, read, say
 
-PAGE = "docs/ARCHITECTURE.md"
-WALK = re.compile(r"^\*\*(Out|In)\*\*: (\d+) functions, (\d+) changes of crate\.(.*?)\n\n", re.M | re.S)
+PAGE = "docs/WALKS.md"
+WALK = re.compile(r"^\*\*(Out|In)\*\*: (\d+) functions, (\d+) changes of crate\.(.*?)\n(?:\n|\Z)", re.M | re.S)
 
 
 def source(crate):

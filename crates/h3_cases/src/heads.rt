@@ -239,7 +239,7 @@ fn counted(told: &mut Told, header: Header) {
     told.then_show(header.into_fields().len());
 }
 
-/// The text of a protocol, which of the two it is, and whether it may be sent where any is taken.
+/// The text of a protocol, which of the two it is, and whether it may be sent if any is taken.
 fn protocol(told: &mut Told, words: &[&str]) {
     let word = match words {
         [] => "",

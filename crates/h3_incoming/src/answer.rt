@@ -91,7 +91,7 @@ pub trait Answer: Drop {
         ensures list { OnOk result (IfSome (listed self.new) (λ l. l ≡ fields)) }
         ensures memory { OnErr result (asks any_protocol fields) };
 
-    /// The memory of fields that are not handed out may serve again. What the answer is then is not said: the caller gives one after this
+    /// The memory of fields that are not returned may serve again. What the answer is then is not said: the caller gives one after this
     /// call.
     fn keep(&mut self, fields: FieldBlock);
 

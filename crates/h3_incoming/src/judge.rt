@@ -126,15 +126,7 @@ fn judge_fields<O: Answer>(
     ensures good { OnErr result (IsHeadUnlessMany announced.now.choices.extensions.any_protocol fields) }
 {
     let any_protocol = announced.choices.extensions.any_protocol;
-    let read = read_at(
-        alloc,
-        side,
-        announced,
-        place,
-        content,
-        response,
-        &fields.fields(),
-    );
+    let read = read_at(alloc, side, announced, place, content, response, &fields);
     let outline = match read.0 {
         Ok(outline) => outline,
         Err(e) => {

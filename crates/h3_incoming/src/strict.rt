@@ -8,7 +8,7 @@ ghost use Rattle.h3_messages.specs.Outline.{IsListRead};
 use h3_connection::event::Malformation;
 use h3_connection::place::Place;
 use h3_connection::setup::Announced;
-use h3_field::Fields;
+use h3_field::{FieldBlock, Fields};
 use h3_header::MOST_NAMES;
 use h3_messages::{
     Content, ListError, Outline, Seen, Survey, Violation, read_list, request_by, response_by,
@@ -28,11 +28,30 @@ pub(crate) struct StrictRead {
     pub(crate) response: Option<Content>,
 }
 
-/// What a field list says at its place, and with which outline it reads as a header. In front of it such content was left, and this was
-/// known of the content of a response. If messages are strict, one walk tells all of it. If a field is malformed, a second walk finds what
-/// the list says.
-#[inline(always)]
+/// What the list in a block says at its place, and with which outline it reads as a header. In front of it such content was left, and this
+/// was known of the content of a response. If messages are strict, one walk tells all of it. If a field is malformed, a second walk finds
+/// what the list says.
 pub(crate) fn read_at(
+    alloc: Global,
+    side: Side,
+    announced: &Announced,
+    place: Place,
+    content: Content,
+    response: Option<Content>,
+    block: &FieldBlock,
+) -> (Result<Outline, ListError>, StrictRead)
+    ensures list { IsListRead announced.now.choices.extensions.any_protocol block.now result.0 }
+    ensures broken { result.1.broken ≡ broken_rule side announced.now place block.now }
+    ensures content { result.1.content ≡ content_at side announced.now place content block.now }
+    ensures response { result.1.response ≡ response_at side announced.now place response block.now }
+{
+    let fields = block.fields();
+    read_fields(alloc, side, announced, place, content, response, &fields)
+}
+
+// The same of the list itself.
+#[inline(always)]
+fn read_fields(
     alloc: Global,
     side: Side,
     announced: &Announced,

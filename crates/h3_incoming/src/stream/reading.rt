@@ -35,7 +35,7 @@ impl IncomingStream {
     }
 
     /// Reads the type and length of a DATA frame where they lie in bytes that came and end with them. The stream is then as after a delivery
-    /// of the bytes, and a pull that waits for more of them (`Pending`). Nothing is copied. It is so where nothing of the stream is kept,
+    /// of the bytes, and a pull that waits for more of them (`Pending`). Nothing is copied. It is so if nothing of the stream is kept,
     /// in a body whose content may be as long. Otherwise the answer is `false`, and nothing has changed.
     #[tactic(auto, using(crate::proofs::BodyPieces::head_begins))]
     pub fn begin_body(&mut self, alloc: Global, bytes: &[u8]) -> bool

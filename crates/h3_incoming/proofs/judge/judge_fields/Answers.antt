@@ -1,4 +1,4 @@
-use Rattle.std.proofs.Common.{◌≡◌, ◌∙◌, ap, inl, inr, subst, sym}
+use Rattle.std.proofs.Common.{◌≡◌, ◌∙◌, ap, inl, inr, sym}
 use Rattle.h3_connection.specs.Pulling.{head_or_trailer, is_memory, with_content}
 use Rattle.h3_connection.specs.StrictMessages.{broken_rule, if_whole, content_at, response_at}
 use Rattle.h3_connection.specs.declared.event.Pull.TheVariants as pull
@@ -8,7 +8,7 @@ use Rattle.h3_incoming.specs.Judging.{judged_as}
 use Rattle.h3_incoming.specs.declared.judge.Judged.TheVariants as judge
 use Rattle.h3_messages.specs.declared.outline.Outline.{Outline}
 use Rattle.h3_incoming.proofs.JudgeLaws.{judged_behind, malformed_by, no_refusal, read_head, read_none}
-use Rattle.h3_messages.specs.Outline.{IsListRead, refusal_by}
+use Rattle.h3_messages.specs.Outline.{refusal_by}
 use Rattle.h3_messages.specs.OutlineLaws.{many_fields, never_none, outlined_head, told_outline, told_refusal}
 use Rattle.h3_incoming.proofs.judge.judge_fields.Goals as goal
 
@@ -16,28 +16,27 @@ pub returns-in-Some-clause-judged : goal.returns-in-Some-clause-judged
 returns-in-Some-clause-judged g c = λ id r i replies few at left told.
     let own = c.args.announced.now in
     let any = own.choices.extensions.any_protocol in
-    let list = c.fields.ensures in
-    let read = subst (λ fs. IsListRead any fs c.read_at-read.result.0) list c.read_at-read.ensures.list in
-    let response = c.read_at-read.ensures.response ∙ ap (response_at c.args.side own c.args.place c.args.response) list in
+    let read = c.read_at-read.ensures.list in
+    let response = c.read_at-read.ensures.response in
     malformed_by (refusal_by c.in-Err.e) c.in-Some.why (sym c.in-Some.is ∙ c.malformation_in.ensures) _ (λ why some is.
     read_none c.args.side own id r i replies c.args.fields c.args.place c.args.response c.read_at-read.result.1.response c.in-Some.why why few (told_refusal any c.args.fields c.read_at-read.result.0 c.in-Err.e read c.in-Err.is why some) is at told response)
 
 pub returns-in-None-clause-memory : goal.returns-in-None-clause-memory
 returns-in-None-clause-memory g c =
     let any = c.args.announced.now.choices.extensions.any_protocol in
-    let read = subst (λ fs. IsListRead any fs c.read_at-read.result.0) c.fields.ensures c.read_at-read.ensures.list in
+    let read = c.read_at-read.ensures.list in
     inl (many_fields any c.args.fields c.read_at-read.result.0 c.in-Err.e read c.in-Err.is (no_refusal (refusal_by c.in-Err.e) (sym c.in-None.is ∙ c.malformation_in.ensures)))
 
 pub returns-in-None-clause-good : goal.returns-in-None-clause-good
 returns-in-None-clause-good g c = λ why none.
     let any = c.args.announced.now.choices.extensions.any_protocol in
-    let read = subst (λ fs. IsListRead any fs c.read_at-read.result.0) c.fields.ensures c.read_at-read.ensures.list in
+    let read = c.read_at-read.ensures.list in
     many_fields any c.args.fields c.read_at-read.result.0 c.in-Err.e read c.in-Err.is (no_refusal (refusal_by c.in-Err.e) (sym c.in-None.is ∙ c.malformation_in.ensures))
 
 pub give_message-requires : goal.give_message-requires
 give_message-requires g c =
     let any = c.args.announced.now.choices.extensions.any_protocol in
-    told_outline any c.args.fields c.read_at-read.result.0 c.in-Ok.outline (subst (λ fs. IsListRead any fs c.read_at-read.result.0) c.fields.ensures c.read_at-read.ensures.list) c.in-Ok.is
+    told_outline any c.args.fields c.read_at-read.result.0 c.in-Ok.outline c.read_at-read.ensures.list c.in-Ok.is
 
 pub returns-in-Malformed-clause-judged : goal.returns-in-Malformed-clause-judged
 returns-in-Malformed-clause-judged g c = λ id r i replies few at left told.
@@ -46,16 +45,15 @@ returns-in-Malformed-clause-judged g c = λ id r i replies few at left told.
     let side = c.args.side in
     let place = c.args.place in
     let fields = c.args.fields in
-    let list = c.fields.ensures in
-    let read = subst (λ fs. IsListRead any fs c.read_at-read.result.0) list c.read_at-read.ensures.list in
+    let read = c.read_at-read.ensures.list in
     outlined_head (head_by any fields) c.in-Ok.outline (told_outline any fields c.read_at-read.result.0 c.in-Ok.outline read c.in-Ok.is) _ (λ h head is.
     let rule : if_whole i.content (broken_rule side own place fields) ≡ c.if_whole-broken.result =
-    ap (λ l. if_whole l (broken_rule side own place fields)) left ∙ ap (λ l. if_whole c.args.content (broken_rule side own place l)) (sym list)
+    ap (λ l. if_whole l (broken_rule side own place fields)) left
     ∙ ap (if_whole c.args.content) (sym (c.read_at-read.ensures.broken)) ∙ sym c.if_whole-broken.ensures in
     let behind : (with_content side own i fields).content ≡ c.read_at-read.result.1.content =
-    ap (λ p. content_at side own p i.content fields) at ∙ ap (λ l. content_at side own place l fields) left ∙ ap (content_at side own place c.args.content) (sym list) ∙ sym (c.read_at-read.ensures.content) in
+    ap (λ p. content_at side own p i.content fields) at ∙ ap (λ l. content_at side own place l fields) left ∙ sym (c.read_at-read.ensures.content) in
     let response : (with_content side own i fields).response ≡ c.read_at-read.result.1.response =
-    ap (λ p. response_at side own p i.response fields) at ∙ ap (λ k. response_at side own place k fields) told ∙ ap (response_at side own place c.args.response) (sym list) ∙ sym (c.read_at-read.ensures.response) in
+    ap (λ p. response_at side own p i.response fields) at ∙ ap (λ k. response_at side own place k fields) told ∙ sym (c.read_at-read.ensures.response) in
     read_head side own id r i replies fields place h few head at
     ∙ ap (λ b. head_or_trailer side id (with_content side own i fields) replies b place h) rule
     ∙ c.judge_message-judged.ensures id (with_content side own i fields) replies h is at behind response
@@ -69,16 +67,15 @@ returns-in-Ok-give_message-clause-judged g c = λ id r i replies few at left tol
     let side = c.args.side in
     let place = c.args.place in
     let fields = c.args.fields in
-    let list = c.fields.ensures in
-    let read = subst (λ fs. IsListRead any fs c.read_at-read.result.0) list c.read_at-read.ensures.list in
+    let read = c.read_at-read.ensures.list in
     outlined_head (head_by any fields) c.in-Ok.outline (told_outline any fields c.read_at-read.result.0 c.in-Ok.outline read c.in-Ok.is) _ (λ h head is.
     let rule : if_whole i.content (broken_rule side own place fields) ≡ c.if_whole-broken.result =
-    ap (λ l. if_whole l (broken_rule side own place fields)) left ∙ ap (λ l. if_whole c.args.content (broken_rule side own place l)) (sym list)
+    ap (λ l. if_whole l (broken_rule side own place fields)) left
     ∙ ap (if_whole c.args.content) (sym (c.read_at-read.ensures.broken)) ∙ sym c.if_whole-broken.ensures in
     let behind : (with_content side own i fields).content ≡ c.read_at-read.result.1.content =
-    ap (λ p. content_at side own p i.content fields) at ∙ ap (λ l. content_at side own place l fields) left ∙ ap (content_at side own place c.args.content) (sym list) ∙ sym (c.read_at-read.ensures.content) in
+    ap (λ p. content_at side own p i.content fields) at ∙ ap (λ l. content_at side own place l fields) left ∙ sym (c.read_at-read.ensures.content) in
     let response : (with_content side own i fields).response ≡ c.read_at-read.result.1.response =
-    ap (λ p. response_at side own p i.response fields) at ∙ ap (λ k. response_at side own place k fields) told ∙ ap (response_at side own place c.args.response) (sym list) ∙ sym (c.read_at-read.ensures.response) in
+    ap (λ p. response_at side own p i.response fields) at ∙ ap (λ k. response_at side own place k fields) told ∙ sym (c.read_at-read.ensures.response) in
     let kind = c.kind_at-kind.ensures ∙ ap (λ (o : Outline). kind_at side place o.status) is in
     read_head side own id r i replies fields place h few head at
     ∙ ap (λ b. head_or_trailer side id (with_content side own i fields) replies b place h) rule
@@ -90,7 +87,7 @@ returns-in-Ok-give_message-clause-judged g c = λ id r i replies few at left tol
 pub returns-in-Ok-give_message-clause-item : goal.returns-in-Ok-give_message-clause-item
 returns-in-Ok-give_message-clause-item g c =
     let any = c.args.announced.now.choices.extensions.any_protocol in
-    let read = subst (λ fs. IsListRead any fs c.read_at-read.result.0) c.fields.ensures c.read_at-read.ensures.list in
+    let read = c.read_at-read.ensures.list in
     outlined_head (head_by any c.args.fields) c.in-Ok.outline (told_outline any c.args.fields c.read_at-read.result.0 c.in-Ok.outline read c.in-Ok.is) _ (λ h head is.
     ap is_memory (c.in-Ok-give_message.ensures.head h head))
 
@@ -100,5 +97,5 @@ returns-in-Err-give_message-clause-memory g c = inr c.in-Err-give_message.ensure
 pub returns-in-Err-give_message-clause-good : goal.returns-in-Err-give_message-clause-good
 returns-in-Err-give_message-clause-good g c = λ why none.
     let any = c.args.announced.now.choices.extensions.any_protocol in
-    let read = subst (λ fs. IsListRead any fs c.read_at-read.result.0) c.fields.ensures c.read_at-read.ensures.list in
+    let read = c.read_at-read.ensures.list in
     absurd (never_none (head_by any c.args.fields) c.in-Ok.outline why (told_outline any c.args.fields c.read_at-read.result.0 c.in-Ok.outline read c.in-Ok.is) none)
