@@ -1,4 +1,7 @@
 -- A DATA frame's type and length are all that came, or what came is read on.
+use Rattle.std.proofs.Common.{ap, subst, sym, ◌∙◌}
+use Rattle.h3_session.specs.ReadingBodies.{BeginsBody}
+use Rattle.h3_c.specs.Seen.{Seen}
 use Rattle.h3_c.proofs.Reading.{begun_reads, reads_behind}
 use Rattle.h3_c.proofs.connection.Connection.read_on.Goals as goal
 
@@ -8,4 +11,5 @@ returns-then-not-begin c =
 
 pub returns : goal.returns
 returns c =
-    begun_reads c.args.self.now _ _ _ _ _ _ (c.begin.ensures.no_fin c.if-not-begin.false) (c.begin.ensures.begins c.if-not-begin.false) c.hold_none.ensures c.begin.ensures.events c.plain_shown.ensures
+    let begun = subst (λ (s : Seen). BeginsBody c.args.self.now.endpoint s.endpoint c.args.id c.args.bytes.now) (sym c.self.view_is) (c.begin.ensures.begins c.if-not-begin.false) in
+    begun_reads c.args.self.now _ _ _ _ _ _ (c.begin.ensures.no_fin c.if-not-begin.false) begun c.hold_none.ensures (ap (λ (s : Seen). s.events) c.self.view_is ∙ c.begin.ensures.events) c.plain_shown.ensures
