@@ -19,7 +19,8 @@ use h3_incoming::{BlockPull, BodyPlace, Told as PulledTold};
 use h3_proto::stream::StreamId;
 use std::alloc::Global;
 
-/// How many bytes a frame's type and length have at most (RFC 9114, section 7.1).
+/// How many bytes a frame's type and length have at least and at most (RFC 9114, section 7.1).
+const SHORTEST_HEAD: usize = 2;
 const LONGEST_HEAD: usize = 16;
 
 impl Connection {
@@ -98,7 +99,8 @@ impl Connection {
         ensures begins { result ≡ true → BeginsBody self.old.endpoint self.new.endpoint id bytes.now }
         ensures same { result ≡ false → IsSame self.old.endpoint self.new.endpoint }
     {
-        if fin > 0 || bytes.len() > LONGEST_HEAD {
+        let count = bytes.len();
+        if fin > 0 || count < SHORTEST_HEAD || count > LONGEST_HEAD {
             return false;
         }
         self.endpoint.begin_body(id, bytes)
