@@ -21,6 +21,7 @@ use std::alloc::Global;
 
 /// How many bytes a frame's type and length have at least and at most (RFC 9114, section 7.1).
 const SHORTEST_HEAD: usize = 2;
+
 const LONGEST_HEAD: usize = 16;
 
 impl Connection {
