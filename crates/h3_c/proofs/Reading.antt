@@ -1,14 +1,16 @@
 -- What a read of bytes comes to, by the calls that it makes.
 use Rattle.std.proofs.Common.{◌≡◌, ℕ, ◌<◌, ◌==◌, ◌&&◌, Bool, true, false, List, [], ◌∷◌, length, take, refl, sym, ap, subst, ◌∙◌, arith}
-use Rattle.std.specs.Prelude.{nat_lt, ◌^◌, Ok}
+use Rattle.std.specs.Prelude.{nat_lt, ◌^◌, Ok, Option, Some, None}
 use Rattle.std.proofs.lemmas.Bool.{eqb-true}
 use Rattle.h3_connection.specs.Calls.{AllSame, IsSame}
 use Rattle.h3_connection.specs.ReceivingContracts.{Delivers, PullsNext}
-use Rattle.h3_connection.specs.State.{EndpointState}
+use Rattle.h3_connection.specs.Endpoint.{EndpointHistory}
+use Rattle.h3_connection.specs.State.{EndpointState, StandsFor}
 use Rattle.h3_connection.specs.StreamSets.{Streams}
 use Rattle.h3_connection.specs.Shutdown.{is_rejected_in}
 use Rattle.h3_connection.specs.declared.event.Pull.TheVariants as pull
 use Rattle.h3_incoming.specs.FieldsPulls.{list_of, pull_of}
+use Rattle.h3_incoming.specs.declared.body_place.BodyPlace.{BodyPlace}
 use Rattle.h3_incoming.specs.declared.fields.FieldsItem.TheVariants as listed
 use Rattle.h3_incoming.specs.declared.fields.FieldsPull.{FieldsPull}
 use Rattle.h3_incoming.specs.declared.fields.FieldsPull.TheVariants as answer
@@ -21,8 +23,9 @@ use Rattle.h3_c.specs.Exported.{OnStream, Pulls, UnlessRejected}
 use Rattle.h3_c.specs.Seen.{Seen}
 use Rattle.h3_c.specs.Items.{plain, shown}
 use Rattle.h3_c.specs.Numbers.{ok}
-use Rattle.h3_c.specs.Reads.{ends_with, CopiesNext, ReadsCopied, RefusesEnd, TakesBytes, TakesEnd}
+use Rattle.h3_c.specs.Reads.{ends_with, CopiesNext, ReadsAt, ReadsCopied, ReadsNext, ReadsPlaced, RefusesEnd, TakesBytes, TakesEnd}
 use Rattle.h3_c.specs.Reads.ReadsCopied.{pulled}
+use Rattle.h3_c.proofs.QuietCalls.{stands_unchanged}
 
 pub takes_none : (e : EndpointState) (id : ℕ) (bytes : List ℕ) → length bytes ≡ 0 → TakesBytes e e id bytes
 takes_none e id [] h = refl
@@ -144,7 +147,7 @@ same_twice one two three first second =
     }
 
 -- what is read of an endpoint at which nothing changed
-pub copies_behind : (v u w : Seen) (id : ℕ) (bytes : List ℕ) (fin : ℕ) (n : Told) (before given : PulledItem) (used : ℕ) → IsSame v.endpoint u.endpoint → u.last ≡ v.last → u.events ≡ v.events
+copies_behind : (v u w : Seen) (id : ℕ) (bytes : List ℕ) (fin : ℕ) (n : Told) (before given : PulledItem) (used : ℕ) → IsSame v.endpoint u.endpoint → u.last ≡ v.last → u.events ≡ v.events
     → CopiesNext u w id bytes fin n before given used → CopiesNext v w id bytes fin n before given used
 copies_behind v u w id bytes fin n before given used same last events copies =
     let start_is : record u { endpoint = copies.start } ≡ record v { endpoint = copies.start } =
@@ -160,8 +163,41 @@ pub copies_from : (v u w : Seen) (id : ℕ) (bytes : List ℕ) (fin : ℕ) (n : 
 copies_from v u w id bytes fin n before given used same last events reads =
     copies_behind v u w id bytes fin n before given used same last events (record { start = u.endpoint; same = same_itself u.endpoint; reads = reads })
 
+places_behind : (v u w : Seen) (id : ℕ) (bytes : List ℕ) (p : BodyPlace) (n : Told) (given : PulledItem) (used : ℕ) → IsSame v.endpoint u.endpoint → u.events ≡ v.events
+    → ReadsPlaced u w id bytes p n given used → ReadsPlaced v w id bytes p n given used
+places_behind v u w id bytes p n given used same events r =
+    let stands : (e : EndpointHistory) → StandsFor v.endpoint e → StandsFor u.endpoint e = λ e h. stands_unchanged v.endpoint u.endpoint e same h in
+    record {
+      done = r.done;
+      used_is = r.used_is;
+      given_so = r.given_so;
+      reads = record {
+        within = r.reads.within;
+        some = r.reads.some;
+        accepted = λ e h. r.reads.accepted e (stands e h);
+        pulled = λ e h. r.reads.pulled e (stands e h);
+        stands = λ e h. r.reads.stands e (stands e h);
+      };
+      last = r.last;
+      events = r.events ∙ events;
+    }
+
+at_behind : (v u w : Seen) (id : ℕ) (bytes : List ℕ) (fin : ℕ) (n : Told) (before given : PulledItem) (used : ℕ) (o : Option BodyPlace) → IsSame v.endpoint u.endpoint → u.last ≡ v.last → u.events ≡ v.events
+    → ReadsAt o u w id bytes fin n before given used → ReadsAt o v w id bytes fin n before given used
+at_behind v u w id bytes fin n before given used None same last events r = copies_behind v u w id bytes fin n before given used same last events r
+at_behind v u w id bytes fin n before given used (Some p) same last events r = places_behind v u w id bytes p n given used same events r
+
+pub reads_behind : (v u w : Seen) (id : ℕ) (bytes : List ℕ) (fin : ℕ) (n : Told) (before given : PulledItem) (used : ℕ) → IsSame v.endpoint u.endpoint → u.last ≡ v.last → u.events ≡ v.events
+    → ReadsNext u w id bytes fin n before given used → ReadsNext v w id bytes fin n before given used
+reads_behind v u w id bytes fin n before given used same last events r =
+    record {
+      place = r.place;
+      is_next = λ e h. r.is_next e (stands_unchanged v.endpoint u.endpoint e same h);
+      reads = at_behind v u w id bytes fin n before given used r.place same last events r.reads;
+    }
+
 -- The type and length of a DATA frame are all that came, and were read: they are delivered, and the pull behind them waits for more.
-pub begun_copies : (v w : Seen) (id : ℕ) (bytes : List ℕ) (fin : ℕ) (before given : PulledItem) → fin ≡ 0 → BeginsBody v.endpoint w.endpoint id bytes → w.last ≡ answer.Pending → w.events ≡ v.events
+begun_copies : (v w : Seen) (id : ℕ) (bytes : List ℕ) (fin : ℕ) (before given : PulledItem) → fin ≡ 0 → BeginsBody v.endpoint w.endpoint id bytes → w.last ≡ answer.Pending → w.events ≡ v.events
     → given ≡ plain 9 → CopiesNext v w id bytes fin ok before given (length bytes)
 begun_copies v w id bytes fin before given no_fin b last events is = record {
   start = v.endpoint;
@@ -177,3 +213,8 @@ begun_copies v w id bytes fin before given no_fin b last events is = record {
         events = events;
       });
 }
+
+pub begun_reads : (v w : Seen) (id : ℕ) (bytes : List ℕ) (fin : ℕ) (before given : PulledItem) → fin ≡ 0 → BeginsBody v.endpoint w.endpoint id bytes → w.last ≡ answer.Pending → w.events ≡ v.events
+    → given ≡ plain 9 → ReadsNext v w id bytes fin ok before given (length bytes)
+begun_reads v w id bytes fin before given no_fin b last events is =
+    record { place = None; is_next = λ e h. sym (b.nowhere e h); reads = begun_copies v w id bytes fin before given no_fin b last events is }

@@ -32,7 +32,7 @@ use Rattle.h3_connection.specs.declared.event.StreamFault.{StreamFault}
 use Rattle.h3_connection.specs.declared.place.Place.{Place}
 use Rattle.h3_connection.specs.declared.place.Place.TheVariants.{BeforeHead, InBody, AfterTrailer, InSession}
 use Rattle.h3_connection.specs.declared.setup.Announced.{Announced}
-use Rattle.h3_incoming.specs.BodyPlaces.{BeginsData, BeginsPayload, data_at, length_of_data, keeps_nothing, piece_at, place_behind, ReadsPiece}
+use Rattle.h3_incoming.specs.BodyPlaces.{BeginsData, BeginsPayload, body_place, data_at, length_of_data, keeps_nothing, piece_at, place_behind, place_in, ReadsPiece}
 use Rattle.h3_incoming.specs.Placing.{is_session}
 use Rattle.h3_incoming.specs.declared.body_place.BodyPlace.{BodyPlace}
 use Rattle.h3_incoming.proofs.FrontLaws.{finds_frame, found_now, within_frame, within_now}
@@ -277,7 +277,21 @@ module _ (i : Incoming) (bytes : List ℕ) (clear : keeps_nothing i ≡ true) (n
           take-take (length head) (length head + n) bytes (omega arith) ∙ ap (take (length head)) e
           ∙ take-append-le (length head) head more (omega arith) ∙ take_all (length head) head (omega arith)
 
-  -- The head alone: the pull waits for the payload.
+  no_piece : (a : Bool) (p : BodyPlace) → (if a && false then Some p else None) ≡ None
+  no_piece true p = refl
+  no_piece false p = refl
+
+  -- The head alone: no piece lies there.
+  nowhere_yet : (size : ℕ) → i.body_left ≡ 0 → is_body i.place ≡ true → is_exceeded (left_behind i.content size) ≡ false → data_at bytes ≡ Some (size, []) → body_place i bytes ≡ None
+  nowhere_yet size closed body within head =
+      ap (λ (k : Bool). if k then place_in i bytes else None) clear
+      ∙ ap (λ n. if nat_lt 0 n then piece_at 0 n (length bytes) else (if is_body i.place then place_behind i.content (length bytes) (data_at bytes) else None)) closed
+      ∙ ap (λ (k : Bool). if k then place_behind i.content (length bytes) (data_at bytes) else None) body
+      ∙ ap (place_behind i.content (length bytes)) head
+      ∙ ap (λ (k : Bool). if k then None else piece_at (length bytes - 0) size 0) within
+      ∙ no_piece (nat_lt 0 size) (record { offset = length bytes - 0; len = min size 0 })
+
+  -- The pull waits for the payload.
   pub head_begins : (new : Incoming) (size : ℕ) → i.body_left ≡ 0 → BeginsPayload size i new bytes → BeginsData i new bytes
   head_begins new size closed b =
       let c = clear_is i clear in
@@ -287,6 +301,7 @@ module _ (i : Incoming) (bytes : List ℕ) (clear : keeps_nothing i ≡ true) (n
       record {
         some = omega (arith, ap length d.parts, length-append d.head [], d.some);
         clear = clear;
+        nowhere = nowhere_yet size closed b.body b.within b.head;
         pulls = λ side own id r.
             ap (λ l. pull_stream side own id r (kept i l)) d.parts
             ∙ past_head size [] [] [] d closed b.body b.some refl left_pieces side own id r

@@ -74,9 +74,10 @@ pub record BeginsPayload (size : ℕ) (old new : Incoming) (bytes : List ℕ) : 
   pub within : is_exceeded (left_behind old.content size) ≡ false
   pub begun : new ≡ record old { unread = []; body_left = size; content = left_behind old.content size }
 
--- The bytes are a DATA frame's type and length, with none of its payload behind them. What stands after them is what a delivery of them leaves
--- and a pull, which has nothing to hand out yet.
+-- The bytes are a DATA frame's type and length, with none of its payload behind them: no piece lies there. What stands after them is what a
+-- delivery of them leaves and a pull, which has nothing to hand out yet.
 pub record BeginsData (old new : Incoming) (bytes : List ℕ) : Type 0 where
   pub some : 0 < length bytes
   pub clear : keeps_nothing old ≡ true
+  pub nowhere : body_place old bytes ≡ None
   pub pulls : (side : Side) (own : Announced) (id : ℕ) (r : DecoderState) → pull_stream side own id r (kept old bytes) ≡ just pull.Pending new

@@ -264,10 +264,19 @@ module _ (s : EndpointState) (requests : Streams RequestState) (id : ℕ) (bytes
       pulls_once e id stored.incoming r.after pull.Pending (λ g. refl) (sym h.closed ∙ closed) (sym h.kept ∙ none) (ap (λ side. kind_of side id) (sym h.side) ∙ kind)
       (some_there between e id stored h to_stored.here) (r.begins.pulls e.side e.announced id e.decoding.decoder) (few_there between e id r.after h (few_still e h))
 
+  nowhere_at : (b : Bool) → None ≡ place_unless b (Some r.before) bytes
+  nowhere_at true = refl
+  nowhere_at false = sym r.begins.nowhere
+
   begins_here : BeginsBody s (record s { requests = requests }) id bytes
   begins_here = record {
     middle = between;
     some = r.begins.some;
+    nowhere = λ e h.
+        sym (place_at_once s id bytes None closed none kind
+        (λ receivers are.
+        let b = are_too_many s.announced.limits.blocked s.decoding.decoder.table.inserted receivers in
+        nowhere_at b ∙ ap (λ o. place_unless b o bytes) (sym r.there)) e h);
     delivers = delivers_all;
     pulls = record {
       done = λ e h memory.

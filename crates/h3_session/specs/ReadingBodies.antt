@@ -52,10 +52,11 @@ pub record ReadsBody (old new : EndpointState) (id : ℕ) (bytes : List ℕ) (p 
   pub pulled : (e : EndpointHistory) → StandsFor old e → (pulls (came e id (front_to p bytes)) id).0 ≡ body_pulled p bytes
   pub stands : (e : EndpointHistory) → StandsFor old e → StandsFor new (pulls (came e id (front_to p bytes)) id).1
 
--- `begin_body`: the bytes are accepted, and what stands then is what a delivery of them leaves and the pull behind it, which has nothing to
--- hand out yet.
+-- `begin_body`: no piece lies in the bytes. They are accepted, and what stands then is what a delivery of them leaves and the pull behind it,
+-- which has nothing to hand out yet.
 pub record BeginsBody (old new : EndpointState) (id : ℕ) (bytes : List ℕ) : Type 0 where
   pub middle : EndpointState
   pub some : 0 < length bytes
+  pub nowhere : (e : EndpointHistory) → StandsFor old e → place_next e id bytes ≡ None
   pub delivers : Delivers old middle id bytes (Ok tt)
   pub pulls : PullsNext middle new id pull.Pending

@@ -54,13 +54,13 @@ impl ByteQueue {
         requires more { count < 2 ^ 32 }
         ensures none { IfOk result (λ block. IfNone block (count ≤ self.now.room)) }
         ensures empty { IfOk result (λ block. IfSome block (λ b. b.items ≡ [])) }
-        ensures len { IfOk result (λ block. IfSome block (λ b. vec_capacity b ≡ kept + kept / 4 + count + 128)) }
+        ensures len { IfOk result (λ block. IfSome block (λ b. vec_capacity b ≡ kept + kept / 4 + count + 512)) }
         ensures needed { IfOk result (λ block. IfSome block (λ b. self.now.room < count)) }
     {
         if count <= self.bytes.capacity() - self.bytes.len() {
             return Ok(None);
         }
-        let block = Vec::with_capacity(*self.bytes.allocator(), kept + kept / 4 + count + 128)?;
+        let block = Vec::with_capacity(*self.bytes.allocator(), kept + kept / 4 + count + 512)?;
         Ok(Some(block))
     }
 

@@ -292,7 +292,7 @@ impl Entries {
     }
 
     /// Inserts an entry of a name, which may be static, and a value. Room is taken before the first entry is evicted, for what is left then
-    /// and for this one. A new block has at most a quarter more than the sizes of the entries that are there, this one's bytes, and 128.
+    /// and for this one. A new block has at most a quarter more than the sizes of the entries that are there, this one's bytes, and 512.
     fn put(
         &mut self,
         name: &[u8],

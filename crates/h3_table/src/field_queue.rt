@@ -193,18 +193,18 @@ impl Model for FieldQueue {
     ghost invariant = { IsFieldQueue };
 }
 
-/// Takes memory for a record more, if there is none: for twice as many then, or for four.
+/// Takes memory for a record more, if there is none: for twice as many then, or for 16.
 fn reserve_record(records: &mut VecDeque<Record>) -> Result<(), AllocError>
     ensures items { records.new.items ≡ records.old.items }
     ensures len { deque_len records.new ≡ deque_len records.old }
     ensures ok { OnOk result (deque_len records.new < deque_capacity records.new) }
-    ensures few { deque_capacity records.new ≤ max (deque_capacity records.old) (2 * deque_len records.old + 4) }
+    ensures few { deque_capacity records.new ≤ max (deque_capacity records.old) (2 * deque_len records.old + 16) }
 {
     let len = records.len();
     if len < records.capacity() {
         return Ok(());
     }
-    records.reserve_exact(len.max(4))
+    records.reserve_exact(len.max(16))
 }
 
 impl FieldQueue {
@@ -268,13 +268,13 @@ impl FieldQueue {
         requires more { count < 2 ^ 32 }
         requires there { kept ≤ section_size self.old.fields }
         ensures needed { IfOk result (λ block. IfSome block (λ b. self.old.room < count)) }
-        ensures records { self.new.places ≤ max self.old.places (2 * length self.old.fields + 4) }
+        ensures records { self.new.places ≤ max self.old.places (2 * length self.old.fields + 16) }
         ensures fields { self.new.fields ≡ self.old.fields }
         ensures written { self.new.written ≡ self.old.written }
         ensures places { OnOk result (length self.new.fields < self.new.places) }
         ensures none { IfOk result (λ block. IfNone block (count ≤ self.new.room)) }
         ensures empty { IfOk result (λ block. IfSome block (λ b. b.items ≡ [])) }
-        ensures len { IfOk result (λ block. IfSome block (λ b. vec_capacity b ≡ kept + kept / 4 + count + 128)) }
+        ensures len { IfOk result (λ block. IfSome block (λ b. vec_capacity b ≡ kept + kept / 4 + count + 512)) }
     {
         reserve_record(&mut self.records)?;
         self.bytes.block_for(kept, count)

@@ -6,7 +6,7 @@ ghost use Rattle.h3_incoming.specs.declared.fields.FieldsPull.TheVariants as ans
 ghost use Rattle.h3_session.specs.ReadingBodies.{BeginsBody};
 ghost use Rattle.h3_c.specs.Exported.{OnStream, UnlessRejected};
 ghost use Rattle.h3_c.specs.Numbers.{delivery_told};
-ghost use Rattle.h3_c.specs.Reads.{ends_with, is_after_end, is_kept, place_shown, taken_of, CopiesNext, EndsThere, ReadsCopied, ReadsNext, RefusesEnd, StopsAt, TakesBytes, TakesEnd};
+ghost use Rattle.h3_c.specs.Reads.{ends_with, is_after_end, is_kept, place_shown, taken_of, EndsThere, ReadsCopied, ReadsNext, RefusesEnd, StopsAt, TakesBytes, TakesEnd};
 
 use super::Connection;
 use crate::items::{PulledItem, plain_shown};
@@ -19,7 +19,9 @@ use h3_incoming::{BlockPull, BodyPlace, Told as PulledTold};
 use h3_proto::stream::StreamId;
 use std::alloc::Global;
 
-/// How many bytes a frame's type and length have at most (RFC 9114, section 7.1).
+/// How many bytes a frame's type and length have at least and at most (RFC 9114, section 7.1).
+const SHORTEST_HEAD: usize = 2;
+
 const LONGEST_HEAD: usize = 16;
 
 impl Connection {
@@ -42,16 +44,10 @@ impl Connection {
             Ok(stream) => stream,
             Err(told) => return told,
         };
-        let Some(place) = self.endpoint.read_body(stream, bytes) else {
-            return self.read_on(alloc, stream, bytes, fin, used, item);
-        };
-        *used = place.offset + place.len;
-        *item = placed(place);
-        hold_none(&mut self.last);
-        OK
+        self.read_on(alloc, stream, bytes, fin, used, item)
     }
 
-    // The same of bytes in which no piece of a body lies.
+    // The same on a stream whose request is not rejected.
     fn read_on(
         &mut self,
         alloc: Global,
@@ -62,14 +58,36 @@ impl Connection {
         item: &mut PulledItem,
     ) -> Told
         requires { used.old ≡ 0 }
-        ensures { CopiesNext self.old self.new id bytes.now fin result item.old item.new used.new }
+        ensures { ReadsNext self.old self.new id bytes.now fin result item.old item.new used.new }
     {
         if !self.begin(id, bytes, fin) {
-            return self.read_copied(alloc, id, bytes, fin, used, item);
+            return self.read_next(alloc, id, bytes, fin, used, item);
         }
         *used = bytes.len();
         hold_none(&mut self.last);
         *item = plain_shown(&Plain::Pending);
+        OK
+    }
+
+    // The same of bytes that are not a DATA frame's type and length alone.
+    fn read_next(
+        &mut self,
+        alloc: Global,
+        id: StreamId,
+        bytes: &[u8],
+        fin: u32,
+        used: &mut usize,
+        item: &mut PulledItem,
+    ) -> Told
+        requires { used.old ≡ 0 }
+        ensures { ReadsNext self.old self.new id bytes.now fin result item.old item.new used.new }
+    {
+        let Some(place) = self.endpoint.read_body(id, bytes) else {
+            return self.read_copied(alloc, id, bytes, fin, used, item);
+        };
+        *used = place.offset + place.len;
+        *item = placed(place);
+        hold_none(&mut self.last);
         OK
     }
 
@@ -82,7 +100,8 @@ impl Connection {
         ensures begins { result ≡ true → BeginsBody self.old.endpoint self.new.endpoint id bytes.now }
         ensures same { result ≡ false → IsSame self.old.endpoint self.new.endpoint }
     {
-        if fin > 0 || bytes.len() > LONGEST_HEAD {
+        let count = bytes.len();
+        if fin > 0 || count < SHORTEST_HEAD || count > LONGEST_HEAD {
             return false;
         }
         self.endpoint.begin_body(id, bytes)

@@ -9,7 +9,7 @@ use Rattle.h3_table.specs.TableLaws.{table-one}
 use Rattle.h3_table.proofs.entries.Entries.put.Goals as goal
 
 -- the block has room for what is left and for the new entry
-fits : {B : Type 0} (block : Option B) (capacity : B → ℕ) (kept count : ℕ) (left there : List Field) → there ≡ left → section_size left ≤ kept + 32 * length left → IfSome block (λ b. capacity b ≡ kept + kept / 4 + count + 128)
+fits : {B : Type 0} (block : Option B) (capacity : B → ℕ) (kept count : ℕ) (left there : List Field) → there ≡ left → section_size left ≤ kept + 32 * length left → IfSome block (λ b. capacity b ≡ kept + kept / 4 + count + 512)
     → IfSome block (λ b. section_size there + count ≤ capacity b + 32 * length there)
 fits None capacity kept count left there same most len = tt
 fits (Some b) capacity kept count left there same most len = rw same (omega (arith, most, len))
