@@ -14,6 +14,7 @@ use Rattle.h3_session.specs.declared.endpoint.events.EventsSeen.{EventsSeen}
 use Rattle.h3_c.specs.declared.items.PulledItem.{PulledItem}
 use Rattle.h3_c.specs.declared.numbers.Told.{Told}
 use Rattle.h3_c.specs.Exported.{OnStream, Pulls, UnlessRejected}
+use Rattle.h3_webtransport.specs.Joint.{Joint}
 use Rattle.h3_c.specs.Seen.{Seen}
 use Rattle.h3_c.specs.Reads.{ends_with, RefusesEnd, TakesBytes, TakesEnd}
 
@@ -50,9 +51,9 @@ pub fin_refused : (is_alone : Bool) (bytes : List ℕ) (mid new : EndpointState)
 fin_refused is_alone bytes mid new id n alone h = subst (λ b. RefusesEnd b mid new id n) alone h
 
 -- the pull behind what was taken
-pub pulls_on : (id stream : ℕ) (n : Told) (u w : Seen) (last : FieldsPull) (events : EventsSeen) (given : PulledItem) → u.events ≡ events → stream ≡ id → stream < 2 ^ 62
-    → OnStream stream n u w (Pulls stream n u w given) → Pulls id n (record { endpoint = u.endpoint; last = last; events = events }) w given
-pulls_on id stream n u w last events given same is below pulls =
+pub pulls_on : (id stream : ℕ) (n : Told) (u w : Seen) (sessions : Joint) (last : FieldsPull) (events : EventsSeen) (given : PulledItem) → u.events ≡ events → stream ≡ id → stream < 2 ^ 62
+    → OnStream stream n u w (Pulls stream n u w given) → Pulls id n (record { endpoint = u.endpoint; sessions = sessions; last = last; events = events }) w given
+pulls_on id stream n u w sessions last events given same is below pulls =
     let p : Pulls stream n u w given = pulls.known below in
     let q : Pulls id n u w given = subst (λ i. Pulls i n u w given) is p in
     record { done = q.done; pulled = q.pulled; list = q.list; given_so = q.given_so; events = q.events ∙ same }

@@ -25,3 +25,6 @@ pub mod Showing
 pub mod Reads
 pub mod Programs
 pub mod WorkedPrograms
+pub mod PullsBeside
+pub mod ReadsBeside
+pub mod Beside
