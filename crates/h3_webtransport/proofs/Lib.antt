@@ -1,1 +1,3 @@
 pub mod Off
+pub mod Refusing
+pub mod Pulling

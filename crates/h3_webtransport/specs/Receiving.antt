@@ -15,6 +15,7 @@ use Rattle.h3_connection.specs.declared.event.Pull.{Pull}
 use Rattle.h3_connection.specs.declared.event.Pull.TheVariants as pull
 use Rattle.h3_connection.specs.declared.event.Refusal.{Refusal}
 use Rattle.h3_connection.specs.declared.event.Refusal.TheVariants.{Connection, NotOpen}
+use Rattle.h3_session.specs.Lacking.{delivery_error}
 use Rattle.h3_webtransport_streams.specs.Begun.{Delivers as DeliversRaw}
 use Rattle.h3_webtransport_streams.specs.Closing.{Closes}
 use Rattle.h3_webtransport_streams.specs.Receiver.{canceled, pulled}
@@ -43,11 +44,6 @@ abbrev pub UnlessFaulty : Option ℕ → EndpointState → EndpointState → Joi
 UnlessFaulty (Some code) e f s t result goes = (result ≡ Err (Refused (Connection code))) × (f ≡ e) × (t ≡ s)
 UnlessFaulty None e f s t result goes = goes
 
--- `bytes_refusal` of such a stream
-abbrev pub read_refusal : Option ℕ → Option Refusal → Option Refusal
-read_refusal (Some code) later = Some (Connection code)
-read_refusal None later = later
-
 -- bytes on a stream that is read beside the endpoint
 pub record Arrives (e f : EndpointState) (s t : Joint) (id : ℕ) (bytes : List ℕ) (result : Result Unit DeliverError) : Type 0 where
   pub inner : Result Begun DeliverError
@@ -59,6 +55,10 @@ pub record Arrives (e f : EndpointState) (s t : Joint) (id : ℕ) (bytes : List 
 abbrev pub DeliversOn : EndpointState → EndpointState → Joint → Joint → ℕ → List ℕ → Result Unit DeliverError → Type 0
 DeliversOn e f s t id bytes result =
     Parts (is_read s id) (UnlessFaulty e.closed e f s t result (Arrives e f s t id bytes result)) ((t ≡ s) × Delivers e f id bytes result)
+
+-- `bytes_refusal`: what a delivery answers of which there is no memory to copy the bytes
+abbrev pub RefusesDeliveriesOn : EndpointState → Joint → ℕ → Option Refusal → Type 0
+RefusesDeliveriesOn e s id why = (bytes : List ℕ) → DeliversOn e e s s id bytes (Err (delivery_error why bytes))
 
 -- `deliver_end` (no code) and `deliver_reset`
 abbrev pub Ends : EndpointState → EndpointState → ℕ → Option ℕ → Result Unit DeliverError → Type 0

@@ -1,13 +1,22 @@
 //! What comes on streams, those of sessions among them.
-ghost use Rattle.std.specs.Prelude.{◌≡◌, Some, None, true, false, length};
+ghost use Rattle.std.specs.Prelude.{◌≡◌, Some, None, true, false, length, option_map, unwrap_or};
+ghost use Rattle.h3_proto.specs.StreamIds.{is_request_stream};
+ghost use Rattle.h3_connection.specs.Calls.{Sets};
+ghost use Rattle.h3_connection.specs.Codes.{id_error};
+ghost use Rattle.h3_connection.specs.declared.event.DeliverError.TheVariants.{Refused};
+ghost use Rattle.h3_connection.specs.declared.event.Fault.TheVariants.{Connection as Closing};
+ghost use Rattle.h3_connection.specs.declared.event.Pull.TheVariants.{Fault};
+ghost use Rattle.h3_connection.specs.declared.event.Refusal.TheVariants.{Connection};
+ghost use Rattle.h3_webtransport.specs.Closing.{Forgets};
+ghost use Rattle.h3_webtransport.specs.Parts.{StreamsAlone};
 ghost use Rattle.std.specs.List.{concat};
 ghost use Rattle.h3_connection.specs.Unread.{ShowsUnread};
-ghost use Rattle.h3_incoming.specs.FieldsPulls.{pull_of};
-ghost use Rattle.h3_session.specs.Lacking.{RefusesDeliveries};
-ghost use Rattle.h3_webtransport_streams.specs.Begun.{refusal_of, stream_or_unseen};
-ghost use Rattle.h3_webtransport_streams.specs.SessionStream.{unread_of};
-ghost use Rattle.h3_webtransport.specs.Joint.{is_read};
-ghost use Rattle.h3_webtransport.specs.Receiving.{CancelsOn, DeliversOn, EndsOn, PullsOn, read_refusal};
+ghost use Rattle.h3_incoming.specs.FieldsPulls.{list_of, pull_of};
+ghost use Rattle.h3_session.specs.Listing.{ListsNext};
+ghost use Rattle.h3_webtransport_streams.specs.Begun.{stream_or_unseen};
+ghost use Rattle.h3_webtransport_streams.specs.SessionStream.{entered, unread_of};
+ghost use Rattle.h3_webtransport.specs.Joint.{is_read, may_begin, stored_at};
+ghost use Rattle.h3_webtransport.specs.Receiving.{CancelsOn, DeliversOn, EndsOn, Enters, PullsFirst, PullsOn, RefusesDeliveriesOn, session_of};
 
 use crate::sessions::Sessions;
 use bytes::Bytes;
@@ -21,7 +30,9 @@ use h3_session::endpoint::Endpoint;
 use h3_webtransport_streams::Begun;
 
 // The session that an answer tells.
-fn session_of(answer: &BlockPull) -> Option<SessionId> {
+fn session_of(answer: &BlockPull) -> Option<SessionId>
+    ensures { result ≡ session_of (pull_of answer.now) }
+{
     match answer.told() {
         Told::Plain(Plain::Session(session)) => Some(*session),
         _ => None,
@@ -29,7 +40,9 @@ fn session_of(answer: &BlockPull) -> Option<SessionId> {
 }
 
 // Why nothing is taken after a connection fault.
-fn closed(endpoint: &Endpoint) -> Option<DeliverError> {
+fn closed(endpoint: &Endpoint) -> Option<DeliverError>
+    ensures { result ≡ option_map (λ code. Refused (Connection code)) endpoint.now.closed }
+{
     match endpoint.fault() {
         Some(code) => Some(DeliverError::Refused(Refusal::Connection(code))),
         None => None,
@@ -37,7 +50,10 @@ fn closed(endpoint: &Endpoint) -> Option<DeliverError> {
 }
 
 // The connection has this fault.
-fn fault(endpoint: &mut Endpoint, code: Code) -> DeliverError {
+fn fault(endpoint: &mut Endpoint, code: Code) -> DeliverError
+    ensures is { result ≡ Refused (Connection (unwrap_or endpoint.old.closed code)) }
+    ensures closes { endpoint.new ≡ record endpoint.old { closed = Some (unwrap_or endpoint.old.closed code) } }
+{
     DeliverError::Refused(Refusal::Connection(endpoint.close_for(code)))
 }
 
@@ -98,9 +114,9 @@ impl Sessions {
     }
 
     /// Why bytes on a stream are refused.
+    #[tactic(auto, using(crate::proofs::Refusing::refuses_other, crate::proofs::Refusing::refuses_closed, crate::proofs::Refusing::refuses_here))]
     pub fn bytes_refusal(&self, endpoint: &Endpoint, id: StreamId) -> Option<Refusal>
-        ensures own { is_read self.now id ≡ true → result ≡ read_refusal endpoint.now.closed (refusal_of (stream_or_unseen self.now.sessions.streams id).receiver) }
-        ensures other { is_read self.now id ≡ false → RefusesDeliveries endpoint.now id result }
+        ensures { RefusesDeliveriesOn endpoint.now self.now id result }
     {
         if !self.reads(id) {
             return endpoint.bytes_refusal(id);
@@ -125,7 +141,8 @@ impl Sessions {
     /// What comes next on a stream. A stream that the endpoint reads is one of a session from the answer on that tells the session; it is answered if it
     /// goes both ways. With sessions on, an id that no session has is a fault of the connection, H3_ID_ERROR.
     pub fn pull_block(&mut self, endpoint: &mut Endpoint, id: StreamId, out: &mut BlockPull)
-        ensures { PullsOn endpoint.old endpoint.new self.old self.new id (pull_of out.new) }
+        ensures pulls { PullsOn endpoint.old endpoint.new self.old self.new id (pull_of out.new) }
+        ensures list { is_read self.old id ≡ false → ListsNext endpoint.old id (list_of out.new) }
     {
         if self.may_begin(id) {
             return self.pull_first(endpoint, id, out);
@@ -143,7 +160,13 @@ impl Sessions {
     }
 
     // The same of a stream that may turn out to be of a session: there is room for it before anything is pulled, so that nothing is lost.
-    fn pull_first(&mut self, endpoint: &mut Endpoint, id: StreamId, out: &mut BlockPull) {
+    #[tactic(auto, using(crate::proofs::Pulling::pulls_other, crate::proofs::Pulling::pulls_taken, crate::proofs::Pulling::pulls_wrong, crate::proofs::Pulling::is_free))]
+    fn pull_first(&mut self, endpoint: &mut Endpoint, id: StreamId, out: &mut BlockPull)
+        requires { may_begin self.old id ≡ true }
+        ensures first { PullsFirst endpoint.old endpoint.new self.old self.new id (pull_of out.new) }
+        ensures rest { StreamsAlone self.old self.new }
+        ensures list { ListsNext endpoint.old id (list_of out.new) }
+    {
         let Ok(()) = self.streams.enter(id, SessionId::from(id), id.is_request()) else {
             return fail(out, Fault::Memory);
         };
@@ -161,7 +184,14 @@ impl Sessions {
         id: StreamId,
         session: SessionId,
         out: &mut BlockPull,
-    ) {
+    )
+        requires { stored_at self.old id ≡ Some (entered id (is_request_stream id)) }
+        ensures taken { is_request_stream session ≡ true → (out.new ≡ out.old) × Sets self.old.sessions.streams self.new.sessions.streams id (entered session (is_request_stream id))
+            × Enters endpoint.old endpoint.new id (is_request_stream id) }
+        ensures wrong { is_request_stream session ≡ false → (pull_of out.new ≡ Fault (Closing (unwrap_or endpoint.old.closed id_error))) × (list_of out.new ≡ None)
+            × Forgets self.old self.new id × (endpoint.new ≡ record endpoint.old { closed = Some (unwrap_or endpoint.old.closed id_error) }) }
+        ensures rest { StreamsAlone self.old self.new }
+    {
         if session.into_inner() % 4 != 0 {
             self.streams.forget(id);
             let code = endpoint.close_for(Code::H3_ID_ERROR);
