@@ -326,7 +326,7 @@ class endpoint {
     return h3_is_drained(&raw_, &drained) == H3_OK && drained == 1;
   }
 
-  /* ---- what waits to be sent ---- */
+  /* ---- sessions of WebTransport ---- */
 
   /* A stream of a session of WebTransport: `id` gets its id. */
   result open_session_stream(std::uint64_t session, bool both_ways, std::uint64_t &id) noexcept {
@@ -338,6 +338,8 @@ class endpoint {
     if (h3_next_of_session(&raw_, session, from, &id) != H3_OK) return std::nullopt;
     return id;
   }
+
+  /* ---- what waits to be sent ---- */
 
   /* The lowest stream from `from` on that has bytes or an end to send. */
   std::optional<std::uint64_t> next_to_send(std::uint64_t from) noexcept {

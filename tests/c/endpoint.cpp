@@ -247,6 +247,27 @@ void datagrams() {
   WANT(client.open(client_config()) && client.read_datagram(hi, came) && came.kind == datagram::is_off);
 }
 
+/* a session of WebTransport: a stream of the server that goes both ways */
+void sessions() {
+  h3_config ours = client_config(), theirs = server_config();
+  for (h3_config *it : {&ours, &theirs}) it->webtransport = it->extended_connect = it->datagram = it->sessions = 1;
+  endpoint client, server;
+  WANT(client.open(ours) && server.open(theirs));
+  carry(client, server, 1000);
+  carry(server, client, 1000);
+  std::uint64_t session = 99, id = 99;
+  WANT(client.open_request(session));
+  WANT(client.send_head(session, {{":method", "CONNECT"}, {":scheme", "https"}, {":authority", "a"}, {":path", "/"}, {":protocol", "webtransport"}}));
+  carry(client, server, 1000);
+  WANT(server.send_head(session, {{":status", "200"}}));
+  WANT(server.open_session_stream(session, true, id) && id == 1);
+  const std::uint8_t raw[] = {1, 2, 3};
+  WANT(server.send_raw(id, bytes(raw, sizeof raw)) && server.finish(id));
+  carry(server, client, 1000);
+  WANT(client.next_of_session(session, 0) == id && !client.next_of_session(session, id + 1));
+  WANT(client.send_raw(id, bytes(raw, 1)) && client.send_raw(14, bytes(raw, 1)).answer == H3_NOT_OPEN);
+}
+
 void capsules() {
   const std::uint8_t all[] = {0x68, 0x43, 0x06, 0, 0, 0, 7, 'b', 'y', 0x17, 0x00};
   head_bytes head;
@@ -273,6 +294,7 @@ int main() {
   ownership();
   refusals();
   datagrams();
+  sessions();
   capsules();
   std::printf("ok h3.hpp: C++ %ld\n", static_cast<long>(__cplusplus));
 }

@@ -50,6 +50,7 @@ static const char *const OKAY[] = {":status", "200"};
 /* a client's request begins a session, which its server takes */
 static uint64_t begin(void) {
   uint64_t id = 99;
+  carry_own();
   IS(h3_open_request(&ends[CLIENT], &id, NULL), H3_OK);
   send_head(CLIENT, id, CONNECT, 5);
   carry_own();
@@ -237,6 +238,7 @@ static void of_bytes(void) {
       waits(!side, id, BYTES("back"));
       IS(h3_finish(&ends[!side], id, NULL), H3_OK);
       carry(!side, id);
+      IS(h3_end_taken(&ends[!side], id), H3_OK);
       gives_raw(side, id, "back", 4, H3_END);
       IS(pull(side, id).kind, H3_END);
     }
@@ -363,7 +365,7 @@ static uint64_t next_by_priority(int side) {
 }
 
 static void of_turns(void) {
-  static const uint64_t turns[] = {8, 4, 8, 12, 8, 14, 8, 4, 8, 12};
+  static const uint64_t turns[] = {4, 8, 12, 8, 14, 8, 4, 8, 12, 8}; /* bytes of a request were taken before */
   make_both(1);
   HOLDS(begin() == 0);
   uint64_t a = opened(CLIENT, 0, 1), request = 99, b, c = opened(CLIENT, 0, 0);

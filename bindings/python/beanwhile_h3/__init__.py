@@ -63,6 +63,7 @@ from .items import (
     Waiting,
 )
 from .state import ClosedStream, ConnectionState, GoawayCame, PeerLimits, Priority, SettingsCame, StreamState, StreamType, Version
+from .webtransport import webtransport_code, webtransport_number
 
 __all__ = [
     "Answer",
@@ -115,6 +116,8 @@ __all__ = [
     "capsule",
     "capsule_head",
     "local_ids",
+    "webtransport_code",
+    "webtransport_number",
 ]
 
 

@@ -139,6 +139,7 @@ _TEXTS = {
     Answer.FIELD_COUNT: "too many different field names",
     Answer.UNFINISHED_LIMIT: "`unfinished_limit` is below four times what is announced",
     Answer.NO_DATAGRAMS: "this side or the peer announced no HTTP datagrams",
+    Answer.NO_SESSIONS: "this side or the peer takes no WebTransport sessions",
     Answer.REJECTED: "the request is rejected, {detail:#x}",
     Answer.ARGUMENT: "an argument is out of range",
     Answer.NO_ENDPOINT: "the endpoint was closed",

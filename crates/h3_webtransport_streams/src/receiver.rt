@@ -221,7 +221,7 @@ impl ReceivingHalf {
 }
 
 // Reads on in a front.
-#[tactic(auto, using(crate::proofs::Reading::within), unfolding(crate::specs::Receiver::names_session))]
+#[tactic(auto, unfolding(crate::specs::Receiver::names_session))]
 fn read_front(state: ReaderState, bytes: &[u8]) -> FrontRead
     ensures tells { (r : Receiver) → arrived_by result r bytes.now ≡ read_front r bytes.now (read_on (place_of_state state) bytes.now) }
     ensures within { used_of result ≤ length bytes.now }

@@ -77,9 +77,12 @@ pub(super) fn send(
     ensures why { IfErr result (λ e. e.0 ≡ unwrap_or (answer_at (Some NotOpen) (sending (Some NotOpen) (λ s. sent s bytes)) (kept_at streams.old.entries id)) OutOfMemory) }
     ensures err { IfErr result (λ e. (e.1 ≡ bytes) × AllSame streams.old.entries streams.new.entries) }
 {
-    match streams.get_mut(&id.into_inner()) {
-        Some(stream) => stream.send(bytes),
-        None => Err((Refusal::NotOpen, bytes)),
+    let Some(stream) = streams.get_mut(&id.into_inner()) else {
+        return Err((Refusal::NotOpen, bytes));
+    };
+    match stream.send(bytes) {
+        Ok(()) => Ok(()),
+        Err(refused) => Err(refused),
     }
 }
 
