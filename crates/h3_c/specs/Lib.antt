@@ -28,3 +28,4 @@ pub mod WorkedPrograms
 pub mod PullsBeside
 pub mod ReadsBeside
 pub mod Beside
+pub mod Sessions
