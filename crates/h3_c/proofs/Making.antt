@@ -8,9 +8,10 @@ use Rattle.h3_connection.specs.declared.setup.Announced.{Announced}
 use Rattle.h3_connection.specs.declared.setup.NewError.{NewError}
 use Rattle.h3_connection.specs.declared.setup.NewError.TheVariants.{OutOfMemory}
 use Rattle.h3_session.specs.Events.{nothing_seen}
+use Rattle.h3_webtransport.specs.Joint.{Joint}
 use Rattle.h3_c.specs.declared.config.GivenConfig.{GivenConfig}
 use Rattle.h3_c.specs.declared.numbers.Told.{Told}
-use Rattle.h3_c.specs.Configs.{Makes, MakesGiven, Unmakes, announced_of, side_of}
+use Rattle.h3_c.specs.Configs.{IsMade, Makes, MakesGiven, Unmakes, announced_of, sessions_of, side_of}
 use Rattle.h3_c.specs.Numbers.{argument, memory, new_told, ok}
 use Rattle.h3_c.specs.Seen.{Seen}
 
@@ -25,9 +26,15 @@ lacks_memory given s h = record { answer = OutOfMemory; is = refl; refused = com
 pub refused : (given : GivenConfig) (e : NewError) (n : Told) → n ≡ new_told e → Creates (side_of given) (announced_of given) (Err e) → Unmakes given n
 refused given e n is h = record { answer = e; is = is; refused = h }
 
-pub made : (given : GivenConfig) (v : Seen) (before after : Option Seen) (n : Told) → n ≡ ok → after ≡ Some v → v.last ≡ Pending → v.events ≡ nothing_seen → Creates (side_of given) (announced_of given) (Ok v.endpoint) → Makes given n before after
-made given v before after n is there last events h =
-    record { answer = Ok v.endpoint; is = is; done = h; made = there ∙ ap (λ p. let w : Seen = record { endpoint = v.endpoint; last = p; events = v.events } in Some w) last ∙ ap (λ p. let w : Seen = record { endpoint = v.endpoint; last = Pending; events = p } in Some w) events }
+-- the handle owns what was made
+pub owns : (made : Joint) (v : Seen) (before after : Option Seen) → after ≡ Some v → v.sessions ≡ made → v.last ≡ Pending → v.events ≡ nothing_seen → IsMade made (Ok v.endpoint) before after
+owns made v before after there sessions last events =
+    there ∙ ap (λ p. let w : Seen = record { endpoint = v.endpoint; sessions = v.sessions; last = p; events = v.events } in Some w) last
+    ∙ ap (λ p. let w : Seen = record { endpoint = v.endpoint; sessions = v.sessions; last = Pending; events = p } in Some w) events
+    ∙ ap (λ p. let w : Seen = record { endpoint = v.endpoint; sessions = p; last = Pending; events = nothing_seen } in Some w) sessions
+
+pub made : (given : GivenConfig) (v : Seen) (before after : Option Seen) (n : Told) → n ≡ ok → after ≡ Some v → v.sessions ≡ sessions_of (side_of given) given → v.last ≡ Pending → v.events ≡ nothing_seen → Creates (side_of given) (announced_of given) (Ok v.endpoint) → Makes given n before after
+made given v before after n is there sessions last events h = record { answer = Ok v.endpoint; is = is; done = h; made = owns (sessions_of (side_of given) given) v before after there sessions last events }
 
 pub unmade : (given : GivenConfig) (n : Told) (before after : Option Seen) → Unmakes given n → after ≡ before → Makes given n before after
 unmade given n before after u same = record { answer = Err u.answer; is = u.is; done = u.refused; made = same }

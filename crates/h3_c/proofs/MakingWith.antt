@@ -13,13 +13,14 @@ use Rattle.h3_connection.specs.declared.setup.NewError.{NewError}
 use Rattle.h3_connection.specs.declared.setup.NewError.TheVariants.{OutOfMemory}
 use Rattle.h3_incoming.specs.declared.fields.FieldsPull.TheVariants.{Pending}
 use Rattle.h3_session.specs.Events.{nothing_seen}
-use Rattle.h3_c.specs.Configs.{IsMade, announced_of, side_of}
+use Rattle.h3_c.specs.Configs.{announced_of, sessions_of, side_of}
 use Rattle.h3_c.specs.Further.{MakesGivenWith, MakesPaired, MakesWith, UnmakesWith, pairs_given}
 use Rattle.h3_c.specs.Numbers.{argument, memory, new_told, ok}
 use Rattle.h3_c.specs.Remembered.{MakesGivenResumed, MakesOf, MakesResumed, UnmakesResumed}
 use Rattle.h3_c.specs.Seen.{Seen}
 use Rattle.h3_c.specs.declared.config.GivenConfig.{GivenConfig}
 use Rattle.h3_c.specs.declared.numbers.Told.{Told}
+use Rattle.h3_c.proofs.Making.{owns}
 
 -- want of memory comes last
 last_of_further : (side : Side) (a : Announced) (further : Result (List (ℕ × ℕ)) SettingsError) (s : EndpointState) → CreatesFurther side a further (Ok s) → CreatesFurther side a further (Err OutOfMemory)
@@ -42,21 +43,16 @@ lacks_resumed given pairs remembered s h = record { answer = OutOfMemory; is = r
 pub refused_resumed : (given : GivenConfig) (pairs remembered : List (ℕ × ℕ)) (e : NewError) (n : Told) → n ≡ new_told e → CreatesWith Client (remembering (announced_of given) remembered) pairs (Err e) → UnmakesResumed given pairs remembered n
 refused_resumed given pairs remembered e n is h = record { answer = e; is = is; refused = h }
 
--- the handle owns what was made
-owns : (v : Seen) (before after : Option Seen) → after ≡ Some v → v.last ≡ Pending → v.events ≡ nothing_seen → IsMade (Ok v.endpoint) before after
-owns v before after there last events =
-    there ∙ ap (λ p. let w : Seen = record { endpoint = v.endpoint; last = p; events = v.events } in Some w) last ∙ ap (λ p. let w : Seen = record { endpoint = v.endpoint; last = Pending; events = p } in Some w) events
-
-pub made_with : (given : GivenConfig) (pairs : List (ℕ × ℕ)) (v : Seen) (before after : Option Seen) (n : Told) → n ≡ ok → after ≡ Some v → v.last ≡ Pending → v.events ≡ nothing_seen
+pub made_with : (given : GivenConfig) (pairs : List (ℕ × ℕ)) (v : Seen) (before after : Option Seen) (n : Told) → n ≡ ok → after ≡ Some v → v.sessions ≡ sessions_of (side_of given) given → v.last ≡ Pending → v.events ≡ nothing_seen
     → CreatesWith (side_of given) (announced_of given) pairs (Ok v.endpoint) → MakesWith given pairs n before after
-made_with given pairs v before after n is there last events h = record { answer = Ok v.endpoint; is = is; done = h; made = owns v before after there last events }
+made_with given pairs v before after n is there sessions last events h = record { answer = Ok v.endpoint; is = is; done = h; made = owns (sessions_of (side_of given) given) v before after there sessions last events }
 
 pub unmade_with : (given : GivenConfig) (pairs : List (ℕ × ℕ)) (n : Told) (before after : Option Seen) → UnmakesWith given pairs n → after ≡ before → MakesWith given pairs n before after
 unmade_with given pairs n before after u same = record { answer = Err u.answer; is = u.is; done = u.refused; made = same }
 
-pub made_resumed : (given : GivenConfig) (pairs remembered : List (ℕ × ℕ)) (v : Seen) (before after : Option Seen) (n : Told) → n ≡ ok → after ≡ Some v → v.last ≡ Pending → v.events ≡ nothing_seen
+pub made_resumed : (given : GivenConfig) (pairs remembered : List (ℕ × ℕ)) (v : Seen) (before after : Option Seen) (n : Told) → n ≡ ok → after ≡ Some v → v.sessions ≡ sessions_of Client given → v.last ≡ Pending → v.events ≡ nothing_seen
     → CreatesWith Client (remembering (announced_of given) remembered) pairs (Ok v.endpoint) → MakesResumed given pairs remembered n before after
-made_resumed given pairs remembered v before after n is there last events h = record { answer = Ok v.endpoint; is = is; done = h; made = owns v before after there last events }
+made_resumed given pairs remembered v before after n is there sessions last events h = record { answer = Ok v.endpoint; is = is; done = h; made = owns (sessions_of Client given) v before after there sessions last events }
 
 pub unmade_resumed : (given : GivenConfig) (pairs remembered : List (ℕ × ℕ)) (n : Told) (before after : Option Seen) → UnmakesResumed given pairs remembered n → after ≡ before → MakesResumed given pairs remembered n before after
 unmade_resumed given pairs remembered n before after u same = record { answer = Err u.answer; is = u.is; done = u.refused; made = same }

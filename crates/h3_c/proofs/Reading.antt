@@ -20,6 +20,7 @@ use Rattle.h3_session.specs.declared.endpoint.events.EventsSeen.{EventsSeen}
 use Rattle.h3_c.specs.declared.items.PulledItem.{PulledItem}
 use Rattle.h3_c.specs.declared.numbers.Told.{Told}
 use Rattle.h3_c.specs.Exported.{OnStream, Pulls, UnlessRejected}
+use Rattle.h3_webtransport.specs.Joint.{Joint}
 use Rattle.h3_c.specs.Seen.{Seen}
 use Rattle.h3_c.specs.Items.{plain, shown}
 use Rattle.h3_c.specs.Numbers.{ok}
@@ -60,9 +61,9 @@ pub fin_refused : (is_alone : Bool) (bytes : List ℕ) (mid new : EndpointState)
 fin_refused is_alone bytes mid new id n alone h = subst (λ b. RefusesEnd b mid new id n) alone h
 
 -- the pull behind what was taken
-pub pulls_on : (id stream : ℕ) (n : Told) (u w : Seen) (last : FieldsPull) (events : EventsSeen) (given : PulledItem) → u.events ≡ events → stream ≡ id → stream < 2 ^ 62
-    → OnStream stream n u w (Pulls stream n u w given) → Pulls id n (record { endpoint = u.endpoint; last = last; events = events }) w given
-pulls_on id stream n u w last events given same is below pulls =
+pub pulls_on : (id stream : ℕ) (n : Told) (u w : Seen) (sessions : Joint) (last : FieldsPull) (events : EventsSeen) (given : PulledItem) → u.events ≡ events → stream ≡ id → stream < 2 ^ 62
+    → OnStream stream n u w (Pulls stream n u w given) → Pulls id n (record { endpoint = u.endpoint; sessions = sessions; last = last; events = events }) w given
+pulls_on id stream n u w sessions last events given same is below pulls =
     let p : Pulls stream n u w given = pulls.known below in
     let q : Pulls id n u w given = subst (λ i. Pulls i n u w given) is p in
     record { done = q.done; pulled = q.pulled; list = q.list; given_so = q.given_so; events = q.events ∙ same }
@@ -147,21 +148,23 @@ same_twice one two three first second =
     }
 
 -- what is read of an endpoint at which nothing changed
-copies_behind : (v u w : Seen) (id : ℕ) (bytes : List ℕ) (fin : ℕ) (n : Told) (before given : PulledItem) (used : ℕ) → IsSame v.endpoint u.endpoint → u.last ≡ v.last → u.events ≡ v.events
+copies_behind : (v u w : Seen) (id : ℕ) (bytes : List ℕ) (fin : ℕ) (n : Told) (before given : PulledItem) (used : ℕ) → IsSame v.endpoint u.endpoint → u.sessions ≡ v.sessions → u.last ≡ v.last → u.events ≡ v.events
     → CopiesNext u w id bytes fin n before given used → CopiesNext v w id bytes fin n before given used
-copies_behind v u w id bytes fin n before given used same last events copies =
+copies_behind v u w id bytes fin n before given used same sessions last events copies =
     let start_is : record u { endpoint = copies.start } ≡ record v { endpoint = copies.start } =
-    ap (λ l. let x : Seen = record { endpoint = copies.start; last = l; events = u.events } in x) last ∙ ap (λ l. let x : Seen = record { endpoint = copies.start; last = v.last; events = l } in x) events in
+    ap (λ j. let x : Seen = record { endpoint = copies.start; sessions = j; last = u.last; events = u.events } in x) sessions
+    ∙ ap (λ l. let x : Seen = record { endpoint = copies.start; sessions = v.sessions; last = l; events = u.events } in x) last
+    ∙ ap (λ l. let x : Seen = record { endpoint = copies.start; sessions = v.sessions; last = v.last; events = l } in x) events in
     record {
       start = copies.start;
       same = same_twice v.endpoint u.endpoint copies.start same copies.same;
       reads = subst (λ s. ReadsCopied s w id bytes fin n before given used) start_is copies.reads;
     }
 
-pub copies_from : (v u w : Seen) (id : ℕ) (bytes : List ℕ) (fin : ℕ) (n : Told) (before given : PulledItem) (used : ℕ) → IsSame v.endpoint u.endpoint → u.last ≡ v.last → u.events ≡ v.events
+pub copies_from : (v u w : Seen) (id : ℕ) (bytes : List ℕ) (fin : ℕ) (n : Told) (before given : PulledItem) (used : ℕ) → IsSame v.endpoint u.endpoint → u.sessions ≡ v.sessions → u.last ≡ v.last → u.events ≡ v.events
     → ReadsCopied u w id bytes fin n before given used → CopiesNext v w id bytes fin n before given used
-copies_from v u w id bytes fin n before given used same last events reads =
-    copies_behind v u w id bytes fin n before given used same last events (record { start = u.endpoint; same = same_itself u.endpoint; reads = reads })
+copies_from v u w id bytes fin n before given used same sessions last events reads =
+    copies_behind v u w id bytes fin n before given used same sessions last events (record { start = u.endpoint; same = same_itself u.endpoint; reads = reads })
 
 places_behind : (v u w : Seen) (id : ℕ) (bytes : List ℕ) (p : BodyPlace) (n : Told) (given : PulledItem) (used : ℕ) → IsSame v.endpoint u.endpoint → u.events ≡ v.events
     → ReadsPlaced u w id bytes p n given used → ReadsPlaced v w id bytes p n given used
@@ -182,18 +185,18 @@ places_behind v u w id bytes p n given used same events r =
       events = r.events ∙ events;
     }
 
-at_behind : (v u w : Seen) (id : ℕ) (bytes : List ℕ) (fin : ℕ) (n : Told) (before given : PulledItem) (used : ℕ) (o : Option BodyPlace) → IsSame v.endpoint u.endpoint → u.last ≡ v.last → u.events ≡ v.events
+at_behind : (v u w : Seen) (id : ℕ) (bytes : List ℕ) (fin : ℕ) (n : Told) (before given : PulledItem) (used : ℕ) (o : Option BodyPlace) → IsSame v.endpoint u.endpoint → u.sessions ≡ v.sessions → u.last ≡ v.last → u.events ≡ v.events
     → ReadsAt o u w id bytes fin n before given used → ReadsAt o v w id bytes fin n before given used
-at_behind v u w id bytes fin n before given used None same last events r = copies_behind v u w id bytes fin n before given used same last events r
-at_behind v u w id bytes fin n before given used (Some p) same last events r = places_behind v u w id bytes p n given used same events r
+at_behind v u w id bytes fin n before given used None same sessions last events r = copies_behind v u w id bytes fin n before given used same sessions last events r
+at_behind v u w id bytes fin n before given used (Some p) same sessions last events r = places_behind v u w id bytes p n given used same events r
 
-pub reads_behind : (v u w : Seen) (id : ℕ) (bytes : List ℕ) (fin : ℕ) (n : Told) (before given : PulledItem) (used : ℕ) → IsSame v.endpoint u.endpoint → u.last ≡ v.last → u.events ≡ v.events
+pub reads_behind : (v u w : Seen) (id : ℕ) (bytes : List ℕ) (fin : ℕ) (n : Told) (before given : PulledItem) (used : ℕ) → IsSame v.endpoint u.endpoint → u.sessions ≡ v.sessions → u.last ≡ v.last → u.events ≡ v.events
     → ReadsNext u w id bytes fin n before given used → ReadsNext v w id bytes fin n before given used
-reads_behind v u w id bytes fin n before given used same last events r =
+reads_behind v u w id bytes fin n before given used same sessions last events r =
     record {
       place = r.place;
       is_next = λ e h. r.is_next e (stands_unchanged v.endpoint u.endpoint e same h);
-      reads = at_behind v u w id bytes fin n before given used r.place same last events r.reads;
+      reads = at_behind v u w id bytes fin n before given used r.place same sessions last events r.reads;
     }
 
 -- The type and length of a DATA frame are all that came, and were read: they are delivered, and the pull behind them waits for more.

@@ -22,9 +22,17 @@ use Rattle.h3_c.specs.Numbers.{ok, none, room, argument, memory, rejected, Tells
 use Rattle.h3_c.specs.Seen.{Seen}
 use Rattle.h3_c.specs.Bits.{bit}
 
--- From what the handle owned to what the handle for the next call owns.
+-- From what the handle owned to what the handle for the next call owns. Such a call leaves sessions of WebTransport as they are.
 abbrev pub Steps : Option Seen → Option Seen → (Seen → Seen → Type 0) → Type 0
-Steps before after goes = (v w : Seen) → before ≡ Some v → after ≡ Some w → goes v w
+Steps before after goes = (v w : Seen) → before ≡ Some v → after ≡ Some w → goes v w × (w.sessions ≡ v.sessions)
+
+-- The same of a call that sessions answer, where they are off,
+abbrev pub StepsAlone : Option Seen → Option Seen → (Seen → Seen → Type 0) → Type 0
+StepsAlone before after goes = (v w : Seen) → before ≡ Some v → after ≡ Some w → v.sessions.is_on ≡ false → goes v w × (w.sessions ≡ v.sessions)
+
+-- and with them.
+abbrev pub StepsBeside : Option Seen → Option Seen → (Seen → Seen → Type 0) → Type 0
+StepsBeside before after goes = (v w : Seen) → before ≡ Some v → after ≡ Some w → goes v w
 
 -- The call answered a result, which this number tells, and did this with it. The item that was pulled last stays, and what was reported.
 pub record Calls {R : Type 0} (told : R → Told) (n : Told) (v w : Seen) (does : R → Type 0) : Type 0 where

@@ -25,3 +25,7 @@ pub mod Showing
 pub mod Reads
 pub mod Programs
 pub mod WorkedPrograms
+pub mod PullsBeside
+pub mod ReadsBeside
+pub mod Beside
+pub mod Sessions

@@ -28,7 +28,8 @@ impl Connection {
 
     /// A datagram came.
     pub(crate) fn read_datagram(&mut self, bytes: &[u8], id: &mut u64, from: &mut usize) -> Told
-        ensures { ReadsOne self.old self.new bytes.now result id.old id.new from.old from.new }
+        ensures does { ReadsOne self.old self.new bytes.now result id.old id.new from.old from.new }
+        ensures sessions { self.new.sessions ≡ self.old.sessions }
     {
         put_read(self.endpoint.read_datagram(bytes), id, from)
     }

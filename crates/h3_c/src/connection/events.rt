@@ -9,7 +9,8 @@ use h3_session::ConnectionEvent;
 impl Connection {
     /// What happened on the connection and was not reported yet.
     pub(crate) fn next_event(&mut self, kind: &mut u32, number: &mut u64) -> Told
-        ensures { ReportsEvent self.old self.new result kind.old kind.new number.old number.new }
+        ensures does { ReportsEvent self.old self.new result kind.old kind.new number.old number.new }
+        ensures sessions { self.new.sessions ≡ self.old.sessions }
     {
         let Some(event) = self.endpoint.next_event(&mut self.events) else {
             return NONE;

@@ -22,8 +22,9 @@ impl Connection {
         flags: &[u8],
         bytes: &'static [u8],
     ) -> Told
-        ensures { OnStream id result self.old self.new
+        ensures does { OnStream id result self.old self.new
             (SendsCut (fields_given sizes.now flags.now bytes.now) (λ e. place_refusal e id) result self.old self.new (λ fields call. SendsFieldList self.old.endpoint self.new.endpoint id fields call)) }
+        ensures sessions { self.new.sessions ≡ self.old.sessions }
     {
         let Ok(stream) = StreamId::try_from(id) else {
             return ARGUMENT;
@@ -65,8 +66,9 @@ impl Connection {
         flags: &[u8],
         bytes: &'static [u8],
     ) -> Told
-        ensures { OnStream id result self.old self.new
+        ensures does { OnStream id result self.old self.new
             (SendsCut (fields_given sizes.now flags.now bytes.now) (λ e. order_refusal e id) result self.old self.new (λ fields call. SendsTrailerList self.old.endpoint self.new.endpoint id fields call)) }
+        ensures sessions { self.new.sessions ≡ self.old.sessions }
     {
         let Ok(stream) = StreamId::try_from(id) else {
             return ARGUMENT;

@@ -1,7 +1,9 @@
 //! Which stream sends next, by priority.
-ghost use Rattle.std.specs.Prelude.{◌≡◌};
+ghost use Rattle.std.specs.Prelude.{◌≡◌, false};
 ghost use Rattle.h3_c.specs.Numbers.{number};
 ghost use Rattle.h3_c.specs.Ordering.{HoldsOn, SendsByPriority, SendsPriorityOn, SetsInitialPriorityOn, SetsPriorityOn, ShowsPriorityOf, flag_given, priority_given};
+ghost use Rattle.h3_c.specs.Beside.{DoesBeside};
+ghost use Rattle.h3_c.specs.Does.CallOfC.{Hold, NextByPriority};
 
 use super::Connection;
 use crate::numbers::{ARGUMENT, NONE, OK, Told, called, refused};
@@ -12,7 +14,8 @@ use h3_proto::stream::StreamId;
 impl Connection {
     /// A request stream has this priority from now on.
     pub(crate) fn set_priority(&mut self, id: u64, urgency: u32, incremental: u32) -> Told
-        ensures { SetsPriorityOn self.old self.new id urgency incremental result }
+        ensures sets { SetsPriorityOn self.old self.new id urgency incremental result }
+        ensures sessions { self.new.sessions ≡ self.old.sessions }
     {
         let Ok(stream) = StreamId::try_from(id) else {
             return ARGUMENT;
@@ -25,7 +28,8 @@ impl Connection {
 
     /// The request of a stream asks for this priority by its `priority` field.
     pub(crate) fn set_initial_priority(&mut self, id: u64, urgency: u32, incremental: u32) -> Told
-        ensures { SetsInitialPriorityOn self.old self.new id urgency incremental result }
+        ensures sets { SetsInitialPriorityOn self.old self.new id urgency incremental result }
+        ensures sessions { self.new.sessions ≡ self.old.sessions }
     {
         let Ok(stream) = StreamId::try_from(id) else {
             return ARGUMENT;
@@ -38,7 +42,8 @@ impl Connection {
 
     /// Tells the server the priority of a response.
     pub(crate) fn send_priority(&mut self, id: u64, urgency: u32, incremental: u32) -> Told
-        ensures { SendsPriorityOn self.old self.new id urgency incremental result }
+        ensures sends { SendsPriorityOn self.old self.new id urgency incremental result }
+        ensures sessions { self.new.sessions ≡ self.old.sessions }
     {
         let Ok(stream) = StreamId::try_from(id) else {
             return ARGUMENT;
@@ -66,7 +71,9 @@ impl Connection {
 
     /// QUIC has no credit for a stream, or has it again.
     pub(crate) fn hold(&mut self, id: u64, held: u32) -> Told
-        ensures { HoldsOn self.old self.new id held result }
+        ensures alone { self.old.sessions.is_on ≡ false → HoldsOn self.old self.new id held result }
+        ensures sessions { self.old.sessions.is_on ≡ false → self.new.sessions ≡ self.old.sessions }
+        ensures beside { DoesBeside (Hold id held result) self.old self.new }
     {
         let Ok(stream) = StreamId::try_from(id) else {
             return ARGUMENT;
@@ -79,7 +86,9 @@ impl Connection {
 
     /// The stream that sends next.
     pub(crate) fn next_by_priority(&mut self, id: &mut u64) -> Told
-        ensures { SendsByPriority self.old self.new result id.old id.new }
+        ensures alone { self.old.sessions.is_on ≡ false → SendsByPriority self.old self.new result id.old id.new }
+        ensures sessions { self.old.sessions.is_on ≡ false → self.new.sessions ≡ self.old.sessions }
+        ensures beside { DoesBeside (NextByPriority id.old id.new result) self.old self.new }
     {
         let Some(next) = self.sessions.next_by_priority(&mut self.endpoint) else {
             return NONE;

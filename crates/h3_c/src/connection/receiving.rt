@@ -4,6 +4,8 @@ ghost use Rattle.h3_connection.specs.ReceivingContracts.{Delivers, DeliversEnd, 
 ghost use Rattle.h3_connection.specs.Shutdown.{is_rejected_in};
 ghost use Rattle.h3_c.specs.Exported.{DeliversOn};
 ghost use Rattle.h3_c.specs.Numbers.{argument, rejected, delivery_told};
+ghost use Rattle.h3_c.specs.Beside.{DoesBeside};
+ghost use Rattle.h3_c.specs.Does.CallOfC.{Deliver, DeliverEnd, DeliverReset};
 
 use super::Connection;
 use crate::numbers::{ARGUMENT, REJECTED, Told, delivered, or_memory};
@@ -30,7 +32,9 @@ impl Connection {
 
     /// Bytes came on a stream.
     pub(crate) fn deliver(&mut self, alloc: Global, id: u64, bytes: &[u8]) -> Told
-        ensures { DeliversOn delivery_told id result self.old self.new (λ call. Delivers self.old.endpoint self.new.endpoint id bytes.now call) }
+        ensures alone { self.old.sessions.is_on ≡ false → DeliversOn delivery_told id result self.old self.new (λ call. Delivers self.old.endpoint self.new.endpoint id bytes.now call) }
+        ensures sessions { self.old.sessions.is_on ≡ false → self.new.sessions ≡ self.old.sessions }
+        ensures beside { DoesBeside (Deliver id bytes.now result) self.old self.new }
     {
         let id = match self.receiving(id) {
             Ok(id) => id,
@@ -44,7 +48,9 @@ impl Connection {
 
     /// The end of a stream came.
     pub(crate) fn deliver_end(&mut self, id: u64) -> Told
-        ensures { DeliversOn delivery_told id result self.old self.new (λ call. DeliversEnd self.old.endpoint self.new.endpoint id call) }
+        ensures alone { self.old.sessions.is_on ≡ false → DeliversOn delivery_told id result self.old self.new (λ call. DeliversEnd self.old.endpoint self.new.endpoint id call) }
+        ensures sessions { self.old.sessions.is_on ≡ false → self.new.sessions ≡ self.old.sessions }
+        ensures beside { DoesBeside (DeliverEnd id result) self.old self.new }
     {
         let id = match self.receiving(id) {
             Ok(id) => id,
@@ -55,7 +61,9 @@ impl Connection {
 
     /// The sender reset a stream.
     pub(crate) fn deliver_reset(&mut self, id: u64, code: u64) -> Told
-        ensures { DeliversOn delivery_told id result self.old self.new (λ call. DeliversReset self.old.endpoint self.new.endpoint id code call) }
+        ensures alone { self.old.sessions.is_on ≡ false → DeliversOn delivery_told id result self.old self.new (λ call. DeliversReset self.old.endpoint self.new.endpoint id code call) }
+        ensures sessions { self.old.sessions.is_on ≡ false → self.new.sessions ≡ self.old.sessions }
+        ensures beside { DoesBeside (DeliverReset id code result) self.old self.new }
     {
         let id = match self.receiving(id) {
             Ok(id) => id,

@@ -1,10 +1,12 @@
 //! What C sends, header and trailer sections aside.
-ghost use Rattle.std.specs.Prelude.{◌≡◌, ◌<◌, ◌≤◌, ◌^◌, IfErr, IfOk};
+ghost use Rattle.std.specs.Prelude.{◌≡◌, ◌<◌, ◌≤◌, ◌^◌, IfErr, IfOk, false};
 ghost use Rattle.h3_connection.specs.SendingContracts.{SendsBody, Finishes, Resets, Cancels, GoesAway};
 ghost use Rattle.h3_c.specs.Exported.{Calls, CallsOn, OnStream, OpensRequest, ShowsNextId};
 ghost use Rattle.h3_c.specs.Numbers.{argument, call_told, body_told};
 ghost use Rattle.h3_session.specs.Held.{SendsBodyOf};
 ghost use Rattle.h3_session.specs.OpeningAt.{OpensRequestAt};
+ghost use Rattle.h3_c.specs.Beside.{DoesBeside};
+ghost use Rattle.h3_c.specs.Does.CallOfC.{Cancel, Finish, Reset};
 
 use super::Connection;
 use crate::numbers::{ARGUMENT, OK, Told, called, or_memory, refused, sent};
@@ -16,7 +18,8 @@ use std::alloc::Global;
 impl Connection {
     /// Opens the next request stream, whose id goes to `id`.
     pub(crate) fn open_request(&mut self, id: &mut u64) -> Told
-        ensures { OpensRequest result self.old self.new id.old id.new }
+        ensures does { OpensRequest result self.old self.new id.old id.new }
+        ensures sessions { self.new.sessions ≡ self.old.sessions }
     {
         match self.endpoint.open_request() {
             Ok(opened) => {
@@ -43,7 +46,8 @@ impl Connection {
 
     /// Opens the request of an id that QUIC gave, and all with lower ids that are not open.
     pub(crate) fn open_request_at(&mut self, id: u64) -> Told
-        ensures { CallsOn call_told id result self.old self.new (λ call. OpensRequestAt self.old.endpoint self.new.endpoint id call) }
+        ensures does { CallsOn call_told id result self.old self.new (λ call. OpensRequestAt self.old.endpoint self.new.endpoint id call) }
+        ensures sessions { self.new.sessions ≡ self.old.sessions }
     {
         let Ok(id) = StreamId::try_from(id) else {
             return ARGUMENT;
@@ -53,7 +57,8 @@ impl Connection {
 
     /// A piece of a body goes out on a stream.
     pub(crate) fn send_body(&mut self, alloc: Global, id: u64, body: &[u8]) -> Told
-        ensures { OnStream id result self.old self.new (Calls body_told result self.old self.new (λ call. SendsBody self.old.endpoint self.new.endpoint id body.now call)) }
+        ensures does { OnStream id result self.old self.new (Calls body_told result self.old self.new (λ call. SendsBody self.old.endpoint self.new.endpoint id body.now call)) }
+        ensures sessions { self.new.sessions ≡ self.old.sessions }
     {
         let stream = match stream_of(id) {
             Ok(stream) => stream,
@@ -67,7 +72,8 @@ impl Connection {
 
     /// A piece of a body of so many bytes goes out on a stream, which C holds.
     pub(crate) fn send_body_of(&mut self, id: u64, len: usize) -> Told
-        ensures { CallsOn call_told id result self.old self.new (λ call. SendsBodyOf self.old.endpoint self.new.endpoint id len call) }
+        ensures does { CallsOn call_told id result self.old self.new (λ call. SendsBodyOf self.old.endpoint self.new.endpoint id len call) }
+        ensures sessions { self.new.sessions ≡ self.old.sessions }
     {
         let Ok(id) = StreamId::try_from(id) else {
             return ARGUMENT;
@@ -77,7 +83,9 @@ impl Connection {
 
     /// The message on a stream is whole.
     pub(crate) fn finish(&mut self, id: u64) -> Told
-        ensures { CallsOn call_told id result self.old self.new (λ call. Finishes self.old.endpoint self.new.endpoint id call) }
+        ensures alone { self.old.sessions.is_on ≡ false → CallsOn call_told id result self.old self.new (λ call. Finishes self.old.endpoint self.new.endpoint id call) }
+        ensures sessions { self.old.sessions.is_on ≡ false → self.new.sessions ≡ self.old.sessions }
+        ensures beside { DoesBeside (Finish id result) self.old self.new }
     {
         let Ok(id) = StreamId::try_from(id) else {
             return ARGUMENT;
@@ -87,7 +95,9 @@ impl Connection {
 
     /// Sending on a stream ends here.
     pub(crate) fn reset(&mut self, id: u64) -> Told
-        ensures { CallsOn call_told id result self.old self.new (λ call. Resets self.old.endpoint self.new.endpoint id call) }
+        ensures alone { self.old.sessions.is_on ≡ false → CallsOn call_told id result self.old self.new (λ call. Resets self.old.endpoint self.new.endpoint id call) }
+        ensures sessions { self.old.sessions.is_on ≡ false → self.new.sessions ≡ self.old.sessions }
+        ensures beside { DoesBeside (Reset id result) self.old self.new }
     {
         let Ok(id) = StreamId::try_from(id) else {
             return ARGUMENT;
@@ -97,7 +107,9 @@ impl Connection {
 
     /// The caller needs nothing more of a stream.
     pub(crate) fn cancel(&mut self, id: u64) -> Told
-        ensures { CallsOn call_told id result self.old self.new (λ call. Cancels self.old.endpoint self.new.endpoint id call) }
+        ensures alone { self.old.sessions.is_on ≡ false → CallsOn call_told id result self.old self.new (λ call. Cancels self.old.endpoint self.new.endpoint id call) }
+        ensures sessions { self.old.sessions.is_on ≡ false → self.new.sessions ≡ self.old.sessions }
+        ensures beside { DoesBeside (Cancel id result) self.old self.new }
     {
         let Ok(id) = StreamId::try_from(id) else {
             return ARGUMENT;
@@ -107,7 +119,8 @@ impl Connection {
 
     /// No request, or no push, is taken from this id on.
     pub(crate) fn goaway(&mut self, id: u64) -> Told
-        ensures { CallsOn call_told id result self.old self.new (λ call. GoesAway self.old.endpoint self.new.endpoint id call) }
+        ensures does { CallsOn call_told id result self.old self.new (λ call. GoesAway self.old.endpoint self.new.endpoint id call) }
+        ensures sessions { self.new.sessions ≡ self.old.sessions }
     {
         let Ok(id) = VarInt::from_u64(id) else {
             return ARGUMENT;

@@ -1,4 +1,5 @@
 //! Streams of WebTransport sessions.
+ghost use Rattle.h3_c.specs.Sessions.{FindsOfSession, OpensSession, SendsRawOn};
 
 use super::Connection;
 use crate::numbers::{ARGUMENT, NONE, OK, Told, or_memory, sent, unopened};
@@ -9,12 +10,9 @@ use std::alloc::Global;
 
 impl Connection {
     /// Opens a stream of a session, whose id goes to `id`.
-    pub(crate) fn open_session_stream(
-        &mut self,
-        session: u64,
-        both_ways: u32,
-        id: &mut u64,
-    ) -> Told {
+    pub(crate) fn open_session_stream(&mut self, session: u64, both_ways: u32, id: &mut u64) -> Told
+        ensures { OpensSession self.old self.new session both_ways result id.old id.new }
+    {
         let Ok(session) = StreamId::try_from(session) else {
             return ARGUMENT;
         };
@@ -34,7 +32,9 @@ impl Connection {
     }
 
     /// Sends bytes on a stream of a session, as they are.
-    pub(crate) fn send_raw(&mut self, alloc: Global, id: u64, bytes: &[u8]) -> Told {
+    pub(crate) fn send_raw(&mut self, alloc: Global, id: u64, bytes: &[u8]) -> Told
+        ensures { SendsRawOn self.old self.new id bytes.now result }
+    {
         let Ok(stream) = StreamId::try_from(id) else {
             return ARGUMENT;
         };
@@ -45,7 +45,9 @@ impl Connection {
     }
 
     /// The lowest id from `from` on of a stream of a session.
-    pub(crate) fn next_of_session(&self, session: u64, from: u64, id: &mut u64) -> Told {
+    pub(crate) fn next_of_session(&self, session: u64, from: u64, id: &mut u64) -> Told
+        ensures { FindsOfSession self.now self.now session from result id.old id.new }
+    {
         let Ok(session) = SessionId::try_from(session) else {
             return ARGUMENT;
         };

@@ -1,5 +1,5 @@
 //! What can be read.
-ghost use Rattle.std.specs.Prelude.{◌≡◌, ◌≤◌, ◌^◌};
+ghost use Rattle.std.specs.Prelude.{◌≡◌, ◌≤◌, ◌^◌, false};
 ghost use Rattle.h3_connection.specs.Endpoint.{EndpointHistory};
 ghost use Rattle.h3_connection.specs.FrameLeft.{ShowsFrameLeft};
 ghost use Rattle.h3_connection.specs.Lasts.{last_id};
@@ -7,6 +7,8 @@ ghost use Rattle.h3_connection.specs.State.{StandsFor};
 ghost use Rattle.h3_c.specs.Exported.{OnStream};
 ghost use Rattle.h3_c.specs.Numbers.{ok};
 ghost use Rattle.h3_c.specs.Showing.{ShowsStream, ShowsConnection, ShowsSetting};
+ghost use Rattle.h3_c.specs.Beside.{DoesBeside};
+ghost use Rattle.h3_c.specs.Does.CallOfC.{Stream};
 
 use super::Connection;
 use crate::numbers::{ARGUMENT, NONE, OK, Told};
@@ -18,7 +20,8 @@ use h3_proto::stream::StreamId;
 impl Connection {
     /// A stream's state.
     pub(crate) fn stream(&self, id: u64, state: &mut StreamState) -> Told
-        ensures shows { OnStream id result self.now self.now ((result ≡ ok) × ShowsStream self.now id state.new) }
+        ensures shows { self.now.sessions.is_on ≡ false → OnStream id result self.now self.now ((result ≡ ok) × ShowsStream self.now id state.new) }
+        ensures beside { DoesBeside (Stream id state.old state.new result) self.now self.now }
         ensures unwritten { 2 ^ 62 ≤ id → state.new ≡ state.old }
     {
         let Ok(id) = StreamId::try_from(id) else {

@@ -10,14 +10,16 @@ use crate::numbers::{OK, Told, called};
 impl Connection {
     /// Tells the peer that the connection will be shut down.
     pub(crate) fn shutdown_notice(&mut self) -> Told
-        ensures { Calls call_told result self.old self.new (λ call. GivesNotice self.old.endpoint self.new.endpoint call) }
+        ensures does { Calls call_told result self.old self.new (λ call. GivesNotice self.old.endpoint self.new.endpoint call) }
+        ensures sessions { self.new.sessions ≡ self.old.sessions }
     {
         called(self.endpoint.shutdown_notice())
     }
 
     /// No more is taken than came.
     pub(crate) fn shutdown(&mut self) -> Told
-        ensures { Calls call_told result self.old self.new (λ call. ShutsDown self.old.endpoint self.new.endpoint call) }
+        ensures does { Calls call_told result self.old self.new (λ call. ShutsDown self.old.endpoint self.new.endpoint call) }
+        ensures sessions { self.new.sessions ≡ self.old.sessions }
     {
         called(self.endpoint.shutdown())
     }

@@ -1,8 +1,9 @@
 //! What C calls: a stream is given up both ways.
 ghost use Rattle.std.specs.Prelude.{IsSome};
+ghost use Rattle.h3_c.specs.Beside.{DoesBeside};
 ghost use Rattle.h3_c.specs.Does.{Does};
 ghost use Rattle.h3_c.specs.Does.CallOfC.{CloseStream};
-ghost use Rattle.h3_c.specs.Exported.{Steps};
+ghost use Rattle.h3_c.specs.Exported.{StepsAlone, StepsBeside};
 ghost use Rattle.h3_c.specs.Numbers.{number};
 
 use crate::handle::{Handle, kept, opened};
@@ -21,7 +22,8 @@ pub extern "C" fn h3_raw_close_stream(
 ) -> u32
     requires { IsSome handle.value }
     ensures there { IsSome out.new.value }
-    ensures goes { Steps handle.value out.new.value (Does (CloseStream id stop_sending.old stop_sending.new reset_stream.old reset_stream.new (number result detail.new))) }
+    ensures goes { StepsAlone handle.value out.new.value (Does (CloseStream id stop_sending.old stop_sending.new reset_stream.old reset_stream.new (number result detail.new))) }
+    ensures beside { StepsBeside handle.value out.new.value (DoesBeside (CloseStream id stop_sending.old stop_sending.new reset_stream.old reset_stream.new (number result detail.new))) }
 {
     let mut connection = opened(alloc, handle);
     let told = connection.close_stream(id, stop_sending, reset_stream);

@@ -1,8 +1,9 @@
 //! What C calls: items.
 ghost use Rattle.std.specs.Prelude.{IsSome};
+ghost use Rattle.h3_c.specs.Beside.{DoesBeside};
 ghost use Rattle.h3_c.specs.Does.{Does};
 ghost use Rattle.h3_c.specs.Does.CallOfC.{ItemBytes, ItemFields, Pull};
-ghost use Rattle.h3_c.specs.Exported.{Steps};
+ghost use Rattle.h3_c.specs.Exported.{Steps, StepsAlone, StepsBeside};
 ghost use Rattle.h3_c.specs.Numbers.{number};
 
 use crate::fields::FieldSize;
@@ -21,7 +22,8 @@ pub extern "C" fn h3_raw_pull(
 ) -> u32
     requires { IsSome handle.value }
     ensures there { IsSome out.new.value }
-    ensures goes { Steps handle.value out.new.value (Does (Pull id item.old item.new (number result 0))) }
+    ensures goes { StepsAlone handle.value out.new.value (Does (Pull id item.old item.new (number result 0))) }
+    ensures beside { StepsBeside handle.value out.new.value (DoesBeside (Pull id item.old item.new (number result 0))) }
 {
     let mut connection = opened(alloc, handle);
     let told = connection.pull(alloc, id, item);

@@ -1,8 +1,9 @@
 //! What C calls: which stream sends next, by priority.
 ghost use Rattle.std.specs.Prelude.{IsSome};
+ghost use Rattle.h3_c.specs.Beside.{DoesBeside};
 ghost use Rattle.h3_c.specs.Does.{Does};
 ghost use Rattle.h3_c.specs.Does.CallOfC.{Hold, NextByPriority, PriorityOf, SendPriority, SetInitialPriority, SetPriority};
-ghost use Rattle.h3_c.specs.Exported.{Steps};
+ghost use Rattle.h3_c.specs.Exported.{Steps, StepsAlone, StepsBeside};
 ghost use Rattle.h3_c.specs.Numbers.{number};
 
 use crate::handle::{Handle, kept, opened};
@@ -18,7 +19,8 @@ pub extern "C" fn h3_raw_next_by_priority(
 ) -> u32
     requires { IsSome handle.value }
     ensures there { IsSome out.new.value }
-    ensures goes { Steps handle.value out.new.value (Does (NextByPriority id.old id.new (number result 0))) }
+    ensures goes { StepsAlone handle.value out.new.value (Does (NextByPriority id.old id.new (number result 0))) }
+    ensures beside { StepsBeside handle.value out.new.value (DoesBeside (NextByPriority id.old id.new (number result 0))) }
 {
     let mut connection = opened(alloc, handle);
     let told = connection.next_by_priority(id);
@@ -124,7 +126,8 @@ pub extern "C" fn h3_raw_hold(
 ) -> u32
     requires { IsSome handle.value }
     ensures there { IsSome out.new.value }
-    ensures goes { Steps handle.value out.new.value (Does (Hold id held (number result detail.new))) }
+    ensures goes { StepsAlone handle.value out.new.value (Does (Hold id held (number result detail.new))) }
+    ensures beside { StepsBeside handle.value out.new.value (DoesBeside (Hold id held (number result detail.new))) }
 {
     let mut connection = opened(alloc, handle);
     let told = connection.hold(id, held);

@@ -1,8 +1,9 @@
 //! What C calls: what waits to be sent.
 ghost use Rattle.std.specs.Prelude.{IsSome};
+ghost use Rattle.h3_c.specs.Beside.{DoesBeside};
 ghost use Rattle.h3_c.specs.Does.{Does};
 ghost use Rattle.h3_c.specs.Does.CallOfC.{Advance, Outgoing};
-ghost use Rattle.h3_c.specs.Exported.{Steps};
+ghost use Rattle.h3_c.specs.Exported.{StepsAlone, StepsBeside};
 ghost use Rattle.h3_c.specs.Numbers.{number};
 
 use crate::handle::{Handle, kept, opened};
@@ -22,7 +23,8 @@ pub extern "C" fn h3_raw_outgoing(
 ) -> u32
     requires { IsSome handle.value }
     ensures there { IsSome out.new.value }
-    ensures goes { Steps handle.value out.new.value (Does (Outgoing id buffer.old buffer.new count.old count.new past.old past.new fin.old fin.new (number result 0))) }
+    ensures goes { StepsAlone handle.value out.new.value (Does (Outgoing id buffer.old buffer.new count.old count.new past.old past.new fin.old fin.new (number result 0))) }
+    ensures beside { StepsBeside handle.value out.new.value (DoesBeside (Outgoing id buffer.old buffer.new count.old count.new past.old past.new fin.old fin.new (number result 0))) }
 {
     let connection = opened(alloc, handle);
     let told = connection.outgoing(id, buffer, count, past, fin);
@@ -41,7 +43,8 @@ pub extern "C" fn h3_raw_advance(
 ) -> u32
     requires { IsSome handle.value }
     ensures there { IsSome out.new.value }
-    ensures goes { Steps handle.value out.new.value (Does (Advance id count (number result 0))) }
+    ensures goes { StepsAlone handle.value out.new.value (Does (Advance id count (number result 0))) }
+    ensures beside { StepsBeside handle.value out.new.value (DoesBeside (Advance id count (number result 0))) }
 {
     let mut connection = opened(alloc, handle);
     let told = connection.advance(id, count);

@@ -1,8 +1,9 @@
 //! What C calls: what came, read where it lies.
 ghost use Rattle.std.specs.Prelude.{IsSome};
+ghost use Rattle.h3_c.specs.Beside.{DoesBeside};
 ghost use Rattle.h3_c.specs.Does.{Does};
 ghost use Rattle.h3_c.specs.Does.CallOfC.{Read};
-ghost use Rattle.h3_c.specs.Exported.{Steps};
+ghost use Rattle.h3_c.specs.Exported.{StepsAlone, StepsBeside};
 ghost use Rattle.h3_c.specs.Numbers.{number};
 
 use crate::handle::{Handle, kept, opened};
@@ -24,7 +25,8 @@ pub extern "C" fn h3_raw_read(
 ) -> u32
     requires { IsSome handle.value }
     ensures there { IsSome out.new.value }
-    ensures goes { Steps handle.value out.new.value (Does (Read id bytes.now fin used.new item.old item.new (number result detail.new))) }
+    ensures goes { StepsAlone handle.value out.new.value (Does (Read id bytes.now fin used.new item.old item.new (number result detail.new))) }
+    ensures beside { StepsBeside handle.value out.new.value (DoesBeside (Read id bytes.now fin used.new item.old item.new (number result detail.new))) }
 {
     let mut connection = opened(alloc, handle);
     let told = connection.read(alloc, id, bytes, fin, used, item);

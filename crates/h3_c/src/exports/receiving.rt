@@ -1,8 +1,9 @@
 //! What C calls: what came.
 ghost use Rattle.std.specs.Prelude.{IsSome};
+ghost use Rattle.h3_c.specs.Beside.{DoesBeside};
 ghost use Rattle.h3_c.specs.Does.{Does};
 ghost use Rattle.h3_c.specs.Does.CallOfC.{Deliver, DeliverEnd, DeliverReset};
-ghost use Rattle.h3_c.specs.Exported.{Steps};
+ghost use Rattle.h3_c.specs.Exported.{StepsAlone, StepsBeside};
 ghost use Rattle.h3_c.specs.Numbers.{number};
 
 use crate::handle::{Handle, kept, opened};
@@ -20,7 +21,8 @@ pub extern "C" fn h3_raw_deliver(
 ) -> u32
     requires { IsSome handle.value }
     ensures there { IsSome out.new.value }
-    ensures goes { Steps handle.value out.new.value (Does (Deliver id bytes.now (number result detail.new))) }
+    ensures goes { StepsAlone handle.value out.new.value (Does (Deliver id bytes.now (number result detail.new))) }
+    ensures beside { StepsBeside handle.value out.new.value (DoesBeside (Deliver id bytes.now (number result detail.new))) }
 {
     let mut connection = opened(alloc, handle);
     let told = connection.deliver(alloc, id, bytes);
@@ -40,7 +42,8 @@ pub extern "C" fn h3_raw_deliver_end(
 ) -> u32
     requires { IsSome handle.value }
     ensures there { IsSome out.new.value }
-    ensures goes { Steps handle.value out.new.value (Does (DeliverEnd id (number result detail.new))) }
+    ensures goes { StepsAlone handle.value out.new.value (Does (DeliverEnd id (number result detail.new))) }
+    ensures beside { StepsBeside handle.value out.new.value (DoesBeside (DeliverEnd id (number result detail.new))) }
 {
     let mut connection = opened(alloc, handle);
     let told = connection.deliver_end(id);
@@ -61,7 +64,8 @@ pub extern "C" fn h3_raw_deliver_reset(
 ) -> u32
     requires { IsSome handle.value }
     ensures there { IsSome out.new.value }
-    ensures goes { Steps handle.value out.new.value (Does (DeliverReset id code (number result detail.new))) }
+    ensures goes { StepsAlone handle.value out.new.value (Does (DeliverReset id code (number result detail.new))) }
+    ensures beside { StepsBeside handle.value out.new.value (DoesBeside (DeliverReset id code (number result detail.new))) }
 {
     let mut connection = opened(alloc, handle);
     let told = connection.deliver_reset(id, code);

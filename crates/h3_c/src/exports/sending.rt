@@ -1,8 +1,9 @@
 //! What C calls: sending.
 ghost use Rattle.std.specs.Prelude.{IsSome};
+ghost use Rattle.h3_c.specs.Beside.{DoesBeside};
 ghost use Rattle.h3_c.specs.Does.{Does};
 ghost use Rattle.h3_c.specs.Does.CallOfC.{Cancel, Finish, Goaway, NextRequestId, OpenRequest, OpenRequestAt, Reset, SendBody, SendBodyOf};
-ghost use Rattle.h3_c.specs.Exported.{Steps};
+ghost use Rattle.h3_c.specs.Exported.{Steps, StepsAlone, StepsBeside};
 ghost use Rattle.h3_c.specs.Numbers.{number};
 
 use crate::handle::{Handle, kept, opened};
@@ -121,7 +122,8 @@ pub extern "C" fn h3_raw_finish(
 ) -> u32
     requires { IsSome handle.value }
     ensures there { IsSome out.new.value }
-    ensures goes { Steps handle.value out.new.value (Does (Finish id (number result detail.new))) }
+    ensures goes { StepsAlone handle.value out.new.value (Does (Finish id (number result detail.new))) }
+    ensures beside { StepsBeside handle.value out.new.value (DoesBeside (Finish id (number result detail.new))) }
 {
     let mut connection = opened(alloc, handle);
     let told = connection.finish(id);
@@ -141,7 +143,8 @@ pub extern "C" fn h3_raw_reset(
 ) -> u32
     requires { IsSome handle.value }
     ensures there { IsSome out.new.value }
-    ensures goes { Steps handle.value out.new.value (Does (Reset id (number result detail.new))) }
+    ensures goes { StepsAlone handle.value out.new.value (Does (Reset id (number result detail.new))) }
+    ensures beside { StepsBeside handle.value out.new.value (DoesBeside (Reset id (number result detail.new))) }
 {
     let mut connection = opened(alloc, handle);
     let told = connection.reset(id);
@@ -161,7 +164,8 @@ pub extern "C" fn h3_raw_cancel(
 ) -> u32
     requires { IsSome handle.value }
     ensures there { IsSome out.new.value }
-    ensures goes { Steps handle.value out.new.value (Does (Cancel id (number result detail.new))) }
+    ensures goes { StepsAlone handle.value out.new.value (Does (Cancel id (number result detail.new))) }
+    ensures beside { StepsBeside handle.value out.new.value (DoesBeside (Cancel id (number result detail.new))) }
 {
     let mut connection = opened(alloc, handle);
     let told = connection.cancel(id);

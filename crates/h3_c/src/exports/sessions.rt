@@ -1,6 +1,9 @@
 //! What C calls: streams of WebTransport sessions.
 ghost use Rattle.std.specs.Prelude.{◌≡◌, IsSome};
-ghost use Rattle.h3_webtransport_streams.specs.Codes.{code_of};
+ghost use Rattle.h3_webtransport_streams.specs.Codes.{code_of, number_of};
+ghost use Rattle.h3_c.specs.Exported.{StepsBeside};
+ghost use Rattle.h3_c.specs.Numbers.{number};
+ghost use Rattle.h3_c.specs.Sessions.{FindsOfSession, GivesNumber, OpensSession, SendsRawOn};
 
 use crate::handle::{Handle, kept, opened};
 use crate::numbers::{NONE, OK};
@@ -20,6 +23,7 @@ pub extern "C" fn h3_raw_open_session_stream(
 ) -> u32
     requires { IsSome handle.value }
     ensures there { IsSome out.new.value }
+    ensures goes { StepsBeside handle.value out.new.value (λ v w. OpensSession v w session both_ways (number result detail.new) id.old id.new) }
 {
     let mut connection = opened(alloc, handle);
     let told = connection.open_session_stream(session, both_ways, id);
@@ -40,6 +44,7 @@ pub extern "C" fn h3_raw_send_raw(
 ) -> u32
     requires { IsSome handle.value }
     ensures there { IsSome out.new.value }
+    ensures goes { StepsBeside handle.value out.new.value (λ v w. SendsRawOn v w id bytes.now (number result detail.new)) }
 {
     let mut connection = opened(alloc, handle);
     let told = connection.send_raw(alloc, id, bytes);
@@ -60,6 +65,7 @@ pub extern "C" fn h3_raw_next_of_session(
 ) -> u32
     requires { IsSome handle.value }
     ensures there { IsSome out.new.value }
+    ensures goes { StepsBeside handle.value out.new.value (λ v w. FindsOfSession v w session from (number result 0) id.old id.new) }
 {
     let connection = opened(alloc, handle);
     let told = connection.next_of_session(session, from, id);
@@ -77,7 +83,9 @@ pub extern "C" fn h3_raw_webtransport_code(number: u32) -> u64
 
 /// The number of an application for a code of HTTP/3.
 #[unsafe(no_mangle)]
-pub extern "C" fn h3_raw_webtransport_number(code: u64, number: &mut u32) -> u32 {
+pub extern "C" fn h3_raw_webtransport_number(code: u64, number: &mut u32) -> u32
+    ensures { GivesNumber (number_of code) result number.old number.new }
+{
     match codes::number_of(code) {
         Some(found) => {
             *number = found;

@@ -1,8 +1,9 @@
 //! What C calls: what can be read.
 ghost use Rattle.std.specs.Prelude.{IsSome};
+ghost use Rattle.h3_c.specs.Beside.{DoesBeside};
 ghost use Rattle.h3_c.specs.Does.{Does};
 ghost use Rattle.h3_c.specs.Does.CallOfC.{Connection, FrameLeft, PeerSetting, Stream};
-ghost use Rattle.h3_c.specs.Exported.{Steps};
+ghost use Rattle.h3_c.specs.Exported.{Steps, StepsAlone, StepsBeside};
 ghost use Rattle.h3_c.specs.Numbers.{number};
 
 use crate::handle::{Handle, kept, opened};
@@ -20,7 +21,8 @@ pub extern "C" fn h3_raw_stream(
 ) -> u32
     requires { IsSome handle.value }
     ensures there { IsSome out.new.value }
-    ensures goes { Steps handle.value out.new.value (Does (Stream id state.old state.new (number result 0))) }
+    ensures goes { StepsAlone handle.value out.new.value (Does (Stream id state.old state.new (number result 0))) }
+    ensures beside { StepsBeside handle.value out.new.value (DoesBeside (Stream id state.old state.new (number result 0))) }
 {
     let connection = opened(alloc, handle);
     let told = connection.stream(id, state);
