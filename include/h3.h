@@ -71,8 +71,9 @@
  * If there are several reasons, the first in the order of the call's comment is returned, but
  * H3_MEMORY may come before others. Many calls have a last argument `detail`, which may be NULL: it
  * gets the number that the reason names (below), else 0.
- * H3_NO_ENDPOINT, and H3_ARGUMENT because of a NULL, write nothing. Any other refusal writes
- * `detail`, and no other result unless the call's comment says so.
+ * H3_NO_ENDPOINT, and H3_ARGUMENT because of a NULL or of more than 8 further settings, write
+ * nothing. Any other refusal writes `detail`, and no other result unless the call's comment says
+ * so.
  *
  * OUT OF MEMORY
  *
@@ -303,14 +304,14 @@ enum h3_answer {
   H3_FIELD_COUNT = 24,       /* there are more different names than fit (24,576) */
   /* of what is read */
   H3_NONE = 25,              /* there is no such stream, field or setting */
-  H3_ROOM = 26,              /* the buffer is too small; as much as fits was copied, and the sizes
-                                say how much there is */
+  H3_ROOM = 26,              /* the buffer is too small: nothing was written. The call's comment
+                                says how much room is enough */
   /* of a strict endpoint */
   H3_MALFORMED = 27,         /* a strict peer would call the message malformed; detail: the
                                 h3_malformation */
   /* of datagrams */
   H3_NO_DATAGRAMS = 29,      /* this side or the peer announced no HTTP datagrams, or the peer's
-                                settings have not come */
+                                settings have not come and none are remembered (h3_new_resumed) */
   /* of a server that shuts down */
   H3_REJECTED = 30,          /* the request is rejected: nothing was delivered; detail:
                                 H3_CODE_REQUEST_REJECTED */
@@ -522,9 +523,9 @@ typedef struct {
                                        * H3_STREAM_OTHER for such a stream, h3_other_type its type,
                                        * and h3_read and h3_pull H3_RAW, H3_END and H3_FAULT_RESET.
                                        * Grant credit for them by `unread` as for all streams. One
-                                       * of a reserved type (RFC 9114, section 6.2.3) is never
-                                       * delivered, nor one of WebTransport without
-                                       * `webtransport`. With 0 what comes on them is dropped */
+                                       * of a reserved type (RFC 9114, section 6.2.3) or of
+                                       * WebTransport's (0x54) is never an H3_STREAM_OTHER. With 0
+                                       * what comes on them is dropped */
 } h3_config;
 
 /* A client with limits for an untrusted peer: it takes field sections of at most 65,536 bytes, and
@@ -563,8 +564,9 @@ static inline uint32_t h3_new_with(h3_endpoint *endpoint, const h3_config *confi
  * h3_remember_settings of an earlier connection copied (RFC 9114, section 7.2.4.2). Until the
  * server's settings come it keeps to their limit of field sections (H3_TOO_LARGE) and, with
  * `strict`, sends :protocol if they allow it; datagrams go by them too. It uses no dynamic table
- * until then. Once they came ask h3_settings_kept. If the server rejected the 0-RTT data, free the
- * endpoint and make one by h3_new. Refused, in this order: H3_ARGUMENT (also if `server` is set, or
+ * until then. With `len` 0 the defaults count, as of a connection whose settings were not kept.
+ * Once they came ask h3_settings_kept. If the server rejected the 0-RTT data, free the endpoint and
+ * make one by h3_new. Refused, in this order: H3_ARGUMENT (also if `server` is set, or
  * the bytes are no such settings), H3_TABLE_LIMIT, H3_BLOCKED_LIMIT, H3_SETTING,
  * H3_UNFINISHED_LIMIT, H3_SETTING as of h3_new_with, H3_MEMORY. */
 static inline uint32_t h3_new_resumed(h3_endpoint *endpoint, const h3_config *config,
@@ -939,7 +941,9 @@ static inline uint32_t h3_deliver(h3_endpoint *endpoint, uint64_t id, const void
 static inline uint32_t h3_deliver_end(h3_endpoint *endpoint, uint64_t id, uint64_t *detail);
 
 /* RESET_STREAM came with this application error code. Refused as bytes are; H3_AFTER_END is normal
- * if the reset came late. What came on the stream and was not pulled is dropped. */
+ * if the reset came late. What came on the stream and was not pulled is dropped. But on a
+ * unidirectional stream of a session, and on an H3_STREAM_OTHER, it is kept until h3_free, and no
+ * pull returns it: so pull such a stream first. */
 static inline uint32_t h3_deliver_reset(h3_endpoint *endpoint, uint64_t id, uint64_t code,
                                         uint64_t *detail);
 
@@ -1047,7 +1051,8 @@ typedef struct {
   uint64_t waiting;      /* bytes that wait to be sent */
   uint64_t unread;       /* bytes that were delivered and are still held: not yet pulled or read. On
                             a canceled or reset stream only what H3_KEPT took counts, until it is
-                            read. 0 once the connection has a fault. It is 0 while a frame of an
+                            read, and on a reset H3_STREAM_SESSION or H3_STREAM_OTHER what was not
+                            pulled. 0 once the connection has a fault. It is 0 while a frame of an
                             unknown type comes that is next on the stream; with its last byte the
                             frame counts whole, until the next pull skips it */
   uint32_t has_outgoing; /* 1 if something can be sent: a local unidirectional stream, or a request
@@ -1133,15 +1138,17 @@ static inline uint32_t h3_next_event(h3_endpoint *endpoint, uint32_t *kind, uint
 static inline uint32_t h3_peer_setting(h3_endpoint *endpoint, uint64_t setting, uint64_t *value);
 
 /* Copies the settings of the server, to be kept with its session ticket for h3_new_resumed: those
- * with a known id, as the payload of a SETTINGS frame, of 128 bytes at most. H3_NONE before they
- * came. Refused: H3_ROOM (they do not fit), H3_MEMORY. *n is written on H3_OK alone. */
+ * with a known id (1, 6, 7, 8, 0x33, 0x2b603742, 0x2b603743), as the payload of a SETTINGS frame,
+ * of 128 bytes at most. H3_NONE before they came. Refused: H3_ROOM (they do not fit), H3_MEMORY. *n
+ * is written on H3_OK alone. */
 static inline uint32_t h3_remember_settings(h3_endpoint *endpoint, void *buffer, size_t room,
                                             size_t *n);
 
 /* Whether the settings that came keep to those that were remembered (1), after H3_EVENT_SETTINGS:
  * no known one is gone that was not its default, and none allows less; the capacity of the table is
  * the same, unless it was 0 (RFC 9204, section 3.2.3). If not, and the server accepted the 0-RTT
- * data, close the connection with H3_CODE_SETTINGS_ERROR (RFC 9114, section 7.2.4.2). H3_NONE
+ * data, close the connection with H3_CODE_SETTINGS_ERROR (RFC 9114, section 7.2.4.2; if the
+ * capacity differs, RFC 9204, section 3.2.3, names H3_CODE_QPACK_DECODER_STREAM_ERROR). H3_NONE
  * before they came (*kept is not written then). Refused: H3_ARGUMENT: the bytes are no settings. */
 static inline uint32_t h3_settings_kept(h3_endpoint *endpoint, const void *remembered, size_t len,
                                         uint32_t *kept);

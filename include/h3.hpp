@@ -485,7 +485,7 @@ class endpoint {
   std::uint32_t remember_settings(void *buffer, std::size_t room, std::size_t &n) noexcept {
     return h3_remember_settings(&raw_, buffer, room, &n);
   }
-  /* Whether the settings that came keep to those. */
+  /* Whether the settings that came keep to those. Nothing: none came, or those bytes are no settings. */
   std::optional<bool> settings_kept(const void *remembered, std::size_t len) noexcept {
     std::uint32_t kept;
     if (h3_settings_kept(&raw_, remembered, len, &kept) != H3_OK) return std::nullopt;

@@ -86,8 +86,8 @@ class Endpoint:
         caller speaks. `remembered`, of a client that sends 0-RTT data, are its server's settings, as `remember_settings` returned them in an earlier
         connection (RFC 9114, section 7.2.4.2).
 
-        Raises `Answer.ARGUMENT` (the value of `grease`; more than 8 settings), `TABLE_LIMIT`, `BLOCKED_LIMIT`, `UNFINISHED_LIMIT`, `SETTING`,
-        `MEMORY`."""
+        Raises `Answer.ARGUMENT` (the value of `grease`; more than 8 settings; `remembered` at a server, or bytes that are no settings),
+        `TABLE_LIMIT`, `BLOCKED_LIMIT`, `UNFINISHED_LIMIT`, `SETTING`, `MEMORY`."""
         self._handle = raw.Handle()
         self._lock = threading.RLock()
         self._library = raw.library()
