@@ -99,8 +99,8 @@ parts_joined : (parts more : List OwnPart) → flat_map written_part (parts ++ m
 parts_joined [] more = refl
 parts_joined (part ∷ parts) more = ap (λ l. written_part part ++ l) (parts_joined parts more) ∙ sym (append_assoc (written_part part) (flat_map written_part parts) (flat_map written_part more))
 
-part_grows : (o : Out) (part : OwnPart) (content : Content) → PartsGrow o (record o { parts = o.parts ++ part ∷ []; content = content })
-part_grows o part content = record { taken = refl; text = λ goes. (goes, record { more = flat_map written_part (part ∷ []); is = parts_joined o.parts (part ∷ []) }) }
+part_grows : (o : Out) (part : OwnPart) (now : Content) → PartsGrow o (record o { parts = o.parts ++ part ∷ []; content = now })
+part_grows o part now = record { taken = refl; text = λ goes. (goes, record { more = flat_map written_part (part ∷ []); is = parts_joined o.parts (part ∷ []) }) }
 
 same_text : (o p : Out) → p.taken ≡ o.taken → p.parts ≡ o.parts → (p.is_reset ≡ false → o.is_reset ≡ false) → PartsGrow o p
 same_text o p taken parts reset = record { taken = taken; text = λ goes. (reset goes, record { more = []; is = ap (λ l. flat_map written_part l) parts ∙ sym (append-nil (part_bytes o)) }) }
