@@ -200,6 +200,7 @@ fn put_place(places: &mut Vec<FieldPlace>, place: FieldPlace) -> Result<(), Allo
 }
 
 /// Appends name and value of a field, and answers where they lie, with its flag. A refusal appends nothing.
+#[inline(always)]
 fn put_field(bytes: &mut Vec<u8>, field: &FieldRef<'_>) -> Result<FieldPlace, AllocError>
     ensures ok { OnOk result (bytes.new.items ≡ bytes.old.items ++ field.now.name ++ field.now.value) }
     ensures start { IfOk result (λ place. place.start ≡ length bytes.old.items) }

@@ -111,7 +111,7 @@ impl Connection {
         ensures same { result ≡ false → IsSame self.old.endpoint self.new.endpoint }
     {
         let count = bytes.len();
-        if fin > 0 || count < SHORTEST_HEAD || count > LONGEST_HEAD {
+        if count > LONGEST_HEAD || count < SHORTEST_HEAD || fin > 0 {
             return false;
         }
         self.endpoint.begin_body(id, bytes)
