@@ -7,7 +7,8 @@
 enum {
   KEPT_LIMIT = 256 * 1024, /* bytes of a stream that may wait for their acknowledgment */
   FIRST_PIECE = 16 * 1024, /* of a stream that has none, however many the others have */
-  DATAGRAMS = 64           /* that wait for a packet at once */
+  DATAGRAMS = 64,          /* that wait for a packet at once */
+  AROUND = 64              /* the most bytes of a packet that are not a datagram's */
 };
 
 /* ---- streams ---- */
@@ -132,7 +133,8 @@ void quic_reset(quic_connection *connection, int64_t id, uint64_t code) {
 /* ---- datagrams ---- */
 
 bool quic_datagram(quic_connection *connection, const uint8_t *bytes, size_t count) {
-  if (connection->gone || connection->datagram_count == DATAGRAMS || count > PACKET) return false;
+  if (connection->gone || connection->datagram_count == DATAGRAMS) return false;
+  if (count + AROUND > ngtcp2_conn_get_path_max_tx_udp_payload_size(connection->conn)) return false;
   datagram *datagram = malloc(sizeof *datagram + count);
   if (!datagram) return false;
   datagram->count = count;
@@ -232,7 +234,7 @@ static ngtcp2_ssize write_stream(quic_connection *connection, stream *stream, ng
   return done;
 }
 
-/* Puts the first datagram into a packet. Returns what ngtcp2 returns. One that fits into no packet is lost. */
+/* Puts the first datagram into a packet. Returns what ngtcp2 returns. One that the peer does not take is lost. */
 static ngtcp2_ssize write_datagram(quic_connection *connection, ngtcp2_path *path, uint8_t *packet, ngtcp2_tstamp time) {
   datagram *first = STAILQ_FIRST(&connection->datagrams);
   ngtcp2_vec piece = {first->bytes, first->count};
