@@ -5,9 +5,9 @@ use Rattle.h3_connection.specs.declared.event.Refusal.TheVariants.{Closed}
 use Rattle.h3_webtransport_streams.specs.SessionStream.{SessionStream, Acts}
 use Rattle.h3_webtransport.specs.Joint.{Joint}
 
-pub record Parts (here : Bool) (own other : Type 0) : Type 0 where
-  pub own : here ≡ true → own
-  pub other : here ≡ false → other
+pub record Parts (here : Bool) (Here Elsewhere : Type 0) : Type 0 where
+  pub own : here ≡ true → Here
+  pub other : here ≡ false → Elsewhere
 
 -- the streams of sessions are these, and the rest is as it was
 abbrev pub StreamsAlone : Joint → Joint → Type 0

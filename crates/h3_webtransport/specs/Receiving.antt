@@ -106,14 +106,14 @@ Begins true e f s t id session inner answer =
 Begins false e f s t id session inner answer =
     (answer ≡ pull.Fault (Closing (unwrap_or e.closed id_error))) × AllSame s.sessions.streams t.sessions.streams × (f ≡ record e { closed = Some (unwrap_or e.closed id_error) })
 
-abbrev pub Begun : Option ℕ → EndpointState → EndpointState → Joint → Joint → ℕ → Pull → Pull → Type 0
-Begun None e f s t id inner answer = (answer ≡ inner) × (f ≡ e) × AllSame s.sessions.streams t.sessions.streams
-Begun (Some session) e f s t id inner answer = Begins (is_request_stream session) e f s t id session inner answer
+abbrev pub BeginsIf : Option ℕ → EndpointState → EndpointState → Joint → Joint → ℕ → Pull → Pull → Type 0
+BeginsIf None e f s t id inner answer = (answer ≡ inner) × (f ≡ e) × AllSame s.sessions.streams t.sessions.streams
+BeginsIf (Some session) e f s t id inner answer = Begins (is_request_stream session) e f s t id session inner answer
 
 -- there was no room for it, and nothing was pulled; or it was pulled
 pub data PullsFirst (e f : EndpointState) (s t : Joint) (id : ℕ) (answer : Pull) : Type 0 where
   lacks : answer ≡ pull.Fault Memory → f ≡ e → AllSame s.sessions.streams t.sessions.streams → PullsFirst e f s t id answer
-  pulls : (inner : Pull) (next : EndpointState) → PullsNext e next id inner → Begun (session_of inner) next f s t id inner answer → PullsFirst e f s t id answer
+  pulls : (inner : Pull) (next : EndpointState) → PullsNext e next id inner → BeginsIf (session_of inner) next f s t id inner answer → PullsFirst e f s t id answer
 
 -- `pull_block`
 pub record PullsOn (e f : EndpointState) (s t : Joint) (id : ℕ) (answer : Pull) : Type 0 where

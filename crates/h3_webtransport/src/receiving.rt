@@ -5,7 +5,7 @@ ghost use Rattle.h3_connection.specs.Calls.{Sets};
 ghost use Rattle.h3_connection.specs.Codes.{id_error};
 ghost use Rattle.h3_connection.specs.declared.event.DeliverError.TheVariants.{Refused};
 ghost use Rattle.h3_connection.specs.declared.event.Fault.TheVariants.{Connection as Closing};
-ghost use Rattle.h3_connection.specs.declared.event.Pull.TheVariants.{Fault};
+ghost use Rattle.h3_connection.specs.declared.event.Pull.TheVariants as pull;
 ghost use Rattle.h3_connection.specs.declared.event.Refusal.TheVariants.{Connection};
 ghost use Rattle.h3_webtransport.specs.Closing.{Forgets};
 ghost use Rattle.h3_webtransport.specs.Parts.{StreamsAlone};
@@ -188,7 +188,7 @@ impl Sessions {
         requires { stored_at self.old id ≡ Some (entered id (is_request_stream id)) }
         ensures taken { is_request_stream session ≡ true → (out.new ≡ out.old) × Sets self.old.sessions.streams self.new.sessions.streams id (entered session (is_request_stream id))
             × Enters endpoint.old endpoint.new id (is_request_stream id) }
-        ensures wrong { is_request_stream session ≡ false → (pull_of out.new ≡ Fault (Closing (unwrap_or endpoint.old.closed id_error))) × (list_of out.new ≡ None)
+        ensures wrong { is_request_stream session ≡ false → (pull_of out.new ≡ pull.Fault (Closing (unwrap_or endpoint.old.closed id_error))) × (list_of out.new ≡ None)
             × Forgets self.old self.new id × (endpoint.new ≡ record endpoint.old { closed = Some (unwrap_or endpoint.old.closed id_error) }) }
         ensures rest { StreamsAlone self.old self.new }
     {
