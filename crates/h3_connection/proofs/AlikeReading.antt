@@ -1,5 +1,5 @@
 -- What comes is read alike by endpoints that differ in cuts alone.
-use Rattle.std.proofs.Common.{◌≡◌, ℕ, Bool, true, false, if◌then◌else◌, List, [], ◌++◌, refl, ap, sym, ◌∙◌, subst, Option, Some, None}
+use Rattle.std.proofs.Common.{◌≡◌, ℕ, Bool, true, false, if◌then◌else◌, List, [], ◌++◌, refl, tt, ap, sym, ◌∙◌, subst, Option, Some, None}
 use Rattle.std.specs.Prelude.{◌||◌, is_some}
 use Rattle.std.specs.List.{concat}
 use Rattle.h3_wire.specs.Pieces.{with_piece}
@@ -17,7 +17,7 @@ use Rattle.h3_connection.specs.Listeners.{heard_more, insertions_heard}
 use Rattle.h3_connection.specs.PeerReading.{PeerFound, read_peer}
 use Rattle.h3_connection.specs.PullCuts.{HaveBytes, DifferInCuts}
 use Rattle.h3_connection.specs.StreamSets.{Streams, stream_at, set_stream}
-use Rattle.h3_connection.specs.Unidirectional.{Unidirectional, Role, is_closed, is_critical, role_after, with_bytes}
+use Rattle.h3_connection.specs.Unidirectional.{Unidirectional, Role, is_closed, cut_off, is_critical, role_after, with_bytes}
 use Rattle.h3_connection.specs.Unidirectional.Role.{Untold, Control, Encoder, Decoder, Session, Push, Ignored, Other}
 use Rattle.h3_connection.proofs.AlikeEnds.{OfBoth, at_both, set_both, or_nothing, or_untold, joined_more, replied_alike}
 use Rattle.h3_connection.proofs.PullCuts.{piece_bytes, have_piece}
@@ -278,4 +278,4 @@ module _ (e : EndpointHistory) (s : Streams Incoming) (t : Streams Unidirectiona
   reset_at_alike code PeerUnidirectional =
       let d = sessions_here in
       closing_alike _ _ (ap (λ (o : Unidirectional). o.role) d.same)
-      (record { bytes = d.bytes; same = ap (λ (x : Unidirectional). let y : Unidirectional = record x { reset_code = Some code } in y) d.same; first = d.first; second = d.second })
+      (record { bytes = refl; same = ap (λ (x : Unidirectional). cut_off x code) d.same; first = tt; second = tt })

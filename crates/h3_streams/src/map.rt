@@ -121,7 +121,7 @@ pub(crate) fn close(
         unreachable!()
     };
     match code {
-        Some(code) => stream.reset(code),
+        Some(code) => stream.reset(alloc, code),
         None => stream.end(),
     }
     Ok(stream.is_critical())

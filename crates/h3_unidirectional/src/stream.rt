@@ -4,7 +4,7 @@ ghost use Rattle.std.specs.List.{concat};
 ghost use Rattle.h3_coding.specs.Varint.{varint_at};
 ghost use Rattle.h3_connection.specs.Keeping.{is_settled_session};
 ghost use Rattle.h3_connection.specs.StrictConnection.{known_streams};
-ghost use Rattle.h3_connection.specs.Unidirectional.{Role, untold, is_closed, is_critical, role_after, with_bytes, may_be_session, untold_pull, raw, if_over, pull_other, pull_unidirectional};
+ghost use Rattle.h3_connection.specs.Unidirectional.{Role, untold, is_closed, cut_off, is_critical, role_after, with_bytes, may_be_session, untold_pull, raw, if_over, pull_other, pull_unidirectional};
 ghost use Rattle.h3_connection.specs.Unidirectional.Role.{Untold, Session, Other};
 ghost use Rattle.h3_unidirectional.specs.Kinds.{role_of, is_told_kind, is_untold, Tells, TellsFirst, received_by};
 ghost use Rattle.h3_unidirectional.specs.Told.{kind_in};
@@ -217,10 +217,11 @@ impl UnidirectionalStream {
         self.ended = true;
     }
 
-    /// Its sender reset it, with this code. This takes no memory.
-    pub fn reset(&mut self, code: u64)
-        ensures { self.new ≡ record self.old { reset_code = Some code } }
+    /// Its sender reset it, with this code. What was not pulled is freed. This takes no memory.
+    pub fn reset(&mut self, alloc: Global, code: u64)
+        ensures { self.new ≡ cut_off self.old code }
     {
+        self.unread = BufList::new(alloc);
         self.reset_code = code;
         self.is_reset = true;
     }
