@@ -941,9 +941,7 @@ static inline uint32_t h3_deliver(h3_endpoint *endpoint, uint64_t id, const void
 static inline uint32_t h3_deliver_end(h3_endpoint *endpoint, uint64_t id, uint64_t *detail);
 
 /* RESET_STREAM came with this application error code. Refused as bytes are; H3_AFTER_END is normal
- * if the reset came late. What came on the stream and was not pulled is dropped. But on a
- * unidirectional stream of a session, and on an H3_STREAM_OTHER, it is kept until h3_free, and no
- * pull returns it: so pull such a stream first. */
+ * if the reset came late. What came on the stream and was not pulled is dropped. */
 static inline uint32_t h3_deliver_reset(h3_endpoint *endpoint, uint64_t id, uint64_t code,
                                         uint64_t *detail);
 
@@ -1051,10 +1049,10 @@ typedef struct {
   uint64_t waiting;      /* bytes that wait to be sent */
   uint64_t unread;       /* bytes that were delivered and are still held: not yet pulled or read. On
                             a canceled or reset stream only what H3_KEPT took counts, until it is
-                            read, and on a reset H3_STREAM_SESSION or H3_STREAM_OTHER what was not
-                            pulled. 0 once the connection has a fault. It is 0 while a frame of an
-                            unknown type comes that is next on the stream; with its last byte the
-                            frame counts whole, until the next pull skips it */
+                            read, and a type that is not whole. 0 once the connection has a fault.
+                            It is 0 while a frame of an unknown type comes that is next on the
+                            stream; with its last byte the frame counts whole, until the next pull
+                            skips it */
   uint32_t has_outgoing; /* 1 if something can be sent: a local unidirectional stream, or a request
                             stream that was opened */
   uint32_t is_finished;  /* 1 if its message was finished */

@@ -116,13 +116,15 @@ static void of_pieces(void) {
   drop();
 }
 
-/* a reset drops nothing that was there, and is told before it; the type alone, and an end before the type */
+/* a reset drops what was not pulled; the type alone, and an end before the type */
 static void of_ends(void) {
   make(SERVER, 1, 1, 0);
   comes(SERVER, 14, BYTES("\x4f" "\xff" "abc"), 5);
+  HOLDS(unread(SERVER, 14) == 3);
   IS(h3_deliver_reset(&ends[SERVER], 14, 5, NULL), H3_OK);
+  HOLDS(unread(SERVER, 14) == 0);
   HOLDS(pull(SERVER, 14).kind == H3_FAULT_RESET);
-  HOLDS(type(SERVER, 14) == 0xfff);
+  HOLDS(type(SERVER, 14) == 0xfff && unread(SERVER, 14) == 0);
   comes(SERVER, 18, BYTES("\x3f"), 1);
   HOLDS(kind(SERVER, 18) == H3_STREAM_OTHER && type(SERVER, 18) == 0x3f);
   gives(SERVER, 18, BYTES(""), H3_PENDING);

@@ -117,7 +117,7 @@ static void of_streams_of_the_connection(void) {
   UNREAD(2, 0);
 }
 
-/* a type in part, an unknown one, and a session of WebTransport */
+/* a type in part, an unknown one, and a session of WebTransport, which is reset */
 static void of_other_streams(void) {
   HOLDS(deliver(14, "\x40", 1) == H3_OK);
   UNREAD(14, 1);
@@ -129,6 +129,11 @@ static void of_other_streams(void) {
   UNREAD(18, 3);
   HOLDS(pull(18).kind == H3_RAW);
   UNREAD(18, 0);
+  HOLDS(deliver(18, "de", 2) == H3_OK);
+  UNREAD(18, 2);
+  HOLDS(h3_deliver_reset(&server, 18, 7, NULL) == H3_OK);
+  UNREAD(18, 0);
+  HOLDS(pull(18).kind == H3_FAULT_RESET);
 }
 
 int main(void) {
