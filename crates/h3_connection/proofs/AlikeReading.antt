@@ -17,7 +17,7 @@ use Rattle.h3_connection.specs.Listeners.{heard_more, insertions_heard}
 use Rattle.h3_connection.specs.PeerReading.{PeerFound, read_peer}
 use Rattle.h3_connection.specs.PullCuts.{HaveBytes, DifferInCuts}
 use Rattle.h3_connection.specs.StreamSets.{Streams, stream_at, set_stream}
-use Rattle.h3_connection.specs.Unidirectional.{Unidirectional, Role, is_closed, cut_off, is_critical, role_after, with_bytes}
+use Rattle.h3_connection.specs.Unidirectional.{Unidirectional, Role, is_closed, reset_with, is_critical, role_after, with_bytes}
 use Rattle.h3_connection.specs.Unidirectional.Role.{Untold, Control, Encoder, Decoder, Session, Push, Ignored, Other}
 use Rattle.h3_connection.proofs.AlikeEnds.{OfBoth, at_both, set_both, or_nothing, or_untold, joined_more, replied_alike}
 use Rattle.h3_connection.proofs.PullCuts.{piece_bytes, have_piece}
@@ -278,4 +278,4 @@ module _ (e : EndpointHistory) (s : Streams Incoming) (t : Streams Unidirectiona
   reset_at_alike code PeerUnidirectional =
       let d = sessions_here in
       closing_alike _ _ (ap (λ (o : Unidirectional). o.role) d.same)
-      (record { bytes = refl; same = ap (λ (x : Unidirectional). cut_off x code) d.same; first = tt; second = tt })
+      (record { bytes = refl; same = ap (λ (x : Unidirectional). reset_with x code) d.same; first = tt; second = tt })

@@ -22,7 +22,7 @@ use Rattle.h3_connection.specs.Pulling.{is_client}
 use Rattle.h3_connection.specs.Sending.{pull, pull_at, pull_unless, pull_request, pull_peer, pulled_unidirectional}
 use Rattle.h3_connection.specs.StreamSets.{stream_at}
 use Rattle.h3_connection.specs.StrictConnection.{known_streams}
-use Rattle.h3_connection.specs.Unidirectional.{Unidirectional, Role, untold, cut_off, role_after, with_bytes, raw, raw_or_reset, pull_other, pull_session, if_over, pull_unidirectional}
+use Rattle.h3_connection.specs.Unidirectional.{Unidirectional, Role, untold, reset_with, role_after, with_bytes, raw, raw_or_reset, pull_other, pull_session, if_over, pull_unidirectional}
 use Rattle.h3_connection.specs.Unidirectional.Role.{Untold, Control, Encoder, Decoder, Session, Push, Ignored, Other}
 use Rattle.h3_connection.specs.UnknownStreams.{is_on}
 use Rattle.h3_connection.proofs.AlikePieces.{was_end, open_pull, told_is}
@@ -170,7 +170,7 @@ module _ (id : ℕ) (e : EndpointHistory) (kind : kind_of e.side id ≡ PeerUnid
   reset_over : (code : ℕ) → SessionOver id (reset_at e id code (kind_of e.side id)).0
   reset_over code =
       subst (λ k. SessionOver id (reset_at e id code k).0) (sym kind)
-      (subst (λ (x : Unidirectional). SessionOver id (closing e id (cut_off x code)).0) (sym there) (set_over id e (cut_off h.stream code) h.session h.over))
+      (subst (λ (x : Unidirectional). SessionOver id (closing e id (reset_with x code)).0) (sym there) (set_over id e (reset_with h.stream code) h.session h.over))
 
   pull_over : SessionOver id (called e (PullStream id)).1
   pull_over = by_closed e.closed

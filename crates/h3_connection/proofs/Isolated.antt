@@ -15,7 +15,7 @@ use Rattle.h3_connection.specs.StreamSets.{Streams, stream_at, set_stream}
 use Rattle.h3_connection.specs.Incoming.{Incoming, nothing_came, having_told}
 use Rattle.h3_connection.specs.Pulling.{pull_stream}
 use Rattle.h3_connection.specs.Pulling.{Pulled as PulledStream}
-use Rattle.h3_connection.specs.Unidirectional.{Unidirectional, cut_off, pull_unidirectional}
+use Rattle.h3_connection.specs.Unidirectional.{Unidirectional, reset_with, pull_unidirectional}
 use Rattle.h3_connection.specs.Outgoing.{Outgoing as Out, is_end_next}
 use Rattle.h3_connection.specs.Endpoint.{EndpointHistory, limit_of, Kind, kind_of, new_endpoint, is_critical_of, heads_waiting, replied}
 use Rattle.h3_connection.specs.Endpoint.Kind.{Request, ServerOpened, OwnUnidirectional, PeerUnidirectional}
@@ -166,9 +166,9 @@ reset_step T id e s q code b = arrival_step T id e s q (λ i. given_up_once (rec
       arrived = record { incoming = refl; decoding = refl; unidirectional = refl };
       code = _;
       server = refl;
-      sees_peer = λ t p. closing_seen T id e s q (cut_off (unidirectional_at e q) code) b.sight t
+      sees_peer = λ t p. closing_seen T id e s q (reset_with (unidirectional_at e q) code) b.sight t
           (ap (λ c. record { role = (unidirectional_at e q).role; closed = c }) (true_or (unidirectional_at e q).ended)) p;
-      other_peer = λ t p a. closing_unseen T id e s q (cut_off (unidirectional_at e q) code) b.sight t p;
+      other_peer = λ t p a. closing_unseen T id e s q (reset_with (unidirectional_at e q) code) b.sight t p;
     })
 
 -- Pulls: an answer that is no connection fault changes nothing but the stream and the replies.

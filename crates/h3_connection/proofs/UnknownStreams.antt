@@ -24,7 +24,7 @@ use Rattle.h3_connection.specs.Outgoing.{Outgoing as Out, is_end_next}
 use Rattle.h3_connection.specs.Pulling.{pull_stream}
 use Rattle.h3_connection.specs.Sending.{does, open_refusal, head_refusal, body_refusal, trailer_refusal, finish_refusal, reset_refusal, goaway_refusal, cancel_refusal, advance_at, after_answer, within_limit, pull_request, pulled_unidirectional, pull_peer, pull_at, pull_unless}
 use Rattle.h3_connection.specs.StreamSets.{Streams, stream_at, set_stream}
-use Rattle.h3_connection.specs.Unidirectional.{StreamKinds, Unidirectional, Role, untold, is_closed, cut_off, is_critical, role_after, with_bytes, pull_unidirectional}
+use Rattle.h3_connection.specs.Unidirectional.{StreamKinds, Unidirectional, Role, untold, is_closed, reset_with, is_critical, role_after, with_bytes, pull_unidirectional}
 use Rattle.h3_connection.specs.Unidirectional.Role.{Untold, Control, Encoder, Decoder, Session, Push, Ignored, Other}
 use Rattle.h3_connection.specs.UnknownStreams.{IsUnread, is_on, without_stream, answers_without}
 use Rattle.h3_connection.proofs.AlikeReading.{control_with, decoder_with}
@@ -177,7 +177,7 @@ module _ (id : ℕ) (o : Option Unidirectional) where
       reset_both code ServerOpened = record { fault = refl; left = here }
       reset_both code OwnUnidirectional = record { fault = refl; left = here }
       reset_both code PeerUnidirectional =
-          subst (λ (x : Unidirectional). FoundBoth (reset_at e q code PeerUnidirectional) (closing two q (cut_off x code))) (sym there) (closing_both e t q (cut_off (unidirectional_at e q) code) ne h)
+          subst (λ (x : Unidirectional). FoundBoth (reset_at e q code PeerUnidirectional) (closing two q (reset_with x code))) (sym there) (closing_both e t q (reset_with (unidirectional_at e q) code) ne h)
 
       arrives_both : (found other : Kind → Found) → ((k : Kind) → FoundBoth (found k) (other k))
           → Both (done Done (taken e.closed (delivery_refusal e q) e (found (kind_of e.side q)))) (done Done (taken e.closed (delivery_refusal two q) two (other (kind_of e.side q))))
@@ -351,7 +351,7 @@ module _ (id : ℕ) (e : EndpointHistory) (kind : kind_of e.side id ≡ PeerUnid
 
   reset_own : (code : ℕ) → Harmless id e rest → Goes id e (called e (DeliverReset id code)).1 rest
   reset_own code h =
-      arrives_own [] (reset_at e id code (kind_of e.side id)) h (λ k. subst (λ a. Goes id e (done Done (closed_by (reset_at e id code a))).1 rest) (sym kind) (closing_own (cut_off (unidirectional_at e id) code) refl k))
+      arrives_own [] (reset_at e id code (kind_of e.side id)) h (λ k. subst (λ a. Goes id e (done Done (closed_by (reset_at e id code a))).1 rest) (sym kind) (closing_own (reset_with (unidirectional_at e id) code) refl k))
 
   -- a pull changes nothing of it
   pulled_same : (u : Unidirectional) → IsUnread u.role → (pull_unidirectional u u.role).1 ≡ u

@@ -13,7 +13,7 @@ use Rattle.h3_connection.specs.Codes.{stream_creation_error, closed_critical_str
 use Rattle.h3_connection.specs.StreamSets.{stream_at, set_stream}
 use Rattle.h3_connection.specs.Incoming.{Incoming, nothing_came, given_up}
 use Rattle.h3_connection.specs.Outgoing.{nothing_sent}
-use Rattle.h3_connection.specs.Unidirectional.{Unidirectional, Role, untold, is_closed, cut_off, is_critical, role_after, with_bytes}
+use Rattle.h3_connection.specs.Unidirectional.{Unidirectional, Role, untold, is_closed, reset_with, is_critical, role_after, with_bytes}
 use Rattle.h3_connection.specs.StrictConnection.{known_streams, session_fault}
 use Rattle.h3_connection.specs.Unidirectional.Role.{Control, Encoder, Decoder, Push, Session}
 use Rattle.h3_connection.specs.Endpoint.{EndpointHistory, Kind, replied, is_second, kind_of}
@@ -150,7 +150,7 @@ abbrev pub reset_at : EndpointHistory → ℕ → ℕ → Kind → Found
 reset_at e id code Request = (give_up (opened e id) id (record (incoming_at e id) { was_reset = true }) (stream_fault.Reset code), None)
 reset_at e id code ServerOpened = (e, Some stream_creation_error)
 reset_at e id code OwnUnidirectional = (e, None)
-reset_at e id code PeerUnidirectional = closing e id (cut_off (unidirectional_at e id) code)
+reset_at e id code PeerUnidirectional = closing e id (reset_with (unidirectional_at e id) code)
 
 -- A stream was cut off by its sender.
 abbrev pub deliver_reset : EndpointHistory → ℕ → ℕ → Option Refusal × EndpointHistory

@@ -43,9 +43,9 @@ untold = record { role = Untold []; unread = []; ended = false; reset_code = Non
 abbrev pub is_closed : Unidirectional → Bool
 is_closed o = o.ended || is_some o.reset_code
 
--- its sender cut it off: what was not handed out is dropped
-abbrev pub cut_off : Unidirectional → ℕ → Unidirectional
-cut_off o code = record o { unread = []; reset_code = Some code }
+-- its sender reset it with this code: what was not handed out is dropped
+abbrev pub reset_with : Unidirectional → ℕ → Unidirectional
+reset_with o code = record o { unread = []; reset_code = Some code }
 
 -- the control, encoder and decoder streams may not be closed
 abbrev pub is_critical : Role → Bool

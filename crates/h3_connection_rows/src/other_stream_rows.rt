@@ -23,8 +23,11 @@ pub fn other_stream_rows_compute()
     ensures its_end { pulled (behind (ended (came true (codes "40996162")))) ≡ Item End }
     ensures its_end_again { pulled (behind (behind (behind (ended (came true (codes "40996162")))))) ≡ Item End }
     ensures its_reset { pulled (cut_off (came true (codes "40996162"))) ≡ Fault (Stream (Reset 7)) }
+    ensures its_reset_drops_bytes { waiting (cut_off (came true (codes "40996162"))) ≡ 0 }
     ensures reserved { role (came true (codes "2161")) ≡ Ignored }
     ensures reserved_in_two_bytes { role (came true (codes "404061")) ≡ Ignored }
     ensures of_a_session { role (came true (codes "40540461")) ≡ Session 4 }
+    ensures session_waits { waiting (came true (codes "4054046162")) ≡ 2 }
+    ensures session_reset_drops_bytes { waiting (cut_off (came true (codes "4054046162"))) ≡ 0 }
     ensures control { role (came true (codes "00")) ≡ Control }
 {}

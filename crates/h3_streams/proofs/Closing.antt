@@ -8,7 +8,7 @@ use Rattle.h3_connection.specs.Endpoint.Kind.{PeerUnidirectional}
 use Rattle.h3_connection.specs.StandsLaws.{stands_unidirectional}
 use Rattle.h3_connection.specs.State.{EndpointState, StandsFor}
 use Rattle.h3_connection.specs.StreamSets.{Streams}
-use Rattle.h3_connection.specs.Unidirectional.{Unidirectional, untold, cut_off, is_critical}
+use Rattle.h3_connection.specs.Unidirectional.{Unidirectional, untold, reset_with, is_critical}
 use Rattle.h3_streams.specs.Placed.{StreamsState, placed, peer_stream, Closes, closed_by, closing_code, Reads}
 
 -- the stream that is there
@@ -34,4 +34,4 @@ pub resets : (x : StreamsState) (new : Streams Unidirectional) (id code : ℕ) (
     → (s : EndpointState) (e : EndpointHistory) → StandsFor (placed s x) e → Reads s fault (record x { unidirectional = new }) (reset_at e id code PeerUnidirectional)
 resets x new id code critical fault is c s e h =
     subst (λ f. Reads s f (record x { unidirectional = new }) (reset_at e id code PeerUnidirectional)) (sym is)
-    (closes s x e new id (Some code) critical h (cut_off (unidirectional_at e id) code) refl refl c)
+    (closes s x e new id (Some code) critical h (reset_with (unidirectional_at e id) code) refl refl c)

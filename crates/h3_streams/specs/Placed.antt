@@ -14,7 +14,7 @@ use Rattle.h3_connection.specs.OtherSettings.{most_others}
 use Rattle.h3_connection.specs.Updates.{most_updates}
 use Rattle.h3_connection.specs.State.{EndpointState, OwnState, StandsFor, kept_at}
 use Rattle.h3_connection.specs.StreamSets.{Streams}
-use Rattle.h3_connection.specs.Unidirectional.{StreamKinds, Unidirectional, Role, untold, cut_off, is_critical, role_after, with_bytes, pull_unidirectional}
+use Rattle.h3_connection.specs.Unidirectional.{StreamKinds, Unidirectional, Role, untold, reset_with, is_critical, role_after, with_bytes, pull_unidirectional}
 use Rattle.h3_connection.specs.declared.event.Pull.{Pull}
 use Rattle.h3_connection.specs.declared.event.Pull.TheVariants.{Pending}
 use Rattle.h3_connection.specs.declared.setup.Announced.{Announced}
@@ -91,7 +91,7 @@ Pulls (Some o) given old new id = (given ≡ (pull_unidirectional o o.role).0) �
 -- What an end (no code) or a reset does.
 abbrev pub closed_by : Unidirectional → Option ℕ → Unidirectional
 closed_by o None = record o { ended = true }
-closed_by o (Some code) = cut_off o code
+closed_by o (Some code) = reset_with o code
 
 pub record Closes (old new : Streams Unidirectional) (id : ℕ) (code : Option ℕ) (critical : Bool) : Type 0 where
   pub sets : Sets old new id (closed_by (peer_stream old id) code)

@@ -4,7 +4,7 @@ ghost use Rattle.std.specs.List.{concat};
 ghost use Rattle.h3_coding.specs.Varint.{varint_at};
 ghost use Rattle.h3_connection.specs.Keeping.{is_settled_session};
 ghost use Rattle.h3_connection.specs.StrictConnection.{known_streams};
-ghost use Rattle.h3_connection.specs.Unidirectional.{Role, untold, is_closed, cut_off, is_critical, role_after, with_bytes, may_be_session, untold_pull, raw, if_over, pull_other, pull_unidirectional};
+ghost use Rattle.h3_connection.specs.Unidirectional.{Role, untold, is_closed, reset_with, is_critical, role_after, with_bytes, may_be_session, untold_pull, raw, if_over, pull_other, pull_unidirectional};
 ghost use Rattle.h3_connection.specs.Unidirectional.Role.{Untold, Session, Other};
 ghost use Rattle.h3_unidirectional.specs.Kinds.{role_of, is_told_kind, is_untold, Tells, TellsFirst, received_by};
 ghost use Rattle.h3_unidirectional.specs.Told.{kind_in};
@@ -219,7 +219,7 @@ impl UnidirectionalStream {
 
     /// Its sender reset it, with this code. What was not pulled is freed. This takes no memory.
     pub fn reset(&mut self, alloc: Global, code: u64)
-        ensures { self.new ≡ cut_off self.old code }
+        ensures { self.new ≡ reset_with self.old code }
     {
         self.unread = BufList::new(alloc);
         self.reset_code = code;

@@ -65,6 +65,10 @@ pub returns-clause-its_reset : goal.returns-clause-its_reset
 unfolding encoding varint_at frame_by frame_of known_by unknown_size read_peer listen_up_to split_of
 returns-clause-its_reset c = refl
 
+pub returns-clause-its_reset_drops_bytes : goal.returns-clause-its_reset_drops_bytes
+unfolding encoding varint_at frame_by frame_of known_by unknown_size read_peer listen_up_to split_of
+returns-clause-its_reset_drops_bytes c = refl
+
 pub returns-clause-reserved : goal.returns-clause-reserved
 unfolding encoding varint_at frame_by frame_of known_by unknown_size read_peer listen_up_to split_of
 returns-clause-reserved c = refl
@@ -76,6 +80,14 @@ returns-clause-reserved_in_two_bytes c = refl
 pub returns-clause-of_a_session : goal.returns-clause-of_a_session
 unfolding encoding varint_at frame_by frame_of known_by unknown_size read_peer listen_up_to split_of
 returns-clause-of_a_session c = refl
+
+pub returns-clause-session_waits : goal.returns-clause-session_waits
+unfolding encoding varint_at frame_by frame_of known_by unknown_size read_peer listen_up_to split_of
+returns-clause-session_waits c = refl
+
+pub returns-clause-session_reset_drops_bytes : goal.returns-clause-session_reset_drops_bytes
+unfolding encoding varint_at frame_by frame_of known_by unknown_size read_peer listen_up_to split_of
+returns-clause-session_reset_drops_bytes c = refl
 
 pub returns-clause-control : goal.returns-clause-control
 unfolding encoding varint_at frame_by frame_of known_by unknown_size read_peer listen_up_to split_of
