@@ -174,8 +174,8 @@ impl Endpoint {
         self.arrive(Arrival::EndCame(id))
     }
 
-    /// A stream was reset by its sender, with this code of an application. It is refused as bytes are. What came on a request stream and
-    /// was not pulled is thrown away, and the peer's encoder learns of it (RFC 9204, section 2.2.2.2).
+    /// A stream was reset by its sender, with this code of an application. It is refused as bytes are. What was not pulled is thrown away.
+    /// Of a request stream the peer's encoder learns of it (RFC 9204, section 2.2.2.2).
     pub fn deliver_reset(&mut self, id: StreamId, code: u64) -> Result<(), DeliverError>
         ensures { DeliversReset self.old self.new id code result }
     {

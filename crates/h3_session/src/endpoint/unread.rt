@@ -45,10 +45,10 @@ impl Endpoint {
     /// granted for all others that came (RFC 9000, section 4.1), since of these nothing is kept. Of a request stream the bytes are counted
     /// that were not read, as those of an unfinished frame, and the field section that waits to be decoded. Of the peer's control, encoder
     /// and decoder streams those after the last whole frame or instruction are counted. Of its other unidirectional streams a type that is
-    /// not whole is counted, and what was not pulled of a session. What was kept of the stream because an allocation failed is counted too.
-    /// 0 of a stream that is not there or was given up, and of each stream once the connection has a fault. No byte is read then, also not
-    /// by this call, so bytes that were lent may be gone. At most the greatest `u64`. It takes no memory, and one look-up; after a `Kept`
-    /// also a pass over what is kept.
+    /// not whole is counted, and what was not pulled of a session, or of a stream of another type that is delivered. What was kept of the
+    /// stream because an allocation failed is counted too. 0 of a stream that is not there or was given up, and of each stream once the
+    /// connection has a fault. No byte is read then, also not by this call, so bytes that were lent may be gone. At most the greatest
+    /// `u64`. It takes no memory, and one look-up; after a `Kept` also a pass over what is kept.
     ///
     /// It is proved that this is what the definitions hold of all that came (`held_at`). No clause here says what memory has of it. Of a
     /// frame of an unknown type `FrameBytes` of `h3_wire` says that its bytes are freed (`AreSpared`), and tests measure that nothing else
