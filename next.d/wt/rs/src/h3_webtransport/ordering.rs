@@ -1,0 +1,100 @@
+//! Which stream sends next, those of sessions among them.
+
+use crate::h3_webtransport::sessions::Sessions;
+use crate::h3_connection::event::Refusal;
+use crate::h3_proto::stream::StreamId;
+use crate::h3_session::endpoint::Endpoint;
+
+impl Sessions {
+    /// Takes the first bytes that wait on a stream, at most all.
+    pub fn advance(&mut self, endpoint: &mut Endpoint, id: StreamId, count: usize)
+    {
+        if self.has(id) {
+            self.streams.advance(id, count);
+            if count > 0 {
+                self.is_next = false;
+            }
+            return;
+        }
+        if count > 0 && id.is_request() {
+            self.is_next = true;
+        }
+        endpoint.advance(id, count);
+    }
+
+    /// The first stream from this id on on which bytes wait to be sent, or an end.
+    pub fn next_to_send(&self, endpoint: &Endpoint, from: u64) -> Option<u64>
+    {
+        let first = number_of(endpoint.next_to_send(from));
+        if !self.is_on {
+            return first;
+        }
+        lower(first, self.streams.next_to_send(from))
+    }
+
+    /// The stream that sends next. If a request's and one of a session send, they take turns: a stream of a session is next once bytes of a
+    /// request's were taken, and the other way round.
+    pub fn next_by_priority(&self, endpoint: &mut Endpoint) -> Option<u64>
+    {
+        let first = number_of(endpoint.next_by_priority());
+        if !self.is_on {
+            return first;
+        }
+        turn(self.is_next, first, self.streams.next_in_turn())
+    }
+
+    /// QUIC has no credit for a stream, or has it again.
+    pub fn hold(
+        &mut self,
+        endpoint: &mut Endpoint,
+        id: StreamId,
+        is_held: bool,
+    ) -> Result<(), Refusal>
+    {
+        if !self.has(id) {
+            return endpoint.hold(id, is_held);
+        }
+        if let Some(code) = endpoint.fault() {
+            return Err(Refusal::Closed(code));
+        }
+        if self.streams.hold(id, is_held) {
+            Ok(())
+        } else {
+            Err(Refusal::NotOpen)
+        }
+    }
+}
+
+fn number_of(id: Option<StreamId>) -> Option<u64>
+{
+    match id {
+        Some(id) => Some(id.into_inner()),
+        None => None,
+    }
+}
+
+// The lower of two streams.
+fn lower(first: Option<u64>, raw: Option<u64>) -> Option<u64>
+{
+    match (first, raw) {
+        (Some(other), Some(id)) => { if other < id { first } else { raw } }
+        (_, None) => first,
+        (None, Some(_)) => raw,
+    }
+}
+
+// Which of two streams sends: that of the endpoint, or that of a session.
+fn turn(is_next: bool, first: Option<u64>, raw: Option<u64>) -> Option<u64>
+{
+    match (first, raw) {
+        (Some(other), Some(_)) => {
+            if other % 4 != 0 || !is_next {
+                first
+            } else {
+                raw
+            }
+        }
+        (_, None) => first,
+        (None, Some(_)) => raw,
+    }
+}

@@ -1,0 +1,79 @@
+//! The sessions of a connection, beside its endpoint.
+
+use crate::h3_proto::stream::{Side, StreamId};
+use crate::h3_proto::webtransport::SessionId;
+use crate::h3_webtransport_streams::streams::SessionStreams;
+use crate::rstd::alloc::Global;
+
+/// The sessions of one connection. Who has them makes each call that is here with the endpoint in place of the call of the endpoint itself, on whatever
+/// stream: it is passed on if no session has the stream. All other calls are the endpoint's.
+/// If sessions are off, each call is the endpoint's, and costs one test.
+
+pub struct Sessions {
+    pub(crate) streams: SessionStreams,
+    pub(crate) side: Side,
+    pub(crate) is_on: bool,
+    // a stream of a session sends next, if a request's does too
+    pub(crate) is_next: bool,
+}
+
+
+impl Sessions {
+    /// No session, of an endpoint of this side; and whether there may be any. It takes no memory. Sessions need the settings of WebTransport, of
+    /// datagrams and of extended CONNECT: an endpoint that does not announce all three has none.
+    pub fn new(alloc: Global, side: Side, is_on: bool) -> Sessions
+    {
+        Sessions {
+            streams: SessionStreams::new(alloc, side),
+            side,
+            is_on,
+            is_next: false,
+        }
+    }
+
+    /// Whether a stream is one of a session.
+    pub fn has(&self, id: StreamId) -> bool
+    {
+        self.is_on && self.streams.contains(id)
+    }
+
+    /// The least id from `from` on of a stream of this session, its CONNECT request aside. It takes no memory. When a session ends give up each of these,
+    /// and tell QUIC (`close_stream`).
+    pub fn next_of_session(&self, session: SessionId, from: u64) -> Option<u64>
+    {
+        self.streams.next_of_session(session, from)
+    }
+
+    // Whether a server opened a stream both ways, of which its client reads here.
+    fn is_server_opened(&self, id: StreamId) -> bool
+    {
+        match self.side {
+            Side::Client => id.into_inner() % 4 == 1,
+            Side::Server => false,
+        }
+    }
+
+    // Whether what comes on a stream is read here.
+    pub(crate) fn reads(&self, id: StreamId) -> bool
+    {
+        self.is_on
+            && (self.streams.receives(id)
+                || (self.is_server_opened(id) && !self.streams.contains(id)))
+    }
+
+    // Whether what the endpoint reads on a stream may turn out to be of a session.
+    pub(crate) fn may_begin(&self, id: StreamId) -> bool
+    {
+        self.is_on && !self.streams.contains(id) && is_begun_by_peer(self.side, id)
+    }
+}
+
+// Whether the peer opens streams of this id, which its endpoint reads.
+fn is_begun_by_peer(side: Side, id: StreamId) -> bool
+{
+    let kind = id.into_inner() % 4;
+    match side {
+        Side::Client => kind == 3,
+        Side::Server => kind == 0 || kind == 2,
+    }
+}

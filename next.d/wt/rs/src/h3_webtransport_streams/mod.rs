@@ -1,0 +1,12 @@
+//! The streams of WebTransport sessions (draft-ietf-webtrans-http3-02): what is sent on each, and what comes on those that no other part of an endpoint
+//! reads.
+
+pub mod codes;
+mod front;
+pub mod laws;
+mod receiver;
+mod sender;
+mod stream;
+pub mod streams;
+
+pub use receiver::Begun;
