@@ -1,1 +1,0 @@
-cd /work/h/perf-code && python3 /work/h/notes/old/extc.trim.py /work/h/perf-code /tmp/perf/t /tmp/perf/keep h3_incoming h3_outgoing h3_requests h3_session h3_c h3_blocked h3_unidirectional h3_streams h3_world h3_headline h3_memory h3_strict h3_faithful 2>&1 | cut -c1-150 | grep -E "incoming|requests|session|h3_c "

@@ -1,1 +1,0 @@
-cd /work/h/wt; exec python3 scripts/dev/over.py h3_webtransport_streams --base /tmp/wt/base --only receiver --only stream::StoredStream::arrive --only streams::map::arrive_there --only streams::map::send --only streams::SessionStreams::send --only streams::map::deliver --only streams::SessionStreams::deliver --only laws --allow-holes --progress
