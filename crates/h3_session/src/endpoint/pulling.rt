@@ -17,7 +17,7 @@ ghost use Rattle.h3_incoming.specs.FieldsPulls.{list_of, pull_of};
 ghost use Rattle.h3_requests.specs.Coming.{fields_at};
 ghost use Rattle.h3_session.specs.Listing.{ListsItem, ListsNext};
 ghost use Rattle.h3_requests.specs.Limited.{PullsWithin, ResumesThere, unopened_answer};
-ghost use Rattle.h3_session.specs.Pulling.{PullsItem, ReadsKept, answer_code, settled_in};
+ghost use Rattle.h3_session.specs.Pulling.{PullsItem, ReadsKept, answer_code, closed_with, settled_in};
 ghost use Rattle.h3_session.specs.Changes.{ChangesRequests};
 
 use super::Endpoint;
@@ -211,12 +211,9 @@ impl Endpoint {
         ensures list { ListsItem self.old id (O.listed out.new) }
     {
         match StreamKind::of(self.side, id) {
-            // a fault of the connection closes it
             StreamKind::Request => {
                 self.pull_stored(id, out);
-                if let Some(code) = fault_of(out) {
-                    self.closed = Some(code);
-                }
+                self.close_if(fault_of(out));
             }
             StreamKind::PeerUnidirectional => self.pull_peer(id, out),
             StreamKind::ServerOpened => no_messages(out),
@@ -231,6 +228,15 @@ impl Endpoint {
         ensures list { ListsItem self.old id (O.listed out.new) }
     {
         give_made(out, self.streams.pull(id));
+    }
+
+    // A fault of the connection closes it.
+    fn close_if(&mut self, fault: Option<Code>)
+        ensures { self.new ≡ closed_with fault self.old }
+    {
+        if let Some(code) = fault {
+            self.closed = Some(code);
+        }
     }
 
     fn pull_stored<O: Answer>(&mut self, id: StreamId, out: &mut O)
