@@ -1,4 +1,4 @@
-use Rattle.std.proofs.Common.{◌≡◌, ap, sym, ◌∙◌, subst}
+use Rattle.std.proofs.Common.{◌≡◌, ap, sym, ◌∙◌, subst, rules}
 use Rattle.h3_connection.specs.Endpoint.{kind_of}
 use Rattle.h3_connection.specs.Endpoint.Kind.{Request}
 use Rattle.h3_session.specs.Pulling.{PullsItem, closed_with}
