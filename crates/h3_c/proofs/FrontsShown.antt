@@ -57,11 +57,11 @@ take_front (suc k) (b ∷ wire) h = elim (cases_Bool (nat_lt b 256)) [
 
 front_bytes : (wire : List ℕ) → AllByRecursion IsByte (front_of wire)
 front_bytes [] = tt
-front_bytes (b ∷ wire) = by (nat_lt b 256) refl
+front_bytes (b ∷ wire) = by (nat_lt b 256) refl (front_bytes wire)
   where
-    by : (t : Bool) → nat_lt b 256 ≡ t → AllByRecursion IsByte (if t then b ∷ front_of wire else [])
-    by true is = (grind (arith, common_steps, is), front_bytes wire)
-    by false is = tt
+    by : (t : Bool) → nat_lt b 256 ≡ t → AllByRecursion IsByte (front_of wire) → AllByRecursion IsByte (if t then b ∷ front_of wire else [])
+    by true is rest = (grind (arith, common_steps, is), rest)
+    by false is rest = tt
 
 taken_bytes : (n : ℕ) (xs : List ℕ) → AllByRecursion IsByte xs → AllByRecursion IsByte (take n xs)
 taken_bytes zero xs h = tt

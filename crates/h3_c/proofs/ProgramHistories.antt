@@ -265,7 +265,7 @@ or_first : (a b : Bool) → (a || b) ≡ false → a ≡ false
 or_first true b h = h
 or_first false b h = refl
 
-not_done : (r : Refusal) → ((refusal_told r).number == 0) ≡ false
+pub not_done : (r : Refusal) → ((refusal_told r).number == 0) ≡ false
 not_done r = elim (memory_or_not r) [
   | inl is ↦ ap (λ x. (refusal_told x).number == 0) is
   | inr another ↦ or_first _ _ another

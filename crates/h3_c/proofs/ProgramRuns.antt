@@ -1,10 +1,10 @@
 -- What two programs do is a run of two endpoints.
-use Rattle.std.proofs.Common.{arith, ◌≡◌, ◌<◌, ◌⊎◌, inl, inr, ℕ, Bool, true, false, if◌then◌else◌, List, [], ◌∷◌, ◌++◌, length, drop, refl, sym, ap, subst, ◌∙◌}
+use Rattle.std.proofs.Common.{arith, ◌≡◌, ◌<◌, ◌⊎◌, inl, inr, ℕ, Bool, true, false, if◌then◌else◌, List, [], ◌∷◌, ◌++◌, length, drop, refl, sym, ap, subst, ◌∙◌, Some, None, Result, Ok, Err}
 use Rattle.std.specs.Prelude.{◌==◌, ◌^◌, min}
 use Rattle.h3_proto.specs.declared.stream.Side.{Side}
 use Rattle.h3_proto.specs.declared.stream.Side.TheVariants.{Client, Server}
 use Rattle.h3_connection.specs.Answers.{delivery_refused}
-use Rattle.h3_connection.specs.Endpoint.{bytes_waiting, new_endpoint}
+use Rattle.h3_connection.specs.Endpoint.{EndpointHistory, bytes_waiting, new_endpoint}
 use Rattle.h3_connection.specs.OwnIds.{control_id, decoder_id, encoder_id, other}
 use Rattle.h3_connection.specs.Sending.{advance}
 use Rattle.h3_connection.specs.Shutdown.{is_rejected_in}
@@ -19,25 +19,32 @@ use Rattle.h3_world.specs.declared.event.Event.TheVariants as event
 use Rattle.h3_memory.specs.Refused.{EndsRun}
 use Rattle.h3_session.specs.Running.{answer_of, is_stored}
 use Rattle.h3_c.specs.Exported.{Calls, DeliversOn}
-use Rattle.h3_c.specs.Numbers.{rejected}
-use Rattle.h3_c.specs.Programs.{Act, AreMade, Bytes, Call, Comes, Empty, End, Handles, Happen, Happens, HasNone, IsEvent, IsRead, IsRefused, Nothing, Read, Reset, StandFor, Take, Takes, Tells, Then, carrying, handle_at, HasEnded, is_taken}
+use Rattle.h3_c.specs.Numbers.{rejected, argument, call_told, refusal_told}
+use Rattle.h3_c.specs.Programs.{Act, AreMade, Bytes, Call, Comes, Empty, End, Handles, Happen, Happens, HasNone, IsEvent, IsRead, IsRefused, Nothing, Read, Reset, StandFor, Take, Takes, Tells, Then, carrying, handle_at, HasEnded, is_taken, Announce}
 use Rattle.h3_c.specs.Reads.{taken_of}
 use Rattle.h3_c.specs.Seen.{Seen}
 use Rattle.h3_c.specs.declared.numbers.Told.{Told}
 use Rattle.h3_c.proofs.CarriedOver.{delivery_tells, taken_so as told_taken}
 use Rattle.h3_c.proofs.Flights.{Carries, Flies, lagging, none_less, own_lags}
-use Rattle.h3_c.proofs.FrontsShown.{empty_told, ended_told, goes_told, known_id, reset_told, shown_front, tells_stream}
+use Rattle.h3_c.proofs.FrontsShown.{empty_told, ended_told, goes_told, known_id, reset_told, shown_front, tells_stream, below_or_not}
 use Rattle.h3_c.proofs.Grows.{own_taken, own_text}
 use Rattle.h3_c.proofs.MadeHandles.{handle_stands}
 use Rattle.h3_c.proofs.ProgramCalls.{ByHistory, Made, call_made}
 use Rattle.h3_c.proofs.ProgramGives.{bytes_given, empty_given, end_given, given_to, read_by, reset_given, rest_given, taken_from, taken_so}
-use Rattle.h3_c.proofs.ProgramHistories.{MadeAt, at_ends, by_history}
+use Rattle.h3_c.proofs.ProgramHistories.{MadeAt, at_ends, by_history, not_done}
 use Rattle.h3_c.proofs.ProgramMoves.{CallsAreSteps, Moves, Stand, StaysSo, ThenSo, of_both, run_on, stays_same, views_of}
 use Rattle.h3_c.proofs.ProgramReads.{carrying_here, pair, read_made}
 use Rattle.h3_c.proofs.UnorderedSteps.{both_unordered}
 use Rattle.h3_c.proofs.Views.{plain, seen}
 use Rattle.h3_c.proofs.Writing.{waits_enough}
 use Rattle.h3_c.proofs.ViewsSteps.{AreOfC, both_seen}
+use Rattle.h3_c.proofs.ProgramAnnounces.{announce_accepted, announce_lacks, announce_refused, announced_by, refused_by}
+use Rattle.h3_c.proofs.QuietCalls.{stands_unchanged}
+use Rattle.h3_field.specs.ReadBack.{AreBytes}
+use Rattle.h3_connection.specs.declared.event.Refusal.{Refusal}
+use Rattle.h3_connection.specs.declared.event.Refusal.TheVariants as refusal
+use Rattle.h3_world.specs.Headline.{is_out_of_memory}
+use Rattle.h3_session.specs.Held.{SendsBodyOf}
 
 -- a delivery is rejected, or is a call
 delivered : {P : Type 0} {X : Type 0} (id : ℕ) (n : Told) (r s : Seen) (does : X → Type 0) (told : X → Told) → id < 2 ^ 62 → DeliversOn told id n r s does
@@ -160,8 +167,82 @@ take_made from id bytes h g t =
     )))
 
 -- **A body is announced by its length.**
+announced_is : (side : Side) (h g : Handles) (id : ℕ) (payload : List ℕ) → handle_at g (other side) ≡ handle_at h (other side) → g.carried ≡ h.carried → g.owed ≡ carrying h.owed side id (h.owed side id ++ payload)
+    → g ≡ announced_by side h (handle_at g side) id payload
+announced_is Client h g id payload there carried owed = handles_are g g.client h.server h.carried (carrying h.owed Client id (h.owed Client id ++ payload)) refl there carried owed
+announced_is Server h g id payload there carried owed = handles_are g h.client g.server h.carried (carrying h.owed Server id (h.owed Server id ++ payload)) there refl carried owed
+
+refused_is : (side : Side) (h g : Handles) → handle_at g (other side) ≡ handle_at h (other side) → g.carried ≡ h.carried → g.owed ≡ h.owed → g ≡ refused_by side h (handle_at g side)
+refused_is Client h g there carried owed = handles_are g g.client h.server h.carried h.owed refl there carried owed
+refused_is Server h g there carried owed = handles_are g h.client g.server h.carried h.owed there refl carried owed
+
+refused_moves : (side : Side) (h : Handles) (v : Seen) → v ≡ handle_at h side → Moves h (refused_by side h v) [] []
+refused_moves Client h v same = StaysSo {h = h} {g = refused_by Client h v} (stays_same h.client v same) (stays_same h.server h.server refl) (refl, refl)
+refused_moves Server h v same = StaysSo {h = h} {g = refused_by Server h v} (stays_same h.client h.client refl) (stays_same h.server v same) (refl, refl)
+
+lacks_or_not : (r : Refusal) → (r ≡ refusal.OutOfMemory) ⊎ (is_out_of_memory (answer.Refused r) ≡ false)
+lacks_or_not (refusal.Closed code) = inr refl
+lacks_or_not (refusal.Connection code) = inr refl
+lacks_or_not refusal.NotReceiving = inr refl
+lacks_or_not refusal.AfterEnd = inr refl
+lacks_or_not refusal.Kept = inr refl
+lacks_or_not refusal.NotClient = inr refl
+lacks_or_not (refusal.GoingAway id) = inr refl
+lacks_or_not refusal.IdsUsedUp = inr refl
+lacks_or_not refusal.NotOpen = inr refl
+lacks_or_not refusal.OutOfOrder = inr refl
+lacks_or_not refusal.WrongSide = inr refl
+lacks_or_not refusal.PseudoInTrailer = inr refl
+lacks_or_not (refusal.Malformed why) = inr refl
+lacks_or_not (refusal.TooLarge size) = inr refl
+lacks_or_not refusal.Critical = inr refl
+lacks_or_not refusal.Ended = inr refl
+lacks_or_not refusal.NotRequestId = inr refl
+lacks_or_not (refusal.Raised id) = inr refl
+lacks_or_not refusal.OutOfMemory = inl refl
+
+module _ (side : Side) (id : ℕ) (payload : List ℕ) (n : Told) (h g : Handles) (all : AreBytes payload) (there : handle_at g (other side) ≡ handle_at h (other side)) (carried : g.carried ≡ h.carried)
+    (owed : g.owed ≡ (if n.number == 0 then carrying h.owed side id (h.owed side id ++ payload) else h.owed)) where
+  abbrev now_owed : Bool → Side → ℕ → List ℕ
+  now_owed b = if b then carrying h.owed side id (h.owed side id ++ payload) else h.owed
+
+  announce_refuses : (r : Refusal) → n ≡ refusal_told r → SendsBodyOf (handle_at h side).endpoint (handle_at g side).endpoint id (length payload) (Err r)
+      → (r ≡ refusal.OutOfMemory) ⊎ (is_out_of_memory (answer.Refused r) ≡ false) → Made (Announce side id payload n) h g
+  announce_refuses r told does which = made_moves (Announce side id payload n) h g (refused_by side h (handle_at g side)) (event.Body side id payload ∷ []) (answer.Refused r ∷ []) as_it_was (IsEvent refl told) (by which)
+    where
+      as_it_was : g ≡ refused_by side h (handle_at g side)
+      as_it_was = refused_is side h g there carried (owed ∙ ap (λ (t : Told). now_owed (t.number == 0)) told ∙ ap now_owed (not_done r))
+
+      still : (e : EndpointHistory) → StandsFor (handle_at h side).endpoint e → StandsFor (handle_at g side).endpoint e
+      still e stands = stands_unchanged (handle_at h side).endpoint (handle_at g side).endpoint e (does.same (λ is. let never : Some r ≡ None = is in absurd (cc))) stands
+
+      same_refusal : (s : Refusal) → Some r ≡ Some s → r ≡ s
+      same_refusal s is = cc
+
+      by : (r ≡ refusal.OutOfMemory) ⊎ (is_out_of_memory (answer.Refused r) ≡ false) → Moves h (refused_by side h (handle_at g side)) (event.Body side id payload ∷ []) (answer.Refused r ∷ [])
+      by (inl is) =
+          subst (λ x. Moves h (refused_by side h (handle_at g side)) (event.Body side id payload ∷ []) (answer.Refused x ∷ [])) (sym is) (announce_lacks h side (handle_at g side) id payload all still)
+      by (inr another) = announce_refused h side (handle_at g side) id payload r all another (λ e stands.
+          let x = does.done e stands (λ is. absurd (let never : true ≡ false = sym (ap (λ y. is_out_of_memory (answer.Refused y)) (same_refusal refusal.OutOfMemory is)) ∙ another in cc)) in
+          (x.0, still e stands))
+
+  announce_answered : (r : Result Unit Refusal) → n ≡ call_told r → SendsBodyOf (handle_at h side).endpoint (handle_at g side).endpoint id (length payload) r → Made (Announce side id payload n) h g
+  announce_answered (Ok done) told does =
+      made_moves (Announce side id payload n) h g (announced_by side h (handle_at g side) id payload) (event.Body side id payload ∷ []) (answer.Done ∷ [])
+      (announced_is side h g id payload there carried (owed ∙ ap (λ (t : Told). now_owed (t.number == 0)) told)) (IsEvent refl (told, refl))
+      (announce_accepted h side (handle_at g side) id payload all (λ e stands. does.done e stands (λ is. let never : None ≡ Some refusal.OutOfMemory = is in absurd (cc))))
+  announce_answered (Err r) told does = announce_refuses r told does (lacks_or_not r)
+
+  announce_unknown : n ≡ argument → handle_at g side ≡ handle_at h side → Made (Announce side id payload n) h g
+  announce_unknown told same =
+      made_moves (Announce side id payload n) h g (refused_by side h (handle_at g side)) [] [] (refused_is side h g there carried (owed ∙ ap (λ (t : Told). now_owed (t.number == 0)) told))
+      (IsRefused refl (inl told)) (refused_moves side h (handle_at g side) same)
+
 announce_made : (side : Side) (id : ℕ) (payload : List ℕ) (n : Told) (h g : Handles) → Happens (Announce side id payload n) h g → Made (Announce side id payload n) h g
-announce_made side id payload n h g happens = ?
+announce_made side id payload n h g (all, on, alone, owed) = elim (below_or_not id (2 ^ 62)) [
+  | inl below ↦ (let k = on.known below in announce_answered side id payload n h g all alone.0 alone.1 owed k.answer k.is k.done)
+  | inr above ↦ announce_unknown side id payload n h g all alone.0 alone.1 owed (on.unknown above).0 (on.unknown above).1
+]
 
 -- **What happens comes to events that both endpoints answer.**
 pub act_made : CallsAreSteps → (act : Act) (h g : Handles) (ends : Ends) (stand : Stand h ends) → Happens act h g → MadeAt act h g ends stand.said
@@ -189,16 +270,17 @@ act_made law (Empty from id) h g ends stand ((none, tells), same) =
     at_ends law ends stand (made_moves (Empty from id) h g h (event.Deliver from id 1 ∷ []) (answer.Short 0 ∷ []) same (IsEvent refl refl) (empty_given h from id none (empty_told (handle_at h from) id tells)))
 
 -- what two programs come to
-pub record RanTo (ends : Ends) (h : Handles) (acts : List Act) (g : Handles) : Type 0 where
+pub record RanTo (ends : Ends) (said : Side → ℕ → List ℕ) (h : Handles) (acts : List Act) (g : Handles) : Type 0 where
   pub events : List Event
   pub answers : List Answer
   pub stand : StandFor h acts events answers g
   pub of : AreOfC events
   pub new : Ends
-  pub run : EndsRun (both_seen (views_of h.carried) ends) events answers new
+  pub run : EndsRun (both_seen (views_of h.carried said) ends) events answers new
 
-pub acts_run : CallsAreSteps → (acts : List Act) (h g : Handles) (ends : Ends) → Stand h ends → Happen h acts g → RanTo ends h acts g
-acts_run law [] h g ends stand happen = subst (λ x. RanTo ends h [] x) (sym happen) (record { events = []; answers = []; stand = Nothing; of = tt; new = both_seen (views_of h.carried) ends; run = refl })
+pub acts_run : CallsAreSteps → (acts : List Act) (h g : Handles) (ends : Ends) (stand : Stand h ends) → Happen h acts g → RanTo ends stand.said h acts g
+acts_run law [] h g ends stand happen =
+    subst (λ x. RanTo ends stand.said h [] x) (sym happen) (record { events = []; answers = []; stand = Nothing; of = tt; new = both_seen (views_of h.carried stand.said) ends; run = refl })
 acts_run law (act ∷ acts) h g ends stand (next, happens, happen) =
     let made = act_made law act h next ends stand happens in
     let on = made.left in
@@ -209,23 +291,24 @@ acts_run law (act ∷ acts) h g ends stand (next, happens, happen) =
       stand = Then happens made.comes rest.stand;
       of = of_both made.events rest.events on.of rest.of;
       new = rest.new;
-      run = run_on made.events rest.events made.answers rest.answers (both_seen (views_of h.carried) ends) (both_seen (views_of next.carried) on.new) rest.new on.run rest.run;
+      run = run_on made.events rest.events made.answers rest.answers (both_seen (views_of h.carried stand.said) ends) (both_seen (views_of next.carried on.stand.said) on.new) rest.new on.run rest.run;
     }
 
--- At the beginning nothing is carried.
+-- At the beginning nothing is carried, and nothing was announced.
 same_if : (a b c : Bool) (n : ℕ) → (if a then n else (if b then n else (if c then n else n))) ≡ n
 same_if true b c n = refl
 same_if false true c n = refl
 same_if false false true n = refl
 same_if false false false n = refl
 
-new_carries : (side : Side) (announced : Announced) (carried : ℕ → List ℕ) → ((id : ℕ) → carried id ≡ []) → Carries side carried (new_endpoint side announced)
-new_carries side announced carried none =
+new_carries : (side : Side) (announced : Announced) (carried owed : ℕ → List ℕ) → ((id : ℕ) → (carried id ≡ []) × (owed id ≡ [])) → Carries side carried (λ id. []) owed (new_endpoint side announced)
+new_carries side announced carried owed none =
     let e = new_endpoint side announced in
     record {
       side_is = refl;
-      flies = λ id. subst (λ l. Flies (own_text e id) (own_taken e id) l) (sym (none id))
+      flies = λ id. subst (λ l. Flies (own_text e id) (own_taken e id) l) (sym (none id).0)
           (record { before = []; rest = own_text e id; is = refl; count = same_if (id == control_id side) (id == encoder_id side) (id == decoder_id side) 0 });
+      owes = λ id. (refl, (none id).1);
       silent = refl;
       apart = λ id own. refl;
       next = 0;
@@ -233,8 +316,8 @@ new_carries side announced carried none =
       fresh = λ client id behind. refl;
     }
 
-new_seen : (side : Side) (announced : Announced) (carried : ℕ → List ℕ) → seen (lagging side carried) (new_endpoint side announced) ≡ seen plain (new_endpoint side announced)
-new_seen side announced carried =
+new_seen : (side : Side) (announced : Announced) (carried said : ℕ → List ℕ) → seen (lagging side carried said) (new_endpoint side announced) ≡ seen plain (new_endpoint side announced)
+new_seen side announced carried said =
     let e = new_endpoint side announced in
     ap (λ o. record (seen plain e) { own = o })
     (own_lags e.own _ _ _ _ _ _ (none_less (length (carried (control_id side)))) (none_less (length (carried (encoder_id side)))) (none_less (length (carried (decoder_id side)))))
@@ -243,11 +326,12 @@ pub new_stand : {setup : Setup} {h : Handles} → AreMade setup h → Stand h (n
 new_stand {setup = setup} {h = h} made = record {
   client = handle_stands made.client;
   server = handle_stands made.server;
-  client_carries = new_carries Client setup.client (h.carried Client) (made.none Client);
-  server_carries = new_carries Server setup.server (h.carried Server) (made.none Server);
+  said = λ side id. [];
+  client_carries = new_carries Client setup.client (h.carried Client) (h.owed Client) (made.none Client);
+  server_carries = new_carries Server setup.server (h.carried Server) (h.owed Server) (made.none Server);
 }
 
-pub new_both : (setup : Setup) (carried : Side → ℕ → List ℕ) → both_seen (views_of carried) (new_ends setup) ≡ both_unordered (new_ends setup)
-new_both setup carried =
-    ap (λ e. let x : Ends = record { client = e; server = seen (lagging Server (carried Server)) (new_ends setup).server } in x) (new_seen Client setup.client (carried Client))
-    ∙ ap (λ e. let x : Ends = record { client = seen plain (new_ends setup).client; server = e } in x) (new_seen Server setup.server (carried Server))
+pub new_both : (setup : Setup) (carried said : Side → ℕ → List ℕ) → both_seen (views_of carried said) (new_ends setup) ≡ both_unordered (new_ends setup)
+new_both setup carried said =
+    ap (λ e. let x : Ends = record { client = e; server = seen (lagging Server (carried Server) (said Server)) (new_ends setup).server } in x) (new_seen Client setup.client (carried Client) (said Client))
+    ∙ ap (λ e. let x : Ends = record { client = seen plain (new_ends setup).client; server = e } in x) (new_seen Server setup.server (carried Server) (said Server))
