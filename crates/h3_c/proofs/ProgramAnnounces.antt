@@ -1,22 +1,23 @@
 -- A side announces a body by its length: to a schedule it sends the body.
-use Rattle.std.proofs.Common.{◌≡◌, ◌≢◌, ℕ, ◌+◌, Bool, true, false, if◌then◌else◌, List, [], ◌∷◌, ◌++◌, length, refl, sym, ap, subst, ◌∙◌, Option, Some, None, Result, Ok, Err, append-nil}
-use Rattle.std.specs.Prelude.{◌==◌, unwrap_or}
+use Rattle.std.proofs.Common.{arith, ◌≡◌, ℕ, ◌+◌, Bool, true, false, if◌then◌else◌, List, [], ◌∷◌, ◌++◌, length, refl, sym, ap, subst, ◌∙◌, Option, Some, None, append-nil}
+use Rattle.std.specs.Prelude.{◌==◌, is_some, not, unwrap_or}
 use Rattle.std.proofs.lemmas.List.{length-replicate}
 use Rattle.std.proofs.lemmas.Grind.{common_steps}
 use Rattle.h3_field.specs.ReadBack.{AreBytes}
 use Rattle.h3_proto.specs.declared.stream.Side.{Side}
 use Rattle.h3_proto.specs.declared.stream.Side.TheVariants.{Client, Server}
-use Rattle.h3_connection.specs.Answers.{call_refused}
 use Rattle.h3_connection.specs.Endpoint.{EndpointHistory}
 use Rattle.h3_connection.specs.Outgoing.{Outgoing as Out, nothing_sent, with_body}
+use Rattle.h3_connection.specs.Refusals.{SenderStream, refusal_of_body}
 use Rattle.h3_connection.specs.Sending as sender
-use Rattle.h3_connection.specs.Sending.{counted, does, is_open, outgoing_at, sent_bytes, with_outgoing}
-use Rattle.h3_connection.specs.State.{EndpointState, StandsFor}
+use Rattle.h3_connection.specs.Sending.{closed_or, counted, does, is_open, outgoing_at, seen_at, sent_bytes, with_outgoing}
+use Rattle.h3_connection.specs.State.{StandsFor}
 use Rattle.h3_connection.specs.StreamSets.{stream_at}
+use Rattle.h3_connection.specs.StrictSending.{passes_content}
+use Rattle.h3_connection.specs.declared.event.Malformation.TheVariants as malformation
 use Rattle.h3_connection.specs.declared.event.Refusal.{Refusal}
 use Rattle.h3_connection.specs.declared.event.Refusal.TheVariants as refusal
 use Rattle.h3_outgoing.specs.Held.{held}
-use Rattle.h3_session.specs.Held.{SendsBodyOf}
 use Rattle.h3_world.specs.Ends.{Ends, done}
 use Rattle.h3_world.specs.Headline.{is_out_of_memory}
 use Rattle.h3_world.specs.declared.event.Answer.TheVariants as answer
@@ -96,11 +97,7 @@ module _ (side : Side) (carried said owed : ℕ → List ℕ) (e : EndpointHisto
   announces payload none = by (stream_at e.outgoing id) refl
     where
       by : (o : Option Out) → stream_at e.outgoing id ≡ o → Announced side carried said owed e id payload
-      by None at = absurd (let never : true ≡ false = sym (open_first (is_open e id) refusal.NotOpen _ (closed_none e.closed _ none)) ∙ ap is_there at in cc)
-        where
-          is_there : Option Out → Bool
-          is_there None = false
-          is_there (Some o) = true
+      by None at = absurd (let never : true ≡ false = sym (open_first (is_open e id) refusal.NotOpen _ (closed_none e.closed _ none)) ∙ ap (λ (o : Option Out). is_some o) at in cc)
       by (Some o) at = announced_at payload o at none
 
 -- The handles once a side announced this, or was refused.
@@ -162,10 +159,34 @@ seen_refused side carried said e id payload r is =
     does_some (sender.body_refusal (seen (lagging side carried said) e) id (length payload)) (seen (lagging side carried said) e) _ r
     (sending.body_refused_seen (lagging side carried said) (keeps_lagging side carried said) e id (length payload) ∙ refusal_is e id payload ∙ sym is)
 
-pub announce_refused : (h : Handles) (side : Side) (v : Seen) (id : ℕ) (payload : List ℕ) (r : Refusal) → AreBytes payload → is_out_of_memory (answer.Refused r) ≡ false
+-- what refuses a body: no memory is asked for
+abbrev IsPlain : Option Refusal → Type 0
+IsPlain None = Unit {0}
+IsPlain (Some r) = is_out_of_memory (answer.Refused r) ≡ false
+
+closed_plain : (closed : Option ℕ) (o : Option Refusal) → IsPlain o → IsPlain (closed_or closed o)
+closed_plain (Some code) o plain = refl
+closed_plain None o plain = plain
+
+rules_plain : (s : SenderStream) (is_too_much : Bool) → IsPlain (refusal_of_body s is_too_much)
+rules_plain s is_too_much = by (not s.is_open) (not s.takes_body) is_too_much
+  where
+    by : (a b c : Bool) → IsPlain (if a then Some refusal.NotOpen else (if b then Some refusal.OutOfOrder else (if c then Some (refusal.Malformed malformation.ContentLength) else None)))
+    by true b c = refl
+    by false true c = refl
+    by false false true = refl
+    by false false false = tt
+
+refuses_plainly : (e : EndpointHistory) (id n : ℕ) (r : Refusal) → Some r ≡ sender.body_refusal e id n → is_out_of_memory (answer.Refused r) ≡ false
+refuses_plainly e id n r is =
+    let s = seen_at e id in
+    let is_too_much = passes_content (outgoing_at e id).content n in
+    subst (λ o. IsPlain o) (sym is) (closed_plain e.closed (refusal_of_body s is_too_much) (rules_plain s is_too_much))
+
+pub announce_refused : (h : Handles) (side : Side) (v : Seen) (id : ℕ) (payload : List ℕ) (r : Refusal) → AreBytes payload
     → ((e : EndpointHistory) → StandsFor (handle_at h side).endpoint e → (Some r ≡ (sender.send_body e id (held (length payload))).0) × StandsFor v.endpoint e)
     → Moves h (refused_by side h v) (event.Body side id payload ∷ []) (answer.Refused r ∷ [])
-announce_refused h Client v id payload r all plain there = LeavesSo (λ ends stand.
+announce_refused h Client v id payload r all there = LeavesSo (λ ends stand.
     let e = ends.client in
     let about = there e stand.client in
     let V = both_seen (views_of h.carried stand.said) ends in
@@ -173,9 +194,9 @@ announce_refused h Client v id payload r all plain there = LeavesSo (λ ends sta
       new = ends;
       of = (all, tt);
       stand = record { client = about.1; server = stand.server; said = stand.said; client_carries = stand.client_carries; server_carries = stand.server_carries };
-      run = (V, told_so V V (event.Body Client id payload) (answer.Refused r) plain (ap (λ x. done V Client answer.Done x) (seen_refused Client (h.carried Client) (stand.said Client) e id payload r about.0)), refl);
+      run = (V, told_so V V (event.Body Client id payload) (answer.Refused r) (refuses_plainly e id (length payload) r (about.0 ∙ sym (refusal_is e id payload))) (ap (λ x. done V Client answer.Done x) (seen_refused Client (h.carried Client) (stand.said Client) e id payload r about.0)), refl);
     })
-announce_refused h Server v id payload r all plain there = LeavesSo (λ ends stand.
+announce_refused h Server v id payload r all there = LeavesSo (λ ends stand.
     let e = ends.server in
     let about = there e stand.server in
     let V = both_seen (views_of h.carried stand.said) ends in
@@ -183,7 +204,7 @@ announce_refused h Server v id payload r all plain there = LeavesSo (λ ends sta
       new = ends;
       of = (all, tt);
       stand = record { client = stand.client; server = about.1; said = stand.said; client_carries = stand.client_carries; server_carries = stand.server_carries };
-      run = (V, told_so V V (event.Body Server id payload) (answer.Refused r) plain (ap (λ x. done V Server answer.Done x) (seen_refused Server (h.carried Server) (stand.said Server) e id payload r about.0)), refl);
+      run = (V, told_so V V (event.Body Server id payload) (answer.Refused r) (refuses_plainly e id (length payload) r (about.0 ∙ sym (refusal_is e id payload))) (ap (λ x. done V Server answer.Done x) (seen_refused Server (h.carried Server) (stand.said Server) e id payload r about.0)), refl);
     })
 
 -- **Memory is lacking.**

@@ -240,7 +240,7 @@ ended_or_none (Some (refusal.Raised id)) is = absurd (cc)
 ended_or_none (Some refusal.OutOfMemory) is = absurd (cc)
 
 -- what refusals tell: H3_MEMORY is one of them
-memory_or_not : (r : Refusal) → (r ≡ refusal.OutOfMemory) ⊎ ((((refusal_told r).number == 0) || ((refusal_told r).number == 18)) ≡ false)
+pub memory_or_not : (r : Refusal) → (r ≡ refusal.OutOfMemory) ⊎ ((((refusal_told r).number == 0) || ((refusal_told r).number == 18)) ≡ false)
 memory_or_not (refusal.Closed code) = inr refl
 memory_or_not (refusal.Connection code) = inr refl
 memory_or_not refusal.NotReceiving = inr refl
@@ -271,7 +271,7 @@ not_done r = elim (memory_or_not r) [
   | inr another ↦ or_first _ _ another
 ]
 
-is_other : (r : Refusal) → (((refusal_told r).number == 0) || ((refusal_told r).number == 18)) ≡ false → Some r ≡ Some refusal.OutOfMemory → ⊥
+pub is_other : (r : Refusal) → (((refusal_told r).number == 0) || ((refusal_told r).number == 18)) ≡ false → Some r ≡ Some refusal.OutOfMemory → ⊥
 is_other r another is =
     let same = same_refusal r refusal.OutOfMemory is in
     absurd (let never : true ≡ false = sym (ap (λ x. ((refusal_told x).number == 0) || ((refusal_told x).number == 18)) same) ∙ another in cc)

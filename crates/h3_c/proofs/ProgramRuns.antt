@@ -1,6 +1,6 @@
 -- What two programs do is a run of two endpoints.
-use Rattle.std.proofs.Common.{arith, ◌≡◌, ◌<◌, ◌⊎◌, inl, inr, ℕ, Bool, true, false, if◌then◌else◌, List, [], ◌∷◌, ◌++◌, length, drop, refl, sym, ap, subst, ◌∙◌, Some, None, Result, Ok, Err}
-use Rattle.std.specs.Prelude.{◌==◌, ◌^◌, min}
+use Rattle.std.proofs.Common.{arith, ◌≡◌, ◌<◌, ◌⊎◌, inl, inr, ℕ, ◌-◌, Bool, true, false, if◌then◌else◌, List, [], ◌∷◌, ◌++◌, length, drop, refl, sym, ap, subst, ◌∙◌, Some, None, Result, Ok, Err}
+use Rattle.std.specs.Prelude.{◌==◌, ◌^◌, ◌||◌, min}
 use Rattle.h3_proto.specs.declared.stream.Side.{Side}
 use Rattle.h3_proto.specs.declared.stream.Side.TheVariants.{Client, Server}
 use Rattle.h3_connection.specs.Answers.{delivery_refused}
@@ -31,7 +31,7 @@ use Rattle.h3_c.proofs.Grows.{own_taken, own_text}
 use Rattle.h3_c.proofs.MadeHandles.{handle_stands}
 use Rattle.h3_c.proofs.ProgramCalls.{ByHistory, Made, call_made}
 use Rattle.h3_c.proofs.ProgramGives.{bytes_given, empty_given, end_given, given_to, read_by, reset_given, rest_given, taken_from, taken_so}
-use Rattle.h3_c.proofs.ProgramHistories.{MadeAt, at_ends, by_history, not_done}
+use Rattle.h3_c.proofs.ProgramHistories.{MadeAt, at_ends, by_history, is_other, memory_or_not, not_done}
 use Rattle.h3_c.proofs.ProgramMoves.{CallsAreSteps, Moves, Stand, StaysSo, ThenSo, of_both, run_on, stays_same, views_of}
 use Rattle.h3_c.proofs.ProgramReads.{carrying_here, pair, read_made}
 use Rattle.h3_c.proofs.UnorderedSteps.{both_unordered}
@@ -43,7 +43,6 @@ use Rattle.h3_c.proofs.QuietCalls.{stands_unchanged}
 use Rattle.h3_field.specs.ReadBack.{AreBytes}
 use Rattle.h3_connection.specs.declared.event.Refusal.{Refusal}
 use Rattle.h3_connection.specs.declared.event.Refusal.TheVariants as refusal
-use Rattle.h3_world.specs.Headline.{is_out_of_memory}
 use Rattle.h3_session.specs.Held.{SendsBodyOf}
 
 -- a delivery is rejected, or is a call
@@ -180,34 +179,13 @@ refused_moves : (side : Side) (h : Handles) (v : Seen) → v ≡ handle_at h sid
 refused_moves Client h v same = StaysSo {h = h} {g = refused_by Client h v} (stays_same h.client v same) (stays_same h.server h.server refl) (refl, refl)
 refused_moves Server h v same = StaysSo {h = h} {g = refused_by Server h v} (stays_same h.client h.client refl) (stays_same h.server v same) (refl, refl)
 
-lacks_or_not : (r : Refusal) → (r ≡ refusal.OutOfMemory) ⊎ (is_out_of_memory (answer.Refused r) ≡ false)
-lacks_or_not (refusal.Closed code) = inr refl
-lacks_or_not (refusal.Connection code) = inr refl
-lacks_or_not refusal.NotReceiving = inr refl
-lacks_or_not refusal.AfterEnd = inr refl
-lacks_or_not refusal.Kept = inr refl
-lacks_or_not refusal.NotClient = inr refl
-lacks_or_not (refusal.GoingAway id) = inr refl
-lacks_or_not refusal.IdsUsedUp = inr refl
-lacks_or_not refusal.NotOpen = inr refl
-lacks_or_not refusal.OutOfOrder = inr refl
-lacks_or_not refusal.WrongSide = inr refl
-lacks_or_not refusal.PseudoInTrailer = inr refl
-lacks_or_not (refusal.Malformed why) = inr refl
-lacks_or_not (refusal.TooLarge size) = inr refl
-lacks_or_not refusal.Critical = inr refl
-lacks_or_not refusal.Ended = inr refl
-lacks_or_not refusal.NotRequestId = inr refl
-lacks_or_not (refusal.Raised id) = inr refl
-lacks_or_not refusal.OutOfMemory = inl refl
-
 module _ (side : Side) (id : ℕ) (payload : List ℕ) (n : Told) (h g : Handles) (all : AreBytes payload) (there : handle_at g (other side) ≡ handle_at h (other side)) (carried : g.carried ≡ h.carried)
     (owed : g.owed ≡ (if n.number == 0 then carrying h.owed side id (h.owed side id ++ payload) else h.owed)) where
   abbrev now_owed : Bool → Side → ℕ → List ℕ
   now_owed b = if b then carrying h.owed side id (h.owed side id ++ payload) else h.owed
 
   announce_refuses : (r : Refusal) → n ≡ refusal_told r → SendsBodyOf (handle_at h side).endpoint (handle_at g side).endpoint id (length payload) (Err r)
-      → (r ≡ refusal.OutOfMemory) ⊎ (is_out_of_memory (answer.Refused r) ≡ false) → Made (Announce side id payload n) h g
+      → (r ≡ refusal.OutOfMemory) ⊎ ((((refusal_told r).number == 0) || ((refusal_told r).number == 18)) ≡ false) → Made (Announce side id payload n) h g
   announce_refuses r told does which = made_moves (Announce side id payload n) h g (refused_by side h (handle_at g side)) (event.Body side id payload ∷ []) (answer.Refused r ∷ []) as_it_was (IsEvent refl told) (by which)
     where
       as_it_was : g ≡ refused_by side h (handle_at g side)
@@ -216,22 +194,17 @@ module _ (side : Side) (id : ℕ) (payload : List ℕ) (n : Told) (h g : Handles
       still : (e : EndpointHistory) → StandsFor (handle_at h side).endpoint e → StandsFor (handle_at g side).endpoint e
       still e stands = stands_unchanged (handle_at h side).endpoint (handle_at g side).endpoint e (does.same (λ is. let never : Some r ≡ None = is in absurd (cc))) stands
 
-      same_refusal : (s : Refusal) → Some r ≡ Some s → r ≡ s
-      same_refusal s is = cc
-
-      by : (r ≡ refusal.OutOfMemory) ⊎ (is_out_of_memory (answer.Refused r) ≡ false) → Moves h (refused_by side h (handle_at g side)) (event.Body side id payload ∷ []) (answer.Refused r ∷ [])
+      by : (r ≡ refusal.OutOfMemory) ⊎ ((((refusal_told r).number == 0) || ((refusal_told r).number == 18)) ≡ false) → Moves h (refused_by side h (handle_at g side)) (event.Body side id payload ∷ []) (answer.Refused r ∷ [])
       by (inl is) =
           subst (λ x. Moves h (refused_by side h (handle_at g side)) (event.Body side id payload ∷ []) (answer.Refused x ∷ [])) (sym is) (announce_lacks h side (handle_at g side) id payload all still)
-      by (inr another) = announce_refused h side (handle_at g side) id payload r all another (λ e stands.
-          let x = does.done e stands (λ is. absurd (let never : true ≡ false = sym (ap (λ y. is_out_of_memory (answer.Refused y)) (same_refusal refusal.OutOfMemory is)) ∙ another in cc)) in
-          (x.0, still e stands))
+      by (inr another) = announce_refused h side (handle_at g side) id payload r all (λ e stands. let x = does.done e stands (is_other r another) in (x.0, still e stands))
 
   announce_answered : (r : Result Unit Refusal) → n ≡ call_told r → SendsBodyOf (handle_at h side).endpoint (handle_at g side).endpoint id (length payload) r → Made (Announce side id payload n) h g
   announce_answered (Ok done) told does =
       made_moves (Announce side id payload n) h g (announced_by side h (handle_at g side) id payload) (event.Body side id payload ∷ []) (answer.Done ∷ [])
       (announced_is side h g id payload there carried (owed ∙ ap (λ (t : Told). now_owed (t.number == 0)) told)) (IsEvent refl (told, refl))
       (announce_accepted h side (handle_at g side) id payload all (λ e stands. does.done e stands (λ is. let never : None ≡ Some refusal.OutOfMemory = is in absurd (cc))))
-  announce_answered (Err r) told does = announce_refuses r told does (lacks_or_not r)
+  announce_answered (Err r) told does = announce_refuses r told does (memory_or_not r)
 
   announce_unknown : n ≡ argument → handle_at g side ≡ handle_at h side → Made (Announce side id payload n) h g
   announce_unknown told same =

@@ -174,7 +174,7 @@ prefix_is_bytes capacity count base = by (count == 0)
     second false = prefixed_bytes 7 0 (base - count) (lit< tt)
 
     by : (b : Bool) → AllByRecursion IsByte (if b then 0 ∷ 0 ∷ [] else prefixed 8 0 (count % (2 * most_entries capacity) + 1) ++ (if nat_lt base count then prefixed 7 1 (count - base - 1) else prefixed 7 0 (base - count)))
-    by true = (lit< tt, lit< tt, tt)
+    by true = (lit< tt, (lit< tt, tt))
     by false = both_bytes (prefixed 8 0 (count % (2 * most_entries capacity) + 1)) (if nat_lt base count then prefixed 7 1 (count - base - 1) else prefixed 7 0 (base - count)) (prefixed_bytes 8 0 (count % (2 * most_entries capacity) + 1) (lit< tt)) (second (nat_lt base count))
 
 encoded_bytes : (s : EncoderHistory) (fields : List Field) → AllByRecursion IsFieldOfBytes fields → AllByRecursion IsByte (encoded_section s fields)
