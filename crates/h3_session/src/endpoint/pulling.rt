@@ -2,7 +2,7 @@
 ghost use Rattle.std.specs.Prelude.{◌≡◌, true, false, [], Some, None, IfSome, is_some, unwrap_or, OnOk, OnErr, IfErr};
 ghost use Rattle.h3_connection.specs.Calls.{AllSame};
 ghost use Rattle.h3_connection.specs.Endpoint.{EndpointHistory, kind_of};
-ghost use Rattle.h3_connection.specs.Endpoint.Kind.{Request, PeerUnidirectional};
+ghost use Rattle.h3_connection.specs.Endpoint.Kind.{PeerUnidirectional};
 ghost use Rattle.h3_connection.specs.Keeping.{settles, is_settled_request};
 ghost use Rattle.h3_connection.specs.Pulling.{is_memory};
 ghost use Rattle.h3_connection.specs.ReceivingContracts.{PullsNext};
@@ -17,7 +17,7 @@ ghost use Rattle.h3_incoming.specs.FieldsPulls.{list_of, pull_of};
 ghost use Rattle.h3_requests.specs.Coming.{fields_at};
 ghost use Rattle.h3_session.specs.Listing.{ListsItem, ListsNext};
 ghost use Rattle.h3_requests.specs.Limited.{PullsWithin, ResumesThere, unopened_answer};
-ghost use Rattle.h3_session.specs.Pulling.{PullsItem, ReadsKept, answer_code, closed_with, settled_in};
+ghost use Rattle.h3_session.specs.Pulling.{PullsItem, ReadsKept, answer_code, settled_in};
 ghost use Rattle.h3_session.specs.Changes.{ChangesRequests};
 
 use super::Endpoint;
@@ -211,7 +211,13 @@ impl Endpoint {
         ensures list { ListsItem self.old id (O.listed out.new) }
     {
         match StreamKind::of(self.side, id) {
-            StreamKind::Request => self.pull_request(id, out),
+            // a fault of the connection closes it
+            StreamKind::Request => {
+                self.pull_stored(id, out);
+                if let Some(code) = fault_of(out) {
+                    self.closed = Some(code);
+                }
+            }
             StreamKind::PeerUnidirectional => self.pull_peer(id, out),
             StreamKind::ServerOpened => no_messages(out),
             StreamKind::OwnUnidirectional => no_messages(out),
@@ -225,24 +231,6 @@ impl Endpoint {
         ensures list { ListsItem self.old id (O.listed out.new) }
     {
         give_made(out, self.streams.pull(id));
-    }
-
-    // A fault of the connection closes it.
-    fn pull_request<O: Answer>(&mut self, id: StreamId, out: &mut O)
-        requires { kind_of self.old.side id ≡ Request }
-        ensures item { PullsItem self.old self.new id (O.told out.new) }
-        ensures list { ListsItem self.old id (O.listed out.new) }
-    {
-        self.pull_stored(id, out);
-        self.close_with(out);
-    }
-
-    fn close_with<O: Answer>(&mut self, answer: &O)
-        ensures { self.new ≡ closed_with (answer_code (O.told answer.now)) self.old }
-    {
-        if let Some(code) = fault_of(answer) {
-            self.closed = Some(code);
-        }
     }
 
     fn pull_stored<O: Answer>(&mut self, id: StreamId, out: &mut O)
