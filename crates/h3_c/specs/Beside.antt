@@ -52,9 +52,9 @@ pub record CopiesBeside (v : Seen) (id : ℕ) (n : Told) (before after : List �
 -- `h3_advance`: not more than wait
 pub record TakesBeside (v w : Seen) (id count : ℕ) (n : Told) : Type 0 where
   pub few : has_stream v.sessions id ≡ true → count ≤ length (raw_waiting v.sessions id) → n ≡ ok
-  pub many : has_stream v.sessions id ≡ true → length (raw_waiting v.sessions id) < count → (n ≡ argument) × (w ≡ v)
+  pub many : has_stream v.sessions id ≡ true → length (raw_waiting v.sessions id) < count → n ≡ argument
   pub other : has_stream v.sessions id ≡ false → Takes v w id count n
-  pub taken : n ≡ ok → AdvancesOn v.endpoint w.endpoint v.sessions w.sessions id count
+  pub taken : ((n ≡ ok) × AdvancesOn v.endpoint w.endpoint v.sessions w.sessions id count) ⊎ ((n ≡ argument) × (w ≡ v))
   pub last : w.last ≡ v.last
   pub events : w.events ≡ v.events
 
@@ -70,12 +70,17 @@ pub record IsStreamBeside (s : Joint) (e : EndpointHistory) (id : ℕ) (state : 
 abbrev pub ShowsStreamBeside : Seen → ℕ → StreamState → Type 0
 ShowsStreamBeside v id state = (e : EndpointHistory) → StandsFor v.endpoint e → IsStreamBeside v.sessions e id state
 
+-- `h3_close_stream`
+abbrev pub ClosesBeside : Told → Seen → Seen → ℕ → ℕ → ℕ → ℕ → ℕ → Type 0
+ClosesBeside n v w id stop_before stop reset_before reset =
+    Calls call_told n v w (λ call. ClosesOn v.endpoint w.endpoint v.sessions w.sessions id call × GivesFrames call stop_before stop reset_before reset)
+
 abbrev pub DoesBeside : CallOfC → Seen → Seen → Type 0
 DoesBeside (Finish id n) v w = CallsOn call_told id n v w (λ call. FinishesOn v.endpoint w.endpoint v.sessions w.sessions id call)
 DoesBeside (Reset id n) v w = CallsOn call_told id n v w (λ call. ResetsOn v.endpoint w.endpoint v.sessions w.sessions id call)
 DoesBeside (Cancel id n) v w = CallsOn call_told id n v w (λ call. CancelsOn v.endpoint w.endpoint v.sessions w.sessions id call)
 DoesBeside (CloseStream id stop_before stop reset_before reset n) v w =
-    CallsOn call_told id n v w (λ call. ClosesOn v.endpoint w.endpoint v.sessions w.sessions id call × GivesFrames call stop_before stop reset_before reset)
+    OnStream id n v w (ClosesBeside n v w id stop_before stop reset_before reset)
     × Unwritten id ((stop ≡ stop_before) × (reset ≡ reset_before))
 DoesBeside (NextToSend from before id n) v w = (w ≡ v) × Finds (SendsLowest v.endpoint v.sessions from) n before id
 DoesBeside (NextByPriority before id n) v w = (w ≡ record v { endpoint = w.endpoint }) × Finds (SendsInTurn v.endpoint w.endpoint v.sessions) n before id

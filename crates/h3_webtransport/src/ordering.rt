@@ -19,7 +19,7 @@ impl Sessions {
             }
             return;
         }
-        if count > 0 && id.is_request() {
+        if self.is_on && count > 0 && id.is_request() {
             self.is_next = true;
         }
         endpoint.advance(id, count);

@@ -1,0 +1,6 @@
+-- Where sessions are off.
+use Rattle.h3_c.proofs.Alone.{goes_alone}
+use Rattle.h3_c.proofs.exports.sending.h3_raw_reset.Goals as goal
+
+pub returns-clause-goes : goal.returns-clause-goes
+returns-clause-goes c = goes_alone _ _ _ _ _ c.opened-connection.ensures c.kept.ensures c.reset-told.ensures
