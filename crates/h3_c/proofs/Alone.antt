@@ -1,19 +1,16 @@
 -- Where sessions of WebTransport are off, each call that sessions answer does what it does without them.
 use Rattle.std.proofs.Common.{◌≡◌, ◌⊎◌, inl, inr, ℕ, ◌<◌, ◌≤◌, Bool, true, false, if◌then◌else◌, List, [], ◌∷◌, length, take, Option, Some, None, refl, sym, ap, subst, ◌∙◌}
 use Rattle.std.specs.Prelude.{◌&&◌, ◌||◌, ◌==◌, ◌^◌, not, is_some, unwrap_or, Ok, Err}
-use Rattle.std.specs.List.{concat}
 use Rattle.std.proofs.lemmas.Bool.{cases_lt}
 use Rattle.h3_proto.specs.StreamIds.{is_request_stream}
-use Rattle.h3_connection.specs.Endpoint.{EndpointHistory, bytes_waiting}
+use Rattle.h3_connection.specs.Endpoint.{EndpointHistory}
 use Rattle.h3_connection.specs.EndsWaiting.{ShowsNextToSend}
 use Rattle.h3_connection.specs.ByPriority.{Holds}
 use Rattle.h3_connection.specs.Prioritizing.{SendsNext}
 use Rattle.h3_connection.specs.ReceivingContracts.{Delivers, DeliversEnd, DeliversReset}
 use Rattle.h3_connection.specs.SendingContracts.{Cancels, Finishes, Resets}
-use Rattle.h3_connection.specs.Shown.{has_outgoing, is_finished, is_reset}
 use Rattle.h3_connection.specs.Shutdown.{is_rejected_in}
 use Rattle.h3_connection.specs.State.{EndpointState, StandsFor}
-use Rattle.h3_connection.specs.Unread.{unread, counted}
 use Rattle.h3_connection.specs.declared.event.DeliverError.TheVariants as deliver_error
 use Rattle.h3_connection.specs.declared.event.Refusal.TheVariants as refusal
 use Rattle.h3_incoming.specs.declared.body_place.BodyPlace.{BodyPlace}
@@ -22,11 +19,9 @@ use Rattle.h3_webtransport.specs.Closing.{ClosesOn}
 use Rattle.h3_webtransport.specs.Joint.{Joint, has_stream, is_begun_by_peer, is_read, is_server_opened, may_begin, stored_at}
 use Rattle.h3_webtransport.specs.Ordering.{AdvancesOn, HoldsOn, SendsInTurn, SendsLowest, lower_of, other_taken, turn_of}
 use Rattle.h3_webtransport.specs.Receiving.{CancelsOn, DeliversOn as DeliversBeside, EndsOn}
-use Rattle.h3_webtransport.specs.Sending.{FinishesOn, ResetsOn, raw_finished, raw_reset, raw_waiting}
-use Rattle.h3_webtransport_streams.specs.Begun.{stream_or_unseen}
-use Rattle.h3_webtransport_streams.specs.SessionStream.{receiver_of, sender_of, unread_of}
+use Rattle.h3_webtransport.specs.Sending.{FinishesOn, ResetsOn}
+use Rattle.h3_webtransport_streams.specs.SessionStream.{receiver_of}
 use Rattle.h3_c.specs.Beside.{DoesBeside, Finds, IsStreamBeside}
-use Rattle.h3_c.specs.Bits.{bit}
 use Rattle.h3_c.specs.Closing.{GivesFrames}
 use Rattle.h3_c.specs.Does.{CallOfC, Does}
 use Rattle.h3_c.specs.Does.CallOfC.{Advance, Cancel, CloseStream, Deliver, DeliverEnd, DeliverReset, EndTaken, Finish, Hold, NextByPriority, NextToSend, Outgoing, Pull, Read, Reset, Stream}
@@ -35,9 +30,9 @@ use Rattle.h3_c.specs.Exported.{Calls, CopiesOut, OnStream, Pulls, StepsAlone, S
 use Rattle.h3_c.specs.Numbers.{argument, call_told, delivery_told, number, ok}
 use Rattle.h3_c.specs.Ordering.{IfGiven, flag_given}
 use Rattle.h3_c.specs.PullsBeside.{PullsBeside}
-use Rattle.h3_c.specs.Reads.{CopiesNext, EndsThere, ReadsAt, ReadsCopied, ReadsNext, ReadsOn, RefusesEnd, StopsAt, TakesBytes, TakesEnd, ends_with}
+use Rattle.h3_c.specs.Reads.{EndsThere, ReadsAt, ReadsCopied, ReadsNext, RefusesEnd, StopsAt, TakesBytes, TakesEnd, ends_with}
 use Rattle.h3_c.specs.Reads.ReadsCopied as copied
-use Rattle.h3_c.specs.ReadsBeside.{EndsThereBeside, ReadsAtBeside, ReadsCopiedBeside, ReadsNextBeside, ReadsOnBeside, RefusesEndBeside, StaysShown, StopsAtBeside, TakesBytesBeside, TakesEndBeside}
+use Rattle.h3_c.specs.ReadsBeside.{EndsThereBeside, ReadsAtBeside, ReadsCopiedBeside, ReadsNextBeside, RefusesEndBeside, StaysShown, StopsAtBeside, TakesBytesBeside, TakesEndBeside}
 use Rattle.h3_c.specs.ReadsBeside.ReadsCopiedBeside as beside
 use Rattle.h3_c.specs.Seen.{Seen}
 use Rattle.h3_c.specs.Showing.{IsStream}
@@ -109,13 +104,13 @@ taken_alone v w id count n off (inr same) = stays v w same.1
 -- a stream's state
 stream_alone : (s : Joint) (e : EndpointHistory) (id : ℕ) (state : StreamState) → s.is_on ≡ false → IsStreamBeside s e id state → IsStream e id state
 stream_alone s e id state off x =
-    let stored = none_is_stored s id off in
+    let sends = x.other (none_is_stored s id off) in
     record {
-      waiting = x.waiting ∙ ap (λ here. if here then length (raw_waiting s id) else length (bytes_waiting e id)) stored;
-      unread = x.unread_is ∙ ap (λ here. if here then length (concat (unread_of (stream_or_unseen s.sessions.streams id).receiver)) else counted (unread e id)) (none_is_read s id off);
-      has_outgoing = x.outgoing ∙ ap (λ here. bit (if here then is_some (sender_of (stored_at s id)) else has_outgoing e id)) stored;
-      is_finished = x.finished ∙ ap (λ here. bit (if here then raw_finished s id else is_finished e id)) stored;
-      is_reset = x.reset ∙ ap (λ here. bit (if here then raw_reset s id else is_reset e id)) stored;
+      waiting = sends.waiting;
+      unread = x.other_unread (none_is_read s id off);
+      has_outgoing = sends.has_outgoing;
+      is_finished = sends.is_finished;
+      is_reset = sends.is_reset;
       tries = x.tries;
     }
 
@@ -251,14 +246,14 @@ does_alone (Stream id before state n) v w off h =
 does_alone _ v w off h = h
 
 -- From handle to handle.
-pub goes_beside : (call : CallOfC) (before after : Option Seen) (u x : Seen) → Some u ≡ before → after ≡ Some x → DoesBeside call u x → StepsBeside before after (DoesBeside call)
-goes_beside call before after u x opened kept does v w was is =
+pub goes_beside : (does : Seen → Seen → Type 0) (before after : Option Seen) (u x : Seen) → Some u ≡ before → after ≡ Some x → does u x → StepsBeside before after does
+goes_beside does before after u x opened kept did v w was is =
     let u_is : u ≡ v = ap (λ o. unwrap_or o u) (opened ∙ was) in
     let x_is : x ≡ w = ap (λ o. unwrap_or o x) (sym kept ∙ is) in
-    subst (λ s. DoesBeside call v s) x_is (subst (λ s. DoesBeside call s x) u_is does)
+    subst (λ s. does v s) x_is (subst (λ s. does s x) u_is did)
 
 pub goes_alone : (call : CallOfC) (before after : Option Seen) (u x : Seen) → Some u ≡ before → after ≡ Some x → DoesBeside call u x → StepsAlone before after (Does call)
-goes_alone call before after u x opened kept does v w was is off = does_alone call v w off (goes_beside call before after u x opened kept does v w was is)
+goes_alone call before after u x opened kept does v w was is off = does_alone call v w off (goes_beside (DoesBeside call) before after u x opened kept does v w was is)
 
 -- what has no detail
 pub plainly : (n : Told) → n.detail ≡ 0 → n ≡ number n.number 0

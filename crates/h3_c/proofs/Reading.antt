@@ -1,6 +1,6 @@
 -- What a read of bytes comes to with sessions of WebTransport beside an endpoint, by the calls that it makes.
 use Rattle.std.proofs.Common.{◌≡◌, ℕ, ◌<◌, ◌==◌, ◌&&◌, Bool, true, false, List, [], ◌∷◌, length, take, refl, sym, ap, subst, ◌∙◌, arith}
-use Rattle.std.specs.Prelude.{nat_lt, ◌^◌, Ok, Err, Option, Some, None}
+use Rattle.std.specs.Prelude.{nat_lt, ◌^◌, Ok, Option, Some, None}
 use Rattle.std.proofs.lemmas.Bool.{eqb-true}
 use Rattle.h3_connection.specs.Calls.{AllSame, IsSame}
 use Rattle.h3_connection.specs.Endpoint.{EndpointHistory}
