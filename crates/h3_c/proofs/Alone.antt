@@ -21,7 +21,7 @@ use Rattle.h3_webtransport.specs.Ordering.{AdvancesOn, HoldsOn, SendsInTurn, Sen
 use Rattle.h3_webtransport.specs.Receiving.{CancelsOn, DeliversOn as DeliversBeside, EndsOn}
 use Rattle.h3_webtransport.specs.Sending.{FinishesOn, ResetsOn}
 use Rattle.h3_webtransport_streams.specs.SessionStream.{receiver_of}
-use Rattle.h3_c.specs.Beside.{DoesBeside, Finds, IsStreamBeside}
+use Rattle.h3_c.specs.Beside.{CopiesBeside, DoesBeside, Finds, IsStreamBeside, ShowsStreamBeside, TakesBeside, TakesEndBeside as TakesFinBeside}
 use Rattle.h3_c.specs.Closing.{GivesFrames}
 use Rattle.h3_c.specs.Does.{CallOfC, Does}
 use Rattle.h3_c.specs.Does.CallOfC.{Advance, Cancel, CloseStream, Deliver, DeliverEnd, DeliverReset, EndTaken, Finish, Hold, NextByPriority, NextToSend, Outgoing, Pull, Read, Reset, Stream}
@@ -213,11 +213,11 @@ does_alone (Hold id held n) v w off h =
     (λ is. calls call_told n v w (λ call. HoldsOn v.endpoint w.endpoint v.sessions w.sessions id is call) (λ call. Holds v.endpoint w.endpoint id is call)
     (λ call c. let d = c.other (none_is_stored v.sessions id off) in (d.1, d.0)))) h
 does_alone (Outgoing id before buffer count_before count past_before past fin_before fin n) v w off h =
-    let copies = on_stream _ (CopiesOut v id n before buffer count past fin) id n v w (λ c. (c.other (none_is_stored v.sessions id off), stays v w h.0)) h.1 in
+    let copies = on_stream (CopiesBeside v id n before buffer count past fin) (CopiesOut v id n before buffer count past fin) id n v w (λ c. (c.other (none_is_stored v.sessions id off), stays v w h.0)) h.1 in
     ((h.0, copies.0, h.2), stays v w h.0)
-does_alone (Advance id count n) v w off h = on_stream _ (Takes v w id count n) id n v w (λ t. (t.other (none_is_stored v.sessions id off), taken_alone v w id count n off t.taken)) h
+does_alone (Advance id count n) v w off h = on_stream (TakesBeside v w id count n) (Takes v w id count n) id n v w (λ t. (t.other (none_is_stored v.sessions id off), taken_alone v w id count n off t.taken)) h
 does_alone (EndTaken id n) v w off h =
-    on_stream _ (TakesEndOf v w id n) id n v w
+    on_stream (TakesFinBeside v w id n) (TakesEndOf v w id n) id n v w
     (λ t. let d = t.taken.other (none_is_stored v.sessions id off) in (record { waited = t.waited; is = t.is; taken = d.1; last = t.last; events = t.events }, d.0)) h
 does_alone (Read id bytes fin used before item n) v w off h =
     let reads = on_stream _ _ id n v w (unless_rejected _ (ReadsNext v w id bytes fin n before item used) id n v w (next_alone v w id bytes fin n before item used off)) h.reads in
@@ -238,10 +238,10 @@ does_alone (DeliverReset id code n) v w off h =
     (calls delivery_told n v w (λ call. EndsOn v.endpoint w.endpoint v.sessions w.sessions id (Some code) call) (λ call. DeliversReset v.endpoint w.endpoint id code call)
     (λ call c. let d = c.other (none_is_read v.sessions id off) in (d.1, d.0)))) h
 does_alone (Pull id before item n) v w off h =
-    let pulls = on_stream _ (Pulls id n v w item) id n v w (pull_alone v w id off n item) h.0 in
+    let pulls = on_stream (PullsBeside id n v w item) (Pulls id n v w item) id n v w (pull_alone v w id off n item) h.0 in
     ((pulls.0, h.1), pulls.1)
 does_alone (Stream id before state n) v w off h =
-    let shows = on_stream _ ((n ≡ ok) × ((e : EndpointHistory) → StandsFor v.endpoint e → IsStream e id state)) id n v w (λ s. ((s.0, λ e stands. stream_alone v.sessions e id state off (s.1 e stands)), stays v w h.0)) h.1 in
+    let shows = on_stream ((n ≡ ok) × ShowsStreamBeside v id state) ((n ≡ ok) × ((e : EndpointHistory) → StandsFor v.endpoint e → IsStream e id state)) id n v w (λ s. ((s.0, λ e stands. stream_alone v.sessions e id state off (s.1 e stands)), stays v w h.0)) h.1 in
     ((h.0, shows.0, h.2), stays v w h.0)
 does_alone _ v w off h = h
 
