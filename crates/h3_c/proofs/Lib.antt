@@ -2,6 +2,7 @@ pub mod Cuts
 pub mod HandleValues
 pub mod Uncut
 pub mod RawCalls
+pub mod Taking
 pub mod Making
 pub mod MakingWith
 pub mod Pairing

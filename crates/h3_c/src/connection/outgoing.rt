@@ -31,7 +31,8 @@ impl Connection {
         OK
     }
 
-    /// Takes the first bytes away that wait on a stream.
+    /// Takes the first bytes away that wait on a stream. What it tells has no detail.
+    #[tactic(auto, using(crate::proofs::Taking::too_many, crate::proofs::Taking::takes))]
     pub(crate) fn advance(&mut self, id: u64, count: usize) -> Told
         ensures { OnStream id (number result.number 0) self.old self.new (TakesBeside self.old self.new id count (number result.number 0)) }
     {
