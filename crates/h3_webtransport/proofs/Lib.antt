@@ -1,3 +1,5 @@
 pub mod Off
 pub mod Refusing
 pub mod Pulling
+pub mod Opened
+pub mod Telling

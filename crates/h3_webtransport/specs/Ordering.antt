@@ -24,9 +24,9 @@ raw_taken s t id count =
       is_next = if count == 0 then s.is_next else false;
     }
 
--- bytes of another stream were: where it is a request's, one of a session is next
+-- bytes of another stream were: where it is a request's and sessions are on, one of a session is next
 abbrev pub other_taken : Joint → ℕ → ℕ → Joint
-other_taken s id count = record s { is_next = if not (count == 0) && is_request_stream id then true else s.is_next }
+other_taken s id count = record s { is_next = if s.is_on && not (count == 0) && is_request_stream id then true else s.is_next }
 
 -- `advance`
 abbrev pub AdvancesOn : EndpointState → EndpointState → Joint → Joint → ℕ → ℕ → Type 0

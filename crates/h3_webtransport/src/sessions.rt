@@ -45,6 +45,13 @@ impl Sessions {
         }
     }
 
+    /// Whether there may be any session.
+    pub fn is_on(&self) -> bool
+        ensures { result ≡ self.now.is_on }
+    {
+        self.is_on
+    }
+
     /// Whether a stream is one of a session.
     pub fn has(&self, id: StreamId) -> bool
         ensures { result ≡ has_stream self.now id }
