@@ -3,3 +3,5 @@ pub mod Refusing
 pub mod Pulling
 pub mod Opened
 pub mod Telling
+pub mod GivingUp
+pub mod Parting

@@ -10,6 +10,7 @@ use h3_session::endpoint::Endpoint;
 
 impl Sessions {
     /// Takes the first bytes that wait on a stream, at most all.
+    #[tactic(auto, using(crate::proofs::Parting::part_here, crate::proofs::Parting::part_elsewhere))]
     pub fn advance(&mut self, endpoint: &mut Endpoint, id: StreamId, count: usize)
         ensures { AdvancesOn endpoint.old endpoint.new self.old self.new id count }
     {
@@ -46,6 +47,7 @@ impl Sessions {
     }
 
     /// QUIC has no credit for a stream, or has it again.
+    #[tactic(auto, using(crate::proofs::Parting::part_here, crate::proofs::Parting::part_elsewhere, crate::proofs::Parting::is_closed, crate::proofs::Parting::is_open))]
     pub fn hold(
         &mut self,
         endpoint: &mut Endpoint,

@@ -80,6 +80,7 @@ fn send_no_message(endpoint: &mut Endpoint, id: StreamId)
 impl Sessions {
     /// Bytes came on a stream. On one both ways that a server opened its client refuses other first bytes than those of a session's stream as a fault of
     /// the connection, H3_STREAM_CREATION_ERROR, and the id of no session as H3_ID_ERROR.
+    #[tactic(auto, using(crate::proofs::Parting::part_here, crate::proofs::Parting::part_elsewhere, crate::proofs::Parting::is_faulty, crate::proofs::Parting::is_sound))]
     pub fn deliver(
         &mut self,
         endpoint: &mut Endpoint,
@@ -116,6 +117,7 @@ impl Sessions {
     }
 
     /// The end of a stream came.
+    #[tactic(auto, using(crate::proofs::Parting::part_here, crate::proofs::Parting::part_elsewhere, crate::proofs::Parting::is_faulty, crate::proofs::Parting::is_sound))]
     pub fn deliver_end(&mut self, endpoint: &mut Endpoint, id: StreamId) -> Result<(), DeliverError>
         ensures { EndsOn endpoint.old endpoint.new self.old self.new id None result }
     {
@@ -129,6 +131,7 @@ impl Sessions {
     }
 
     /// A stream was reset by its sender, with this code.
+    #[tactic(auto, using(crate::proofs::Parting::part_here, crate::proofs::Parting::part_elsewhere, crate::proofs::Parting::is_faulty, crate::proofs::Parting::is_sound))]
     pub fn deliver_reset(
         &mut self,
         endpoint: &mut Endpoint,
@@ -243,6 +246,7 @@ impl Sessions {
     }
 
     /// Nothing more of a stream is needed.
+    #[tactic(auto, using(crate::proofs::Parting::part_here, crate::proofs::Parting::part_elsewhere, crate::proofs::Parting::is_closed, crate::proofs::Parting::is_open))]
     pub fn cancel(&mut self, endpoint: &mut Endpoint, id: StreamId) -> Result<(), Refusal>
         ensures { CancelsOn endpoint.old endpoint.new self.old self.new id result }
     {
