@@ -7,7 +7,7 @@ ghost use Rattle.h3_webtransport.specs.Closing.{ClosesOn, ClosesRaw, Forgets, St
 ghost use Rattle.h3_webtransport.specs.Joint.{has_stream, stored_at};
 ghost use Rattle.h3_webtransport.specs.Sending.{raw_finished, raw_refusal, raw_reset, raw_waiting, CopiesRaw, FinishesOn, ResetsOn, SendsRaw, TakesEndOn};
 
-use crate::sessions::Sessions;
+use super::Sessions;
 use bytes::Bytes;
 use h3_connection::event::Refusal;
 use h3_proto::stream::StreamId;

@@ -13,7 +13,7 @@ ghost use Rattle.h3_webtransport_streams.specs.SessionStream.{entered, unread_of
 ghost use Rattle.h3_webtransport.specs.Joint.{is_read, may_begin, stored_at};
 ghost use Rattle.h3_webtransport.specs.Receiving.{Arrives, BeginsAt, CancelsOn, DeliversOn, EndsOn, Enters, ListsAgain, PullsFirst, PullsOn, PullsThere, RefusesDeliveriesOn, session_of};
 
-use crate::sessions::Sessions;
+use super::Sessions;
 use bytes::Bytes;
 use h3_connection::event::{DeliverError, Fault, Refusal};
 use h3_incoming::answer::{Plain, fail, give_made, pause};

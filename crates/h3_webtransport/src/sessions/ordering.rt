@@ -3,7 +3,7 @@ ghost use Rattle.std.specs.Prelude.{◌≡◌, ◌==◌, ◌&&◌, true, false, 
 ghost use Rattle.h3_proto.specs.StreamIds.{is_request_stream};
 ghost use Rattle.h3_webtransport.specs.Ordering.{lower_of, turn_of, AdvancesOn, HoldsOn, SendsInTurn, SendsLowest};
 
-use crate::sessions::Sessions;
+use super::Sessions;
 use h3_connection::event::Refusal;
 use h3_proto::stream::StreamId;
 use h3_session::endpoint::Endpoint;
