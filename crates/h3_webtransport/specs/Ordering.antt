@@ -46,7 +46,7 @@ pub record SendsLowest (e : EndpointState) (s : Joint) (from : ℕ) (result : Op
   pub first : Option ℕ
   pub raw : Option ℕ
   pub first_is : ShowsNextToSend e from first
-  pub raw_is : IsLeast (λ id. passes has_something (stored_at s id)) from raw
+  pub raw_is : s.is_on ≡ true → IsLeast (λ id. passes has_something (stored_at s id)) from raw
   pub is : result ≡ (if s.is_on then lower_of first raw else first)
 
 -- which of two sends: the endpoint's own stream comes first, and a request's takes turns with one of a session
@@ -60,7 +60,7 @@ pub record SendsInTurn (e f : EndpointState) (s : Joint) (result : Option ℕ) :
   pub first : Option ℕ
   pub raw : Option ℕ
   pub first_is : SendsNext e f first
-  pub raw_is : IsTurn (λ id. passes takes_turns (stored_at s id)) s.sessions.from raw
+  pub raw_is : s.is_on ≡ true → IsTurn (λ id. passes takes_turns (stored_at s id)) s.sessions.from raw
   pub is : result ≡ (if s.is_on then turn_of s.is_next first raw else first)
 
 -- `hold`

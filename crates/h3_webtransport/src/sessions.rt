@@ -11,6 +11,10 @@ use h3_webtransport_streams::streams::SessionStreams;
 use std::alloc::Global;
 use std::marker::Model;
 
+mod ordering;
+mod receiving;
+mod sending;
+
 /// The sessions of one connection. Who has them makes each call that is here with the endpoint in place of the call of the endpoint itself, on whatever
 /// stream: it is passed on if no session has the stream. All other calls are the endpoint's.
 /// If sessions are off, each call is the endpoint's, and costs one test.
