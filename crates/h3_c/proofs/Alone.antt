@@ -31,9 +31,9 @@ use Rattle.h3_c.specs.Numbers.{argument, call_told, delivery_told, number, ok}
 use Rattle.h3_c.specs.Ordering.{IfGiven, flag_given}
 use Rattle.h3_c.specs.PullsBeside.{PullsBeside}
 use Rattle.h3_c.specs.Reads.{EndsThere, ReadsAt, ReadsCopied, ReadsNext, RefusesEnd, StopsAt, TakesBytes, TakesEnd, ends_with}
-use Rattle.h3_c.specs.Reads.ReadsCopied as copied
+use Rattle.h3_c.specs.Reads.ReadsCopied.{pulled, stopped, unended}
 use Rattle.h3_c.specs.ReadsBeside.{EndsThereBeside, ReadsAtBeside, ReadsCopiedBeside, ReadsNextBeside, RefusesEndBeside, StaysShown, StopsAtBeside, TakesBytesBeside, TakesEndBeside}
-use Rattle.h3_c.specs.ReadsBeside.ReadsCopiedBeside as beside
+use Rattle.h3_c.specs.ReadsBeside.ReadsCopiedBeside.{pulled_beside, stopped_beside, unended_beside}
 use Rattle.h3_c.specs.Seen.{Seen}
 use Rattle.h3_c.specs.Showing.{IsStream}
 use Rattle.h3_c.specs.declared.connection.reading.Stop.{Stop}
@@ -152,22 +152,22 @@ on_at v w same off = ap (λ (s : Joint). s.is_on) same ∙ off
 
 copied_alone : (v w : Seen) (id : ℕ) (bytes : List ℕ) (fin : ℕ) (n : Told) (before item : PulledItem) (used : ℕ) → v.sessions.is_on ≡ false
     → ReadsCopiedBeside v w id bytes fin n before item used → ReadsCopied v w id bytes fin n before item used × Stays v w
-copied_alone v w id bytes fin n before item used off (beside.pulled mid ended within some takes ends pulls) =
+copied_alone v w id bytes fin n before item used off (pulled_beside mid ended within some takes ends pulls) =
     let t = bytes_alone v mid id off (take used bytes) takes in
     let mid_off = on_at v mid t.1 off in
     let f = end_alone mid ended id mid_off (ends_with fin bytes used) (length bytes == 0) ends in
     let p = pull_alone ended w id (on_at mid ended f.1 mid_off) n item pulls in (
-      copied.pulled mid.endpoint ended.endpoint within some t.0 f.0
+      pulled mid.endpoint ended.endpoint within some t.0 f.0
           (record { done = p.0.done; pulled = p.0.pulled; list = p.0.list; given_so = p.0.given_so; events = p.0.events ∙ f.2.1 ∙ t.2.1 }),
       p.1 ∙ f.1 ∙ t.1,
     )
-copied_alone v w id bytes fin n before item used off (beside.stopped count stop within told stops shown used_is same) =
+copied_alone v w id bytes fin n before item used off (stopped_beside count stop within told stops shown used_is same) =
     let s = stop_alone v w id off (take count bytes) stop stops in
-    (copied.stopped count stop within told s.0 shown.0 shown.1 used_is same, s.1)
-copied_alone v w id bytes fin n before item used off (beside.unended mid ends takes refuses shown same) =
+    (stopped count stop within told s.0 shown.0 shown.1 used_is same, s.1)
+copied_alone v w id bytes fin n before item used off (unended_beside mid ends takes refuses shown same) =
     let t = bytes_alone v mid id off bytes takes in
     let r = refused_alone mid w id (on_at v mid t.1 off) (length bytes == 0) n refuses in
-    (copied.unended mid.endpoint ends t.0 r.0 shown.0 shown.1 same, r.1 ∙ t.1)
+    (unended mid.endpoint ends t.0 r.0 shown.0 shown.1 same, r.1 ∙ t.1)
 
 at_alone : (o : Option BodyPlace) (v w : Seen) (id : ℕ) (bytes : List ℕ) (fin : ℕ) (n : Told) (before item : PulledItem) (used : ℕ) → v.sessions.is_on ≡ false
     → ReadsAtBeside o v w id bytes fin n before item used → ReadsAt o v w id bytes fin n before item used × Stays v w

@@ -25,7 +25,7 @@ use Rattle.h3_c.specs.Numbers.{ok, told_or_memory}
 use Rattle.h3_c.specs.PullsBeside.{PullsBeside}
 use Rattle.h3_c.specs.Reads.{ends_with, ReadsPlaced}
 use Rattle.h3_c.specs.ReadsBeside.{ReadsAtBeside, ReadsCopiedBeside, ReadsNextBeside, RefusesEndBeside, StopsAtBeside, TakesBytesBeside, TakesEndBeside}
-use Rattle.h3_c.specs.ReadsBeside.ReadsCopiedBeside.{pulled}
+use Rattle.h3_c.specs.ReadsBeside.ReadsCopiedBeside.{pulled_beside}
 use Rattle.h3_c.specs.Seen.{Seen}
 use Rattle.h3_c.specs.declared.connection.reading.Stop.{Stop}
 use Rattle.h3_c.specs.declared.items.PulledItem.{PulledItem}
@@ -230,7 +230,7 @@ begun_reads v w id bytes fin before given off sessions no_fin b last events is =
       reads = (
         v.endpoint,
         same_itself v.endpoint,
-        pulled mid mid (omega arith) (λ some. some)
+        pulled_beside mid mid (omega arith) (λ some. some)
             (subst (TakesBytesBeside v mid id) (sym (take_whole bytes)) (delivers_off v b.middle id bytes off b.some b.delivers))
             (subst (λ n. TakesEndBeside (ends_with n bytes (length bytes)) (length bytes == 0) mid mid id) (sym no_fin) refl)
             (pulls_off mid w id given off sessions
