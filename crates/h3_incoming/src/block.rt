@@ -1,7 +1,6 @@
 //! The answer of a pull whose header and trailer sections are the lists of fields that came, in a block of memory that serves again.
 ghost use Rattle.std.specs.Prelude.{◌≡◌, List, Option, IfSome};
 ghost use Rattle.h3_field.specs.Field.{Field};
-ghost use Rattle.h3_header.specs.Reads.{head_of_fields};
 ghost use Rattle.h3_incoming.specs.Answering.{fault_told, plain_pull};
 ghost use Rattle.h3_incoming.specs.BlockPulls.{fields_kept, told_with, HasStatus};
 ghost use Rattle.h3_incoming.specs.FieldsPulls.{list_of, listed_as, plain_answer, pull_of};
@@ -88,15 +87,6 @@ impl BlockPull {
             Told::Plain(plain) => of_plain(plain),
         }
     }
-
-    // The fields of a header or trailer section with this status, or none.
-    fn hold(&mut self, kind: MessageKind, status: Option<StatusCode>, block: FieldBlock)
-        requires { status ≡ (head_of_fields block).status }
-        ensures { self.new ≡ answer.Item (listed_as kind block) }
-    {
-        self.told = Told::Message(kind, status);
-        self.block = block;
-    }
 }
 
 impl Answer for BlockPull {
@@ -120,7 +110,8 @@ impl Answer for BlockPull {
         fields: FieldBlock,
     ) -> Result<(), AllocError> {
         h3_header::laws::lists_are_their_value();
-        self.hold(kind, outline.status(), fields);
+        self.told = Told::Message(kind, outline.status());
+        self.block = fields;
         Ok(())
     }
 

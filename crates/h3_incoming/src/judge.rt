@@ -127,22 +127,23 @@ fn judge_fields<O: Answer>(
 {
     let any_protocol = announced.choices.extensions.any_protocol;
     let read = read_at(alloc, side, announced, place, content, response, &fields);
+    let strict = read.1;
     let outline = match read.0 {
         Ok(outline) => outline,
         Err(e) => {
             out.keep(fields);
             return match malformation_in(e) {
-                Some(why) => Ok(Judged::Malformed(why, read.1.response)),
+                Some(why) => Ok(Judged::Malformed(why, strict.response)),
                 None => Err(AllocError),
             };
         }
     };
-    let broken = if_whole(content, read.1.broken);
+    let broken = if_whole(content, strict.broken);
     let judged = judge_message(
         side,
         place,
-        read.1.content,
-        read.1.response,
+        strict.content,
+        strict.response,
         broken,
         &outline,
     );

@@ -1,6 +1,6 @@
 //! Which rule of well-formed messages a field list breaks, and how much content follows it, if the endpoint asks for these rules (RFC 9114,
 //! sections 4.1.2 and 4.2 to 4.5).
-ghost use Rattle.std.specs.Prelude.{◌≡◌, ◌≤◌, true, length, option_map};
+ghost use Rattle.std.specs.Prelude.{◌≡◌, option_map};
 ghost use Rattle.h3_connection.specs.StrictMessages.{broken_rule, malformation_by, violation_at, content_behind, content_behind_large};
 ghost use Rattle.h3_connection.specs.StrictMessages.{content_at, large_content_at, response_behind, response_at, if_whole};
 ghost use Rattle.h3_messages.specs.Outline.{IsListRead};
@@ -29,8 +29,8 @@ pub(crate) struct StrictRead {
 }
 
 /// What the list in a block says at its place, and with which outline it reads as a header. In front of it such content was left, and this
-/// was known of the content of a response. If messages are strict, one walk tells all of it. If a field is malformed, a second walk finds
-/// what the list says.
+/// was known of the content of a response. If messages are strict, one walk tells all of it. If a field is malformed, or the list has more
+/// fields than a map has names for, other walks find what it says.
 pub(crate) fn read_at(
     alloc: Global,
     side: Side,
@@ -46,62 +46,17 @@ pub(crate) fn read_at(
     ensures response { result.1.response ≡ response_at side announced.now place response block.now }
 {
     let fields = block.fields();
-    read_fields(alloc, side, announced, place, content, response, &fields)
-}
-
-// The same of the list itself.
-#[inline(always)]
-fn read_fields(
-    alloc: Global,
-    side: Side,
-    announced: &Announced,
-    place: Place,
-    content: Content,
-    response: Option<Content>,
-    fields: &Fields<'_>,
-) -> (Result<Outline, ListError>, StrictRead)
-    ensures list { IsListRead announced.now.choices.extensions.any_protocol fields.now result.0 }
-    ensures broken { result.1.broken ≡ broken_rule side announced.now place fields.now }
-    ensures content { result.1.content ≡ content_at side announced.now place content fields.now }
-    ensures response { result.1.response ≡ response_at side announced.now place response fields.now }
-{
-    if announced.choices.strict_messages && fields.len() <= MOST_NAMES {
-        return read_once(side, announced, place, content, response, fields);
-    }
     let any_protocol = announced.choices.extensions.any_protocol;
-    let strict = read_strictly(side, announced, place, content, response, fields);
-    (read_list(alloc, fields, any_protocol), strict)
-}
-
-// The same of a list of so few fields that a map has room for all their names, if messages are strict.
-#[inline(always)]
-fn read_once(
-    side: Side,
-    announced: &Announced,
-    place: Place,
-    content: Content,
-    response: Option<Content>,
-    fields: &Fields<'_>,
-) -> (Result<Outline, ListError>, StrictRead)
-    requires strict { announced.now.choices.strict_messages ≡ true }
-    requires few { length fields.now ≤ 24576 }
-    ensures list { IsListRead announced.now.choices.extensions.any_protocol fields.now result.0 }
-    ensures broken { result.1.broken ≡ broken_rule side announced.now place fields.now }
-    ensures content { result.1.content ≡ content_at side announced.now place content fields.now }
-    ensures response { result.1.response ≡ response_at side announced.now place response fields.now }
-{
-    let mut seen = Seen::new();
-    match seen.take_good(fields, announced.choices.extensions.any_protocol) {
-        Ok(outline) => {
-            let survey = Survey::of(fields, &seen);
+    if announced.choices.strict_messages && fields.len() <= MOST_NAMES {
+        let mut seen = Seen::new();
+        if let Ok(outline) = seen.take_good(&fields, any_protocol) {
+            let survey = Survey::of(&fields, &seen);
             let strict = survey_at(side, announced, place, content, response, &survey);
-            (Ok(outline), strict)
-        }
-        Err(part) => {
-            let strict = read_strictly(side, announced, place, content, response, fields);
-            (Err(ListError::Malformed(part)), strict)
+            return (Ok(outline), strict);
         }
     }
+    let strict = read_strictly(side, announced, place, content, response, &fields);
+    (read_list(alloc, &fields, any_protocol), strict)
 }
 
 // What the rules make of a list. An endpoint that asks for no strict messages looks at no field.

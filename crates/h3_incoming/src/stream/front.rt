@@ -1,9 +1,8 @@
 //! The next frame of a message that gives something.
-ghost use Rattle.std.specs.Prelude.{◌≡◌, ◌<◌, length, Ok, OnErr, IfOk, IfSome, IfNone, IsNone};
+ghost use Rattle.std.specs.Prelude.{◌≡◌, ◌<◌, length, OnErr, IfOk, IfSome, IfNone};
 ghost use Rattle.std.specs.List.{concat};
 ghost use Rattle.h3_wire.specs.Pieces.{IsRest, ending};
 ghost use Rattle.h3_wire.specs.UnreadFrames.{AreBetween};
-ghost use Rattle.h3_wire.specs.declared.frame.kinds.FrameKinds.{FrameKinds};
 ghost use Rattle.h3_wire.specs.ExcessiveFrames.{is_excessive_by};
 ghost use Rattle.h3_wire.specs.Known.{known_by};
 ghost use Rattle.h3_connection.specs.Incoming.{is_body};
@@ -134,25 +133,10 @@ fn next_begun(
     ensures between { IfOk result (λ o. IfSome o (λ b. AreBetween unread.new)) }
     ensures pieces { unread.new.pieces ≡ ending (length (concat unread.new.pieces)) unread.old.pieces }
 {
-    match first_begun(unread, place, content) {
-        Some(begun) => Ok(begun),
-        None => begun_anywhere(unread, alloc, side, place, content, announced),
-    }
-}
-
-// The same, if `FrameBuffer::next_first` reads it. `None` changes nothing.
-#[inline(always)]
-fn first_begun(unread: &mut FrameBuffer, place: Place, content: Content) -> Option<Option<Begun>>
-    ensures gives { (kinds : FrameKinds) (side : Side)
-        → IfSome result (λ o. GivesBegun kinds side place content (Ok o) (concat unread.old.pieces) (concat unread.new.pieces)) }
-    ensures between { IfSome result (λ o. IfSome o (λ b. AreBetween unread.new)) }
-    ensures same { IsNone result → unread.new ≡ unread.old }
-    ensures pieces { unread.new.pieces ≡ ending (length (concat unread.new.pieces)) unread.old.pieces }
-{
     match unread.next_first() {
-        Some(Some(frame)) => Some(Some(begun_by_message(place, content, frame))),
-        Some(None) => Some(None),
-        None => None,
+        Some(Some(frame)) => Ok(Some(begun_by_message(place, content, frame))),
+        Some(None) => Ok(None),
+        None => begun_anywhere(unread, alloc, side, place, content, announced),
     }
 }
 

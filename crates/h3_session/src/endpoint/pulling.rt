@@ -2,7 +2,7 @@
 ghost use Rattle.std.specs.Prelude.{◌≡◌, true, false, [], Some, None, IfSome, is_some, unwrap_or, OnOk, OnErr, IfErr};
 ghost use Rattle.h3_connection.specs.Calls.{AllSame};
 ghost use Rattle.h3_connection.specs.Endpoint.{EndpointHistory, kind_of};
-ghost use Rattle.h3_connection.specs.Endpoint.Kind.{Request, PeerUnidirectional};
+ghost use Rattle.h3_connection.specs.Endpoint.Kind.{PeerUnidirectional};
 ghost use Rattle.h3_connection.specs.Keeping.{settles, is_settled_request};
 ghost use Rattle.h3_connection.specs.Pulling.{is_memory};
 ghost use Rattle.h3_connection.specs.ReceivingContracts.{PullsNext};
@@ -211,7 +211,10 @@ impl Endpoint {
         ensures list { ListsItem self.old id (O.listed out.new) }
     {
         match StreamKind::of(self.side, id) {
-            StreamKind::Request => self.pull_request(id, out),
+            StreamKind::Request => {
+                self.pull_stored(id, out);
+                self.close_if(fault_of(out));
+            }
             StreamKind::PeerUnidirectional => self.pull_peer(id, out),
             StreamKind::ServerOpened => no_messages(out),
             StreamKind::OwnUnidirectional => no_messages(out),
@@ -228,19 +231,10 @@ impl Endpoint {
     }
 
     // A fault of the connection closes it.
-    fn pull_request<O: Answer>(&mut self, id: StreamId, out: &mut O)
-        requires { kind_of self.old.side id ≡ Request }
-        ensures item { PullsItem self.old self.new id (O.told out.new) }
-        ensures list { ListsItem self.old id (O.listed out.new) }
+    fn close_if(&mut self, fault: Option<Code>)
+        ensures { self.new ≡ closed_with fault self.old }
     {
-        self.pull_stored(id, out);
-        self.close_with(out);
-    }
-
-    fn close_with<O: Answer>(&mut self, answer: &O)
-        ensures { self.new ≡ closed_with (answer_code (O.told answer.now)) self.old }
-    {
-        if let Some(code) = fault_of(answer) {
+        if let Some(code) = fault {
             self.closed = Some(code);
         }
     }

@@ -36,7 +36,7 @@ returns-in-None-clause-good g c = λ why none.
 pub give_message-requires : goal.give_message-requires
 give_message-requires g c =
     let any = c.args.announced.now.choices.extensions.any_protocol in
-    told_outline any c.args.fields c.read_at-read.result.0 c.in-Ok.outline c.read_at-read.ensures.list c.in-Ok.is
+    rw c.in-Ok.is (told_outline any c.args.fields c.read_at-read.result.0 c.in-Ok.outline c.read_at-read.ensures.list c.in-Ok.is)
 
 pub returns-in-Malformed-clause-judged : goal.returns-in-Malformed-clause-judged
 returns-in-Malformed-clause-judged g c = λ id r i replies few at left told.
@@ -56,7 +56,7 @@ returns-in-Malformed-clause-judged g c = λ id r i replies few at left told.
     ap (λ p. response_at side own p i.response fields) at ∙ ap (λ k. response_at side own place k fields) told ∙ sym (c.read_at-read.ensures.response) in
     read_head side own id r i replies fields place h few head at
     ∙ ap (λ b. head_or_trailer side id (with_content side own i fields) replies b place h) rule
-    ∙ c.judge_message-judged.ensures id (with_content side own i fields) replies h is at behind response
+    ∙ c.judge_message-judged.ensures id (with_content side own i fields) replies h (rw c.in-Ok.is is) at behind response
     ∙ judged_behind id i (with_content side own i fields).content (with_content side own i fields).response replies (pull.Item (message_at side place h)) c.judge_message-judged.result
     ∙ ap (judged_as id i replies (pull.Item (message_at side place h))) c.in-Malformed.is)
 
@@ -76,10 +76,11 @@ returns-in-Ok-give_message-clause-judged g c = λ id r i replies few at left tol
     ap (λ p. content_at side own p i.content fields) at ∙ ap (λ l. content_at side own place l fields) left ∙ sym (c.read_at-read.ensures.content) in
     let response : (with_content side own i fields).response ≡ c.read_at-read.result.1.response =
     ap (λ p. response_at side own p i.response fields) at ∙ ap (λ k. response_at side own place k fields) told ∙ sym (c.read_at-read.ensures.response) in
-    let kind = c.kind_at-kind.ensures ∙ ap (λ (o : Outline). kind_at side place o.status) is in
+    let told_kind = rw c.in-Ok.is at c.kind_at-kind.ensures in
+    let kind = told_kind ∙ ap (λ (o : Outline). kind_at side place o.status) is in
     read_head side own id r i replies fields place h few head at
     ∙ ap (λ b. head_or_trailer side id (with_content side own i fields) replies b place h) rule
-    ∙ c.judge_message-judged.ensures id (with_content side own i fields) replies h is at behind response
+    ∙ c.judge_message-judged.ensures id (with_content side own i fields) replies h (rw c.in-Ok.is is) at behind response
     ∙ judged_behind id i (with_content side own i fields).content (with_content side own i fields).response replies (pull.Item (message_at side place h)) c.judge_message-judged.result
     ∙ ap (judged_as id i replies (pull.Item (message_at side place h))) c.in-HandsOut.is
     ∙ ap (λ p. judged_as id i replies p (judge.HandsOut c.in-HandsOut.behind c.in-HandsOut.content c.in-HandsOut.response)) (sym (c.in-Ok-give_message.ensures.head h head ∙ ap (λ k. pull.Item (item_of k h)) kind)))

@@ -9,7 +9,7 @@ use Rattle.http_header.specs.Token.{is_token_byte}
 use Rattle.std.specs.Str.{is_utf8, chars}
 use lib.Utf8.{encode}
 use Rattle.h3_header.specs.Reads.{kind_of}
-use Rattle.h3_header.specs.HeadRead.{head_of}
+use Rattle.h3_header.specs.HeadRead.{head_of, head_of_any}
 use Rattle.h3_huffman.specs.Unhuffman.{unhuffman}
 use Rattle.h3_connection.specs.ExcessiveInstructions.{hear_up_to, listen_up_to}
 use Rattle.h3_qpack.specs.DecodedSection.{fields_in, decode_section}
@@ -33,7 +33,7 @@ unfolding encoding static_field static_name chars encode varint_at split_of bits
 returns-clause-left c = refl
 
 pub returns-clause-plain : goal.returns-clause-plain
-unfolding encoding static_field static_name chars encode varint_at split_of bits code_word octets huffman static_table frame_by frame_of known_by is_token_byte is_utf8 kind_of head_of unhuffman hear_up_to listen_up_to fields_in decode_section skipped read_peer pull_stream violation_of_request violation_of_response violation_of_trailer
+unfolding encoding static_field static_name chars encode varint_at split_of bits code_word octets huffman static_table frame_by frame_of known_by is_token_byte is_utf8 kind_of head_of head_of_any unhuffman hear_up_to listen_up_to fields_in decode_section skipped read_peer pull_stream violation_of_request violation_of_response violation_of_trailer
 returns-clause-plain c = refl
 
 pub returns-clause-none : goal.returns-clause-none

@@ -14,4 +14,4 @@ returns-in-Ok-clause-head c = λ h is.
 pub returns-clause-memory : goal.returns-clause-memory
 returns-clause-memory c =
     let refused = rw c.fields-list.ensures at c.in-Err.ensures.err in
-    lacks_memory c.args.any_protocol c.args.fields _ c.args.outline.now (λ why is. c.lists_are_their_value.ensures.refused _ _ _ why refused is) c.requires refused
+    lacks_memory c.args.any_protocol c.args.fields _ c.args._outline.now (λ why is. c.lists_are_their_value.ensures.refused _ _ _ why refused is) c.requires refused
