@@ -1,12 +1,15 @@
 pub mod Cuts
 pub mod HandleValues
 pub mod Uncut
+pub mod RawCalls
+pub mod Taking
 pub mod Making
 pub mod MakingWith
 pub mod Pairing
 pub mod NextIds
 pub mod Values
 pub mod RowLaws
+pub mod Alone
 pub mod Reading
 pub mod Remembering
 pub mod Shown

@@ -1,40 +1,56 @@
--- What a read of bytes comes to, by the calls that it makes.
+-- What a read of bytes comes to with sessions of WebTransport beside an endpoint, by the calls that it makes.
 use Rattle.std.proofs.Common.{◌≡◌, ℕ, ◌<◌, ◌==◌, ◌&&◌, Bool, true, false, List, [], ◌∷◌, length, take, refl, sym, ap, subst, ◌∙◌, arith}
 use Rattle.std.specs.Prelude.{nat_lt, ◌^◌, Ok, Option, Some, None}
 use Rattle.std.proofs.lemmas.Bool.{eqb-true}
 use Rattle.h3_connection.specs.Calls.{AllSame, IsSame}
-use Rattle.h3_connection.specs.ReceivingContracts.{Delivers, PullsNext}
 use Rattle.h3_connection.specs.Endpoint.{EndpointHistory}
+use Rattle.h3_connection.specs.ReceivingContracts.{Delivers, PullsNext}
+use Rattle.h3_connection.specs.Shutdown.{is_rejected_in}
 use Rattle.h3_connection.specs.State.{EndpointState, StandsFor}
 use Rattle.h3_connection.specs.StreamSets.{Streams}
-use Rattle.h3_connection.specs.Shutdown.{is_rejected_in}
 use Rattle.h3_connection.specs.declared.event.Pull.TheVariants as pull
+use Rattle.h3_connection.specs.declared.event.Refusal.{Refusal}
 use Rattle.h3_incoming.specs.FieldsPulls.{list_of, pull_of}
 use Rattle.h3_incoming.specs.declared.body_place.BodyPlace.{BodyPlace}
 use Rattle.h3_incoming.specs.declared.fields.FieldsItem.TheVariants as listed
 use Rattle.h3_incoming.specs.declared.fields.FieldsPull.{FieldsPull}
 use Rattle.h3_incoming.specs.declared.fields.FieldsPull.TheVariants as answer
 use Rattle.h3_session.specs.Listing.{ListsNext}
+use Rattle.h3_session.specs.Lacking.{delivery_error}
 use Rattle.h3_session.specs.ReadingBodies.{BeginsBody}
-use Rattle.h3_session.specs.declared.endpoint.events.EventsSeen.{EventsSeen}
+use Rattle.h3_webtransport.specs.Receiving.{DeliversOn, RefusesDeliveriesOn}
+use Rattle.h3_c.specs.Exported.{OnStream, UnlessRejected}
+use Rattle.h3_c.specs.Items.{plain, shown}
+use Rattle.h3_c.specs.Numbers.{ok, told_or_memory}
+use Rattle.h3_c.specs.PullsBeside.{PullsBeside}
+use Rattle.h3_c.specs.Reads.{ends_with, ReadsPlaced}
+use Rattle.h3_c.specs.ReadsBeside.{ReadsAtBeside, ReadsCopiedBeside, ReadsNextBeside, RefusesEndBeside, StopsAtBeside, TakesBytesBeside, TakesEndBeside}
+use Rattle.h3_c.specs.ReadsBeside.ReadsCopiedBeside.{pulled_beside}
+use Rattle.h3_c.specs.Seen.{Seen}
+use Rattle.h3_c.specs.declared.connection.reading.Stop.{Stop}
 use Rattle.h3_c.specs.declared.items.PulledItem.{PulledItem}
 use Rattle.h3_c.specs.declared.numbers.Told.{Told}
-use Rattle.h3_c.specs.Exported.{OnStream, Pulls, UnlessRejected}
-use Rattle.h3_webtransport.specs.Joint.{Joint}
-use Rattle.h3_c.specs.Seen.{Seen}
-use Rattle.h3_c.specs.Items.{plain, shown}
-use Rattle.h3_c.specs.Numbers.{ok}
-use Rattle.h3_c.specs.Reads.{ends_with, CopiesNext, ReadsAt, ReadsCopied, ReadsNext, ReadsPlaced, RefusesEnd, TakesBytes, TakesEnd}
-use Rattle.h3_c.specs.Reads.ReadsCopied.{pulled}
+use Rattle.h3_c.proofs.Alone.{none_begins, none_is_read}
 use Rattle.h3_c.proofs.QuietCalls.{stands_unchanged}
+use Rattle.h3_c.proofs.Uncut.{delivery_same, not_kept}
 
-pub takes_none : (e : EndpointState) (id : ℕ) (bytes : List ℕ) → length bytes ≡ 0 → TakesBytes e e id bytes
-takes_none e id [] h = refl
-takes_none e id (byte ∷ bytes) h = absurd (omega (arith, h))
+pub takes_none : (v : Seen) (id : ℕ) (bytes : List ℕ) → length bytes ≡ 0 → TakesBytesBeside v v id bytes
+takes_none v id [] h = refl
+takes_none v id (byte ∷ bytes) h = absurd (omega (arith, h))
 
-pub takes_some : (old new : EndpointState) (id : ℕ) (bytes : List ℕ) → 0 < length bytes → Delivers old new id bytes (Ok tt) → TakesBytes old new id bytes
-takes_some old new id [] some h = absurd (omega (arith, some))
-takes_some old new id (byte ∷ bytes) some h = h
+pub takes_some : (v w : Seen) (id : ℕ) (bytes : List ℕ) → 0 < length bytes → DeliversOn v.endpoint w.endpoint v.sessions w.sessions id bytes (Ok tt) → w.last ≡ v.last → w.events ≡ v.events → TakesBytesBeside v w id bytes
+takes_some v w id [] some h last events = absurd (omega (arith, some))
+takes_some v w id (byte ∷ bytes) some h last events = (h, (last, events))
+
+-- bytes for whose copy there is no memory
+pub read_lacks : (v : Seen) (id : ℕ) (bytes : List ℕ) (o : Option Refusal) (stop : Stop) → RefusesDeliveriesOn v.endpoint v.sessions id o → stop.told ≡ told_or_memory o → stop.is_taken ≡ false → 0 < length bytes → StopsAtBeside v v id bytes stop
+read_lacks v id bytes o stop refuses is taken some = record {
+  error = delivery_error o bytes;
+  told = is ∙ delivery_same o bytes;
+  refused = refuses bytes;
+  taken = taken ∙ not_kept o bytes;
+  some = some;
+}
 
 ends_used : (a b : Bool) → (a && b) ≡ true → b ≡ true
 ends_used true b h = h
@@ -45,28 +61,24 @@ take_whole [] = refl
 take_whole (byte ∷ bytes) = ap (λ l. byte ∷ l) (take_whole bytes)
 
 -- the end stands behind all of the bytes
-pub all_taken : (old mid : EndpointState) (id : ℕ) (bytes : List ℕ) (fin used : ℕ) → ends_with fin bytes used ≡ true → TakesBytes old mid id (take used bytes) → TakesBytes old mid id bytes
-all_taken old mid id bytes fin used ends took =
+pub all_taken : (v mid : Seen) (id : ℕ) (bytes : List ℕ) (fin used : ℕ) → ends_with fin bytes used ≡ true → TakesBytesBeside v mid id (take used bytes) → TakesBytesBeside v mid id bytes
+all_taken v mid id bytes fin used ends took =
     let whole : used ≡ length bytes = eqb-true used (length bytes) (ends_used (nat_lt 0 fin) (used == length bytes) ends) in
-    subst (TakesBytes old mid id) (ap (λ n. take n bytes) whole ∙ take_whole bytes) took
+    subst (TakesBytesBeside v mid id) (ap (λ n. take n bytes) whole ∙ take_whole bytes) took
 
 -- the end, by what was asked of it
-pub fin_taken : (is_last is_alone : Bool) (fin used : ℕ) (bytes : List ℕ) (mid ended : EndpointState) (id : ℕ) → is_last ≡ ends_with fin bytes used → is_alone ≡ (length bytes == 0)
-    → TakesEnd is_last is_alone mid ended id → TakesEnd (ends_with fin bytes used) (length bytes == 0) mid ended id
+pub fin_taken : (is_last is_alone : Bool) (fin used : ℕ) (bytes : List ℕ) (mid ended : Seen) (id : ℕ) → is_last ≡ ends_with fin bytes used → is_alone ≡ (length bytes == 0)
+    → TakesEndBeside is_last is_alone mid ended id → TakesEndBeside (ends_with fin bytes used) (length bytes == 0) mid ended id
 fin_taken is_last is_alone fin used bytes mid ended id last alone h =
-    subst (λ a. TakesEnd a (length bytes == 0) mid ended id) last (subst (λ b. TakesEnd is_last b mid ended id) alone h)
+    subst (λ a. TakesEndBeside a (length bytes == 0) mid ended id) last (subst (λ b. TakesEndBeside is_last b mid ended id) alone h)
 
 -- why it is refused, by the same
-pub fin_refused : (is_alone : Bool) (bytes : List ℕ) (mid new : EndpointState) (id : ℕ) (n : Told) → is_alone ≡ (length bytes == 0) → RefusesEnd is_alone mid new id n → RefusesEnd (length bytes == 0) mid new id n
-fin_refused is_alone bytes mid new id n alone h = subst (λ b. RefusesEnd b mid new id n) alone h
+pub fin_refused : (is_alone : Bool) (bytes : List ℕ) (mid new : Seen) (id : ℕ) (n : Told) → is_alone ≡ (length bytes == 0) → RefusesEndBeside is_alone mid new id n → RefusesEndBeside (length bytes == 0) mid new id n
+fin_refused is_alone bytes mid new id n alone h = subst (λ b. RefusesEndBeside b mid new id n) alone h
 
 -- the pull behind what was taken
-pub pulls_on : (id stream : ℕ) (n : Told) (u w : Seen) (sessions : Joint) (last : FieldsPull) (events : EventsSeen) (given : PulledItem) → u.events ≡ events → stream ≡ id → stream < 2 ^ 62
-    → OnStream stream n u w (Pulls stream n u w given) → Pulls id n (record { endpoint = u.endpoint; sessions = sessions; last = last; events = events }) w given
-pulls_on id stream n u w sessions last events given same is below pulls =
-    let p : Pulls stream n u w given = pulls.known below in
-    let q : Pulls id n u w given = subst (λ i. Pulls i n u w given) is p in
-    record { done = q.done; pulled = q.pulled; list = q.list; given_so = q.given_so; events = q.events ∙ same }
+pub pulls_on : (id stream : ℕ) (n : Told) (u w : Seen) (given : PulledItem) → stream ≡ id → stream < 2 ^ 62 → OnStream stream n u w (PullsBeside stream n u w given) → PullsBeside id n u w given
+pulls_on id stream n u w given is below pulls = subst (λ i. PullsBeside i n u w given) is (pulls.known below)
 
 -- nothing is held but that nothing came
 pub is_pending : (x : FieldsPull) → pull_of x ≡ pull.Pending → x ≡ answer.Pending
@@ -148,24 +160,6 @@ same_twice one two three first second =
     }
 
 -- what is read of an endpoint at which nothing changed
-copies_behind : (v u w : Seen) (id : ℕ) (bytes : List ℕ) (fin : ℕ) (n : Told) (before given : PulledItem) (used : ℕ) → IsSame v.endpoint u.endpoint → u.sessions ≡ v.sessions → u.last ≡ v.last → u.events ≡ v.events
-    → CopiesNext u w id bytes fin n before given used → CopiesNext v w id bytes fin n before given used
-copies_behind v u w id bytes fin n before given used same sessions last events copies =
-    let start_is : record u { endpoint = copies.start } ≡ record v { endpoint = copies.start } =
-    ap (λ j. let x : Seen = record { endpoint = copies.start; sessions = j; last = u.last; events = u.events } in x) sessions
-    ∙ ap (λ l. let x : Seen = record { endpoint = copies.start; sessions = v.sessions; last = l; events = u.events } in x) last
-    ∙ ap (λ l. let x : Seen = record { endpoint = copies.start; sessions = v.sessions; last = v.last; events = l } in x) events in
-    record {
-      start = copies.start;
-      same = same_twice v.endpoint u.endpoint copies.start same copies.same;
-      reads = subst (λ s. ReadsCopied s w id bytes fin n before given used) start_is copies.reads;
-    }
-
-pub copies_from : (v u w : Seen) (id : ℕ) (bytes : List ℕ) (fin : ℕ) (n : Told) (before given : PulledItem) (used : ℕ) → IsSame v.endpoint u.endpoint → u.sessions ≡ v.sessions → u.last ≡ v.last → u.events ≡ v.events
-    → ReadsCopied u w id bytes fin n before given used → CopiesNext v w id bytes fin n before given used
-copies_from v u w id bytes fin n before given used same sessions last events reads =
-    copies_behind v u w id bytes fin n before given used same sessions last events (record { start = u.endpoint; same = same_itself u.endpoint; reads = reads })
-
 places_behind : (v u w : Seen) (id : ℕ) (bytes : List ℕ) (p : BodyPlace) (n : Told) (given : PulledItem) (used : ℕ) → IsSame v.endpoint u.endpoint → u.events ≡ v.events
     → ReadsPlaced u w id bytes p n given used → ReadsPlaced v w id bytes p n given used
 places_behind v u w id bytes p n given used same events r =
@@ -185,39 +179,63 @@ places_behind v u w id bytes p n given used same events r =
       events = r.events ∙ events;
     }
 
-at_behind : (v u w : Seen) (id : ℕ) (bytes : List ℕ) (fin : ℕ) (n : Told) (before given : PulledItem) (used : ℕ) (o : Option BodyPlace) → IsSame v.endpoint u.endpoint → u.sessions ≡ v.sessions → u.last ≡ v.last → u.events ≡ v.events
-    → ReadsAt o u w id bytes fin n before given used → ReadsAt o v w id bytes fin n before given used
-at_behind v u w id bytes fin n before given used None same sessions last events r = copies_behind v u w id bytes fin n before given used same sessions last events r
-at_behind v u w id bytes fin n before given used (Some p) same sessions last events r = places_behind v u w id bytes p n given used same events r
+at_behind : (o : Option BodyPlace) (v u w : Seen) (id : ℕ) (bytes : List ℕ) (fin : ℕ) (n : Told) (before given : PulledItem) (used : ℕ) → IsSame v.endpoint u.endpoint → u.sessions ≡ v.sessions → u.last ≡ v.last → u.events ≡ v.events
+    → ReadsAtBeside o u w id bytes fin n before given used → ReadsAtBeside o v w id bytes fin n before given used
+at_behind (Some p) v u w id bytes fin n before given used same sessions last events r = (places_behind v u w id bytes p n given used same events r.0, r.1 ∙ sessions)
+at_behind None v u w id bytes fin n before given used same sessions last events r =
+    let start_is : record u { endpoint = r.0 } ≡ record v { endpoint = r.0 } =
+    ap (λ j. let x : Seen = record { endpoint = r.0; sessions = j; last = u.last; events = u.events } in x) sessions
+    ∙ ap (λ l. let x : Seen = record { endpoint = r.0; sessions = v.sessions; last = l; events = u.events } in x) last
+    ∙ ap (λ l. let x : Seen = record { endpoint = r.0; sessions = v.sessions; last = v.last; events = l } in x) events in
+    (r.0, same_twice v.endpoint u.endpoint r.0 same r.1, subst (λ s. ReadsCopiedBeside s w id bytes fin n before given used) start_is r.2)
 
 pub reads_behind : (v u w : Seen) (id : ℕ) (bytes : List ℕ) (fin : ℕ) (n : Told) (before given : PulledItem) (used : ℕ) → IsSame v.endpoint u.endpoint → u.sessions ≡ v.sessions → u.last ≡ v.last → u.events ≡ v.events
-    → ReadsNext u w id bytes fin n before given used → ReadsNext v w id bytes fin n before given used
+    → ReadsNextBeside u w id bytes fin n before given used → ReadsNextBeside v w id bytes fin n before given used
 reads_behind v u w id bytes fin n before given used same sessions last events r =
     record {
       place = r.place;
       is_next = λ e h. r.is_next e (stands_unchanged v.endpoint u.endpoint e same h);
-      reads = at_behind v u w id bytes fin n before given used r.place same sessions last events r.reads;
+      reads = at_behind r.place v u w id bytes fin n before given used same sessions last events r.reads;
     }
 
--- The type and length of a DATA frame are all that came, and were read: they are delivered, and the pull behind them waits for more.
-begun_copies : (v w : Seen) (id : ℕ) (bytes : List ℕ) (fin : ℕ) (before given : PulledItem) → fin ≡ 0 → BeginsBody v.endpoint w.endpoint id bytes → w.last ≡ answer.Pending → w.events ≡ v.events
-    → given ≡ plain 9 → CopiesNext v w id bytes fin ok before given (length bytes)
-begun_copies v w id bytes fin before given no_fin b last events is = record {
-  start = v.endpoint;
-  same = same_itself v.endpoint;
-  reads = pulled b.middle b.middle (omega arith) (λ some. some)
-      (subst (TakesBytes v.endpoint b.middle id) (sym (take_whole bytes)) (takes_some v.endpoint b.middle id bytes b.some b.delivers))
-      (subst (λ n. TakesEnd (ends_with n bytes (length bytes)) (length bytes == 0) b.middle b.middle id) (sym no_fin) refl)
-      (record {
-        done = refl;
-        pulled = subst (λ (x : FieldsPull). PullsNext b.middle w.endpoint id (pull_of x)) (sym last) b.pulls;
-        list = subst (λ (x : FieldsPull). ListsNext b.middle id (list_of x)) (sym last) (λ e h. tt);
-        given_so = is ∙ ap shown (sym last);
-        events = events;
-      });
-}
+-- The type and length of a DATA frame are all that came, and were read, where sessions are off: they are delivered, and the pull behind them waits for more.
+delivers_off : (v : Seen) (f : EndpointState) (id : ℕ) (bytes : List ℕ) → v.sessions.is_on ≡ false → 0 < length bytes → Delivers v.endpoint f id bytes (Ok tt)
+    → TakesBytesBeside v (record v { endpoint = f }) id bytes
+delivers_off v f id bytes off some h =
+    takes_some v (record v { endpoint = f }) id bytes some
+    (record { own = λ read. absurd (let never : false ≡ true = sym (none_is_read v.sessions id off) ∙ read in cc); other = λ _. (refl, h) }) refl refl
 
-pub begun_reads : (v w : Seen) (id : ℕ) (bytes : List ℕ) (fin : ℕ) (before given : PulledItem) → fin ≡ 0 → BeginsBody v.endpoint w.endpoint id bytes → w.last ≡ answer.Pending → w.events ≡ v.events
-    → given ≡ plain 9 → ReadsNext v w id bytes fin ok before given (length bytes)
-begun_reads v w id bytes fin before given no_fin b last events is =
-    record { place = None; is_next = λ e h. sym (b.nowhere e h); reads = begun_copies v w id bytes fin before given no_fin b last events is }
+pulls_off : (u w : Seen) (id : ℕ) (given : PulledItem) → u.sessions.is_on ≡ false → w.sessions ≡ u.sessions → PullsNext u.endpoint w.endpoint id (pull_of w.last) → ListsNext u.endpoint id (list_of w.last)
+    → given ≡ shown w.last → w.events ≡ u.events → PullsBeside id ok u w given
+pulls_off u w id given off sessions pulls lists is events =
+    record {
+      done = refl;
+      pulled = record {
+        first = λ begins. absurd (let never : false ≡ true = sym (none_begins u.sessions id off) ∙ begins in cc);
+        own = λ read. absurd (let never : false ≡ true = sym (none_is_read u.sessions id off) ∙ read in cc);
+        other = λ _ _. (sessions, pulls);
+      };
+      list = λ _. lists;
+      given_so = is;
+      events = events;
+    }
+
+pub begun_reads : (v w : Seen) (id : ℕ) (bytes : List ℕ) (fin : ℕ) (before given : PulledItem) → v.sessions.is_on ≡ false → w.sessions ≡ v.sessions → fin ≡ 0 → BeginsBody v.endpoint w.endpoint id bytes → w.last ≡ answer.Pending
+    → w.events ≡ v.events → given ≡ plain 9 → ReadsNextBeside v w id bytes fin ok before given (length bytes)
+begun_reads v w id bytes fin before given off sessions no_fin b last events is =
+    let mid : Seen = record v { endpoint = b.middle } in
+    record {
+      place = None;
+      is_next = λ e h. sym (b.nowhere e h);
+      reads = (
+        v.endpoint,
+        same_itself v.endpoint,
+        pulled_beside mid mid (omega arith) (λ some. some)
+            (subst (TakesBytesBeside v mid id) (sym (take_whole bytes)) (delivers_off v b.middle id bytes off b.some b.delivers))
+            (subst (λ n. TakesEndBeside (ends_with n bytes (length bytes)) (length bytes == 0) mid mid id) (sym no_fin) refl)
+            (pulls_off mid w id given off sessions
+            (subst (λ (x : FieldsPull). PullsNext b.middle w.endpoint id (pull_of x)) (sym last) b.pulls)
+            (subst (λ (x : FieldsPull). ListsNext b.middle id (list_of x)) (sym last) (λ e h. tt))
+            (is ∙ ap shown (sym last)) events),
+      );
+    }

@@ -4,24 +4,23 @@ use Rattle.std.specs.Prelude.{◌≢◌, ◌^◌, Err, Result, unwrap_or}
 use Rattle.h3_field.specs.Field.{Field}
 use Rattle.h3_proto.specs.declared.config.Choices.{Choices}
 use Rattle.h3_connection.specs.Endpoint.{EndpointHistory}
-use Rattle.h3_connection.specs.ReceivingContracts.{Delivers}
 use Rattle.h3_connection.specs.SendingContracts.{SendsBody}
-use Rattle.h3_connection.specs.State.{EndpointState, StandsFor}
+use Rattle.h3_connection.specs.State.{StandsFor}
 use Rattle.h3_connection.specs.declared.event.DeliverError.{DeliverError}
 use Rattle.h3_connection.specs.declared.event.Refusal.{Refusal}
 use Rattle.h3_connection.specs.declared.event.Refusal.TheVariants as refusal
 use Rattle.h3_connection.specs.Shutdown.{is_rejected_in}
-use Rattle.h3_session.specs.Lacking.{RefusesBodies, RefusesDeliveries, delivery_error}
+use Rattle.h3_session.specs.Lacking.{RefusesBodies, delivery_error}
 use Rattle.h3_session.specs.SendingLists.{NotMalformed}
+use Rattle.h3_webtransport.specs.Receiving.{DeliversOn as DeliversBeside, RefusesDeliveriesOn}
 use Rattle.h3_c.specs.Exported.{Calls, DeliversOn, OnStream, SendsCut}
 use Rattle.h3_c.specs.Giving.{RefusesFields}
 use Rattle.h3_c.specs.Numbers.{TellsList, body_told, delivery_told, refusal_told, told_or_memory}
-use Rattle.h3_c.specs.Reads.{is_kept, StopsAt}
+use Rattle.h3_c.specs.Reads.{is_kept}
 use Rattle.h3_c.specs.Seen.{Seen}
-use Rattle.h3_c.specs.declared.connection.reading.Stop.{Stop}
 use Rattle.h3_c.specs.declared.numbers.Told.{Told}
 
-told_same : (o : Option Refusal) → told_or_memory o ≡ refusal_told (unwrap_or o refusal.OutOfMemory)
+pub told_same : (o : Option Refusal) → told_or_memory o ≡ refusal_told (unwrap_or o refusal.OutOfMemory)
 told_same None = refl
 told_same (Some r) = refl
 
@@ -36,14 +35,14 @@ body_lacks v id stream size bytes o n same below refuses len is =
     }
 
 -- what came
-delivery_same : (o : Option Refusal) (bytes : List ℕ) → told_or_memory o ≡ (let r : Result Unit DeliverError = Err (delivery_error o bytes) in delivery_told r)
+pub delivery_same : (o : Option Refusal) (bytes : List ℕ) → told_or_memory o ≡ (let r : Result Unit DeliverError = Err (delivery_error o bytes) in delivery_told r)
 delivery_same None bytes = refl
 delivery_same (Some r) bytes = refl
 
 pub delivery_lacks : (v : Seen) (id stream : ℕ) (bytes : List ℕ) (o : Option Refusal) (n : Told) → stream ≡ id → id < 2 ^ 62 → is_rejected_in v.endpoint id ≡ false
-    → RefusesDeliveries v.endpoint stream o → n ≡ told_or_memory o → DeliversOn delivery_told id n v v (λ call. Delivers v.endpoint v.endpoint id bytes call)
+    → RefusesDeliveriesOn v.endpoint v.sessions stream o → n ≡ told_or_memory o → DeliversOn delivery_told id n v v (λ call. DeliversBeside v.endpoint v.endpoint v.sessions v.sessions id bytes call)
 delivery_lacks v id stream bytes o n same below goes_on refuses is =
-    let here : RefusesDeliveries v.endpoint id o = subst (λ i. RefusesDeliveries v.endpoint i o) same refuses in
+    let here : RefusesDeliveriesOn v.endpoint v.sessions id o = subst (λ i. RefusesDeliveriesOn v.endpoint v.sessions i o) same refuses in
     record {
       known = λ _. record {
         taken = λ _. record { answer = Err (delivery_error o bytes); is = is ∙ delivery_same o bytes; done = here bytes; last = refl; events = refl };
@@ -53,22 +52,13 @@ delivery_lacks v id stream bytes o n same below goes_on refuses is =
     }
 
 -- what came, of a read
-not_kept : (o : Option Refusal) (bytes : List ℕ) → false ≡ is_kept (delivery_error o bytes)
+pub not_kept : (o : Option Refusal) (bytes : List ℕ) → false ≡ is_kept (delivery_error o bytes)
 not_kept None bytes = refl
 not_kept (Some r) bytes = refl
 
 pub some_bytes : (bytes : List ℕ) → (length bytes == 0) ≡ false → 0 < length bytes
 some_bytes [] h = absurd (let wrong : true ≡ false = h in cc)
 some_bytes (byte ∷ bytes) h = omega (arith)
-
-pub read_lacks : (s : EndpointState) (id : ℕ) (bytes : List ℕ) (o : Option Refusal) (stop : Stop) → RefusesDeliveries s id o → stop.told ≡ told_or_memory o → stop.is_taken ≡ false → 0 < length bytes → StopsAt s s id bytes stop
-read_lacks s id bytes o stop refuses is taken some = record {
-  error = delivery_error o bytes;
-  told = is ∙ delivery_same o bytes;
-  refused = refuses bytes;
-  taken = taken ∙ not_kept o bytes;
-  some = some;
-}
 
 -- what no rule of messages refuses is told of a list as of any call
 plainly_told : (r : Refusal) (choices : Choices) (fields : List Field) (n : Told) → NotMalformed (Some r) → n ≡ refusal_told r → TellsList (Err r) choices fields n

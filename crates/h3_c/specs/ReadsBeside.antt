@@ -53,11 +53,11 @@ RefusesEndBeside is_alone v w id n =
 
 -- A read of bytes that are copied (`Reads`, `ReadsCopied`).
 pub data ReadsCopiedBeside (v w : Seen) (id : ℕ) (bytes : List ℕ) (fin : ℕ) (n : Told) (before given : PulledItem) (used : ℕ) : Type 0 where
-  pulled : (mid ended : Seen) → used ≤ length bytes → (0 < length bytes → 0 < used) → TakesBytesBeside v mid id (take used bytes) → TakesEndBeside (ends_with fin bytes used) (length bytes == 0) mid ended id
+  pulled_beside : (mid ended : Seen) → used ≤ length bytes → (0 < length bytes → 0 < used) → TakesBytesBeside v mid id (take used bytes) → TakesEndBeside (ends_with fin bytes used) (length bytes == 0) mid ended id
       → PullsBeside id n ended w given → ReadsCopiedBeside v w id bytes fin n before given used
-  stopped : (count : ℕ) (stop : Stop) → count ≤ length bytes → n ≡ stop.told → StopsAtBeside v w id (take count bytes) stop → StaysShown v w → used ≡ taken_of stop.is_taken count → given ≡ before
+  stopped_beside : (count : ℕ) (stop : Stop) → count ≤ length bytes → n ≡ stop.told → StopsAtBeside v w id (take count bytes) stop → StaysShown v w → used ≡ taken_of stop.is_taken count → given ≡ before
       → ReadsCopiedBeside v w id bytes fin n before given used
-  unended : (mid : Seen) → ends_with fin bytes used ≡ true → TakesBytesBeside v mid id bytes → RefusesEndBeside (length bytes == 0) mid w id n → StaysShown v w → given ≡ before
+  unended_beside : (mid : Seen) → ends_with fin bytes used ≡ true → TakesBytesBeside v mid id bytes → RefusesEndBeside (length bytes == 0) mid w id n → StaysShown v w → given ≡ before
       → ReadsCopiedBeside v w id bytes fin n before given used
 
 abbrev pub ReadsAtBeside : Option BodyPlace → Seen → Seen → ℕ → List ℕ → ℕ → Told → PulledItem → PulledItem → ℕ → Type 0

@@ -1,16 +1,27 @@
--- The first pull of a stream that may turn out to be of a session.
-use Rattle.std.proofs.Common.{◌≡◌, ℕ, Bool, true, false, ◌&&◌, not, Option, Some, None, refl, is_some, unwrap_or}
+-- The first pull of a stream that may turn out to be of a session, and what is read beside the endpoint.
+use Rattle.std.proofs.Common.{◌≡◌, ◌≢◌, ◌⊎◌, ◌%◌, ◌==◌, ℕ, Bool, true, false, ◌&&◌, ◌||◌, not, List, [], ◌∷◌, Option, Some, None, refl, sym, ap, subst, ◌∙◌, is_some, unwrap_or, if◌then◌else◌}
+use Rattle.std.proofs.lemmas.Bool.{cases_eq, eqb-true}
+use Rattle.h3_field.specs.Field.{Field}
 use Rattle.h3_proto.specs.StreamIds.{is_request_stream}
+use Rattle.h3_proto.specs.declared.stream.Side.{Side}
+use Rattle.h3_proto.specs.declared.stream.Side.TheVariants.{Client, Server}
 use Rattle.h3_connection.specs.Calls.{AllSame, Sets}
 use Rattle.h3_connection.specs.Codes.{id_error}
+use Rattle.h3_connection.specs.Coming.{fields_behind}
 use Rattle.h3_connection.specs.ReceivingContracts.{PullsNext}
-use Rattle.h3_connection.specs.State.{EndpointState}
+use Rattle.h3_connection.specs.State.{EndpointState, kept_at}
+use Rattle.h3_connection.specs.StreamSets.{Streams}
 use Rattle.h3_connection.specs.declared.event.Fault.TheVariants.{Connection as Closing}
 use Rattle.h3_connection.specs.declared.event.Pull.{Pull}
 use Rattle.h3_connection.specs.declared.event.Pull.TheVariants as pull
-use Rattle.h3_webtransport_streams.specs.SessionStream.{SessionStream, entered}
-use Rattle.h3_webtransport.specs.Joint.{Joint, is_begun_by_peer, may_begin, stored_at}
-use Rattle.h3_webtransport.specs.Receiving.{Enters, PullsFirst, session_of}
+use Rattle.h3_incoming.specs.Answering.{Lists, has_header}
+use Rattle.h3_session.specs.Listing.{ListsNext}
+use Rattle.h3_webtransport_streams.specs.Receiver.{Receiver, pulled, raw, told_or_raw, unless_reset}
+use Rattle.h3_webtransport_streams.specs.SessionStream.{SessionStream, ActsOn, Changes, ChangesOn, entered, on_receiver, receiver_of}
+use Rattle.h3_webtransport.specs.Closing.{Forgets}
+use Rattle.h3_webtransport.specs.Joint.{Joint, is_begun_by_peer, is_read, is_server_opened, may_begin, stored_at}
+use Rattle.h3_webtransport.specs.Parts.{StreamsAlone}
+use Rattle.h3_webtransport.specs.Receiving.{Begins, BeginsAt, BeginsIf, Enters, ListsAgain, PullsFirst, pulls_raw, session_of}
 use Rattle.h3_webtransport.specs.Receiving.PullsFirst.{pulls}
 
 -- no stream of a session has such an id yet
@@ -19,19 +30,117 @@ is_none_of None on begun h = refl
 is_none_of (Some x) true begun h = absurd (cc)
 is_none_of (Some x) false begun h = absurd (cc)
 
-pub is_free : (s : Joint) (id : ℕ) → may_begin s id ≡ true → stored_at s id ≡ None
+is_free : (s : Joint) (id : ℕ) → may_begin s id ≡ true → stored_at s id ≡ None
 is_free s id h = is_none_of (stored_at s id) s.is_on (is_begun_by_peer s.side id) h
 
--- it tells no session
-pub pulls_other : (e f : EndpointState) (s t : Joint) (id : ℕ) (inner answer : Pull) → PullsNext e f id inner → session_of inner ≡ None → answer ≡ inner → AllSame s.sessions.streams t.sessions.streams → PullsFirst e f s t id answer
-pulls_other e f s t id inner answer h none same all = pulls inner f h (rw none (same, refl, all))
+-- and it is not read here
+kinds_differ : (side : Side) (id : ℕ) → is_begun_by_peer side id ≡ true → is_server_opened side id ≡ true → false ≡ true
+kinds_differ Client id begun opened = let never : 3 ≡ 1 = sym (eqb-true (id % 4) 3 begun) ∙ eqb-true (id % 4) 1 opened in cc
+kinds_differ Server id begun opened = opened
 
--- it tells one,
-pub pulls_taken : (e next f : EndpointState) (s t : Joint) (id session : ℕ) (inner answer : Pull) → PullsNext e next id inner → session_of inner ≡ Some session → is_request_stream session ≡ true → answer ≡ inner
-    → Sets s.sessions.streams t.sessions.streams id (entered session (is_request_stream id)) → Enters next f id (is_request_stream id) → PullsFirst e f s t id answer
-pulls_taken e next f s t id session inner answer h told is same sets enters = pulls inner next h (rw (told, is) (same, sets, enters))
+not_both : (o : Option SessionStream) (side : Side) (id : ℕ) (on : Bool) → (on && not (is_some o) && is_begun_by_peer side id) ≡ true
+    → (on && (is_some (receiver_of o) || (is_server_opened side id && not (is_some o)))) ≡ true → false ≡ true
+not_both o side id false begins read = read
+not_both (Some x) side id true begins read = begins
+not_both None side id true begins read = kinds_differ side id begins (let it : (is_server_opened side id && true) ≡ true = read in both_true (is_server_opened side id) it)
+  where
+    both_true : (b : Bool) → (b && true) ≡ true → b ≡ true
+    both_true true h = refl
+    both_true false h = h
 
--- or an id that no session has
-pub pulls_wrong : (e next f : EndpointState) (s t : Joint) (id session : ℕ) (inner answer : Pull) → PullsNext e next id inner → session_of inner ≡ Some session → is_request_stream session ≡ false
-    → answer ≡ pull.Fault (Closing (unwrap_or next.closed id_error)) → AllSame s.sessions.streams t.sessions.streams → f ≡ record next { closed = Some (unwrap_or next.closed id_error) } → PullsFirst e f s t id answer
-pulls_wrong e next f s t id session inner answer h told is fault all closes = pulls inner next h (rw (told, is) (fault, all, closes))
+pub not_read : (s : Joint) (id : ℕ) → may_begin s id ≡ true → is_read s id ≡ true → false ≡ true
+not_read s id begins read = not_both (stored_at s id) s.side id s.is_on begins read
+
+-- what is set is set again, or taken away
+module _ (a b c : Streams SessionStream) (id : ℕ) (x : SessionStream) where
+  sets_again : (y : SessionStream) → Sets a b id x → Sets b c id y → Sets a c id y
+  sets_again y first then = record { here = then.here; others = λ q differs. then.others q differs ∙ first.others q differs }
+
+  gone_at : (q : ℕ) → kept_at a id ≡ None → Sets a b id x → kept_at c id ≡ None → ((q : ℕ) → q ≢ id → kept_at c q ≡ kept_at b q) → q ≡ id ⊎ q ≢ id → kept_at c q ≡ kept_at a q
+  gone_at q free first gone others (inl same) = subst (λ n. kept_at c n ≡ kept_at a n) (sym same) (gone ∙ sym free)
+  gone_at q free first gone others (inr differs) = others q differs ∙ first.others q differs
+
+  gone_again : kept_at a id ≡ None → Sets a b id x → kept_at c id ≡ None → ((q : ℕ) → q ≢ id → kept_at c q ≡ kept_at b q) → AllSame a c
+  gone_again free first gone others = record { each = λ q. gone_at q free first gone others (cases_eq q id) }
+
+pub alone_again : (s m t : Joint) → StreamsAlone s m → StreamsAlone m t → StreamsAlone s t
+alone_again s m t first then = then ∙ ap (λ (x : Joint). record x { sessions = record x.sessions { streams = t.sessions.streams } }) first
+
+-- a stream that was entered is one of a session
+module _ (e f : EndpointState) (m t : Joint) (id session : ℕ) (inner answer : Pull) where
+  pub begins_taken : is_request_stream session ≡ true → answer ≡ inner → stored_at m id ≡ Some (entered id (is_request_stream id))
+      → Changes (λ x. record x { session = Some session }) m.sessions.streams t.sessions.streams id → Enters e f id (is_request_stream id)
+      → BeginsAt (is_request_stream session) e f m t id session inner answer
+  begins_taken is same at changes enters = rw is (same, subst (ChangesOn (λ x. record x { session = Some session }) m.sessions.streams t.sessions.streams id) at changes, enters)
+
+  -- or its id is that of no session
+  pub begins_wrong : is_request_stream session ≡ false → answer ≡ pull.Fault (Closing (unwrap_or e.closed id_error)) → Forgets m t id → f ≡ record e { closed = Some (unwrap_or e.closed id_error) }
+      → BeginsAt (is_request_stream session) e f m t id session inner answer
+  begins_wrong is fault forgets closes = rw is (fault, forgets, closes)
+
+begins_from : (b : Bool) (e f : EndpointState) (s m t : Joint) (id session : ℕ) (inner answer : Pull) (x : SessionStream) → stored_at s id ≡ None → Sets s.sessions.streams m.sessions.streams id x
+    → BeginsAt b e f m t id session inner answer → Begins b e f s t id session inner answer
+begins_from true e f s m t id session inner answer x free first begins =
+    (begins.0, sets_again s.sessions.streams m.sessions.streams t.sessions.streams id x (entered session (is_request_stream id)) first begins.1.0, begins.1.1)
+begins_from false e f s m t id session inner answer x free first begins =
+    (begins.0, gone_again s.sessions.streams m.sessions.streams t.sessions.streams id x free first begins.1.0.0 begins.1.0.1.0, begins.1.1)
+
+-- the first pull tells no session,
+pub pulls_other : (e f : EndpointState) (s m t : Joint) (id : ℕ) (inner : Pull) (x : SessionStream) (session : Option ℕ) → may_begin s id ≡ true → Sets s.sessions.streams m.sessions.streams id x
+    → PullsNext e f id inner → session ≡ session_of inner → session ≡ None → stored_at t id ≡ None → ((q : ℕ) → q ≢ id → stored_at t q ≡ stored_at m q) → PullsFirst e f s t id inner
+pulls_other e f s m t id inner x session begins first h told none gone others =
+    pulls inner f h
+    (subst (λ o. BeginsIf o f f s t id inner inner) (sym none ∙ told) (refl, refl, gone_again s.sessions.streams m.sessions.streams t.sessions.streams id x (is_free s id begins) first gone others))
+
+-- or one
+pub pulls_session : (e next f : EndpointState) (s m t : Joint) (id session : ℕ) (inner answer : Pull) (x : SessionStream) (tells : Option ℕ) → may_begin s id ≡ true
+    → Sets s.sessions.streams m.sessions.streams id x → PullsNext e next id inner → tells ≡ session_of inner → tells ≡ Some session
+    → BeginsAt (is_request_stream session) next f m t id session inner answer → PullsFirst e f s t id answer
+pulls_session e next f s m t id session inner answer x tells begins first h told is at =
+    pulls inner next h
+    (subst (λ o. BeginsIf o next f s t id inner answer) (sym is ∙ told) (begins_from (is_request_stream session) next f s m t id session inner answer x (is_free s id begins) first at))
+
+-- which list it has
+lists_no : (listed came : Option (List Field)) → listed ≡ None → Lists listed came
+lists_no None came e = tt
+lists_no (Some l) came e = absurd (cc)
+
+module _ (e : EndpointState) (id : ℕ) where
+  pub lists_none : (listed : Option (List Field)) → listed ≡ None → ListsNext e id listed
+  lists_none listed none = λ h stands. lists_no listed (fields_behind h.kept h id) none
+
+  pub lists_same : (b : Bool) (before after : Option (List Field)) → ListsNext e id before → ListsAgain b before after → ListsNext e id after
+  lists_same true before after lists same = subst (ListsNext e id) (sym same) lists
+  lists_same false before after lists none = lists_none after none
+
+-- what is read beside the endpoint has no header
+plain_if : (b : Bool) (x y : Pull × Receiver) → has_header x.0 ≡ false → has_header y.0 ≡ false → has_header (if b then x else y).0 ≡ false
+plain_if true x y p q = p
+plain_if false x y p q = q
+
+plain_pull_if : (b : Bool) (x y : Pull) → has_header x ≡ false → has_header y ≡ false → has_header (if b then x else y) ≡ false
+plain_pull_if true x y p q = p
+plain_pull_if false x y p q = q
+
+raw_is_plain : (r : Receiver) (unread : List (List ℕ)) → has_header (raw r unread).0 ≡ false
+raw_is_plain r [] = plain_if r.ended _ _ refl refl
+raw_is_plain r (piece ∷ pieces) = refl
+
+told_is_plain : (r : Receiver) (session : Option ℕ) → has_header (told_or_raw r session).0 ≡ false
+told_is_plain r None = plain_pull_if r.ended _ _ refl refl
+told_is_plain r (Some session) = plain_if r.is_told _ _ (raw_is_plain r r.unread) refl
+
+reset_is_plain : (r : Receiver) (session code : Option ℕ) → has_header (unless_reset r session code).0 ≡ false
+reset_is_plain r session (Some code) = refl
+reset_is_plain r session None = told_is_plain r session
+
+pulled_is_plain : (r : Receiver) (session : Option ℕ) → has_header (pulled r session).0 ≡ false
+pulled_is_plain r session = plain_if r.is_canceled _ _ refl (plain_if r.is_over _ _ refl (reset_is_plain r session r.reset_code))
+
+half_is_plain : (s : SessionStream) (o : Option Receiver) → has_header (on_receiver pull.NoMessages (λ r. pulled r s.session) s o).0 ≡ false
+half_is_plain s None = refl
+half_is_plain s (Some r) = pulled_is_plain r s.session
+
+pub is_plain : (old new : Streams SessionStream) (id : ℕ) (answer : Pull) (there : Option SessionStream) → ActsOn pull.NoMessages pulls_raw old new id answer there → has_header answer ≡ false
+is_plain old new id answer None acts = ap has_header acts.0
+is_plain old new id answer (Some s) acts = ap has_header acts.0 ∙ half_is_plain s s.receiver

@@ -24,9 +24,9 @@ raw_taken s t id count =
       is_next = if count == 0 then s.is_next else false;
     }
 
--- bytes of another stream were: where it is a request's, one of a session is next
+-- bytes of another stream were: where it is a request's and sessions are on, one of a session is next
 abbrev pub other_taken : Joint → ℕ → ℕ → Joint
-other_taken s id count = record s { is_next = if not (count == 0) && is_request_stream id then true else s.is_next }
+other_taken s id count = record s { is_next = if s.is_on && not (count == 0) && is_request_stream id then true else s.is_next }
 
 -- `advance`
 abbrev pub AdvancesOn : EndpointState → EndpointState → Joint → Joint → ℕ → ℕ → Type 0
@@ -46,7 +46,7 @@ pub record SendsLowest (e : EndpointState) (s : Joint) (from : ℕ) (result : Op
   pub first : Option ℕ
   pub raw : Option ℕ
   pub first_is : ShowsNextToSend e from first
-  pub raw_is : IsLeast (λ id. passes has_something (stored_at s id)) from raw
+  pub raw_is : s.is_on ≡ true → IsLeast (λ id. passes has_something (stored_at s id)) from raw
   pub is : result ≡ (if s.is_on then lower_of first raw else first)
 
 -- which of two sends: the endpoint's own stream comes first, and a request's takes turns with one of a session
@@ -60,7 +60,7 @@ pub record SendsInTurn (e f : EndpointState) (s : Joint) (result : Option ℕ) :
   pub first : Option ℕ
   pub raw : Option ℕ
   pub first_is : SendsNext e f first
-  pub raw_is : IsTurn (λ id. passes takes_turns (stored_at s id)) s.sessions.from raw
+  pub raw_is : s.is_on ≡ true → IsTurn (λ id. passes takes_turns (stored_at s id)) s.sessions.from raw
   pub is : result ≡ (if s.is_on then turn_of s.is_next first raw else first)
 
 -- `hold`

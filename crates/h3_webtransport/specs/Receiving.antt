@@ -1,5 +1,6 @@
 -- What comes on streams, with sessions beside an endpoint.
 use Rattle.std.specs.Prelude.{◌≡◌, ◌≢◌, ◌%◌, ◌==◌, ℕ, Bool, true, false, [], List, Option, Some, None, Result, Ok, Err, is_some, unwrap_or, if◌then◌else◌}
+use Rattle.h3_field.specs.Field.{Field}
 use Rattle.h3_proto.specs.StreamIds.{is_request_stream}
 use Rattle.h3_connection.specs.Answers.{call_refused}
 use Rattle.h3_connection.specs.Calls.{AllSame, Sets}
@@ -22,6 +23,7 @@ use Rattle.h3_webtransport_streams.specs.Receiver.{canceled, pulled}
 use Rattle.h3_webtransport_streams.specs.SessionStream.{SessionStream, entered, receiving}
 use Rattle.h3_webtransport_streams.specs.declared.receiver.Begun.{Begun}
 use Rattle.h3_webtransport_streams.specs.declared.receiver.Begun.TheVariants as begun
+use Rattle.h3_webtransport.specs.Closing.{Forgets}
 use Rattle.h3_webtransport.specs.Joint.{Joint, is_read, may_begin, stored_at}
 use Rattle.h3_webtransport.specs.Parts.{Parts, ActsHere, StreamsAlone, UnlessClosed}
 
@@ -105,6 +107,18 @@ Begins true e f s t id session inner answer =
     (answer ≡ inner) × Sets s.sessions.streams t.sessions.streams id (entered session (is_request_stream id)) × Enters e f id (is_request_stream id)
 Begins false e f s t id session inner answer =
     (answer ≡ pull.Fault (Closing (unwrap_or e.closed id_error))) × AllSame s.sessions.streams t.sessions.streams × (f ≡ record e { closed = Some (unwrap_or e.closed id_error) })
+
+-- the same of one for which there is room already
+abbrev pub BeginsAt : Bool → EndpointState → EndpointState → Joint → Joint → ℕ → ℕ → Pull → Pull → Type 0
+BeginsAt true e f s t id session inner answer =
+    (answer ≡ inner) × Sets s.sessions.streams t.sessions.streams id (entered session (is_request_stream id)) × Enters e f id (is_request_stream id)
+BeginsAt false e f s t id session inner answer =
+    (answer ≡ pull.Fault (Closing (unwrap_or e.closed id_error))) × Forgets s t id × (f ≡ record e { closed = Some (unwrap_or e.closed id_error) })
+
+-- the list of fields that is kept then, if any
+abbrev pub ListsAgain : Bool → Option (List Field) → Option (List Field) → Type 0
+ListsAgain true old new = new ≡ old
+ListsAgain false old new = new ≡ None
 
 abbrev pub BeginsIf : Option ℕ → EndpointState → EndpointState → Joint → Joint → ℕ → Pull → Pull → Type 0
 BeginsIf None e f s t id inner answer = (answer ≡ inner) × (f ≡ e) × AllSame s.sessions.streams t.sessions.streams

@@ -3,9 +3,6 @@
 
 pub mod laws;
 mod opening;
-mod ordering;
-mod receiving;
-mod sending;
 mod sessions;
 
 pub use opening::OpenError;

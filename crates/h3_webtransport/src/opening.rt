@@ -1,7 +1,9 @@
 //! Streams that this side opens for a session.
-ghost use Rattle.std.specs.Prelude.{◌≡◌};
-ghost use Rattle.h3_webtransport.specs.Opening.{OpensBothWays, OpensAtClient, OpensOn, is_one, open_error, takes_sessions};
+ghost use Rattle.std.specs.Prelude.{◌≡◌, ◌&&◌, ◌||◌, not, is_some};
+ghost use Rattle.h3_webtransport.specs.Opening.{OpensAtClient, OpensKind, OpensOn, is_one, open_error, takes_sessions, unless_taken};
 ghost use Rattle.h3_connection.specs.Endpoint.{EndpointHistory};
+ghost use Rattle.h3_connection.specs.Pulling.{is_client};
+ghost use Rattle.h3_connection.specs.Sending.{body_refusal};
 ghost use Rattle.h3_connection.specs.State.{StandsFor};
 
 use crate::sessions::Sessions;
@@ -29,17 +31,53 @@ fn is_one(setting: Option<u64>) -> bool
     }
 }
 
-// Whether the peer takes sessions, by its settings.
+// Whether the peer takes sessions, by its settings: extended CONNECT, WebTransport and datagrams.
+fn takes_by(side: Side, connects: bool, is_taken: bool, datagrams: bool) -> bool
+    ensures { result ≡ ((not (is_client side) || connects) && is_taken && datagrams) }
+{
+    match side {
+        Side::Client => connects && is_taken && datagrams,
+        Side::Server => is_taken && datagrams,
+    }
+}
+
+#[tactic(auto, using(crate::proofs::Opened::takes_of))]
 fn takes_sessions(endpoint: &Endpoint, side: Side) -> bool
     ensures { (e : EndpointHistory) → StandsFor endpoint.now e → e.side ≡ side → result ≡ takes_sessions e }
 {
-    let connects = match side {
-        Side::Client => is_one(endpoint.peer_setting(SettingId::ENABLE_CONNECT_PROTOCOL)),
-        Side::Server => true,
+    let connects = is_one(endpoint.peer_setting(SettingId::ENABLE_CONNECT_PROTOCOL));
+    let is_taken = is_one(endpoint.peer_setting(SettingId::ENABLE_WEBTRANSPORT));
+    let datagrams = is_one(endpoint.peer_setting(SettingId::H3_DATAGRAM));
+    takes_by(side, connects, is_taken, datagrams)
+}
+
+// Whether bytes are refused on the request of a session, out of memory aside: no header section was sent there, or sending has ended.
+#[tactic(auto, using(crate::proofs::Opened::takes_bytes, crate::proofs::Opened::lacks_memory, crate::proofs::Opened::refuses_bytes))]
+fn refuses_bytes(endpoint: &Endpoint, session: StreamId) -> bool
+    ensures { (e : EndpointHistory) → StandsFor endpoint.now e → result ≡ is_some (body_refusal e session 0) }
+{
+    let Some(refusal) = endpoint.body_refusal(session, 0) else {
+        return false;
     };
-    connects
-        && is_one(endpoint.peer_setting(SettingId::ENABLE_WEBTRANSPORT))
-        && is_one(endpoint.peer_setting(SettingId::H3_DATAGRAM))
+    if refusal == Refusal::OutOfMemory {
+        return false;
+    }
+    true
+}
+
+fn refusal_of(is_taken: bool, session: StreamId, refuses: bool) -> Option<OpenError>
+    ensures { result ≡ unless_taken is_taken session refuses }
+{
+    if !is_taken {
+        return Some(OpenError::NoSessions);
+    }
+    if !session.is_request() {
+        return Some(OpenError::Refused(Refusal::NotRequestId));
+    }
+    if refuses {
+        return Some(OpenError::Refused(Refusal::NotOpen));
+    }
+    None
 }
 
 impl Sessions {
@@ -49,6 +87,7 @@ impl Sessions {
     /// connection fault, sessions that are off or that the peer does not take (`NoSessions`), the id of no request, and a session on whose
     /// request no header section was sent or on which sending has ended (`NotOpen`). Next is a stream both ways of a client after the peer's
     /// GOAWAY, then one beyond the last id. `OutOfMemory` comes last.
+    #[tactic(auto, using(crate::proofs::Opened::opens_not, crate::proofs::Opened::opens_it, crate::proofs::Opened::opens_none))]
     pub fn open_session_stream(
         &mut self,
         endpoint: &mut Endpoint,
@@ -60,44 +99,48 @@ impl Sessions {
         if let Some(error) = self.open_refusal(endpoint, session) {
             return Err(error);
         }
-        let opened = if both_ways {
-            self.open_both_ways(endpoint, SessionId::from(session))
-        } else {
-            self.streams.open_one_way(SessionId::from(session))
-        };
-        match opened {
+        match self.open_kind(endpoint, SessionId::from(session), both_ways) {
             Ok(id) => Ok(id),
             Err(refusal) => Err(OpenError::Refused(refusal)),
         }
     }
 
+    // Whether there may be sessions.
+    #[tactic(auto, using(crate::proofs::Opened::takes_if_on))]
+    fn takes(&self, endpoint: &Endpoint) -> bool
+        ensures { (e : EndpointHistory) → StandsFor endpoint.now e → e.side ≡ self.now.side → result ≡ (self.now.is_on && takes_sessions e) }
+    {
+        let are_taken = takes_sessions(endpoint, self.side);
+        self.is_on && are_taken
+    }
+
     // Why no stream of this session is opened, whichever way it goes.
+    #[tactic(auto, using(crate::proofs::Opened::says_closed, crate::proofs::Opened::says_rest))]
     fn open_refusal(&self, endpoint: &Endpoint, session: StreamId) -> Option<OpenError>
         ensures { (e : EndpointHistory) → StandsFor endpoint.now e → e.side ≡ self.now.side → result ≡ open_error e self.now.is_on session }
     {
         if let Some(code) = endpoint.fault() {
             return Some(OpenError::Refused(Refusal::Closed(code)));
         }
-        if !self.is_on || !takes_sessions(endpoint, self.side) {
-            return Some(OpenError::NoSessions);
-        }
-        if !session.is_request() {
-            return Some(OpenError::Refused(Refusal::NotRequestId));
-        }
-        if endpoint.body_refusal(session, 0).is_some() {
-            return Some(OpenError::Refused(Refusal::NotOpen));
-        }
-        None
+        let is_taken = self.takes(endpoint);
+        let refuses = refuses_bytes(endpoint, session);
+        refusal_of(is_taken, session, refuses)
     }
 
-    fn open_both_ways(
+    #[tactic(auto, using(crate::proofs::Opened::opens_one_way, crate::proofs::Opened::opens_at_server, crate::proofs::Opened::opens_at_client))]
+    fn open_kind(
         &mut self,
         endpoint: &mut Endpoint,
         session: SessionId,
+        both_ways: bool,
     ) -> Result<StreamId, Refusal>
-        ensures opens { OpensBothWays self.old.side endpoint.old endpoint.new self.old.sessions self.new.sessions session result }
+        ensures opens { (h : EndpointHistory) → StandsFor endpoint.old h
+            → OpensKind both_ways self.old.side endpoint.old endpoint.new self.old.sessions self.new.sessions session result }
         ensures rest { self.new ≡ record self.old { sessions = self.new.sessions } }
     {
+        if !both_ways {
+            return self.streams.open_one_way(session);
+        }
         match self.side {
             Side::Server => self.streams.open_both_ways(session),
             Side::Client => self.open_beside_requests(endpoint, session),
@@ -105,12 +148,14 @@ impl Sessions {
     }
 
     // A client's stream both ways has an id of the same row as its requests.
+    #[tactic(auto, using(crate::proofs::Opened::client_refused, crate::proofs::Opened::client_lacks, crate::proofs::Opened::client_takes))]
     fn open_beside_requests(
         &mut self,
         endpoint: &mut Endpoint,
         session: SessionId,
     ) -> Result<StreamId, Refusal>
-        ensures opens { OpensAtClient endpoint.old endpoint.new self.old.sessions self.new.sessions session result }
+        ensures opens { (h : EndpointHistory) → StandsFor endpoint.old h
+            → OpensAtClient endpoint.old endpoint.new self.old.sessions self.new.sessions session result }
         ensures rest { self.new ≡ record self.old { sessions = self.new.sessions } }
     {
         let id = match endpoint.next_request() {

@@ -11,6 +11,10 @@ use h3_webtransport_streams::streams::SessionStreams;
 use std::alloc::Global;
 use std::marker::Model;
 
+mod ordering;
+mod receiving;
+mod sending;
+
 /// The sessions of one connection. Who has them makes each call that is here with the endpoint in place of the call of the endpoint itself, on whatever
 /// stream: it is passed on if no session has the stream. All other calls are the endpoint's.
 /// If sessions are off, each call is the endpoint's, and costs one test.
@@ -43,6 +47,13 @@ impl Sessions {
             is_on,
             is_next: false,
         }
+    }
+
+    /// Whether there may be any session.
+    pub fn is_on(&self) -> bool
+        ensures { result ≡ self.now.is_on }
+    {
+        self.is_on
     }
 
     /// Whether a stream is one of a session.

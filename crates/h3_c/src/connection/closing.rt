@@ -1,9 +1,7 @@
 //! A stream is given up both ways.
-ghost use Rattle.std.specs.Prelude.{◌≡◌, ◌≤◌, ◌^◌, false};
-ghost use Rattle.h3_c.specs.Closing.{Closes};
+ghost use Rattle.std.specs.Prelude.{◌≡◌, ◌≤◌, ◌^◌};
+ghost use Rattle.h3_c.specs.Beside.{ClosesBeside};
 ghost use Rattle.h3_c.specs.Exported.{OnStream};
-ghost use Rattle.h3_c.specs.Beside.{DoesBeside};
-ghost use Rattle.h3_c.specs.Does.CallOfC.{CloseStream};
 
 use super::Connection;
 use crate::numbers::{ARGUMENT, OK, Told, refused};
@@ -17,9 +15,7 @@ impl Connection {
         stop_sending: &mut u32,
         reset_stream: &mut u32,
     ) -> Told
-        ensures closes { self.old.sessions.is_on ≡ false → OnStream id result self.old self.new (Closes result self.old self.new id stop_sending.old stop_sending.new reset_stream.old reset_stream.new) }
-        ensures sessions { self.old.sessions.is_on ≡ false → self.new.sessions ≡ self.old.sessions }
-        ensures beside { DoesBeside (CloseStream id stop_sending.old stop_sending.new reset_stream.old reset_stream.new result) self.old self.new }
+        ensures closes { OnStream id result self.old self.new (ClosesBeside result self.old self.new id stop_sending.old stop_sending.new reset_stream.old reset_stream.new) }
         ensures unwritten { 2 ^ 62 ≤ id → (stop_sending.new ≡ stop_sending.old) × (reset_stream.new ≡ reset_stream.old) }
     {
         let Ok(id) = StreamId::try_from(id) else {

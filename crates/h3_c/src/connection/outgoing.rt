@@ -1,8 +1,8 @@
 //! What waits to be sent.
-ghost use Rattle.std.specs.Prelude.{◌≡◌, ◌≤◌, ◌^◌, false};
-ghost use Rattle.h3_c.specs.Exported.{CopiesOut, OnStream, Takes};
-ghost use Rattle.h3_c.specs.Beside.{DoesBeside};
-ghost use Rattle.h3_c.specs.Does.CallOfC.{Advance, Outgoing};
+ghost use Rattle.std.specs.Prelude.{◌≡◌, ◌≤◌, ◌^◌};
+ghost use Rattle.h3_c.specs.Beside.{CopiesBeside, TakesBeside};
+ghost use Rattle.h3_c.specs.Exported.{OnStream};
+ghost use Rattle.h3_c.specs.Numbers.{number};
 
 use super::Connection;
 use crate::numbers::{ARGUMENT, OK, Told};
@@ -18,8 +18,7 @@ impl Connection {
         past: &mut usize,
         fin: &mut u32,
     ) -> Told
-        ensures copies { self.now.sessions.is_on ≡ false → OnStream id result self.now self.now (CopiesOut self.now id result out.old out.new count.new past.new fin.new) }
-        ensures beside { DoesBeside (Outgoing id out.old out.new count.old count.new past.old past.new fin.old fin.new result) self.now self.now }
+        ensures copies { OnStream id (number result.number 0) self.now self.now (CopiesBeside self.now id (number result.number 0) out.old out.new count.new past.new fin.new) }
         ensures unwritten { 2 ^ 62 ≤ id → (out.new ≡ out.old) × (count.new ≡ count.old) × (past.new ≡ past.old) × (fin.new ≡ fin.old) }
     {
         let Ok(id) = StreamId::try_from(id) else {
@@ -32,11 +31,10 @@ impl Connection {
         OK
     }
 
-    /// Takes the first bytes away that wait on a stream.
+    /// Takes the first bytes away that wait on a stream. What it tells has no detail.
+    #[tactic(auto, using(crate::proofs::Taking::too_many, crate::proofs::Taking::takes))]
     pub(crate) fn advance(&mut self, id: u64, count: usize) -> Told
-        ensures alone { self.old.sessions.is_on ≡ false → OnStream id result self.old self.new (Takes self.old self.new id count result) }
-        ensures sessions { self.old.sessions.is_on ≡ false → self.new.sessions ≡ self.old.sessions }
-        ensures beside { DoesBeside (Advance id count result) self.old self.new }
+        ensures { OnStream id (number result.number 0) self.old self.new (TakesBeside self.old self.new id count (number result.number 0)) }
     {
         let Ok(stream) = StreamId::try_from(id) else {
             return ARGUMENT;

@@ -6,9 +6,7 @@ ghost use Rattle.h3_incoming.specs.declared.fields.FieldsPull.TheVariants as ans
 ghost use Rattle.h3_session.specs.ReadingBodies.{BeginsBody};
 ghost use Rattle.h3_c.specs.Exported.{OnStream, UnlessRejected};
 ghost use Rattle.h3_c.specs.Numbers.{delivery_told};
-ghost use Rattle.h3_c.specs.Reads.{ends_with, is_after_end, is_kept, place_shown, taken_of, EndsThere, ReadsCopied, ReadsNext, RefusesEnd, StopsAt, TakesBytes, TakesEnd};
-ghost use Rattle.h3_c.specs.Beside.{DoesBeside};
-ghost use Rattle.h3_c.specs.Does.CallOfC.{Read};
+ghost use Rattle.h3_c.specs.Reads.{ends_with, is_after_end, is_kept, place_shown, taken_of};
 ghost use Rattle.h3_c.specs.ReadsBeside.{EndsThereBeside, ReadsCopiedBeside, ReadsNextBeside, RefusesEndBeside, StopsAtBeside, TakesBytesBeside, TakesEndBeside};
 
 use super::Connection;
@@ -38,9 +36,7 @@ impl Connection {
         used: &mut usize,
         item: &mut PulledItem,
     ) -> Told
-        ensures reads { self.old.sessions.is_on ≡ false → OnStream id result self.old self.new (UnlessRejected id result self.old self.new (ReadsNext self.old self.new id bytes.now fin result item.old item.new used.new)) }
-        ensures sessions { self.old.sessions.is_on ≡ false → self.new.sessions ≡ self.old.sessions }
-        ensures beside { DoesBeside (Read id bytes.now fin used.new item.old item.new result) self.old self.new }
+        ensures reads { OnStream id result self.old self.new (UnlessRejected id result self.old self.new (ReadsNextBeside self.old self.new id bytes.now fin result item.old item.new used.new)) }
         ensures unknown { 2 ^ 62 ≤ id → (item.new ≡ item.old) × (used.new ≡ 0) }
         ensures rejected { id < 2 ^ 62 → is_rejected_in self.old.endpoint id ≡ true → (item.new ≡ item.old) × (used.new ≡ 0) }
     {
@@ -63,9 +59,7 @@ impl Connection {
         item: &mut PulledItem,
     ) -> Told
         requires { used.old ≡ 0 }
-        ensures alone { self.old.sessions.is_on ≡ false → ReadsNext self.old self.new id bytes.now fin result item.old item.new used.new }
-        ensures sessions { self.old.sessions.is_on ≡ false → self.new.sessions ≡ self.old.sessions }
-        ensures beside { ReadsNextBeside self.old self.new id bytes.now fin result item.old item.new used.new }
+        ensures { ReadsNextBeside self.old self.new id bytes.now fin result item.old item.new used.new }
     {
         if !self.begin(id, bytes, fin) {
             return self.read_next(alloc, id, bytes, fin, used, item);
@@ -87,9 +81,7 @@ impl Connection {
         item: &mut PulledItem,
     ) -> Told
         requires { used.old ≡ 0 }
-        ensures alone { self.old.sessions.is_on ≡ false → ReadsNext self.old self.new id bytes.now fin result item.old item.new used.new }
-        ensures sessions { self.old.sessions.is_on ≡ false → self.new.sessions ≡ self.old.sessions }
-        ensures beside { ReadsNextBeside self.old self.new id bytes.now fin result item.old item.new used.new }
+        ensures { ReadsNextBeside self.old self.new id bytes.now fin result item.old item.new used.new }
     {
         let Some(place) = self.endpoint.read_body(id, bytes) else {
             return self.read_copied(alloc, id, bytes, fin, used, item);
@@ -100,17 +92,21 @@ impl Connection {
         OK
     }
 
-    // The type and length of a DATA frame are read where they lie, if they are all that came.
+    // The type and length of a DATA frame are read where they lie, if they are all that came, and no stream may be one of a session.
     #[tactic(auto, using(crate::proofs::Reading::same_itself))]
     fn begin(&mut self, id: StreamId, bytes: &[u8], fin: u32) -> bool
         ensures last { self.new.last ≡ self.old.last }
         ensures events { self.new.events ≡ self.old.events }
         ensures sessions { self.new.sessions ≡ self.old.sessions }
+        ensures off { result ≡ true → self.old.sessions.is_on ≡ false }
         ensures no_fin { result ≡ true → fin ≡ 0 }
         ensures begins { result ≡ true → BeginsBody self.old.endpoint self.new.endpoint id bytes.now }
         ensures same { result ≡ false → IsSame self.old.endpoint self.new.endpoint }
     {
         let count = bytes.len();
+        if self.sessions.is_on() {
+            return false;
+        }
         if count > LONGEST_HEAD || count < SHORTEST_HEAD || fin > 0 {
             return false;
         }
@@ -128,9 +124,7 @@ impl Connection {
         item: &mut PulledItem,
     ) -> Told
         requires { used.old ≡ 0 }
-        ensures alone { self.old.sessions.is_on ≡ false → ReadsCopied self.old self.new id bytes.now fin result item.old item.new used.new }
-        ensures sessions { self.old.sessions.is_on ≡ false → self.new.sessions ≡ self.old.sessions }
-        ensures beside { ReadsCopiedBeside self.old self.new id bytes.now fin result item.old item.new used.new }
+        ensures { ReadsCopiedBeside self.old self.new id bytes.now fin result item.old item.new used.new }
     {
         let count = self.front_len(id, bytes);
         if let Err(stop) = self.take(alloc, id, &bytes[..count]) {
@@ -165,11 +159,8 @@ impl Connection {
     fn take(&mut self, alloc: Global, id: StreamId, bytes: &[u8]) -> Result<(), Stop>
         ensures last { self.new.last ≡ self.old.last }
         ensures events { self.new.events ≡ self.old.events }
-        ensures sessions { self.old.sessions.is_on ≡ false → self.new.sessions ≡ self.old.sessions }
-        ensures taken { OnOk result (TakesBytesBeside self.old self.new id bytes.now) }
-        ensures stopped { IfErr result (λ stop. StopsAtBeside self.old self.new id bytes.now stop) }
-        ensures ok { self.old.sessions.is_on ≡ false → OnOk result (TakesBytes self.old.endpoint self.new.endpoint id bytes.now) }
-        ensures stop { self.old.sessions.is_on ≡ false → IfErr result (λ stop. StopsAt self.old.endpoint self.new.endpoint id bytes.now stop) }
+        ensures ok { OnOk result (TakesBytesBeside self.old self.new id bytes.now) }
+        ensures stop { IfErr result (λ stop. StopsAtBeside self.old self.new id bytes.now stop) }
     {
         if bytes.is_empty() {
             return Ok(());
@@ -190,11 +181,8 @@ impl Connection {
     fn take_fin(&mut self, id: StreamId, is_last: bool, is_alone: bool) -> Result<(), Told>
         ensures last { self.new.last ≡ self.old.last }
         ensures events { self.new.events ≡ self.old.events }
-        ensures sessions { self.old.sessions.is_on ≡ false → self.new.sessions ≡ self.old.sessions }
-        ensures taken { OnOk result (TakesEndBeside is_last is_alone self.old self.new id) }
-        ensures not_taken { IfErr result (λ told. (is_last ≡ true) × RefusesEndBeside is_alone self.old self.new id told) }
-        ensures ok { self.old.sessions.is_on ≡ false → OnOk result (TakesEnd is_last is_alone self.old.endpoint self.new.endpoint id) }
-        ensures refused { self.old.sessions.is_on ≡ false → IfErr result (λ told. (is_last ≡ true) × RefusesEnd is_alone self.old.endpoint self.new.endpoint id told) }
+        ensures ok { OnOk result (TakesEndBeside is_last is_alone self.old self.new id) }
+        ensures refused { IfErr result (λ told. (is_last ≡ true) × RefusesEndBeside is_alone self.old self.new id told) }
     {
         if is_last {
             return self.take_end(id, is_alone);
@@ -206,11 +194,8 @@ impl Connection {
     fn take_end(&mut self, id: StreamId, is_alone: bool) -> Result<(), Told>
         ensures last { self.new.last ≡ self.old.last }
         ensures events { self.new.events ≡ self.old.events }
-        ensures sessions { self.old.sessions.is_on ≡ false → self.new.sessions ≡ self.old.sessions }
-        ensures taken { OnOk result (EndsThereBeside is_alone self.old self.new id) }
-        ensures not_taken { IfErr result (λ told. RefusesEndBeside is_alone self.old self.new id told) }
-        ensures ok { self.old.sessions.is_on ≡ false → OnOk result (EndsThere is_alone self.old.endpoint self.new.endpoint id) }
-        ensures refused { self.old.sessions.is_on ≡ false → IfErr result (λ told. RefusesEnd is_alone self.old.endpoint self.new.endpoint id told) }
+        ensures ok { OnOk result (EndsThereBeside is_alone self.old self.new id) }
+        ensures refused { IfErr result (λ told. RefusesEndBeside is_alone self.old self.new id told) }
     {
         match self.sessions.deliver_end(&mut self.endpoint, id) {
             Ok(()) => Ok(()),

@@ -1,9 +1,7 @@
 //! What comes from the peer.
 ghost use Rattle.std.specs.Prelude.{◌≡◌, ◌<◌, ◌≤◌, ◌^◌, true, false, IfErr, IfOk};
-ghost use Rattle.h3_connection.specs.ReceivingContracts.{Delivers, DeliversEnd, DeliversReset};
 ghost use Rattle.h3_connection.specs.Shutdown.{is_rejected_in};
-ghost use Rattle.h3_c.specs.Exported.{DeliversOn};
-ghost use Rattle.h3_c.specs.Numbers.{argument, rejected, delivery_told};
+ghost use Rattle.h3_c.specs.Numbers.{argument, rejected};
 ghost use Rattle.h3_c.specs.Beside.{DoesBeside};
 ghost use Rattle.h3_c.specs.Does.CallOfC.{Deliver, DeliverEnd, DeliverReset};
 
@@ -32,9 +30,7 @@ impl Connection {
 
     /// Bytes came on a stream.
     pub(crate) fn deliver(&mut self, alloc: Global, id: u64, bytes: &[u8]) -> Told
-        ensures alone { self.old.sessions.is_on ≡ false → DeliversOn delivery_told id result self.old self.new (λ call. Delivers self.old.endpoint self.new.endpoint id bytes.now call) }
-        ensures sessions { self.old.sessions.is_on ≡ false → self.new.sessions ≡ self.old.sessions }
-        ensures beside { DoesBeside (Deliver id bytes.now result) self.old self.new }
+        ensures { DoesBeside (Deliver id bytes.now result) self.old self.new }
     {
         let id = match self.receiving(id) {
             Ok(id) => id,
@@ -48,9 +44,7 @@ impl Connection {
 
     /// The end of a stream came.
     pub(crate) fn deliver_end(&mut self, id: u64) -> Told
-        ensures alone { self.old.sessions.is_on ≡ false → DeliversOn delivery_told id result self.old self.new (λ call. DeliversEnd self.old.endpoint self.new.endpoint id call) }
-        ensures sessions { self.old.sessions.is_on ≡ false → self.new.sessions ≡ self.old.sessions }
-        ensures beside { DoesBeside (DeliverEnd id result) self.old self.new }
+        ensures { DoesBeside (DeliverEnd id result) self.old self.new }
     {
         let id = match self.receiving(id) {
             Ok(id) => id,
@@ -61,9 +55,7 @@ impl Connection {
 
     /// The sender reset a stream.
     pub(crate) fn deliver_reset(&mut self, id: u64, code: u64) -> Told
-        ensures alone { self.old.sessions.is_on ≡ false → DeliversOn delivery_told id result self.old self.new (λ call. DeliversReset self.old.endpoint self.new.endpoint id code call) }
-        ensures sessions { self.old.sessions.is_on ≡ false → self.new.sessions ≡ self.old.sessions }
-        ensures beside { DoesBeside (DeliverReset id code result) self.old self.new }
+        ensures { DoesBeside (DeliverReset id code result) self.old self.new }
     {
         let id = match self.receiving(id) {
             Ok(id) => id,

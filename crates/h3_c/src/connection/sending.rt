@@ -1,6 +1,6 @@
 //! What C sends, header and trailer sections aside.
-ghost use Rattle.std.specs.Prelude.{◌≡◌, ◌<◌, ◌≤◌, ◌^◌, IfErr, IfOk, false};
-ghost use Rattle.h3_connection.specs.SendingContracts.{SendsBody, Finishes, Resets, Cancels, GoesAway};
+ghost use Rattle.std.specs.Prelude.{◌≡◌, ◌<◌, ◌≤◌, ◌^◌, IfErr, IfOk};
+ghost use Rattle.h3_connection.specs.SendingContracts.{SendsBody, GoesAway};
 ghost use Rattle.h3_c.specs.Exported.{Calls, CallsOn, OnStream, OpensRequest, ShowsNextId};
 ghost use Rattle.h3_c.specs.Numbers.{argument, call_told, body_told};
 ghost use Rattle.h3_session.specs.Held.{SendsBodyOf};
@@ -83,9 +83,7 @@ impl Connection {
 
     /// The message on a stream is whole.
     pub(crate) fn finish(&mut self, id: u64) -> Told
-        ensures alone { self.old.sessions.is_on ≡ false → CallsOn call_told id result self.old self.new (λ call. Finishes self.old.endpoint self.new.endpoint id call) }
-        ensures sessions { self.old.sessions.is_on ≡ false → self.new.sessions ≡ self.old.sessions }
-        ensures beside { DoesBeside (Finish id result) self.old self.new }
+        ensures { DoesBeside (Finish id result) self.old self.new }
     {
         let Ok(id) = StreamId::try_from(id) else {
             return ARGUMENT;
@@ -95,9 +93,7 @@ impl Connection {
 
     /// Sending on a stream ends here.
     pub(crate) fn reset(&mut self, id: u64) -> Told
-        ensures alone { self.old.sessions.is_on ≡ false → CallsOn call_told id result self.old self.new (λ call. Resets self.old.endpoint self.new.endpoint id call) }
-        ensures sessions { self.old.sessions.is_on ≡ false → self.new.sessions ≡ self.old.sessions }
-        ensures beside { DoesBeside (Reset id result) self.old self.new }
+        ensures { DoesBeside (Reset id result) self.old self.new }
     {
         let Ok(id) = StreamId::try_from(id) else {
             return ARGUMENT;
@@ -107,9 +103,7 @@ impl Connection {
 
     /// The caller needs nothing more of a stream.
     pub(crate) fn cancel(&mut self, id: u64) -> Told
-        ensures alone { self.old.sessions.is_on ≡ false → CallsOn call_told id result self.old self.new (λ call. Cancels self.old.endpoint self.new.endpoint id call) }
-        ensures sessions { self.old.sessions.is_on ≡ false → self.new.sessions ≡ self.old.sessions }
-        ensures beside { DoesBeside (Cancel id result) self.old self.new }
+        ensures { DoesBeside (Cancel id result) self.old self.new }
     {
         let Ok(id) = StreamId::try_from(id) else {
             return ARGUMENT;
@@ -130,7 +124,7 @@ impl Connection {
 }
 
 // The stream of this id, if there may be one.
-fn stream_of(id: u64) -> Result<StreamId, Told>
+pub(super) fn stream_of(id: u64) -> Result<StreamId, Told>
     ensures ok { IfOk result (λ stream. (stream ≡ id) × (id < 2 ^ 62)) }
     ensures unknown { IfErr result (λ told. (told ≡ argument) × (2 ^ 62 ≤ id)) }
 {

@@ -1,7 +1,10 @@
 //! Streams of WebTransport sessions.
+ghost use Rattle.h3_c.specs.Numbers.{number};
 ghost use Rattle.h3_c.specs.Sessions.{FindsOfSession, OpensSession, SendsRawOn};
 
 use super::Connection;
+use super::ordering::flag_given;
+use super::sending::stream_of;
 use crate::numbers::{ARGUMENT, NONE, OK, Told, or_memory, sent, unopened};
 use bytes::Bytes;
 use h3_proto::stream::StreamId;
@@ -16,12 +19,12 @@ impl Connection {
         let Ok(session) = StreamId::try_from(session) else {
             return ARGUMENT;
         };
-        if both_ways > 1 {
+        let Some(both_ways) = flag_given(both_ways) else {
             return ARGUMENT;
-        }
+        };
         match self
             .sessions
-            .open_session_stream(&mut self.endpoint, session, both_ways == 1)
+            .open_session_stream(&mut self.endpoint, session, both_ways)
         {
             Ok(opened) => {
                 *id = opened.into_inner();
@@ -35,8 +38,9 @@ impl Connection {
     pub(crate) fn send_raw(&mut self, alloc: Global, id: u64, bytes: &[u8]) -> Told
         ensures { SendsRawOn self.old self.new id bytes.now result }
     {
-        let Ok(stream) = StreamId::try_from(id) else {
-            return ARGUMENT;
+        let stream = match stream_of(id) {
+            Ok(stream) => stream,
+            Err(told) => return told,
         };
         let Ok(bytes) = Bytes::copy_from_slice(alloc, bytes) else {
             return or_memory(self.sessions.raw_refusal(&self.endpoint, stream));
@@ -44,9 +48,9 @@ impl Connection {
         sent(&self.sessions.send_raw(&self.endpoint, stream, bytes))
     }
 
-    /// The lowest id from `from` on of a stream of a session.
+    /// The lowest id from `from` on of a stream of a session. What it tells has no detail.
     pub(crate) fn next_of_session(&self, session: u64, from: u64, id: &mut u64) -> Told
-        ensures { FindsOfSession self.now self.now session from result id.old id.new }
+        ensures { FindsOfSession self.now self.now session from (number result.number 0) id.old id.new }
     {
         let Ok(session) = SessionId::try_from(session) else {
             return ARGUMENT;

@@ -1,14 +1,13 @@
 //! What can be read.
-ghost use Rattle.std.specs.Prelude.{◌≡◌, ◌≤◌, ◌^◌, false};
+ghost use Rattle.std.specs.Prelude.{◌≡◌, ◌≤◌, ◌^◌};
 ghost use Rattle.h3_connection.specs.Endpoint.{EndpointHistory};
 ghost use Rattle.h3_connection.specs.FrameLeft.{ShowsFrameLeft};
 ghost use Rattle.h3_connection.specs.Lasts.{last_id};
 ghost use Rattle.h3_connection.specs.State.{StandsFor};
 ghost use Rattle.h3_c.specs.Exported.{OnStream};
-ghost use Rattle.h3_c.specs.Numbers.{ok};
-ghost use Rattle.h3_c.specs.Showing.{ShowsStream, ShowsConnection, ShowsSetting};
-ghost use Rattle.h3_c.specs.Beside.{DoesBeside};
-ghost use Rattle.h3_c.specs.Does.CallOfC.{Stream};
+ghost use Rattle.h3_c.specs.Numbers.{number, ok};
+ghost use Rattle.h3_c.specs.Beside.{ShowsStreamBeside};
+ghost use Rattle.h3_c.specs.Showing.{ShowsConnection, ShowsSetting};
 
 use super::Connection;
 use crate::numbers::{ARGUMENT, NONE, OK, Told};
@@ -18,10 +17,9 @@ use h3_proto::frame::SettingId;
 use h3_proto::stream::StreamId;
 
 impl Connection {
-    /// A stream's state.
+    /// A stream's state. What it tells has no detail.
     pub(crate) fn stream(&self, id: u64, state: &mut StreamState) -> Told
-        ensures shows { self.now.sessions.is_on ≡ false → OnStream id result self.now self.now ((result ≡ ok) × ShowsStream self.now id state.new) }
-        ensures beside { DoesBeside (Stream id state.old state.new result) self.now self.now }
+        ensures shows { OnStream id (number result.number 0) self.now self.now ((number result.number 0 ≡ ok) × ShowsStreamBeside self.now id state.new) }
         ensures unwritten { 2 ^ 62 ≤ id → state.new ≡ state.old }
     {
         let Ok(id) = StreamId::try_from(id) else {

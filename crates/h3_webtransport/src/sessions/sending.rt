@@ -1,13 +1,13 @@
 //! What is sent on streams, those of sessions among them.
-ghost use Rattle.std.specs.Prelude.{◌≡◌, ◌≤◌, ◌+◌, [], length, is_some, true, false};
+ghost use Rattle.std.specs.Prelude.{◌≡◌, ◌≤◌, ◌+◌, ◌==◌, ◌&&◌, [], length, is_some, true, false};
 ghost use Rattle.h3_webtransport_streams.specs.SessionStream.{receiver_of, sender_of};
 ghost use Rattle.h3_connection.specs.ReadingContracts.{ShowsFinished, ShowsOutgoing, ShowsReset, ShowsWaiting};
 ghost use Rattle.h3_session.specs.Copied.{CopiesTo, TellsEnd};
-ghost use Rattle.h3_webtransport.specs.Closing.{ClosesOn, Stops};
+ghost use Rattle.h3_webtransport.specs.Closing.{ClosesOn, ClosesRaw, Forgets, Stops, resets_raw};
 ghost use Rattle.h3_webtransport.specs.Joint.{has_stream, stored_at};
 ghost use Rattle.h3_webtransport.specs.Sending.{raw_finished, raw_refusal, raw_reset, raw_waiting, CopiesRaw, FinishesOn, ResetsOn, SendsRaw, TakesEndOn};
 
-use crate::sessions::Sessions;
+use super::Sessions;
 use bytes::Bytes;
 use h3_connection::event::Refusal;
 use h3_proto::stream::StreamId;
@@ -16,6 +16,7 @@ use h3_session::endpoint::{ClosedStream, Endpoint};
 impl Sessions {
     /// Sends bytes on a stream of a session, as they are. Refused are first every call after a connection fault, then a stream of no session, and one
     /// that this side did not open and that goes one way. Next is one that was finished or reset. `OutOfMemory` comes last. Refused bytes come back.
+    #[tactic(auto, using(crate::proofs::Parting::sends_closed, crate::proofs::Parting::sends_here))]
     pub fn send_raw(
         &mut self,
         endpoint: &Endpoint,
@@ -41,6 +42,7 @@ impl Sessions {
     }
 
     /// All was sent on a stream.
+    #[tactic(auto, using(crate::proofs::Parting::part_here, crate::proofs::Parting::part_elsewhere, crate::proofs::Parting::is_closed, crate::proofs::Parting::is_open))]
     pub fn finish(&mut self, endpoint: &mut Endpoint, id: StreamId) -> Result<(), Refusal>
         ensures { FinishesOn endpoint.old endpoint.new self.old self.new id result }
     {
@@ -54,6 +56,7 @@ impl Sessions {
     }
 
     /// Sending on a stream ends here, and what waits is dropped.
+    #[tactic(auto, using(crate::proofs::Parting::part_here, crate::proofs::Parting::part_elsewhere, crate::proofs::Parting::is_closed, crate::proofs::Parting::is_open))]
     pub fn reset(&mut self, endpoint: &mut Endpoint, id: StreamId) -> Result<(), Refusal>
         ensures { ResetsOn endpoint.old endpoint.new self.old self.new id result }
     {
@@ -68,6 +71,7 @@ impl Sessions {
 
     /// Gives a stream up both ways, as that of the endpoint does. Nothing is kept of a stream of a session then: also call it when QUIC has closed such
     /// a stream.
+    #[tactic(auto, using(crate::proofs::Parting::part_here, crate::proofs::Parting::part_elsewhere, crate::proofs::Parting::is_closed, crate::proofs::Parting::is_open))]
     pub fn close_stream(
         &mut self,
         endpoint: &mut Endpoint,
@@ -81,19 +85,38 @@ impl Sessions {
         if let Some(code) = endpoint.fault() {
             return Err(Refusal::Closed(code));
         }
+        self.close_here(endpoint, id)
+    }
+
+    // The same of a stream of a session, of a connection that is open.
+    #[tactic(auto, using(crate::proofs::GivingUp::closes_both, crate::proofs::GivingUp::closes_none))]
+    fn close_here(&mut self, endpoint: &mut Endpoint, id: StreamId) -> Result<ClosedStream, Refusal>
+        ensures { ClosesRaw endpoint.old endpoint.new self.old self.new id result }
+    {
         let stop_sending = match self.stop(endpoint, id) {
             Ok(stop_sending) => stop_sending,
             Err(refusal) => return Err(refusal),
         };
-        let reset_stream = self.streams.reset(id).is_ok();
-        self.streams.forget(id);
+        let reset_stream = self.give_up(id);
         Ok(ClosedStream {
             stop_sending,
             reset_stream,
         })
     }
 
+    // Nothing is kept of a stream. Answers whether anything was still to be sent on it.
+    #[tactic(auto, using(crate::proofs::GivingUp::resets_here, crate::proofs::GivingUp::forgets_all, crate::proofs::Pulling::alone_again))]
+    fn give_up(&mut self, id: StreamId) -> bool
+        ensures is { result ≡ resets_raw self.old id }
+        ensures forgets { Forgets self.old self.new id }
+    {
+        let reset = self.streams.reset(id);
+        self.streams.forget(id);
+        reset.is_ok()
+    }
+
     // What comes on a stream of a session is given up, by the endpoint if it reads it as a request. Answers whether the end or a reset is still to come.
+    #[tactic(auto, using(crate::proofs::GivingUp::stops_here, crate::proofs::GivingUp::stops_request, crate::proofs::GivingUp::stops_one_way))]
     fn stop(&self, endpoint: &mut Endpoint, id: StreamId) -> Result<bool, Refusal>
         ensures { Stops (receiver_of (stored_at self.now id)) endpoint.old endpoint.new id result }
     {
@@ -168,11 +191,21 @@ impl Sessions {
             return endpoint.copy_with_end(id, out);
         }
         let count = self.streams.copy_to(id, out);
-        let is_last = self.streams.is_finished(id) && self.streams.waiting(id) == count;
-        (count, 0, is_last)
+        (count, 0, self.ends_with(id, count))
+    }
+
+    // Whether so many bytes are all that wait on a stream of a session, and it was finished.
+    fn ends_with(&self, id: StreamId, count: usize) -> bool
+        ensures { result ≡ (raw_finished self.now id && (length (raw_waiting self.now id) == count)) }
+    {
+        if !self.streams.is_finished(id) {
+            return false;
+        }
+        self.streams.waiting(id) == count
     }
 
     /// QUIC took the FIN of a stream.
+    #[tactic(auto, using(crate::proofs::Parting::part_here, crate::proofs::Parting::part_elsewhere))]
     pub fn end_taken(&mut self, endpoint: &mut Endpoint, id: StreamId) -> bool
         ensures { TakesEndOn endpoint.old endpoint.new self.old self.new id result }
     {

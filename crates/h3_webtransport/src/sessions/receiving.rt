@@ -1,24 +1,19 @@
 //! What comes on streams, those of sessions among them.
-ghost use Rattle.std.specs.Prelude.{◌≡◌, Some, None, true, false, length, option_map, unwrap_or};
+ghost use Rattle.std.specs.Prelude.{◌≡◌, Some, None, true, false, length, unwrap_or};
 ghost use Rattle.h3_proto.specs.StreamIds.{is_request_stream};
-ghost use Rattle.h3_connection.specs.Calls.{Sets};
-ghost use Rattle.h3_connection.specs.Codes.{id_error};
 ghost use Rattle.h3_connection.specs.declared.event.DeliverError.TheVariants.{Refused};
-ghost use Rattle.h3_connection.specs.declared.event.Fault.TheVariants.{Connection as Closing};
-ghost use Rattle.h3_connection.specs.declared.event.Pull.TheVariants as pull;
 ghost use Rattle.h3_connection.specs.declared.event.Refusal.TheVariants.{Connection};
-ghost use Rattle.h3_webtransport.specs.Closing.{Forgets};
 ghost use Rattle.h3_webtransport.specs.Parts.{StreamsAlone};
 ghost use Rattle.std.specs.List.{concat};
 ghost use Rattle.h3_connection.specs.Unread.{ShowsUnread};
-ghost use Rattle.h3_incoming.specs.FieldsPulls.{list_of, pull_of};
+ghost use Rattle.h3_incoming.specs.FieldsPulls.{list_of, plain_answer, pull_of};
 ghost use Rattle.h3_session.specs.Listing.{ListsNext};
 ghost use Rattle.h3_webtransport_streams.specs.Begun.{stream_or_unseen};
 ghost use Rattle.h3_webtransport_streams.specs.SessionStream.{entered, unread_of};
 ghost use Rattle.h3_webtransport.specs.Joint.{is_read, may_begin, stored_at};
-ghost use Rattle.h3_webtransport.specs.Receiving.{CancelsOn, DeliversOn, EndsOn, Enters, PullsFirst, PullsOn, RefusesDeliveriesOn, session_of};
+ghost use Rattle.h3_webtransport.specs.Receiving.{Arrives, BeginsAt, CancelsOn, DeliversOn, EndsOn, Enters, ListsAgain, PullsFirst, PullsOn, PullsThere, RefusesDeliveriesOn, session_of};
 
-use crate::sessions::Sessions;
+use super::Sessions;
 use bytes::Bytes;
 use h3_connection::event::{DeliverError, Fault, Refusal};
 use h3_incoming::answer::{Plain, fail, give_made, pause};
@@ -30,22 +25,29 @@ use h3_session::endpoint::Endpoint;
 use h3_webtransport_streams::Begun;
 
 // The session that an answer tells.
+#[tactic(auto, using(crate::proofs::Telling::tells_none, crate::proofs::Telling::tells_plain))]
 fn session_of(answer: &BlockPull) -> Option<SessionId>
     ensures { result ≡ session_of (pull_of answer.now) }
 {
     match answer.told() {
-        Told::Plain(Plain::Session(session)) => Some(*session),
-        _ => None,
+        Told::Message(_, _) => None,
+        Told::Plain(plain) => session_in(plain),
     }
 }
 
-// Why nothing is taken after a connection fault.
-fn closed(endpoint: &Endpoint) -> Option<DeliverError>
-    ensures { result ≡ option_map (λ code. Refused (Connection code)) endpoint.now.closed }
+fn session_in(plain: &Plain) -> Option<SessionId>
+    ensures { result ≡ session_of (pull_of (plain_answer plain.now)) }
 {
-    match endpoint.fault() {
-        Some(code) => Some(DeliverError::Refused(Refusal::Connection(code))),
-        None => None,
+    match plain {
+        Plain::Session(session) => Some(*session),
+        Plain::Body(_)
+        | Plain::Raw(_)
+        | Plain::TooLarge(_)
+        | Plain::End
+        | Plain::Pending
+        | Plain::Waiting(_)
+        | Plain::Fault(_)
+        | Plain::NoMessages => None,
     }
 }
 
@@ -57,9 +59,28 @@ fn fault(endpoint: &mut Endpoint, code: Code) -> DeliverError
     DeliverError::Refused(Refusal::Connection(endpoint.close_for(code)))
 }
 
+// Whether a session may have this id: that of a request.
+fn is_session(session: SessionId) -> bool
+    ensures { result ≡ is_request_stream session }
+{
+    session.into_inner() % 4 == 0
+}
+
+// A stream of a session that the endpoint reads as a request has no message of this side.
+fn send_no_message(endpoint: &mut Endpoint, id: StreamId)
+    ensures { Enters endpoint.old endpoint.new id (is_request_stream id) }
+{
+    if !id.is_request() {
+        return;
+    }
+    // (refused only if it was reset before)
+    let _reset = endpoint.reset(id);
+}
+
 impl Sessions {
     /// Bytes came on a stream. On one both ways that a server opened its client refuses other first bytes than those of a session's stream as a fault of
     /// the connection, H3_STREAM_CREATION_ERROR, and the id of no session as H3_ID_ERROR.
+    #[tactic(auto, using(crate::proofs::Parting::part_here, crate::proofs::Parting::part_elsewhere, crate::proofs::Parting::is_faulty, crate::proofs::Parting::is_sound))]
     pub fn deliver(
         &mut self,
         endpoint: &mut Endpoint,
@@ -71,9 +92,22 @@ impl Sessions {
         if !self.reads(id) {
             return endpoint.deliver(id, bytes);
         }
-        if let Some(error) = closed(endpoint) {
-            return Err(error);
+        if let Some(code) = endpoint.fault() {
+            return Err(DeliverError::Refused(Refusal::Connection(code)));
         }
+        self.deliver_here(endpoint, id, bytes)
+    }
+
+    // The same of a stream that is read here, of a connection that is open.
+    fn deliver_here(
+        &mut self,
+        endpoint: &mut Endpoint,
+        id: StreamId,
+        bytes: Bytes,
+    ) -> Result<(), DeliverError>
+        requires { endpoint.old.closed ≡ None }
+        ensures { Arrives endpoint.old endpoint.new self.old self.new id bytes result }
+    {
         match self.streams.deliver(id, bytes) {
             Ok(Begun::Taken(_)) => Ok(()),
             Ok(Begun::NoFront) => Err(fault(endpoint, Code::H3_STREAM_CREATION_ERROR)),
@@ -83,19 +117,21 @@ impl Sessions {
     }
 
     /// The end of a stream came.
+    #[tactic(auto, using(crate::proofs::Parting::part_here, crate::proofs::Parting::part_elsewhere, crate::proofs::Parting::is_faulty, crate::proofs::Parting::is_sound))]
     pub fn deliver_end(&mut self, endpoint: &mut Endpoint, id: StreamId) -> Result<(), DeliverError>
         ensures { EndsOn endpoint.old endpoint.new self.old self.new id None result }
     {
         if !self.reads(id) {
             return endpoint.deliver_end(id);
         }
-        match closed(endpoint) {
-            Some(error) => Err(error),
+        match endpoint.fault() {
+            Some(code) => Err(DeliverError::Refused(Refusal::Connection(code))),
             None => self.streams.deliver_end(id),
         }
     }
 
     /// A stream was reset by its sender, with this code.
+    #[tactic(auto, using(crate::proofs::Parting::part_here, crate::proofs::Parting::part_elsewhere, crate::proofs::Parting::is_faulty, crate::proofs::Parting::is_sound))]
     pub fn deliver_reset(
         &mut self,
         endpoint: &mut Endpoint,
@@ -107,8 +143,8 @@ impl Sessions {
         if !self.reads(id) {
             return endpoint.deliver_reset(id, code);
         }
-        match closed(endpoint) {
-            Some(error) => Err(error),
+        match endpoint.fault() {
+            Some(first) => Err(DeliverError::Refused(Refusal::Connection(first))),
             None => self.streams.deliver_reset(id, code),
         }
     }
@@ -140,6 +176,7 @@ impl Sessions {
 
     /// What comes next on a stream. A stream that the endpoint reads is one of a session from the answer on that tells the session; it is answered if it
     /// goes both ways. With sessions on, an id that no session has is a fault of the connection, H3_ID_ERROR.
+    #[tactic(auto, using(crate::proofs::Pulling::not_read))]
     pub fn pull_block(&mut self, endpoint: &mut Endpoint, id: StreamId, out: &mut BlockPull)
         ensures pulls { PullsOn endpoint.old endpoint.new self.old self.new id (pull_of out.new) }
         ensures list { is_read self.old id ≡ false → ListsNext endpoint.old id (list_of out.new) }
@@ -153,6 +190,14 @@ impl Sessions {
         if let Some(code) = endpoint.fault() {
             return fail(out, Fault::Connection(code));
         }
+        self.pull_here(id, out);
+    }
+
+    // The same of a stream that is read here, of a connection that is open.
+    #[tactic(auto, using(crate::proofs::Pulling::is_plain))]
+    fn pull_here(&mut self, id: StreamId, out: &mut BlockPull)
+        ensures { PullsThere self.old self.new id (pull_of out.new) (stored_at self.old id) }
+    {
         if !self.streams.contains(id) {
             return pause(out);
         }
@@ -160,7 +205,7 @@ impl Sessions {
     }
 
     // The same of a stream that may turn out to be of a session: there is room for it before anything is pulled, so that nothing is lost.
-    #[tactic(auto, using(crate::proofs::Pulling::pulls_other, crate::proofs::Pulling::pulls_taken, crate::proofs::Pulling::pulls_wrong, crate::proofs::Pulling::is_free))]
+    #[tactic(auto, using(crate::proofs::Pulling::pulls_other, crate::proofs::Pulling::pulls_session, crate::proofs::Pulling::lists_none, crate::proofs::Pulling::lists_same, crate::proofs::Pulling::alone_again))]
     fn pull_first(&mut self, endpoint: &mut Endpoint, id: StreamId, out: &mut BlockPull)
         requires { may_begin self.old id ≡ true }
         ensures first { PullsFirst endpoint.old endpoint.new self.old self.new id (pull_of out.new) }
@@ -178,6 +223,7 @@ impl Sessions {
     }
 
     // The stream is of this session. What is sent on it is no message.
+    #[tactic(auto, using(crate::proofs::Pulling::begins_taken, crate::proofs::Pulling::begins_wrong))]
     fn begin(
         &mut self,
         endpoint: &mut Endpoint,
@@ -186,25 +232,21 @@ impl Sessions {
         out: &mut BlockPull,
     )
         requires { stored_at self.old id ≡ Some (entered id (is_request_stream id)) }
-        ensures taken { is_request_stream session ≡ true → (out.new ≡ out.old) × Sets self.old.sessions.streams self.new.sessions.streams id (entered session (is_request_stream id))
-            × Enters endpoint.old endpoint.new id (is_request_stream id) }
-        ensures wrong { is_request_stream session ≡ false → (pull_of out.new ≡ pull.Fault (Closing (unwrap_or endpoint.old.closed id_error))) × (list_of out.new ≡ None)
-            × Forgets self.old self.new id × (endpoint.new ≡ record endpoint.old { closed = Some (unwrap_or endpoint.old.closed id_error) }) }
+        ensures begins { BeginsAt (is_request_stream session) endpoint.old endpoint.new self.old self.new id session (pull_of out.old) (pull_of out.new) }
+        ensures list { ListsAgain (is_request_stream session) (list_of out.old) (list_of out.new) }
         ensures rest { StreamsAlone self.old self.new }
     {
-        if session.into_inner() % 4 != 0 {
+        if !is_session(session) {
             self.streams.forget(id);
             let code = endpoint.close_for(Code::H3_ID_ERROR);
             return fail(out, Fault::Connection(code));
         }
         self.streams.set_session(id, session);
-        if id.is_request() {
-            // (refused only if it was reset before)
-            let _reset = endpoint.reset(id);
-        }
+        send_no_message(endpoint, id);
     }
 
     /// Nothing more of a stream is needed.
+    #[tactic(auto, using(crate::proofs::Parting::part_here, crate::proofs::Parting::part_elsewhere, crate::proofs::Parting::is_closed, crate::proofs::Parting::is_open))]
     pub fn cancel(&mut self, endpoint: &mut Endpoint, id: StreamId) -> Result<(), Refusal>
         ensures { CancelsOn endpoint.old endpoint.new self.old self.new id result }
     {

@@ -1,27 +1,25 @@
 //! Which stream sends next, those of sessions among them.
-ghost use Rattle.std.specs.Prelude.{◌≡◌};
+ghost use Rattle.std.specs.Prelude.{◌≡◌, ◌==◌, ◌&&◌, true, false, not, if◌then◌else◌};
+ghost use Rattle.h3_proto.specs.StreamIds.{is_request_stream};
 ghost use Rattle.h3_webtransport.specs.Ordering.{lower_of, turn_of, AdvancesOn, HoldsOn, SendsInTurn, SendsLowest};
 
-use crate::sessions::Sessions;
+use super::Sessions;
 use h3_connection::event::Refusal;
 use h3_proto::stream::StreamId;
 use h3_session::endpoint::Endpoint;
 
 impl Sessions {
     /// Takes the first bytes that wait on a stream, at most all.
+    #[tactic(auto, using(crate::proofs::Parting::part_here, crate::proofs::Parting::part_elsewhere))]
     pub fn advance(&mut self, endpoint: &mut Endpoint, id: StreamId, count: usize)
         ensures { AdvancesOn endpoint.old endpoint.new self.old self.new id count }
     {
         if self.has(id) {
             self.streams.advance(id, count);
-            if count > 0 {
-                self.is_next = false;
-            }
+            self.is_next = after_raw(self.is_next, count);
             return;
         }
-        if count > 0 && id.is_request() {
-            self.is_next = true;
-        }
+        self.is_next = after_other(self.is_on, self.is_next, id, count);
         endpoint.advance(id, count);
     }
 
@@ -49,6 +47,7 @@ impl Sessions {
     }
 
     /// QUIC has no credit for a stream, or has it again.
+    #[tactic(auto, using(crate::proofs::Parting::part_here, crate::proofs::Parting::part_elsewhere, crate::proofs::Parting::is_closed, crate::proofs::Parting::is_open))]
     pub fn hold(
         &mut self,
         endpoint: &mut Endpoint,
@@ -69,6 +68,26 @@ impl Sessions {
             Err(Refusal::NotOpen)
         }
     }
+}
+
+// Whether a stream of a session is next after bytes of one were taken.
+fn after_raw(is_next: bool, count: usize) -> bool
+    ensures { result ≡ (if count == 0 then is_next else false) }
+{
+    if count == 0 {
+        return is_next;
+    }
+    false
+}
+
+// Whether one is next after bytes of another stream were taken.
+fn after_other(is_on: bool, is_next: bool, id: StreamId, count: usize) -> bool
+    ensures { result ≡ (if is_on && not (count == 0) && is_request_stream id then true else is_next) }
+{
+    if is_on && count > 0 && id.is_request() {
+        return true;
+    }
+    is_next
 }
 
 fn number_of(id: Option<StreamId>) -> Option<u64>
