@@ -5,3 +5,4 @@ pub mod Opened
 pub mod Telling
 pub mod GivingUp
 pub mod Parting
+pub mod Arriving
