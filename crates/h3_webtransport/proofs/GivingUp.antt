@@ -10,11 +10,11 @@ use Rattle.h3_connection.specs.declared.event.Refusal.TheVariants.{NotOpen}
 use Rattle.h3_session.specs.Closing.{ClosesStream}
 use Rattle.h3_session.specs.Lacking.{RefusesDeliveries}
 use Rattle.h3_session.specs.declared.endpoint.closing.ClosedStream.{ClosedStream}
-use Rattle.h3_webtransport_streams.specs.Begun.{refusal_of, stream_or_unseen}
+use Rattle.h3_webtransport_streams.specs.Begun.{refusal_of}
 use Rattle.h3_webtransport_streams.specs.Receiver.{Receiver}
 use Rattle.h3_webtransport_streams.specs.Sender.{cut_off}
 use Rattle.h3_webtransport_streams.specs.SessionStream.{SessionStream, ActsOn, answer_at, receiver_of, sending, unseen}
-use Rattle.h3_webtransport.specs.Closing.{ClosesRaw, Forgets, Gives, Stops, StopsAt, resets_raw, stop_of}
+use Rattle.h3_webtransport.specs.Closing.{ClosesRaw, Forgets, Stops, StopsAt, resets_raw, stop_of}
 use Rattle.h3_webtransport.specs.Joint.{Joint, stored_at}
 
 -- what comes on it: it is read here,

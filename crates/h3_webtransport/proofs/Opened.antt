@@ -11,7 +11,7 @@ use Rattle.h3_connection.specs.Shown.{peer_setting}
 use Rattle.h3_connection.specs.State.{EndpointState, StandsFor}
 use Rattle.h3_connection.specs.declared.event.Refusal.{Refusal}
 use Rattle.h3_connection.specs.declared.event.Refusal.TheVariants.{Closed, OutOfMemory}
-use Rattle.h3_session.specs.Beside.{TakesId, take_request_id}
+use Rattle.h3_session.specs.Beside.{TakesId}
 use Rattle.h3_session.specs.Lacking.{RefusesBodies}
 use Rattle.h3_session.specs.NextRequest.{ShowsNextRequest, id_unless}
 use Rattle.h3_webtransport_streams.specs.SessionStream.{both_ways, one_way}
