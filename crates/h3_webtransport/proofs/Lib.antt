@@ -6,3 +6,4 @@ pub mod Telling
 pub mod GivingUp
 pub mod Parting
 pub mod Arriving
+pub mod Turning
