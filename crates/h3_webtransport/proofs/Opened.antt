@@ -11,7 +11,7 @@ use Rattle.h3_connection.specs.Shown.{peer_setting}
 use Rattle.h3_connection.specs.State.{EndpointState, StandsFor}
 use Rattle.h3_connection.specs.declared.event.Refusal.{Refusal}
 use Rattle.h3_connection.specs.declared.event.Refusal.TheVariants.{Closed, OutOfMemory}
-use Rattle.h3_session.specs.Beside.{TakesId, take_request_id}
+use Rattle.h3_session.specs.Beside.{TakesId}
 use Rattle.h3_session.specs.Lacking.{RefusesBodies}
 use Rattle.h3_session.specs.NextRequest.{ShowsNextRequest, id_unless}
 use Rattle.h3_webtransport_streams.specs.SessionStream.{both_ways, one_way}
@@ -122,10 +122,11 @@ module _ (both : Bool) (side : Side) (e : EndpointState) (s t : SessionsState) (
   opens_at_client f is at opens h stands = rw (is, at) (opens h stands)
 
 -- all
-module _ (e f : EndpointState) (s t : Joint) (session : ℕ) (both : Bool) where
-  pub opens_not : (error : OpenError) → ((h : EndpointHistory) → StandsFor e h → h.side ≡ s.side → Some error ≡ open_error h s.is_on session) → OpensOn e e s s session both (Err error)
-  opens_not error is = λ h stands same. subst (λ o. OpensUnless o both e e s s session (Err error)) (is h stands same) (refl, refl, refl)
+pub opens_not : (e : EndpointState) (s : Joint) (session : ℕ) (both : Bool) (error : OpenError) → ((h : EndpointHistory) → StandsFor e h → h.side ≡ s.side → Some error ≡ open_error h s.is_on session)
+    → OpensOn e e s s session both (Err error)
+opens_not e s session both error is = λ h stands same. subst (λ o. OpensUnless o both e e s s session (Err error)) (is h stands same) (refl, refl, refl)
 
+module _ (e f : EndpointState) (s t : Joint) (session : ℕ) (both : Bool) where
   opens_as : (inner : Result ℕ Refusal) → ((h : EndpointHistory) → StandsFor e h → h.side ≡ s.side → None ≡ open_error h s.is_on session)
       → ((h : EndpointHistory) → StandsFor e h → OpensKind both s.side e f s.sessions t.sessions session inner) → t ≡ record s { sessions = t.sessions } → OpensOn e f s t session both (opened_as inner)
   opens_as inner none opens rest = λ h stands same.

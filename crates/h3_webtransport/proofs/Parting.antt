@@ -1,5 +1,5 @@
 -- A call is one on a stream of a session, or it is passed on; behind a fault of the connection it is refused.
-use Rattle.std.proofs.Common.{◌≡◌, ℕ, Bool, true, false, [], List, Option, Some, None, Ok, Err, refl, sym, ap, ◌∙◌}
+use Rattle.std.proofs.Common.{◌≡◌, ℕ, Bool, true, false, List, Option, Some, None, Ok, Err, refl, sym, ap, ◌∙◌}
 use Rattle.std.specs.Prelude.{Result, OnOk, IfErr, unwrap_or}
 use Rattle.h3_connection.specs.Calls.{AllSame}
 use Rattle.h3_connection.specs.State.{EndpointState}

@@ -1,5 +1,5 @@
 -- The first pull of a stream that may turn out to be of a session, and what is read beside the endpoint.
-use Rattle.std.proofs.Common.{◌≡◌, ◌≢◌, ◌⊎◌, ◌%◌, ◌==◌, ℕ, Bool, true, false, ◌&&◌, ◌||◌, not, List, [], ◌∷◌, Option, Some, None, refl, sym, ap, subst, ◌∙◌, is_some, unwrap_or, if◌then◌else◌}
+use Rattle.std.proofs.Common.{◌≡◌, ◌≢◌, ◌⊎◌, ◌%◌, ℕ, Bool, true, false, ◌&&◌, ◌||◌, not, List, [], ◌∷◌, Option, Some, None, refl, sym, ap, subst, ◌∙◌, is_some, unwrap_or, if◌then◌else◌}
 use Rattle.std.proofs.lemmas.Bool.{cases_eq, eqb-true}
 use Rattle.h3_field.specs.Field.{Field}
 use Rattle.h3_proto.specs.StreamIds.{is_request_stream}
@@ -21,7 +21,7 @@ use Rattle.h3_webtransport_streams.specs.SessionStream.{SessionStream, ActsOn, C
 use Rattle.h3_webtransport.specs.Closing.{Forgets}
 use Rattle.h3_webtransport.specs.Joint.{Joint, is_begun_by_peer, is_read, is_server_opened, may_begin, stored_at}
 use Rattle.h3_webtransport.specs.Parts.{StreamsAlone}
-use Rattle.h3_webtransport.specs.Receiving.{Begins, BeginsAt, BeginsIf, Enters, ListsAgain, PullsFirst, pulls_raw, session_of}
+use Rattle.h3_webtransport.specs.Receiving.{Begins, BeginsAt, BeginsIf, Enters, ListsAgain, PullsFirst, PullsOn, PullsRaw, PullsThere, pulls_raw, session_of}
 use Rattle.h3_webtransport.specs.Receiving.PullsFirst.{pulls}
 
 -- no stream of a session has such an id yet
@@ -48,7 +48,7 @@ not_both None side id true begins read = kinds_differ side id begins (let it : (
     both_true true h = refl
     both_true false h = h
 
-pub not_read : (s : Joint) (id : ℕ) → may_begin s id ≡ true → is_read s id ≡ true → false ≡ true
+not_read : (s : Joint) (id : ℕ) → may_begin s id ≡ true → is_read s id ≡ true → false ≡ true
 not_read s id begins read = not_both (stored_at s id) s.side id s.is_on begins read
 
 -- what is set is set again, or taken away
@@ -141,6 +141,56 @@ half_is_plain : (s : SessionStream) (o : Option Receiver) → has_header (on_rec
 half_is_plain s None = refl
 half_is_plain s (Some r) = pulled_is_plain r s.session
 
-pub is_plain : (old new : Streams SessionStream) (id : ℕ) (answer : Pull) (there : Option SessionStream) → ActsOn pull.NoMessages pulls_raw old new id answer there → has_header answer ≡ false
+is_plain : (old new : Streams SessionStream) (id : ℕ) (answer : Pull) (there : Option SessionStream) → ActsOn pull.NoMessages pulls_raw old new id answer there → has_header answer ≡ false
 is_plain old new id answer None acts = ap has_header acts.0
 is_plain old new id answer (Some s) acts = ap has_header acts.0 ∙ half_is_plain s s.receiver
+
+-- a stream that is there, or not yet
+pub pulls_there : (s t : Joint) (id : ℕ) (answer told : Pull) → is_some (stored_at s id) ≡ true → ActsOn pull.NoMessages pulls_raw s.sessions.streams t.sessions.streams id answer (stored_at s id)
+    → (has_header answer ≡ false → told ≡ answer) → StreamsAlone s t → PullsThere s t id told (stored_at s id)
+pulls_there s t id answer told is acts same alone = there_at (stored_at s id) is acts
+  where
+    there_at : (o : Option SessionStream) → is_some o ≡ true → ActsOn pull.NoMessages pulls_raw s.sessions.streams t.sessions.streams id answer o → PullsThere s t id told o
+    there_at None none h = absurd (cc)
+    there_at (Some x) some h = (same (is_plain s.sessions.streams t.sessions.streams id answer (Some x) h) ∙ h.0, h.1, alone)
+
+pub pulls_absent : (s : Joint) (id : ℕ) (told : Pull) → is_some (stored_at s id) ≡ false → told ≡ pull.Pending → PullsThere s s id told (stored_at s id)
+pulls_absent s id told is paused = absent_at (stored_at s id) is
+  where
+    absent_at : (o : Option SessionStream) → is_some o ≡ false → PullsThere s s id told o
+    absent_at None none = (paused, refl)
+    absent_at (Some x) some = absurd (cc)
+
+-- all of a pull
+pub pulls_faulty : (e : EndpointState) (s : Joint) (id code : ℕ) (answer : Pull) → may_begin s id ≡ false → is_read s id ≡ true → e.closed ≡ Some code → answer ≡ pull.Fault (Closing code)
+    → PullsOn e e s s id answer
+pulls_faulty e s id code answer begins read closed fault =
+    record {
+      first = λ is. absurd (let never : false ≡ true = sym begins ∙ is in cc);
+      own = λ is. (refl, subst (λ c. PullsRaw c s s id answer) (sym closed) (fault, refl));
+      other = λ not_begun is. absurd (let never : true ≡ false = sym read ∙ is in cc);
+    }
+
+pub pulls_own : (e : EndpointState) (s t : Joint) (id : ℕ) (answer : Pull) → may_begin s id ≡ false → is_read s id ≡ true → e.closed ≡ None → PullsThere s t id answer (stored_at s id) → PullsOn e e s t id answer
+pulls_own e s t id answer begins read closed there =
+    record {
+      first = λ is. absurd (let never : false ≡ true = sym begins ∙ is in cc);
+      own = λ is. (refl, subst (λ c. PullsRaw c s t id answer) (sym closed) there);
+      other = λ not_begun is. absurd (let never : true ≡ false = sym read ∙ is in cc);
+    }
+
+pub pulls_elsewhere : (e f : EndpointState) (s : Joint) (id : ℕ) (answer : Pull) → may_begin s id ≡ false → is_read s id ≡ false → PullsNext e f id answer → PullsOn e f s s id answer
+pulls_elsewhere e f s id answer begins read h =
+    record {
+      first = λ is. absurd (let never : false ≡ true = sym begins ∙ is in cc);
+      own = λ is. absurd (let never : false ≡ true = sym read ∙ is in cc);
+      other = λ not_begun is. (refl, h);
+    }
+
+pub pulls_begun : (e f : EndpointState) (s t : Joint) (id : ℕ) (answer : Pull) → may_begin s id ≡ true → PullsFirst e f s t id answer → StreamsAlone s t → PullsOn e f s t id answer
+pulls_begun e f s t id answer begins h alone =
+    record {
+      first = λ is. (h, alone);
+      own = λ is. absurd (let never : false ≡ true = not_read s id begins is in cc);
+      other = λ not_begun is. absurd (let never : true ≡ false = sym begins ∙ not_begun in cc);
+    }
