@@ -138,9 +138,14 @@ static void on_end(http3_request *request) {
   end_session(work, ends_here ? 0 : H3_CODE_MESSAGE_ERROR); /* RFC 9297, section 3.3 */
 }
 
+/* Of a stream of a session the code of a reset may be a number of the client's application. */
 static void on_failed(http3_request *request, const h3_item *item) {
   work *work = request->data;
-  report("stream %llu failed: %s, %s", (unsigned long long)request->entry.id, h3_kind_text(item->kind), http3_why(item));
+  unsigned long long id = request->entry.id;
+  uint32_t number;
+  if (item->kind == H3_FAULT_RESET && h3_webtransport_number(item->number, &number) == H3_OK)
+    report("stream %llu failed: H3_FAULT_RESET, number %lu of the application", id, (unsigned long)number);
+  else report("stream %llu failed: %s, %s", id, h3_kind_text(item->kind), http3_why(item));
   if (work && is_session(work)) end_session(work, 0);
 }
 

@@ -85,6 +85,15 @@ session() { # PORT of a server that has the page, PORT of one of sessions
   chromium_sees "$1" "/session.html?port=$2&hash=$hash" && grep -q '"seen">ready$' "$work/seen" && grep -q "^both ways true$" "$work/seen" &&
     grep -q "^one way true$" "$work/seen" && grep -q "^datagram true$" "$work/seen" && grep -q "^closed$" "$work/seen" && grep -q "^back true$" "$work/seen"
 }
+numbers() { # the server says with which numbers of the application the page reset its streams
+  local number
+  for number in 0 29 30 255; do
+    if ! grep -q "number $number of the application$" "$work/webtransport.log"; then
+      cp "$work/webtransport.log" "$work/log"
+      return 1
+    fi
+  done
+}
 websocket_seen() { # PORT of a server that has the page, PORT of one of WebSockets
   local line
   chromium_sees "$1" "/websocket.html?port=$2" "$2" && grep -q '"seen">open$' "$work/seen" || return 1
@@ -250,9 +259,11 @@ start "${ports[17]}" webtransport.log "$work/checked/webtransport" 127.0.0.1 "${
 sessions=$last
 relay "${ports[18]}" "${ports[17]}"
 check "webtransport, Chromium: sessions, streams of each kind from both sides, datagrams" session "${ports[0]}" "${ports[17]}"
+check "webtransport, Chromium: the numbers of streams that are reset" numbers
 check "webtransport, Chromium, packets lost: sessions, streams of each kind from both sides, datagrams" session "${ports[0]}" "${ports[18]}"
 check "webtransport, webtransport_client: streams of each kind from both sides, datagrams" own_session "${ports[17]}"
 check "webtransport, webtransport_client, packets lost: streams of each kind from both sides, datagrams" own_session "${ports[18]}"
+check "webtransport_client: nobody listens" refuses "nobody listens" "$work/checked/webtransport_client" "$cert" 127.0.0.1 "${ports[21]}" localhost / "$work/none"
 check "webtransport: it ends" stop "$sessions"
 check "webtransport: no leak and no error of memory" is_silent webtransport.log
 start "${ports[19]}" websocket.log "$work/checked/websocket" 127.0.0.1 "${ports[19]}" "$cert" "$key"
