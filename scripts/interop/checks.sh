@@ -155,3 +155,19 @@ saw() {
     fi
   done
 }
+# session_page PORT FILE: the path of the page that opens sessions of WebTransport at this port, where a server shows the certificate FILE
+session_page() {
+  echo "/session.html?port=$1&hash=$(openssl x509 -in "$2" -outform der | openssl dgst -sha256 -binary | base64 | sed 's/+/%2B/g; s,/,%2F,g; s/=/%3D/g')"
+}
+# what that page says if all is well
+saw_session() { saw ready "both ways true" "one way true" "datagram true" closed "back true"; }
+# says_numbers LOG: the server of sessions has the numbers of an application with which that page resets its streams
+says_numbers() {
+  local number
+  for number in 0 29 30 255; do
+    if ! grep -q "number $number of the application$" "$work/$1"; then
+      cp "$work/$1" "$work/log"
+      return 1
+    fi
+  done
+}
