@@ -196,7 +196,6 @@ static bool is_both_ways(uint64_t id) { return id % 4 < 2; }
 static void settle(http3_request *request, const h3_item *item) {
   http3 *h = request->connection;
   request->settled = true;
-  if (!is_both_ways(request->entry.id)) request->closed = true; /* nothing else is told of the peer's unidirectional streams */
   if (item->kind == H3_END) return h->setup->events->end(request);
   if (item->kind == H3_FAULT_MALFORMED && item->number == H3_TOO_LONG && h->setup->server && !request->has_head) return tell_too_long(request);
   if (item->kind == H3_FAULT_MALFORMED || item->kind == H3_FAULT_RESET)
@@ -412,6 +411,12 @@ static http3_request *take_both_ways(http3 *h, uint64_t id) {
   return found ? found : add_raw(h, id, true);
 }
 
+/* The peer's unidirectional stream ended, or was reset: QUIC says nothing more of it. */
+static void one_way_over(http3 *h, uint64_t id) {
+  http3_request *request = find(h, id);
+  if (request) request->closed = true;
+}
+
 static void received(void *owner, int64_t stream, const uint8_t *bytes, size_t count, bool end) {
   http3 *h = owner;
   uint64_t id = (uint64_t)stream;
@@ -421,7 +426,10 @@ static void received(void *owner, int64_t stream, const uint8_t *bytes, size_t c
   *owed += count;
   if (request && (is_held_back(request) || request->resumed || !STAILQ_EMPTY(&request->held))) hold(request, false, bytes, count, end);
   else if (request) read_request(request, bytes, count, end);
-  else if (deliver(h, id, bytes, count, end)) pull_others(h, id);
+  else {
+    if (deliver(h, id, bytes, count, end)) pull_others(h, id);
+    if (end) one_way_over(h, id);
+  }
 }
 
 static void was_reset(void *owner, int64_t stream, uint64_t reason) {
@@ -434,8 +442,9 @@ static void was_reset(void *owner, int64_t stream, uint64_t reason) {
   if (answer == H3_REJECTED && request) return reject(request, code);
   if (answer != H3_OK && answer != H3_KEPT) return refuse(h, answer, code);
   if (request) request->paused = false; /* its end is a fault, which comes at once */
-  if (request) pull(request);
-  else pull_others(h, id);
+  if (request) return pull(request);
+  pull_others(h, id);
+  one_way_over(h, id);
 }
 
 /* A datagram for a request that is there. Any other one is dropped, as one that was lost on its way. */

@@ -14,10 +14,17 @@
 
 enum {
   SESSIONS = 4, /* on a connection at once */
+  ANSWERS = 64, /* of a session, that wait for a stream */
   DRAIN = 60    /* seconds that what was begun has at the end */
 };
 
 static const uint64_t CLOSE_SESSION = 0x2843; /* a type of capsules, section 5 of the draft */
+
+/* To a stream that went one way: it waits until the client lets the server open one more. */
+typedef struct answer {
+  STAILQ_ENTRY(answer) order;
+  char text[DIGEST_TEXT];
+} answer;
 
 /* The CONNECT request of a session, or a stream of one. */
 typedef struct work {
@@ -27,6 +34,8 @@ typedef struct work {
   digest digest;              /* of a stream: none when it was answered */
   h3_capsule_reader capsules; /* of a CONNECT request */
   bool answers_both_ways;     /* what goes one way is answered on a stream both ways */
+  STAILQ_HEAD(, answer) answers; /* of a session */
+  size_t answer_count;
   bool is_closing;            /* the capsule that closes the session comes */
   bool is_over;
 } work;
@@ -38,6 +47,7 @@ static work *add(http3_request *request, uint64_t session) {
   if (!work) return NULL;
   work->request = request;
   work->session = session;
+  STAILQ_INIT(&work->answers);
   TAILQ_INSERT_TAIL(&works, work, order);
   return request->data = work;
 }
@@ -116,11 +126,39 @@ static void on_body(http3_request *request, const uint8_t *bytes, size_t count) 
   else digest_add(&work->digest, bytes, count);
 }
 
-/* On the stream itself, if it goes both ways, or on one of the server's. */
-static http3_request *answer_to(const work *stream) {
-  if (stream->request->entry.id % 4 == 0) return stream->request;
-  work *session = find(stream->request->connection, stream->session);
-  return session ? http3_open_stream(session->request, session->answers_both_ways) : NULL;
+static void send_text(http3_request *stream, const char *text) {
+  if (!http3_raw(stream, (const uint8_t *)text, strlen(text), true)) http3_give_up(stream, H3_CODE_INTERNAL_ERROR);
+}
+
+static void forget_first(work *session) {
+  answer *first = STAILQ_FIRST(&session->answers);
+  STAILQ_REMOVE_HEAD(&session->answers, order);
+  session->answer_count--;
+  free(first);
+}
+
+/* Each goes out on a stream that the server opens. */
+static void send_answers(work *session) {
+  while (session->answer_count > 0 && !session->is_over) {
+    http3_request *stream = http3_open_stream(session->request, session->answers_both_ways);
+    if (!stream) return; /* the client allows no more just now */
+    send_text(stream, STAILQ_FIRST(&session->answers)->text);
+    forget_first(session);
+  }
+}
+
+static void answer_later(work *session, const char *text) {
+  answer *answer = session->answer_count < ANSWERS ? malloc(sizeof *answer) : NULL;
+  if (!answer) return end_session(session, H3_CODE_EXCESSIVE_LOAD);
+  strcpy(answer->text, text);
+  STAILQ_INSERT_TAIL(&session->answers, answer, order);
+  session->answer_count++;
+  send_answers(session);
+}
+
+/* Packets came, which may allow another stream. */
+static void on_room(http3_request *request) {
+  if (request->data) send_answers(request->data);
 }
 
 static void on_end(http3_request *request) {
@@ -128,8 +166,9 @@ static void on_end(http3_request *request) {
   char text[DIGEST_TEXT];
   if (!work) return;
   if (digest_end(&work->digest, text)) {
-    http3_request *answer = answer_to(work);
-    if (!answer || !http3_raw(answer, (const uint8_t *)text, strlen(text), true)) http3_give_up(request, H3_CODE_INTERNAL_ERROR);
+    struct work *session = find(request->connection, work->session);
+    if (request->entry.id % 4 == 0) send_text(request, text); /* it goes both ways */
+    else if (session) answer_later(session, text);
     return;
   }
   if (!is_session(work)) return;
@@ -138,9 +177,14 @@ static void on_end(http3_request *request) {
   end_session(work, ends_here ? 0 : H3_CODE_MESSAGE_ERROR); /* RFC 9297, section 3.3 */
 }
 
+/* Of a stream of a session the code of a reset may be a number of the client's application. */
 static void on_failed(http3_request *request, const h3_item *item) {
   work *work = request->data;
-  report("stream %llu failed: %s, %s", (unsigned long long)request->entry.id, h3_kind_text(item->kind), http3_why(item));
+  unsigned long long id = request->entry.id;
+  uint32_t number;
+  if (item->kind == H3_FAULT_RESET && h3_webtransport_number(item->number, &number) == H3_OK)
+    report("stream %llu failed: H3_FAULT_RESET, number %lu of the application", id, (unsigned long)number);
+  else report("stream %llu failed: %s, %s", id, h3_kind_text(item->kind), http3_why(item));
   if (work && is_session(work)) end_session(work, 0);
 }
 
@@ -150,6 +194,7 @@ static void on_freed(http3_request *request) {
   work *work = request->data;
   if (!work) return;
   digest_drop(&work->digest);
+  while (work->answer_count > 0) forget_first(work);
   TAILQ_REMOVE(&works, work, order);
   free(work);
 }
@@ -160,7 +205,7 @@ static void on_over(void *user, const quic_ending *ending) { (void)user, (void)e
 
 int main(int count, char **arguments) {
   static const http3_events events = {.ready = on_ready, .head = on_head, .body = on_body, .end = on_end, .failed = on_failed,
-                                      .freed = on_freed, .over = on_over, .session = on_session, .datagram = on_datagram};
+                                      .room = on_room, .freed = on_freed, .over = on_over, .session = on_session, .datagram = on_datagram};
   http3_setup setup = {.server = true, .sessions = SESSIONS, .events = &events};
   if (count != 5) {
     fprintf(stderr, "webtransport ADDRESS PORT CERTIFICATE KEY\n");

@@ -439,6 +439,30 @@ async def case_session_ends(client, words):
     want(stream["reset"] == 0x170D7B68, f"another code than SESSION_GONE: {stream['reset']:#x}")
 
 
+def capsule(kind, value):
+    return encode_uint_var(kind) + encode_uint_var(len(value)) + value
+
+
+async def case_capsule_closes(client, words):
+    """an unknown capsule, and then one that closes the session with a number and a text, a byte at a time"""
+    session = await begin_session(client)
+    open_one = send_on(client, session, b"x", end=False)
+    await asyncio.sleep(0.2)
+    data = capsule(0x1234, b"skipped") + capsule(0x2843, (7).to_bytes(4, "big") + b"bye")
+    for i in range(len(data)):
+        client.send(session, data[i : i + 1], False)
+    await client.until(session, lambda it: it["ended"])
+    stream = await client.until(open_one, lambda it: it["reset"] is not None)
+    want(stream["reset"] == 0x170D7B68, f"another code than SESSION_GONE: {stream['reset']:#x}")
+
+
+async def case_capsule_cut(client, words):
+    session = await begin_session(client)
+    client.send(session, capsule(0x1234, b"whole")[:-1], True)
+    stream = await client.until(session, lambda it: it["reset"] is not None)
+    want(stream["reset"] == 0x10E, f"another code than H3_MESSAGE_ERROR: {stream['reset']:#x}")
+
+
 async def case_datagrams(client, words):
     session = await begin_session(client)
     for data in (b"", b"x", bytes(1000)):
@@ -677,6 +701,8 @@ SESSIONS = {
     "a session, datagrams": case_datagrams,
     "a session, streams both ways from the server": case_back,
     "a session that ends": case_session_ends,
+    "a session that a capsule ends": case_capsule_closes,
+    "a session whose last capsule is cut": case_capsule_cut,
     "a stream of no session": case_no_session,
 }
 

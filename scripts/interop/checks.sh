@@ -45,18 +45,18 @@ refuses() {
   within 60 "$@" > "$work/got"
   [ $? -eq 1 ] && grep -q -- "$text" "$work/log"
 }
-# own_session PORT: webtransport_client at a server of sessions. Each file is answered on its stream both ways, and, by the path, on one of the server's both
-# ways or one way; its name comes back as a datagram
+# own_session PORT: webtransport_client at a server of sessions, with 103 files. Each is answered on its stream both ways, and, by the path, on one of the
+# server's both ways or one way; its name comes back as a datagram
 own_session() {
-  local way path file
+  local way path files
   : > "$work/none"
+  files=("$work/none" "$folder/hello.txt" "$big" "$folder"/small/*.txt)
+  paste -d' ' <(stat -c %s "${files[@]}") <(sha256sum "${files[@]}" | cut -d' ' -f1) > "$work/answers"
   for way in one back; do
     if [ "$way" = back ]; then path=/both; else path=/; fi
-    timeout -k 5 60 "$work/checked/webtransport_client" "$cert" 127.0.0.1 "$1" localhost "$path" "$work/none" "$folder/hello.txt" "$big" > "$work/told" 2>> "$work/log" || return 1
-    for file in "$work/none" "$folder/hello.txt" "$big"; do
-      grep -qx "both $(stat -c %s "$file") $(hash_of "$file")" "$work/told" && grep -qx "$way $(stat -c %s "$file") $(hash_of "$file")" "$work/told" &&
-        grep -qx "datagram $file" "$work/told" || return 1
-    done
+    timeout -k 5 60 "$work/checked/webtransport_client" "$cert" 127.0.0.1 "$1" localhost "$path" "${files[@]}" > "$work/told" 2>> "$work/log" || return 1
+    { sed 's/^/both /' "$work/answers"; sed "s/^/$way /" "$work/answers"; printf 'datagram %s\n' "${files[@]}"; } | sort > "$work/wanted"
+    sort "$work/told" | diff - "$work/wanted" >> "$work/log" || return 1
   done
 }
 # build COMMAND..: what the checks stand on
@@ -151,6 +151,22 @@ saw() {
   for line; do
     if ! sed 's/<[^>]*>//g' "$work/seen" | grep -qxE -- "$line"; then
       cp "$work/seen" "$work/log"
+      return 1
+    fi
+  done
+}
+# session_page PORT FILE: the path of the page that opens sessions of WebTransport at this port, where a server shows the certificate FILE
+session_page() {
+  echo "/session.html?port=$1&hash=$(openssl x509 -in "$2" -outform der | openssl dgst -sha256 -binary | base64 | sed 's/+/%2B/g; s,/,%2F,g; s/=/%3D/g')"
+}
+# what that page says if all is well
+saw_session() { saw ready "both ways true" "one way true" "datagram true" closed "back true"; }
+# says_numbers LOG: the server of sessions has the numbers of an application with which that page resets its streams
+says_numbers() {
+  local number
+  for number in 0 29 30 255; do
+    if ! grep -q "number $number of the application$" "$work/$1"; then
+      cp "$work/$1" "$work/log"
       return 1
     fi
   done

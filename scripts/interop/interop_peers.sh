@@ -20,7 +20,7 @@ fi
 make_served
 ours=("$work/checked/fetch" --address 127.0.0.1 --trust "$cert")
 go_ours=("$work/h3go" fetch)
-mapfile -t ports < <(python3 scripts/interop/ports.py 28)
+mapfile -t ports < <(python3 scripts/interop/ports.py 30)
 start "${ports[0]}" serve.log "$work/checked/serve" 127.0.0.1 "${ports[0]}" "$cert" "$key" "$folder"
 start "${ports[1]}" serve150.log "$work/checked/serve" --requests 150 127.0.0.1 "${ports[1]}" "$cert" "$key" "$folder"
 start "${ports[2]}" h3go.log "$work/h3go" serve "127.0.0.1:${ports[2]}" "$cert" "$key" "$folder"
@@ -325,7 +325,13 @@ if bash scripts/dev/packages.sh firefox 2> /dev/null; then
   check "serve, Firefox: $page" browse "${ports[16]}"
   check "Go server, Firefox: $page" browse "${ports[17]}"
   check "serve, Firefox, packets lost: $page" browse "${ports[18]}"
-  logs+=(serve_firefox.log h3go_firefox.log)
+  start "${ports[28]}" sessions_firefox.log "$work/checked/webtransport" 127.0.0.1 "${ports[28]}" "$work/leaf.pem" "$work/leaf_key.pem"
+  relay "${ports[29]}" "${ports[28]}"
+  session() { firefox_sees "${ports[16]}" "$(session_page "$1" "$work/leaf.pem")" && saw_session; } # PORT of a server of sessions
+  check "webtransport, Firefox: sessions, streams of each kind from both sides, datagrams" session "${ports[28]}"
+  check "webtransport, Firefox: the numbers of streams that are reset" says_numbers sessions_firefox.log
+  check "webtransport, Firefox, packets lost: sessions, streams of each kind from both sides, datagrams" session "${ports[29]}"
+  logs+=(serve_firefox.log h3go_firefox.log sessions_firefox.log)
 else
   echo "skipped Firefox: $(bash scripts/dev/packages.sh firefox 2>&1)"
 fi

@@ -79,12 +79,7 @@ browse() { # PORT
   chromium_sees "$1" / && grep -q "image 64 x 48" "$work/seen" && grep -q "^post 1000000 $(hash_of "$folder/letters.txt")$" "$work/seen" &&
     grep -q "^small 100$" "$work/seen" && grep -q "^protocols h3 of " "$work/seen"
 }
-session() { # PORT of a server that has the page, PORT of one of sessions
-  local hash
-  hash=$(openssl x509 -in "$cert" -outform der | openssl dgst -sha256 -binary | base64 | sed 's/+/%2B/g; s,/,%2F,g; s/=/%3D/g')
-  chromium_sees "$1" "/session.html?port=$2&hash=$hash" && grep -q '"seen">ready$' "$work/seen" && grep -q "^both ways true$" "$work/seen" &&
-    grep -q "^one way true$" "$work/seen" && grep -q "^datagram true$" "$work/seen" && grep -q "^closed$" "$work/seen" && grep -q "^back true$" "$work/seen"
-}
+session() { chromium_sees "$1" "$(session_page "$2" "$cert")" && saw_session; } # PORT of a server that has the page, PORT of one of sessions
 websocket_seen() { # PORT of a server that has the page, PORT of one of WebSockets
   local line
   chromium_sees "$1" "/websocket.html?port=$2" "$2" && grep -q '"seen">open$' "$work/seen" || return 1
@@ -250,9 +245,11 @@ start "${ports[17]}" webtransport.log "$work/checked/webtransport" 127.0.0.1 "${
 sessions=$last
 relay "${ports[18]}" "${ports[17]}"
 check "webtransport, Chromium: sessions, streams of each kind from both sides, datagrams" session "${ports[0]}" "${ports[17]}"
+check "webtransport, Chromium: the numbers of streams that are reset" says_numbers webtransport.log
 check "webtransport, Chromium, packets lost: sessions, streams of each kind from both sides, datagrams" session "${ports[0]}" "${ports[18]}"
 check "webtransport, webtransport_client: streams of each kind from both sides, datagrams" own_session "${ports[17]}"
 check "webtransport, webtransport_client, packets lost: streams of each kind from both sides, datagrams" own_session "${ports[18]}"
+check "webtransport_client: nobody listens" refuses "nobody listens" "$work/checked/webtransport_client" "$cert" 127.0.0.1 "${ports[21]}" localhost / "$work/none"
 check "webtransport: it ends" stop "$sessions"
 check "webtransport: no leak and no error of memory" is_silent webtransport.log
 start "${ports[19]}" websocket.log "$work/checked/websocket" 127.0.0.1 "${ports[19]}" "$cert" "$key"
