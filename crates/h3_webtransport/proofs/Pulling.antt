@@ -17,10 +17,11 @@ use Rattle.h3_connection.specs.declared.event.Pull.TheVariants as pull
 use Rattle.h3_incoming.specs.Answering.{Lists, has_header}
 use Rattle.h3_session.specs.Listing.{ListsNext}
 use Rattle.h3_webtransport_streams.specs.Receiver.{Receiver, pulled, raw, told_or_raw, unless_reset}
-use Rattle.h3_webtransport_streams.specs.SessionStream.{SessionStream, ActsOn, Changes, ChangesOn, entered, on_receiver, receiver_of}
+use Rattle.h3_webtransport_streams.specs.SessionStream.{SessionStream, Acts, ActsOn, Changes, ChangesOn, entered, on_receiver, receiver_of}
+use Rattle.h3_webtransport_streams.specs.Sessions.{SessionsState}
 use Rattle.h3_webtransport.specs.Closing.{Forgets}
 use Rattle.h3_webtransport.specs.Joint.{Joint, is_begun_by_peer, is_read, is_server_opened, may_begin, stored_at}
-use Rattle.h3_webtransport.specs.Parts.{StreamsAlone}
+use Rattle.h3_webtransport.specs.Parts.{ActsHere, StreamsAlone}
 use Rattle.h3_webtransport.specs.Receiving.{Begins, BeginsAt, BeginsIf, Enters, ListsAgain, PullsFirst, PullsOn, PullsRaw, PullsThere, pulls_raw, session_of}
 use Rattle.h3_webtransport.specs.Receiving.PullsFirst.{pulls}
 
@@ -63,8 +64,15 @@ module _ (a b c : Streams SessionStream) (id : ℕ) (x : SessionStream) where
   gone_again : kept_at a id ≡ None → Sets a b id x → kept_at c id ≡ None → ((q : ℕ) → q ≢ id → kept_at c q ≡ kept_at b q) → AllSame a c
   gone_again free first gone others = record { each = λ q. gone_at q free first gone others (cases_eq q id) }
 
-pub alone_again : (s m t : Joint) → StreamsAlone s m → StreamsAlone m t → StreamsAlone s t
+alone_again : (s m t : Joint) → StreamsAlone s m → StreamsAlone m t → StreamsAlone s t
 alone_again s m t first then = then ∙ ap (λ (x : Joint). record x { sessions = record x.sessions { streams = t.sessions.streams } }) first
+
+pub twice_alone : (s : Joint) (v w : SessionsState) → v ≡ record s.sessions { streams = v.streams } → w ≡ record v { streams = w.streams }
+    → record s { sessions = w } ≡ record s { sessions = record s.sessions { streams = w.streams } }
+twice_alone s v w first then = ap (λ (x : SessionsState). record s { sessions = x }) (then ∙ ap (λ (x : SessionsState). record x { streams = w.streams }) first)
+
+pub then_alone : (s t : Joint) (v : SessionsState) → v ≡ record s.sessions { streams = v.streams } → StreamsAlone (record s { sessions = v }) t → StreamsAlone s t
+then_alone s t v first then = alone_again s (record s { sessions = v }) t (ap (λ (x : SessionsState). record s { sessions = x }) first) then
 
 -- a stream that was entered is one of a session
 module _ (e f : EndpointState) (m t : Joint) (id session : ℕ) (inner answer : Pull) where
@@ -146,20 +154,22 @@ is_plain old new id answer None acts = ap has_header acts.0
 is_plain old new id answer (Some s) acts = ap has_header acts.0 ∙ half_is_plain s s.receiver
 
 -- a stream that is there, or not yet
-pub pulls_there : (s t : Joint) (id : ℕ) (answer told : Pull) → is_some (stored_at s id) ≡ true → ActsOn pull.NoMessages pulls_raw s.sessions.streams t.sessions.streams id answer (stored_at s id)
+there_at : (s t : Joint) (id : ℕ) (told : Pull) (o : Option SessionStream) → is_some o ≡ true → ActsHere pull.NoMessages pulls_raw s t id told → PullsThere s t id told o
+there_at s t id told None none h = absurd (cc)
+there_at s t id told (Some x) some h = h
+
+pub pulls_there : (s t : Joint) (id : ℕ) (answer told : Pull) → is_some (stored_at s id) ≡ true → Acts pull.NoMessages pulls_raw s.sessions.streams t.sessions.streams id answer
     → (has_header answer ≡ false → told ≡ answer) → StreamsAlone s t → PullsThere s t id told (stored_at s id)
-pulls_there s t id answer told is acts same alone = there_at (stored_at s id) is acts
-  where
-    there_at : (o : Option SessionStream) → is_some o ≡ true → ActsOn pull.NoMessages pulls_raw s.sessions.streams t.sessions.streams id answer o → PullsThere s t id told o
-    there_at None none h = absurd (cc)
-    there_at (Some x) some h = (same (is_plain s.sessions.streams t.sessions.streams id answer (Some x) h) ∙ h.0, h.1, alone)
+pulls_there s t id answer told is acts same alone =
+    let told_is : told ≡ answer = same (is_plain s.sessions.streams t.sessions.streams id answer (stored_at s id) acts) in
+    there_at s t id told (stored_at s id) is (subst (Acts pull.NoMessages pulls_raw s.sessions.streams t.sessions.streams id) (sym told_is) acts, alone)
+
+absent_at : (s : Joint) (id : ℕ) (told : Pull) (o : Option SessionStream) → is_some o ≡ false → told ≡ pull.Pending → PullsThere s s id told o
+absent_at s id told None none paused = (paused, refl)
+absent_at s id told (Some x) some paused = absurd (cc)
 
 pub pulls_absent : (s : Joint) (id : ℕ) (told : Pull) → is_some (stored_at s id) ≡ false → told ≡ pull.Pending → PullsThere s s id told (stored_at s id)
-pulls_absent s id told is paused = absent_at (stored_at s id) is
-  where
-    absent_at : (o : Option SessionStream) → is_some o ≡ false → PullsThere s s id told o
-    absent_at None none = (paused, refl)
-    absent_at (Some x) some = absurd (cc)
+pulls_absent s id told is paused = absent_at s id told (stored_at s id) is paused
 
 -- all of a pull
 pub pulls_faulty : (e : EndpointState) (s : Joint) (id code : ℕ) (answer : Pull) → may_begin s id ≡ false → is_read s id ≡ true → e.closed ≡ Some code → answer ≡ pull.Fault (Closing code)
