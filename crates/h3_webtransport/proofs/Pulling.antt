@@ -67,6 +67,9 @@ module _ (a b c : Streams SessionStream) (id : ℕ) (x : SessionStream) where
 alone_again : (s m t : Joint) → StreamsAlone s m → StreamsAlone m t → StreamsAlone s t
 alone_again s m t first next = next ∙ ap (λ (x : Joint). record x { sessions = record x.sessions { streams = t.sessions.streams } }) first
 
+pub once_alone : (s : Joint) (v : SessionsState) → v ≡ record s.sessions { streams = v.streams } → StreamsAlone s (record s { sessions = v })
+once_alone s v is = ap (λ (x : SessionsState). record s { sessions = x }) is
+
 pub twice_alone : (s : Joint) (v w : SessionsState) → v ≡ record s.sessions { streams = v.streams } → w ≡ record v { streams = w.streams }
     → record s { sessions = w } ≡ record s { sessions = record s.sessions { streams = w.streams } }
 twice_alone s v w first next = ap (λ (x : SessionsState). record s { sessions = x }) (next ∙ ap (λ (x : SessionsState). record x { streams = w.streams }) first)
@@ -94,19 +97,21 @@ begins_from false e f s m t id session inner answer x free first begins =
     (begins.0, gone_again s.sessions.streams m.sessions.streams t.sessions.streams id x free first begins.1.0 begins.1.1, begins.2)
 
 -- the first pull tells no session,
-pub pulls_other : (e f : EndpointState) (s m t : Joint) (id : ℕ) (inner : Pull) (x : SessionStream) (session : Option ℕ) → may_begin s id ≡ true → Sets s.sessions.streams m.sessions.streams id x
-    → PullsNext e f id inner → session ≡ session_of inner → session ≡ None → stored_at t id ≡ None → ((q : ℕ) → q ≢ id → stored_at t q ≡ stored_at m q) → PullsFirst e f s t id inner
-pulls_other e f s m t id inner x session begins first h told none gone others =
+pub pulls_other : (e f : EndpointState) (s : Joint) (mid : SessionsState) (t : Joint) (id : ℕ) (inner : Pull) (x : SessionStream) (session : Option ℕ) → may_begin s id ≡ true
+    → Sets s.sessions.streams mid.streams id x → PullsNext e f id inner → session ≡ session_of inner → session ≡ None → stored_at t id ≡ None
+    → ((q : ℕ) → q ≢ id → stored_at t q ≡ kept_at mid.streams q) → PullsFirst e f s t id inner
+pulls_other e f s mid t id inner x session begins first h told none gone others =
     pulls inner f h
-    (subst (λ o. BeginsIf o f f s t id inner inner) (sym none ∙ told) (refl, refl, gone_again s.sessions.streams m.sessions.streams t.sessions.streams id x (is_free s id begins) first gone others))
+    (subst (λ o. BeginsIf o f f s t id inner inner) (sym none ∙ told) (refl, refl, gone_again s.sessions.streams mid.streams t.sessions.streams id x (is_free s id begins) first gone others))
 
 -- or one
-pub pulls_session : (e next f : EndpointState) (s m t : Joint) (id session : ℕ) (inner answer : Pull) (x : SessionStream) (tells : Option ℕ) → may_begin s id ≡ true
-    → Sets s.sessions.streams m.sessions.streams id x → PullsNext e next id inner → tells ≡ session_of inner → tells ≡ Some session
-    → BeginsAt (is_request_stream session) next f m t id session inner answer → PullsFirst e f s t id answer
-pulls_session e next f s m t id session inner answer x tells begins first h told is at =
+pub pulls_session : (e next f : EndpointState) (s : Joint) (mid : SessionsState) (t : Joint) (id session : ℕ) (inner answer : Pull) (x : SessionStream) (tells : Option ℕ) → may_begin s id ≡ true
+    → Sets s.sessions.streams mid.streams id x → PullsNext e next id inner → tells ≡ session_of inner → tells ≡ Some session
+    → BeginsAt (is_request_stream session) next f (record s { sessions = mid }) t id session inner answer → PullsFirst e f s t id answer
+pulls_session e next f s mid t id session inner answer x tells begins first h told is at =
     pulls inner next h
-    (subst (λ o. BeginsIf o next f s t id inner answer) (sym is ∙ told) (begins_from (is_request_stream session) next f s m t id session inner answer x (is_free s id begins) first at))
+    (subst (λ o. BeginsIf o next f s t id inner answer) (sym is ∙ told)
+    (begins_from (is_request_stream session) next f s (record s { sessions = mid }) t id session inner answer x (is_free s id begins) first at))
 
 -- which list it has
 lists_no : (listed came : Option (List Field)) → listed ≡ None → Lists listed came
