@@ -1,5 +1,5 @@
 -- The first pull of a stream that may turn out to be of a session, and what is read beside the endpoint.
-use Rattle.std.proofs.Common.{◌≡◌, ◌≢◌, ◌⊎◌, ◌%◌, ℕ, Bool, true, false, ◌&&◌, ◌||◌, not, List, [], ◌∷◌, Option, Some, None, refl, sym, ap, subst, ◌∙◌, is_some, unwrap_or, if◌then◌else◌}
+use Rattle.std.proofs.Common.{arith, ◌≡◌, ◌≢◌, ◌⊎◌, inl, inr, ◌%◌, ℕ, Bool, true, false, ◌&&◌, ◌||◌, not, List, [], ◌∷◌, Option, Some, None, refl, sym, ap, subst, ◌∙◌, is_some, unwrap_or, if◌then◌else◌}
 use Rattle.std.proofs.lemmas.Bool.{cases_eq, eqb-true}
 use Rattle.h3_field.specs.Field.{Field}
 use Rattle.h3_proto.specs.StreamIds.{is_request_stream}
@@ -36,7 +36,7 @@ is_free s id h = is_none_of (stored_at s id) s.is_on (is_begun_by_peer s.side id
 
 -- and it is not read here
 kinds_differ : (side : Side) (id : ℕ) → is_begun_by_peer side id ≡ true → is_server_opened side id ≡ true → false ≡ true
-kinds_differ Client id begun opened = let never : 3 ≡ 1 = sym (eqb-true (id % 4) 3 begun) ∙ eqb-true (id % 4) 1 opened in cc
+kinds_differ Client id begun opened = absurd (omega (arith, eqb-true (id % 4) 3 begun, eqb-true (id % 4) 1 opened))
 kinds_differ Server id begun opened = opened
 
 not_both : (o : Option SessionStream) (side : Side) (id : ℕ) (on : Bool) → (on && not (is_some o) && is_begun_by_peer side id) ≡ true
@@ -55,7 +55,7 @@ not_read s id begins read = not_both (stored_at s id) s.side id s.is_on begins r
 -- what is set is set again, or taken away
 module _ (a b c : Streams SessionStream) (id : ℕ) (x : SessionStream) where
   sets_again : (y : SessionStream) → Sets a b id x → Sets b c id y → Sets a c id y
-  sets_again y first then = record { here = then.here; others = λ q differs. then.others q differs ∙ first.others q differs }
+  sets_again y first next = record { here = next.here; others = λ q differs. next.others q differs ∙ first.others q differs }
 
   gone_at : (q : ℕ) → kept_at a id ≡ None → Sets a b id x → kept_at c id ≡ None → ((q : ℕ) → q ≢ id → kept_at c q ≡ kept_at b q) → q ≡ id ⊎ q ≢ id → kept_at c q ≡ kept_at a q
   gone_at q free first gone others (inl same) = subst (λ n. kept_at c n ≡ kept_at a n) (sym same) (gone ∙ sym free)
@@ -65,14 +65,17 @@ module _ (a b c : Streams SessionStream) (id : ℕ) (x : SessionStream) where
   gone_again free first gone others = record { each = λ q. gone_at q free first gone others (cases_eq q id) }
 
 alone_again : (s m t : Joint) → StreamsAlone s m → StreamsAlone m t → StreamsAlone s t
-alone_again s m t first then = then ∙ ap (λ (x : Joint). record x { sessions = record x.sessions { streams = t.sessions.streams } }) first
+alone_again s m t first next = next ∙ ap (λ (x : Joint). record x { sessions = record x.sessions { streams = t.sessions.streams } }) first
+
+pub once_alone : (s : Joint) (v : SessionsState) → v ≡ record s.sessions { streams = v.streams } → StreamsAlone s (record s { sessions = v })
+once_alone s v is = ap (λ (x : SessionsState). record s { sessions = x }) is
 
 pub twice_alone : (s : Joint) (v w : SessionsState) → v ≡ record s.sessions { streams = v.streams } → w ≡ record v { streams = w.streams }
     → record s { sessions = w } ≡ record s { sessions = record s.sessions { streams = w.streams } }
-twice_alone s v w first then = ap (λ (x : SessionsState). record s { sessions = x }) (then ∙ ap (λ (x : SessionsState). record x { streams = w.streams }) first)
+twice_alone s v w first next = ap (λ (x : SessionsState). record s { sessions = x }) (next ∙ ap (λ (x : SessionsState). record x { streams = w.streams }) first)
 
 pub then_alone : (s t : Joint) (v : SessionsState) → v ≡ record s.sessions { streams = v.streams } → StreamsAlone (record s { sessions = v }) t → StreamsAlone s t
-then_alone s t v first then = alone_again s (record s { sessions = v }) t (ap (λ (x : SessionsState). record s { sessions = x }) first) then
+then_alone s t v first next = alone_again s (record s { sessions = v }) t (ap (λ (x : SessionsState). record s { sessions = x }) first) next
 
 -- a stream that was entered is one of a session
 module _ (e f : EndpointState) (m t : Joint) (id session : ℕ) (inner answer : Pull) where
@@ -89,24 +92,26 @@ module _ (e f : EndpointState) (m t : Joint) (id session : ℕ) (inner answer : 
 begins_from : (b : Bool) (e f : EndpointState) (s m t : Joint) (id session : ℕ) (inner answer : Pull) (x : SessionStream) → stored_at s id ≡ None → Sets s.sessions.streams m.sessions.streams id x
     → BeginsAt b e f m t id session inner answer → Begins b e f s t id session inner answer
 begins_from true e f s m t id session inner answer x free first begins =
-    (begins.0, sets_again s.sessions.streams m.sessions.streams t.sessions.streams id x (entered session (is_request_stream id)) first begins.1.0, begins.1.1)
+    (begins.0, sets_again s.sessions.streams m.sessions.streams t.sessions.streams id x (entered session (is_request_stream id)) first begins.1, begins.2)
 begins_from false e f s m t id session inner answer x free first begins =
-    (begins.0, gone_again s.sessions.streams m.sessions.streams t.sessions.streams id x free first begins.1.0.0 begins.1.0.1.0, begins.1.1)
+    (begins.0, gone_again s.sessions.streams m.sessions.streams t.sessions.streams id x free first begins.1.0 begins.1.1, begins.2)
 
 -- the first pull tells no session,
-pub pulls_other : (e f : EndpointState) (s m t : Joint) (id : ℕ) (inner : Pull) (x : SessionStream) (session : Option ℕ) → may_begin s id ≡ true → Sets s.sessions.streams m.sessions.streams id x
-    → PullsNext e f id inner → session ≡ session_of inner → session ≡ None → stored_at t id ≡ None → ((q : ℕ) → q ≢ id → stored_at t q ≡ stored_at m q) → PullsFirst e f s t id inner
-pulls_other e f s m t id inner x session begins first h told none gone others =
+pub pulls_other : (e f : EndpointState) (s : Joint) (mid : SessionsState) (t : Joint) (id : ℕ) (inner : Pull) (x : SessionStream) (session : Option ℕ) → may_begin s id ≡ true
+    → Sets s.sessions.streams mid.streams id x → PullsNext e f id inner → session ≡ session_of inner → session ≡ None → stored_at t id ≡ None
+    → ((q : ℕ) → q ≢ id → stored_at t q ≡ kept_at mid.streams q) → PullsFirst e f s t id inner
+pulls_other e f s mid t id inner x session begins first h told none gone others =
     pulls inner f h
-    (subst (λ o. BeginsIf o f f s t id inner inner) (sym none ∙ told) (refl, refl, gone_again s.sessions.streams m.sessions.streams t.sessions.streams id x (is_free s id begins) first gone others))
+    (subst (λ o. BeginsIf o f f s t id inner inner) (sym none ∙ told) (refl, refl, gone_again s.sessions.streams mid.streams t.sessions.streams id x (is_free s id begins) first gone others))
 
 -- or one
-pub pulls_session : (e next f : EndpointState) (s m t : Joint) (id session : ℕ) (inner answer : Pull) (x : SessionStream) (tells : Option ℕ) → may_begin s id ≡ true
-    → Sets s.sessions.streams m.sessions.streams id x → PullsNext e next id inner → tells ≡ session_of inner → tells ≡ Some session
-    → BeginsAt (is_request_stream session) next f m t id session inner answer → PullsFirst e f s t id answer
-pulls_session e next f s m t id session inner answer x tells begins first h told is at =
+pub pulls_session : (e next f : EndpointState) (s : Joint) (mid : SessionsState) (t : Joint) (id session : ℕ) (inner answer : Pull) (x : SessionStream) (tells : Option ℕ) → may_begin s id ≡ true
+    → Sets s.sessions.streams mid.streams id x → PullsNext e next id inner → tells ≡ session_of inner → tells ≡ Some session
+    → BeginsAt (is_request_stream session) next f (record s { sessions = mid }) t id session inner answer → PullsFirst e f s t id answer
+pulls_session e next f s mid t id session inner answer x tells begins first h told is at =
     pulls inner next h
-    (subst (λ o. BeginsIf o next f s t id inner answer) (sym is ∙ told) (begins_from (is_request_stream session) next f s m t id session inner answer x (is_free s id begins) first at))
+    (subst (λ o. BeginsIf o next f s t id inner answer) (sym is ∙ told)
+    (begins_from (is_request_stream session) next f s (record s { sessions = mid }) t id session inner answer x (is_free s id begins) first at))
 
 -- which list it has
 lists_no : (listed came : Option (List Field)) → listed ≡ None → Lists listed came
