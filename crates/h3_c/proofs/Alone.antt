@@ -245,16 +245,24 @@ does_alone (Stream id before state n) v w off h =
     ((h.0, shows.0, h.2), stays v w h.0)
 does_alone _ v w off h = h
 
--- From handle to handle.
+-- From handle to handle: t is what the box that was opened lends to the call.
 pub goes_beside : (does : Seen → Seen → Type 0) (before after : Option Seen) (u x : Seen) → Some u ≡ before → after ≡ Some x → does u x → StepsBeside before after does
 goes_beside does before after u x opened kept did v w was is =
     let u_is : u ≡ v = ap (λ o. unwrap_or o u) (opened ∙ was) in
     let x_is : x ≡ w = ap (λ o. unwrap_or o x) (sym kept ∙ is) in
     subst (λ s. does v s) x_is (subst (λ s. does s x) u_is did)
 
-pub goes_alone : (call : CallOfC) (before after : Option Seen) (u x : Seen) → Some u ≡ before → after ≡ Some x → DoesBeside call u x → StepsAlone before after (Does call)
-goes_alone call before after u x opened kept does v w was is off = does_alone call v w off (goes_beside (DoesBeside call) before after u x opened kept does v w was is)
+pub goes_alone : (call : CallOfC) (before after : Option Seen) (u t x : Seen) → Some u ≡ before → t ≡ u → after ≡ Some x → DoesBeside call t x → StepsAlone before after (Does call)
+goes_alone call before after u t x opened lent kept does v w was is off =
+    does_alone call v w off (goes_beside (DoesBeside call) before after u x opened kept (subst (λ s. DoesBeside call s x) lent does) v w was is)
 
--- what has no detail
-pub plainly : (n : Told) → n.detail ≡ 0 → n ≡ number n.number 0
-plainly n h = ap (λ d. number n.number d) h
+-- a call that changes nothing
+pub looks_alone : (call : CallOfC) (before after : Option Seen) (u t : Seen) → Some u ≡ before → t ≡ u → after ≡ Some u → DoesBeside call t t → StepsAlone before after (Does call)
+looks_alone call before after u t opened lent kept does v w was is off =
+    does_alone call v w off (goes_beside (DoesBeside call) before after u u opened kept (subst (λ s. DoesBeside call s s) lent does) v w was is)
+
+-- what h3_pull tells has no detail
+pub pulls_plainly : (v w : Seen) (id : ℕ) (n : Told) (before item : PulledItem) → n.detail ≡ 0 → OnStream id n v w (PullsBeside id n v w item) → (2 ^ 62 ≤ id → item ≡ before)
+    → DoesBeside (Pull id before item (number n.number 0)) v w
+pulls_plainly v w id n before item plain pulls unwritten =
+    let same : n ≡ number n.number 0 = ap (λ d. number n.number d) plain in (subst (λ m. OnStream id m v w (PullsBeside id m v w item)) same pulls, unwritten)

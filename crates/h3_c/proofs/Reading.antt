@@ -1,6 +1,6 @@
 -- What a read of bytes comes to with sessions of WebTransport beside an endpoint, by the calls that it makes.
 use Rattle.std.proofs.Common.{◌≡◌, ℕ, ◌<◌, ◌==◌, ◌&&◌, Bool, true, false, List, [], ◌∷◌, length, take, refl, sym, ap, subst, ◌∙◌, arith}
-use Rattle.std.specs.Prelude.{nat_lt, ◌^◌, Ok, Option, Some, None}
+use Rattle.std.specs.Prelude.{nat_lt, ◌^◌, Result, Ok, Option, Some, None}
 use Rattle.std.proofs.lemmas.Bool.{eqb-true}
 use Rattle.h3_connection.specs.Calls.{AllSame, IsSame}
 use Rattle.h3_connection.specs.Endpoint.{EndpointHistory}
@@ -9,6 +9,7 @@ use Rattle.h3_connection.specs.Shutdown.{is_rejected_in}
 use Rattle.h3_connection.specs.State.{EndpointState, StandsFor}
 use Rattle.h3_connection.specs.StreamSets.{Streams}
 use Rattle.h3_connection.specs.declared.event.Pull.TheVariants as pull
+use Rattle.h3_connection.specs.declared.event.DeliverError.{DeliverError}
 use Rattle.h3_connection.specs.declared.event.Refusal.{Refusal}
 use Rattle.h3_incoming.specs.FieldsPulls.{list_of, pull_of}
 use Rattle.h3_incoming.specs.declared.body_place.BodyPlace.{BodyPlace}
@@ -41,6 +42,14 @@ takes_none v id (byte ∷ bytes) h = absurd (omega (arith, h))
 pub takes_some : (v w : Seen) (id : ℕ) (bytes : List ℕ) → 0 < length bytes → DeliversOn v.endpoint w.endpoint v.sessions w.sessions id bytes (Ok tt) → w.last ≡ v.last → w.events ≡ v.events → TakesBytesBeside v w id bytes
 takes_some v w id [] some h last events = absurd (omega (arith, some))
 takes_some v w id (byte ∷ bytes) some h last events = (h, (last, events))
+
+-- a copy of bytes was delivered, to what u shows
+pub takes_copy : (u v w : Seen) (id : ℕ) (bytes copy : List ℕ) (result : Result Unit DeliverError) → u ≡ v → copy ≡ bytes → result ≡ Ok tt → 0 < length bytes
+    → DeliversOn u.endpoint w.endpoint u.sessions w.sessions id copy result → w.last ≡ u.last → w.events ≡ u.events → TakesBytesBeside v w id bytes
+takes_copy u v w id bytes copy result view same ok some delivers last events =
+    let there : DeliversOn u.endpoint w.endpoint u.sessions w.sessions id bytes (Ok tt) =
+    subst (λ r. DeliversOn u.endpoint w.endpoint u.sessions w.sessions id bytes r) ok (subst (λ b. DeliversOn u.endpoint w.endpoint u.sessions w.sessions id b result) same delivers) in
+    subst (λ (x : Seen). TakesBytesBeside x w id bytes) view (takes_some u w id bytes some there last events)
 
 -- bytes for whose copy there is no memory
 pub read_lacks : (v : Seen) (id : ℕ) (bytes : List ℕ) (o : Option Refusal) (stop : Stop) → RefusesDeliveriesOn v.endpoint v.sessions id o → stop.told ≡ told_or_memory o → stop.is_taken ≡ false → 0 < length bytes → StopsAtBeside v v id bytes stop

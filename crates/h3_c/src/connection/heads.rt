@@ -1,5 +1,5 @@
 //! The header and trailer sections that C sends.
-ghost use Rattle.std.specs.Prelude.{List, Option};
+ghost use Rattle.std.specs.Prelude.{◌≡◌, List, Option};
 ghost use Rattle.h3_field.specs.Field.{Field};
 ghost use Rattle.h3_session.specs.SendingLists.{SendsFieldList, SendsTrailerList, order_refusal, place_refusal};
 ghost use Rattle.h3_c.specs.Exported.{OnStream, SendsCut};

@@ -155,7 +155,7 @@ impl Connection {
 
     // The bytes are delivered, if there are any: a copy of them. If the allocation for it fails, anything else that refuses them is
     // answered first.
-    #[tactic(auto, using(crate::proofs::Reading::takes_none, crate::proofs::Reading::takes_some))]
+    #[tactic(auto, using(crate::proofs::Reading::takes_none))]
     fn take(&mut self, alloc: Global, id: StreamId, bytes: &[u8]) -> Result<(), Stop>
         ensures last { self.new.last ≡ self.old.last }
         ensures events { self.new.events ≡ self.old.events }

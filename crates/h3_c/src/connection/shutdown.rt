@@ -1,4 +1,5 @@
 //! A connection is shut down.
+ghost use Rattle.std.specs.Prelude.{◌≡◌};
 ghost use Rattle.h3_connection.specs.Shutdown.{GivesNotice, ShutsDown};
 ghost use Rattle.h3_c.specs.Exported.{Calls};
 ghost use Rattle.h3_c.specs.Numbers.{call_told};
