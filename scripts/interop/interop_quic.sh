@@ -416,6 +416,9 @@ check "serve: each allocation refused in turn" refused_server "${ports[12]}" "${
 refusing=(websocket)
 check "websocket: each allocation refused in turn" refused_server "${ports[19]}" "$work/checked/websocket_client" "$cert" 127.0.0.1 "${ports[19]}" \
   localhost / "$folder/hello.txt"
+refusing=(webtransport)
+check "webtransport: each allocation refused in turn" refused_server "${ports[17]}" "$work/checked/webtransport_client" "$cert" 127.0.0.1 "${ports[17]}" \
+  localhost / "$work/none" "$folder/hello.txt"
 
 # Each third allocation of the Rust program refused in turn: Rust ends it where its own is; where one of the library is, bytes are never delivered twice.
 refused_endpoints() {
