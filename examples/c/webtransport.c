@@ -99,10 +99,11 @@ static void on_datagram(http3_request *request, const uint8_t *bytes, size_t cou
 /* ---- streams ---- */
 
 /* A stream that comes before its session is refused: a client that waits for the answer to its CONNECT sees none of it. */
-static void on_session(http3_request *request, uint64_t session) {
-  work *work = find(request->connection, session) ? add(request, session) : NULL;
-  if (!work) return http3_give_up(request, H3_CODE_WEBTRANSPORT_BUFFERED_STREAM_REJECTED);
-  if (!digest_begin(&work->digest)) http3_give_up(request, H3_CODE_INTERNAL_ERROR);
+static void on_session(http3_request *request, uint64_t id) {
+  work *session = find(request->connection, id);
+  if (!session) return http3_give_up(request, H3_CODE_WEBTRANSPORT_BUFFERED_STREAM_REJECTED);
+  work *stream = add(request, id);
+  if (!stream || !digest_begin(&stream->digest)) end_session(session, H3_CODE_INTERNAL_ERROR);
 }
 
 /* What comes on a CONNECT request are capsules (RFC 9297): of unknown types they are skipped, and one type closes the session. */
@@ -126,8 +127,9 @@ static void on_body(http3_request *request, const uint8_t *bytes, size_t count) 
   else digest_add(&work->digest, bytes, count);
 }
 
-static void send_text(http3_request *stream, const char *text) {
-  if (!http3_raw(stream, (const uint8_t *)text, strlen(text), true)) http3_give_up(stream, H3_CODE_INTERNAL_ERROR);
+/* There may be no memory. A stream that is reset before its first bytes came is one of no session for the client: so the session ends. */
+static void send_text(work *session, http3_request *stream, const char *text) {
+  if (!http3_raw(stream, (const uint8_t *)text, strlen(text), true)) end_session(session, H3_CODE_INTERNAL_ERROR);
 }
 
 static void forget_first(work *session) {
@@ -142,7 +144,7 @@ static void send_answers(work *session) {
   while (session->answer_count > 0 && !session->is_over) {
     http3_request *stream = http3_open_stream(session->request, session->answers_both_ways);
     if (!stream) return; /* the client allows no more just now */
-    send_text(stream, STAILQ_FIRST(&session->answers)->text);
+    send_text(session, stream, STAILQ_FIRST(&session->answers)->text);
     forget_first(session);
   }
 }
@@ -167,7 +169,7 @@ static void on_end(http3_request *request) {
   if (!work) return;
   if (digest_end(&work->digest, text)) {
     struct work *session = find(request->connection, work->session);
-    if (request->entry.id % 4 == 0) send_text(request, text); /* it goes both ways */
+    if (session && request->entry.id % 4 == 0) send_text(session, request, text); /* it goes both ways */
     else if (session) answer_later(session, text);
     return;
   }

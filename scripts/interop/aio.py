@@ -439,6 +439,20 @@ async def case_session_ends(client, words):
     want(stream["reset"] == 0x170D7B68, f"another code than SESSION_GONE: {stream['reset']:#x}")
 
 
+async def case_two_sessions(client, words):
+    """on one connection: one ends, and the other goes on"""
+    one, two = await begin_session(client), await begin_session(client, b"/both")
+    open_one, open_two = (send_on(client, it, b"x", end=False) for it in (one, two))
+    await asyncio.sleep(0.2)
+    client.send(one, b"", True)
+    await client.until(open_one, lambda it: it["reset"] is not None)
+    client._quic.send_stream_data(open_two, b"y", True)
+    send_on(client, two, b"one way", is_unidirectional=True)
+    for stream_id, data in ((open_two, b"xy"), (1, b"one way")):
+        stream = await client.until(stream_id, lambda it: it["ended"] or it["reset"] is not None)
+        want(stream["body"] == answer_to(data), f"another answer: {stream}")
+
+
 def capsule(kind, value):
     return encode_uint_var(kind) + encode_uint_var(len(value)) + value
 
@@ -701,6 +715,7 @@ SESSIONS = {
     "a session, datagrams": case_datagrams,
     "a session, streams both ways from the server": case_back,
     "a session that ends": case_session_ends,
+    "two sessions, of which one ends": case_two_sessions,
     "a session that a capsule ends": case_capsule_closes,
     "a session whose last capsule is cut": case_capsule_cut,
     "a stream of no session": case_no_session,

@@ -134,8 +134,8 @@ peak() { # its PROCESS, and not that of `timeout`, whose child it is
   sed -n 's/^VmHWM:[^0-9]*\([0-9]*\) kB/\1/p' "/proc/$1/status"
 }
 # 10,000 requests that are reset behind their heads: a bound for the processor time of the server, in hundredths of a second, and for the memory
-# that it grows by, in KiB.
-resets() { # PORT, PROCESS of the server, which is a child of `timeout`
+# that it grows by, in MiB. Go's heap grows by 7 to 20 MiB, from run to run, and by no more than 23 if there are four times as many resets.
+resets() { # PORT, PROCESS of the server, which is a child of `timeout`, MIB
   local server before after
   read -r server < "/proc/$2/task/$2/children"
   used() { echo $(($(cut -d' ' -f14,15 "/proc/$server/stat" | tr ' ' '+'))); }
@@ -144,7 +144,7 @@ resets() { # PORT, PROCESS of the server, which is a child of `timeout`
   works "$peer" resets "$cert" 10000 "localhost:$1" && grep -q "^10000 reset, then [1-9]" "$work/got" || return 1
   after=($(used) $(peak "$server"))
   echo "$((after[0] - before[0])) hundredths of a second, $((after[1] - before[1])) KiB" | tee "$work/log" > "$work/measured"
-  [ $((after[0] - before[0])) -le 200 ] && [ $((after[1] - before[1])) -le 16384 ]
+  [ $((after[0] - before[0])) -le 200 ] && [ $((after[1] - before[1])) -le $((1024 * $3)) ]
 }
 # Frames and instructions that never end, each on a connection of its own: the server grows by 16 MiB at most. Of none more than 1 MiB goes out, since there
 # is no credit for what is held, but of frames of an unknown type, which are thrown away as they come.
@@ -273,7 +273,7 @@ start "${ports[0]}" serve2.log "$serve" --requests 150 127.0.0.1 "${ports[0]}" "
 limits serve "${ports[0]}" "$last"
 check "serve: no leak and no error of memory behind its limits" is_silent serve2.log
 start "${ports[13]}" serve3.log "$work/plain/serve" 127.0.0.1 "${ports[13]}" "$cert" "$key" "$folder"
-check "serve: 10,000 resets within 2 s of processor and 16 MiB" resets "${ports[13]}" "$last"
+check "serve: 10,000 resets within 2 s of processor and 16 MiB" resets "${ports[13]}" "$last" 16
 check "serve: frames and instructions that never end, within 16 MiB" floods "${ports[13]}" "$last"
 check "serve: the second signal ends it at once" second_signal "${ports[13]}" "$last"
 
@@ -289,7 +289,7 @@ start "${ports[1]}" h3go2.log "$work/h3go" serve -requests 150 "127.0.0.1:${port
 limits "Go server" "${ports[1]}" "$last"
 check "Go server: no panic behind its limits" is_silent h3go2.log
 start "${ports[14]}" h3go3.log "$work/h3go" serve "127.0.0.1:${ports[14]}" "$cert" "$key" "$folder"
-check "Go server: 10,000 resets within 2 s of processor and 16 MiB" resets "${ports[14]}" "$last"
+check "Go server: 10,000 resets within 2 s of processor and 32 MiB" resets "${ports[14]}" "$last" 32
 check "Go server: frames and instructions that never end, within 16 MiB" floods "${ports[14]}" "$last"
 check "Go server: the second signal ends it at once" second_signal "${ports[14]}" "$last"
 
@@ -416,6 +416,9 @@ check "serve: each allocation refused in turn" refused_server "${ports[12]}" "${
 refusing=(websocket)
 check "websocket: each allocation refused in turn" refused_server "${ports[19]}" "$work/checked/websocket_client" "$cert" 127.0.0.1 "${ports[19]}" \
   localhost / "$folder/hello.txt"
+refusing=(webtransport)
+check "webtransport: each allocation refused in turn" refused_server "${ports[17]}" "$work/checked/webtransport_client" "$cert" 127.0.0.1 "${ports[17]}" \
+  localhost / "$work/none" "$folder/hello.txt"
 
 # Each third allocation of the Rust program refused in turn: Rust ends it where its own is; where one of the library is, bytes are never delivered twice.
 refused_endpoints() {

@@ -330,7 +330,7 @@ def data(word):
 
 def row(words):
     match words:
-        case ["varint", "read", word]:
+        case ["varint", "read", word] if len(word) % 2 == 0 or word == "-":  # a digit alone is no byte: our program says so
             return [varint(data(word))]
         case ["varint", "write", word]:
             return [varint_write(int(word))]
