@@ -28,6 +28,7 @@ pub mod Grows
 pub mod ReadsGrow
 pub mod Flights
 pub mod Landings
+pub mod SectionBytes
 pub mod SendsGrow
 pub mod Comings
 pub mod ProgramGives
