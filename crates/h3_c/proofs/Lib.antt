@@ -26,6 +26,7 @@ pub mod Unordered
 pub mod UnorderedSteps
 pub mod Grows
 pub mod ReadsGrow
+pub mod Filling
 pub mod Flights
 pub mod Landings
 pub mod SectionBytes
