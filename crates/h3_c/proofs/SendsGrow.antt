@@ -1,5 +1,5 @@
 -- Each step that one side makes writes behind what was written.
-use Rattle.std.proofs.Common.{arith, ◌≡◌, ◌⊎◌, inl, inr, ℕ, ◌+◌, ◌*◌, Bool, true, false, if◌then◌else◌, List, [], ◌∷◌, ◌++◌, flat_map, length, take, refl, sym, ap, subst, ◌∙◌, Option, Some, None, append_assoc, append-nil}
+use Rattle.std.proofs.Common.{arith, ◌≡◌, ◌⊎◌, inl, inr, ℕ, ◌+◌, ◌*◌, Bool, true, false, if◌then◌else◌, List, [], ◌∷◌, ◌++◌, length, take, refl, sym, ap, subst, ◌∙◌, Option, Some, None, append_assoc, append-nil}
 use Rattle.std.specs.Prelude.{◌==◌, ◌||◌, not, is_some, unwrap_or}
 use Rattle.std.specs.List.{AllByRecursion}
 use Rattle.h3_field.specs.Field.{Field}
@@ -11,7 +11,7 @@ use Rattle.h3_proto.specs.declared.stream.Side.TheVariants.{Client, Server}
 use Rattle.h3_connection.specs.Delivering.{give_up, incoming_at, opened_at, with_incoming}
 use Rattle.h3_connection.specs.Endpoint.{EndpointHistory, is_critical_id}
 use Rattle.h3_connection.specs.Keeping.{pulls}
-use Rattle.h3_connection.specs.Outgoing.{Outgoing as Out, OwnPart, nothing_sent, with_body, with_finish, with_reset, with_said, written_part}
+use Rattle.h3_connection.specs.Outgoing.{Outgoing as Out, OwnPart, nothing_sent, with_body, with_finish, with_reset, with_said}
 use Rattle.h3_connection.specs.Outgoing.OwnPart.{OwnBody, OwnHead, OwnInterim, OwnTrailer}
 use Rattle.h3_connection.specs.Pulling.{is_interim}
 use Rattle.h3_connection.specs.OwnIds.{is_own}
@@ -205,7 +205,9 @@ pub record Stood (e : EndpointHistory) : Type 0 where
   pub stands : StandsFor state e
   pub side : Side
   pub carried : ℕ → List ℕ
-  pub carries : Carries side carried e
+  pub said : ℕ → List ℕ
+  pub owed : ℕ → List ℕ
+  pub carries : Carries side carried said owed e
 
 there_some : (e : EndpointHistory) (id : ℕ) → sender.cancel_refusal e id ≡ None → is_some (stream_at e.incoming id) ≡ true
 there_some e id none = open_second (is_critical_id e id) (is_some (stream_at e.incoming id)) refusal.Critical refusal.NotOpen _ (closed_none e.closed _ none)
@@ -233,8 +235,8 @@ four_apart : (n m : ℕ) → n ≡ 4 * m → (side : Side) → is_own side n ≡
 four_apart n m is Client = none_of (n == 2) (n == 6) (n == 10) (differs n 2 (λ same. omega (arith, is, same))) (differs n 6 (λ same. omega (arith, is, same))) (differs n 10 (λ same. omega (arith, is, same)))
 four_apart n m is Server = none_of (n == 3) (n == 7) (n == 11) (differs n 3 (λ same. omega (arith, is, same))) (differs n 7 (λ same. omega (arith, is, same))) (differs n 11 (λ same. omega (arith, is, same)))
 
-pub opens_grow : (e : EndpointHistory) (side : Side) (carried : ℕ → List ℕ) → Carries side carried e → Grows e (sender.open_request e).1
-opens_grow e side carried k = does_grows (sender.open_refusal e) e (record (opened_at e e.next_id None) { next_id = e.next_id + 4 }) (λ none.
+pub opens_grow : (e : EndpointHistory) (side : Side) (carried said owed : ℕ → List ℕ) → Carries side carried said owed e → Grows e (sender.open_request e).1
+opens_grow e side carried said owed k = does_grows (sender.open_refusal e) e (record (opened_at e e.next_id None) { next_id = e.next_id + 4 }) (λ none.
     let client = client_opens e.side (last_id e.peer.goaways) e.next_id (closed_none e.closed _ none) in
     record {
       side = refl;
@@ -268,8 +270,8 @@ module _ (ends : Ends) (stood : (side : Side) → Stood (end_at ends side)) wher
   done_grows side success x grows = subst (λ new. BothGrow ends new) (sym (done_end ends side success x)) (one_grows ends side x.1 grows)
 
   opened_so : (side : Side) → BothGrow ends (answered ends (event.OpenRequest side)).1
-  opened_so Client = done_grows Client (answer.Opened ends.client.next_id) (sender.open_request ends.client) (opens_grow ends.client (stood Client).side (stood Client).carried (stood Client).carries)
-  opened_so Server = done_grows Server (answer.Opened ends.server.next_id) (sender.open_request ends.server) (opens_grow ends.server (stood Server).side (stood Server).carried (stood Server).carries)
+  opened_so Client = done_grows Client (answer.Opened ends.client.next_id) (sender.open_request ends.client) (opens_grow ends.client (stood Client).side (stood Client).carried (stood Client).said (stood Client).owed (stood Client).carries)
+  opened_so Server = done_grows Server (answer.Opened ends.server.next_id) (sender.open_request ends.server) (opens_grow ends.server (stood Server).side (stood Server).carried (stood Server).said (stood Server).owed (stood Server).carries)
 
   answered_grows : (e : Event) → IsOfC e → IsCall e → BothGrow ends (answered ends e).1
   answered_grows (event.OpenRequest side) of call = opened_so side
