@@ -1,5 +1,5 @@
 -- A payload in the places that were announced for it.
-use Rattle.std.proofs.Common.{arith, ◌≡◌, ◌≤◌, ℕ, zero, suc, ◌+◌, ◌*◌, ◌/◌, ◌^◌, Bool, true, false, if◌then◌else◌, List, [], ◌∷◌, ◌++◌, flat_map, length, drop, refl, sym, ap, ◌∙◌, nat_lt, drop-drop}
+use Rattle.std.proofs.Common.{arith, ◌≡◌, ◌≤◌, ℕ, zero, suc, ◌+◌, ◌*◌, ◌/◌, ◌^◌, Bool, true, false, if◌then◌else◌, List, [], ◌∷◌, ◌++◌, flat_map, length, drop, refl, sym, ap, ◌∙◌, nat_lt, drop-drop, length-append}
 use Rattle.std.specs.Int.{bytes_high_first}
 use Rattle.std.specs.List.{AllByRecursion, list_all}
 use Rattle.std.proofs.lemmas.Bool.{lt-ltb}
@@ -225,3 +225,27 @@ parts_places [] h = refl
 parts_places (part ∷ parts) h =
     let one = written_places part h.0 in
     let rest = parts_places parts h.1 in let both = places_joined (written_part part) (flat_map written_part parts) in omega (arith, one, rest, both)
+
+-- as long as it was
+part_as_long : (part : OwnPart) (said : List ℕ) → length (written_part (filled_part said part)) ≡ length (written_part part)
+part_as_long (OwnInterim section) said = refl
+part_as_long (OwnHead section) said = refl
+part_as_long (OwnBody bytes) said =
+    let head = head_encoding 0 (length bytes) in
+    let one = length-append head (filled_with bytes said) in
+    let two = length-append head bytes in
+    let same = length_filled bytes said in
+    ap (λ n. length (head_encoding 0 n ++ filled_with bytes said)) same ∙ as_long (length (head ++ filled_with bytes said)) (length (head ++ bytes)) (length head) (length (filled_with bytes said)) (length bytes) one two same
+  where
+    as_long : (a b h f l : ℕ) → a ≡ h + f → b ≡ h + l → f ≡ l → a ≡ b
+    as_long a b h f l one two same = omega (arith, one, two, same)
+part_as_long (OwnTrailer section) said = refl
+
+pub parts_as_long : (parts : List OwnPart) (said : List ℕ) → length (flat_map written_part (filled_parts said parts)) ≡ length (flat_map written_part parts)
+parts_as_long [] said = refl
+parts_as_long (part ∷ parts) said =
+    let one = part_as_long part said in
+    let rest = parts_as_long parts (drop (part_places part) said) in
+    let new = length-append (written_part (filled_part said part)) (flat_map written_part (filled_parts (drop (part_places part) said) parts)) in
+    let old = length-append (written_part part) (flat_map written_part parts) in
+    omega (arith, one, rest, new, old)
