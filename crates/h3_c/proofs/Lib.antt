@@ -17,6 +17,7 @@ pub mod CarriedOver
 pub mod ProgramCalls
 pub mod ProgramRuns
 pub mod UnheardUpdates
+pub mod Writing
 pub mod Views
 pub mod ViewsReading
 pub mod ViewsSending
