@@ -225,7 +225,7 @@ take_front zero xs ys few = refl
 take_front (suc n) [] ys few = absurd (omega (arith, few))
 take_front (suc n) (x ∷ xs) ys few = ap (λ l. x ∷ l) (take_front n xs ys (omega (arith, few)))
 
-taken_within : (o : Out) (said flying : List ℕ) → AllByRecursion IsOfBytes o.parts → Flies (filled_text said o) o.taken flying → o.taken ≤ length (part_bytes o)
+pub taken_within : (o : Out) (said flying : List ℕ) → AllByRecursion IsOfBytes o.parts → Flies (filled_text said o) o.taken flying → o.taken ≤ length (part_bytes o)
 taken_within o said flying bytes f =
     let written = ap (λ l. length l) (parts_written o.parts said bytes) in
     let same = length_filled (part_bytes o) said in

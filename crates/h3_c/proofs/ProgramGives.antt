@@ -1,6 +1,7 @@
 -- What QUIC takes, and what it gives to the other side.
-use Rattle.std.proofs.Common.{arith, ◌≡◌, ◌≤◌, ℕ, ◌+◌, ◌-◌, Bool, true, false, if◌then◌else◌, List, [], ◌∷◌, ◌++◌, length, drop, take, refl, sym, ap, subst, ◌∙◌, Option, Some, None, Result, Ok, append_assoc}
+use Rattle.std.proofs.Common.{arith, ◌≡◌, ◌≤◌, ℕ, ◌+◌, ◌-◌, Bool, true, false, if◌then◌else◌, List, [], ◌∷◌, ◌++◌, length, drop, take, refl, sym, ap, subst, ◌∙◌, Option, Some, None, Result, Ok, append_assoc, zero, suc, length-drop}
 use Rattle.std.specs.Prelude.{◌==◌, ◌||◌, option_map, unwrap_or}
+use Rattle.std.proofs.lemmas.Grind.{common_steps}
 use Rattle.h3_proto.specs.declared.stream.Side.{Side}
 use Rattle.h3_proto.specs.declared.stream.Side.TheVariants.{Client, Server}
 use Rattle.h3_connection.specs.Answers.{delivery_refused}
@@ -28,12 +29,14 @@ use Rattle.h3_world.specs.declared.event.Event.TheVariants as event
 use Rattle.h3_world.specs.declared.lists.ListItem.TheVariants as listed
 use Rattle.h3_world.specs.declared.lists.ListPull.TheVariants as list
 use Rattle.h3_memory.specs.Refused.{EndsStep, handed_over}
+use Rattle.h3_outgoing.specs.Held.{filled_with, past_of}
 use Rattle.h3_session.specs.Running.{answer_of, is_stored}
 use Rattle.h3_c.specs.Programs.{Handles, carrying, handle_at}
 use Rattle.h3_c.specs.Seen.{Seen}
 use Rattle.h3_c.proofs.Comings.{IsDone, bytes_step, came_seen, comes, end_step, left_if, reset_step, told_so}
-use Rattle.h3_c.proofs.Flights.{Carries, IsUnreset, carried_waits, carries_grown, keeps_lagging, lagging, own_lags, take_joined, takes_on}
-use Rattle.h3_c.proofs.Grows.{own_text, waits_own}
+use Rattle.h3_c.proofs.Filling.{filled_parts, parts_as_long, places}
+use Rattle.h3_c.proofs.Flights.{Carries, FliesAt, IsUnreset, OwesAt, OwesLeft, carried_waits, carries_grown, filled_out, filled_text, filled_waiting, keeps_lagging, lagging, not_there, own_lags, take_joined, taken_within, takes_on}
+use Rattle.h3_c.proofs.Grows.{own_text, part_bytes, waits_own}
 use Rattle.h3_c.proofs.Landings.{Leaves, landed_on}
 use Rattle.h3_c.proofs.ProgramMoves.{Moves, LeavesSo, ends_are, keep_lagging, views_of}
 use Rattle.h3_c.proofs.ReadsGrow.{arrives_reads, pulls_reads_of_none, reads_grow, reads_then}
@@ -41,6 +44,7 @@ use Rattle.h3_c.proofs.Unordered.{waits_of}
 use Rattle.h3_c.proofs.Views.{Keeps, View, at_seen, by_id, open_seen, seen, seen_alike}
 use Rattle.h3_c.proofs.ViewsMemory.{step_seen}
 use Rattle.h3_c.proofs.ViewsSteps.{both_seen}
+use Rattle.h3_c.proofs.Writing.{Fronted, enough_owed, front_filled, owes_behind, places_taken, waits_filled}
 
 -- so much is carried of one stream
 abbrev pub with_stream : (ℕ → List ℕ) → ℕ → List ℕ → ℕ → List ℕ
@@ -398,9 +402,11 @@ empty_given h Server id none there = LeavesSo (λ ends stand.
     record { new = ends; of = (tt, tt); run = (V, told_so V V (event.Deliver Server id 1) (answer.Short 0) refl is, refl); stand = stand })
 
 -- **Bytes are taken.**
-abbrev pub taken_from : Side → Handles → Seen → ℕ → List ℕ → Handles
-taken_from Client h v id bytes = record { client = v; server = h.server; carried = carrying h.carried Client id (h.carried Client id ++ bytes) }
-taken_from Server h v id bytes = record { client = h.client; server = v; carried = carrying h.carried Server id (h.carried Server id ++ bytes) }
+abbrev pub taken_from : Side → Handles → Seen → ℕ → List ℕ → ℕ → Handles
+taken_from Client h v id bytes shown =
+    record { client = v; server = h.server; carried = carrying h.carried Client id (h.carried Client id ++ bytes); owed = carrying h.owed Client id (drop (length bytes - shown) (h.owed Client id)) }
+taken_from Server h v id bytes shown =
+    record { client = h.client; server = v; carried = carrying h.carried Server id (h.carried Server id ++ bytes); owed = carrying h.owed Server id (drop (length bytes - shown) (h.owed Server id)) }
 
 joins_behind : (carried : ℕ → List ℕ) (id : ℕ) (bytes : List ℕ) (q : ℕ) → with_stream carried id (carried id ++ bytes) q ≡ carried q ++ (if q == id then bytes else [])
 joins_behind carried id bytes q =
@@ -410,27 +416,155 @@ joins_behind carried id bytes q =
     nothing_behind [] = refl
     nothing_behind (x ∷ xs) = ap (λ l. x ∷ l) (nothing_behind xs)
 
-pub taken_so : (h : Handles) (from : Side) (v : Seen) (id : ℕ) (bytes : List ℕ) → ((e : EndpointHistory) → StandsFor (handle_at h from).endpoint e → (bytes ≡ take (length bytes) (bytes_waiting e id)) × StandsFor v.endpoint (advance e id (length bytes)))
-    → Moves h (taken_from from h v id bytes) [] []
-taken_so h Client v id bytes there = LeavesSo (λ ends stand.
+-- what was shown, and how much QUIC took of it and of what the program owes
+pub record TakesShown (owed bytes : List ℕ) (wire : List ℕ) : Type 0 where
+  pub buffer : List ℕ
+  pub count : ℕ
+  pub past : ℕ
+  pub fronted : Fronted wire buffer count past
+  pub within : length bytes ≤ count + past
+  pub front : bytes ≡ take (length bytes) (take count buffer ++ take past owed)
+
+module _ (side : Side) (carried said owed : ℕ → List ℕ) (e : EndpointHistory) (k : Carries side carried said owed e) (id : ℕ) (bytes : List ℕ) (t : TakesShown (owed id) bytes (bytes_waiting e id)) where
+  abbrev left : ℕ → List ℕ
+  left = with_stream owed id (drop (length bytes - t.count) (owed id))
+
+  left_here : left id ≡ drop (length bytes - t.count) (owed id)
+  left_here = by_id id id (λ b. (if b then drop (length bytes - t.count) (owed id) else owed id) ≡ drop (length bytes - t.count) (owed id)) (λ same. refl) (λ differs. absurd (never differs))
+    where
+      never : (id == id) ≡ false → ⊥
+      never h = grind (arith, common_steps, h)
+
+  others : (q : ℕ) → (q == id) ≡ false → left q ≡ owed q
+  others q differs = ap (λ b. if b then drop (length bytes - t.count) (owed id) else owed q) differs
+
+  none_dropped : (n : ℕ) → drop {A = ℕ} n [] ≡ []
+  none_dropped zero = refl
+  none_dropped (suc n) = refl
+
+  none_taken : (n : ℕ) → take {A = ℕ} n [] ≡ []
+  none_taken zero = refl
+  none_taken (suc n) = refl
+
+  nothing_behind : (xs : List ℕ) → xs ++ [] ≡ xs
+  nothing_behind [] = refl
+  nothing_behind (x ∷ xs) = ap (λ l. x ∷ l) (nothing_behind xs)
+
+  shorter : (n m : ℕ) (xs : List ℕ) → n ≤ m → take n (take m xs) ≡ take n xs
+  shorter zero m xs few = refl
+  shorter (suc n) zero xs few = absurd (omega (arith, few))
+  shorter (suc n) (suc m) [] few = refl
+  shorter (suc n) (suc m) (x ∷ xs) few = ap (λ l. x ∷ l) (shorter n m xs (omega (arith, few)))
+
+  few_taken : (n : ℕ) (xs : List ℕ) → length (take n xs) ≤ n
+  few_taken zero xs = omega arith
+  few_taken (suc n) [] = omega arith
+  few_taken (suc n) (x ∷ xs) = let rest = few_taken n xs in omega (arith, rest)
+
+  is_front : (n : ℕ) (xs : List ℕ) → length xs ≡ n → (m : ℕ) → xs ≡ take n (take m t.buffer) → n ≤ m
+  is_front n xs long m is = let all = ap (λ l. length l) is in let few = few_short n (take m t.buffer) in let there = few_taken m t.buffer in omega (arith, long, all, few, there)
+    where
+      few_short : (i : ℕ) (ys : List ℕ) → length (take i ys) ≤ length ys
+      few_short zero ys = omega arith
+      few_short (suc i) [] = omega arith
+      few_short (suc i) (y ∷ ys) = let rest = few_short i ys in omega (arith, rest)
+
+  -- an own stream: the program owes nothing of it
+  own_front : stream_at e.outgoing id ≡ None → owed id ≡ [] → bytes ≡ take (length bytes) (bytes_waiting e id)
+  own_front at none =
+      let plain : bytes ≡ take (length bytes) (take t.count t.buffer) = t.front ∙ ap (λ l. take (length bytes) (take t.count t.buffer ++ l)) (ap (λ l. take t.past l) none ∙ none_taken t.past) ∙ ap (λ l. take (length bytes) l) (nothing_behind (take t.count t.buffer)) in
+      plain ∙ ap (λ l. take (length bytes) l) t.fronted.copied ∙ shorter (length bytes) t.count (bytes_waiting e id) (is_front (length bytes) bytes refl t.count plain)
+
+  own_shown : stream_at e.outgoing id ≡ None → (bytes ≡ take (length bytes) (filled_waiting e said id)) × OwesLeft e id (length bytes) said owed left
+  own_shown at =
+      let none = (subst (λ o. OwesAt o (said id) (owed id)) at (k.owes id)).1 in (
+        own_front at none ∙ ap (λ l. take (length bytes) l) (ap (λ o. waits_of e id o) at ∙ sym (ap (λ o. waits_of e id (option_map (filled_out (said id)) o)) at)),
+        record {
+          others = others;
+          none = λ was. left_here ∙ ap (λ l. drop (length bytes - t.count) l) none ∙ none_dropped (length bytes - t.count);
+          rest = λ o there. absurd (not_there (stream_at e.outgoing id) o there at);
+        },
+      )
+
+  request_shown : (o : Out) → stream_at e.outgoing id ≡ Some o → (b : Bool) → o.is_reset ≡ b → (bytes ≡ take (length bytes) (filled_waiting e said id)) × OwesLeft e id (length bytes) said owed left
+  request_shown o at true was =
+      let real : bytes_waiting e id ≡ [] = ap (λ x. waits_of e id x) at ∙ ap (λ b. if b then [] else drop o.taken (part_bytes o)) was in
+      let seen_none : filled_waiting e said id ≡ [] = ap (λ x. waits_of e id (option_map (filled_out (said id)) x)) at ∙ ap (λ b. if b then [] else drop o.taken (filled_text (said id) o)) was in
+      (nothing_shown real ∙ sym (ap (λ l. take (length bytes) l) seen_none ∙ none_taken (length bytes)), record { others = others; none = λ none. absurd (not_there (stream_at e.outgoing id) o at none); rest = λ p there goes. absurd (reset_so p there goes) })
+    where
+      nothing_shown : bytes_waiting e id ≡ [] → bytes ≡ []
+      nothing_shown none = no_length bytes (
+          let few = ap (λ l. length l) none in
+          let fits = t.fronted.few in
+          let past = t.fronted.past_is ∙ ap (λ l. past_of (drop t.count l)) none ∙ ap past_of (none_dropped t.count) in
+          let within = t.within in
+          omega (arith, few, fits, past, within))
+        where
+          no_length : (xs : List ℕ) → length xs ≡ 0 → xs ≡ []
+          no_length [] h = refl
+          no_length (x ∷ xs) h = absurd (omega (arith, h))
+
+      reset_so : (p : Out) → stream_at e.outgoing id ≡ Some p → p.is_reset ≡ false → ⊥
+      reset_so p there goes = absurd (let never : true ≡ false = sym was ∙ ap (λ (x : Option Out). unwrap_or (option_map (λ (y : Out). y.is_reset) x) false) (sym at ∙ there) ∙ goes in cc)
+  request_shown o at false goes =
+      let real : bytes_waiting e id ≡ drop o.taken (part_bytes o) = ap (λ x. waits_of e id x) at ∙ ap (λ b. if b then [] else drop o.taken (part_bytes o)) goes in
+      let was = subst (λ x. OwesAt x (said id) (owed id)) at (k.owes id) in
+      let owes = was.2 goes in
+      let f = subst (λ l. Fronted l t.buffer t.count t.past) real t.fronted in
+      let enough = enough_owed o (said id) (owed id) was.0 was.1 owes in
+      let front = front_filled (drop o.taken (part_bytes o)) t.buffer (owed id) t.count t.past f enough bytes t.within t.front in
+      let there = places_taken (drop o.taken (part_bytes o)) t.buffer (owed id) t.count t.past f enough bytes t.within t.front in
+      let flies = subst (λ x. FliesAt e id x (said id) (carried id)) at (k.flies id) goes in
+      let shown : filled_waiting e said id ≡ filled_with (drop o.taken (part_bytes o)) (owed id) =
+      ap (λ x. waits_of e id (option_map (filled_out (said id)) x)) at ∙ ap (λ b. if b then [] else drop o.taken (filled_text (said id) o)) goes
+      ∙ waits_filled o (said id) (owed id) was.1 (taken_within o (said id) (carried id) was.1 flies) owes in (
+        front ∙ ap (λ l. take (length bytes) l) (sym shown),
+        record {
+          others = others;
+          none = λ none. absurd (not_there (stream_at e.outgoing id) o at none);
+          rest = λ p at_p goes_p. subst (λ (x : Out). left id ≡ drop (places (take (x.taken + length bytes) (part_bytes x))) (said id)) (same_out o p (sym at ∙ at_p))
+              (left_here ∙ owes_behind o (said id) (owed id) was.0 was.1 owes (length bytes) (length bytes - t.count) there);
+        },
+      )
+    where
+      same_out : (x y : Out) → Some x ≡ Some y → x ≡ y
+      same_out x y is = cc
+
+  -- **What QUIC takes is the front of what waits, with what is owed in its places.**
+  pub shown_so : (o : Option Out) → stream_at e.outgoing id ≡ o → (bytes ≡ take (length bytes) (filled_waiting e said id)) × OwesLeft e id (length bytes) said owed left
+  shown_so None at = own_shown at
+  shown_so (Some o) at = request_shown o at o.is_reset refl
+
+pub taken_so : (h : Handles) (from : Side) (v : Seen) (id : ℕ) (bytes : List ℕ) (shown : ℕ)
+    → ((e : EndpointHistory) → StandsFor (handle_at h from).endpoint e → (t : TakesShown (h.owed from id) bytes (bytes_waiting e id)) × (t.count ≡ shown) × StandsFor v.endpoint (advance e id (length bytes)))
+    → Moves h (taken_from from h v id bytes shown) [] []
+taken_so h Client v id bytes shown there = LeavesSo (λ ends stand.
     let e = ends.client in
     let about = there e stand.client in
-    let took = takes_on Client (h.carried Client) (with_stream (h.carried Client) id (h.carried Client id ++ bytes)) e stand.client_carries id bytes (joins_behind (h.carried Client) id bytes) about.0 in
+    let about_owed = shown_so Client (h.carried Client) (stand.said Client) (h.owed Client) e stand.client_carries id bytes about.0 (stream_at e.outgoing id) refl in
+    let after = with_stream (h.carried Client) id (h.carried Client id ++ bytes) in
+    let left = with_stream (h.owed Client) id (drop (length bytes - shown) (h.owed Client id)) in
+    let owes = subst (λ n. OwesLeft e id (length bytes) (stand.said Client) (h.owed Client) (with_stream (h.owed Client) id (drop (length bytes - n) (h.owed Client id)))) about.1 about_owed.1 in
+    let took = takes_on Client (h.carried Client) after (stand.said Client) (h.owed Client) left e stand.client_carries id bytes (joins_behind (h.carried Client) id bytes) about_owed.0 owes in
     let new : Ends = record { client = advance e id (length bytes); server = ends.server } in
     record {
       new = new;
       of = tt;
       run = ends_are (both_seen (views_of (carrying h.carried Client id (h.carried Client id ++ bytes)) stand.said) new) (both_seen (views_of h.carried stand.said) ends) took.seen_so refl;
-      stand = record { client = about.1; server = stand.server; said = stand.said; client_carries = took.carries; server_carries = stand.server_carries };
+      stand = record { client = about.2; server = stand.server; said = stand.said; client_carries = took.carries; server_carries = stand.server_carries };
     })
-taken_so h Server v id bytes there = LeavesSo (λ ends stand.
+taken_so h Server v id bytes shown there = LeavesSo (λ ends stand.
     let e = ends.server in
     let about = there e stand.server in
-    let took = takes_on Server (h.carried Server) (with_stream (h.carried Server) id (h.carried Server id ++ bytes)) e stand.server_carries id bytes (joins_behind (h.carried Server) id bytes) about.0 in
+    let about_owed = shown_so Server (h.carried Server) (stand.said Server) (h.owed Server) e stand.server_carries id bytes about.0 (stream_at e.outgoing id) refl in
+    let after = with_stream (h.carried Server) id (h.carried Server id ++ bytes) in
+    let left = with_stream (h.owed Server) id (drop (length bytes - shown) (h.owed Server id)) in
+    let owes = subst (λ n. OwesLeft e id (length bytes) (stand.said Server) (h.owed Server) (with_stream (h.owed Server) id (drop (length bytes - n) (h.owed Server id)))) about.1 about_owed.1 in
+    let took = takes_on Server (h.carried Server) after (stand.said Server) (h.owed Server) left e stand.server_carries id bytes (joins_behind (h.carried Server) id bytes) about_owed.0 owes in
     let new : Ends = record { client = ends.client; server = advance e id (length bytes) } in
     record {
       new = new;
       of = tt;
       run = ends_are (both_seen (views_of (carrying h.carried Server id (h.carried Server id ++ bytes)) stand.said) new) (both_seen (views_of h.carried stand.said) ends) refl took.seen_so;
-      stand = record { client = stand.client; server = about.1; said = stand.said; client_carries = stand.client_carries; server_carries = took.carries };
+      stand = record { client = stand.client; server = about.2; said = stand.said; client_carries = stand.client_carries; server_carries = took.carries };
     })

@@ -1,11 +1,11 @@
 -- What `h3_outgoing` shows, and behind it what the program owes, is the front of the text with all that was announced.
-use Rattle.std.proofs.Common.{arith, ◌≡◌, ◌≤◌, ℕ, zero, suc, ◌+◌, ◌-◌, Bool, true, false, if◌then◌else◌, List, [], ◌∷◌, ◌++◌, length, drop, take, refl, sym, ap, subst, ◌∙◌, nat_lt, drop-drop, length-append, length-drop, take-add, take-append-drop}
+use Rattle.std.proofs.Common.{arith, ◌≡◌, ◌≤◌, ℕ, zero, suc, ◌+◌, ◌-◌, Bool, true, false, if◌then◌else◌, List, [], ◌∷◌, ◌++◌, flat_map, length, drop, take, refl, sym, ap, subst, ◌∙◌, nat_lt, drop-drop, length-append, length-drop, take-add, take-append-drop}
 use Rattle.std.specs.List.{AllByRecursion}
 use Rattle.std.proofs.lemmas.Bool.{lt-ltb}
 use Rattle.h3_coding.specs.Encodings.{IsByte}
-use Rattle.h3_connection.specs.Outgoing.{Outgoing as Out}
+use Rattle.h3_connection.specs.Outgoing.{Outgoing as Out, written_part}
 use Rattle.h3_outgoing.specs.Held.{filled_with, front_of, past_of}
-use Rattle.h3_c.proofs.Filling.{IsOfBytes, bytes_filled, filled_joined, no_places, parts_places, parts_written, places, places_joined, places_of}
+use Rattle.h3_c.proofs.Filling.{IsOfBytes, bytes_filled, filled_joined, filled_parts, length_filled, no_places, parts_places, parts_written, places, places_joined, places_of}
 use Rattle.h3_c.proofs.Grows.{part_bytes}
 
 -- so many bytes are shown of these, and so many places behind them
@@ -124,3 +124,20 @@ module _ (o : Out) (said owed : List ℕ) (all : places_of o.parts ≡ length sa
   owes_behind n shown is =
       ap (λ l. drop shown l) owes ∙ drop-drop shown (places (take o.taken (part_bytes o))) said
       ∙ ap (λ k. drop k said) (sym (ap places (take-add o.taken n (part_bytes o)) ∙ places_joined (take o.taken (part_bytes o)) (take n (drop o.taken (part_bytes o))) ∙ ap (λ k. places (take o.taken (part_bytes o)) + k) is))
+
+drop_as_long : (xs ys : List ℕ) (n : ℕ) → length xs ≡ n → drop n (xs ++ ys) ≡ ys
+drop_as_long xs ys n long = subst (λ i. drop i (xs ++ ys) ≡ ys) long (by xs)
+  where
+    by : (zs : List ℕ) → drop (length zs) (zs ++ ys) ≡ ys
+    by [] = refl
+    by (z ∷ zs) = by zs
+
+-- what waits of it, with all that was announced
+pub waits_filled : (o : Out) (said owed : List ℕ) → AllByRecursion IsOfBytes o.parts → o.taken ≤ length (part_bytes o) → owed ≡ drop (places (take o.taken (part_bytes o))) said
+    → drop o.taken (flat_map written_part (filled_parts said o.parts)) ≡ filled_with (drop o.taken (part_bytes o)) owed
+waits_filled o said owed bytes within owes =
+    let front = take o.taken (part_bytes o) in
+    let rest = drop o.taken (part_bytes o) in
+    ap (λ l. drop o.taken l) (parts_written o.parts said bytes ∙ ap (λ l. filled_with l said) (sym (take-append-drop o.taken (part_bytes o))) ∙ filled_joined front rest said)
+    ∙ drop_as_long (filled_with front said) (filled_with rest (drop (places front) said)) o.taken (length_filled front said ∙ length_take o.taken (part_bytes o) within)
+    ∙ ap (λ l. filled_with rest l) (sym owes)
