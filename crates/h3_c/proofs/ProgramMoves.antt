@@ -69,6 +69,10 @@ pub record Left (ends : Ends) (h g : Handles) (said : Side → ℕ → List ℕ)
   pub stand : Stand g new
   pub run : EndsRun (both_seen (views_of h.carried said) ends) events answers (both_seen (views_of g.carried stand.said) new)
 
+-- nothing is taken, given or announced
+abbrev pub KeepsFlow : Handles → Handles → Type 0
+KeepsFlow h g = (g.carried ≡ h.carried) × (g.owed ≡ h.owed)
+
 -- not a reset of a stream that was sent to its end
 abbrev pub NotEnded : Event → Answer → Type 0
 NotEnded (event.Reset side id) a = a ≢ answer.Refused refusal.Ended
@@ -77,9 +81,9 @@ NotEnded _ a = Unit {0}
 -- One side answered this event by the call that it names; or nothing of which a schedule speaks has changed; or some, whatever they stood for; or one
 -- behind the other.
 pub data Moves : Handles → Handles → List Event → List Answer → Type 0 where
-  ActsSo : {h g : Handles} {e : Event} {a : Answer} → IsOfC e → IsCall e → NotEnded e a → g.carried ≡ h.carried → g.owed ≡ h.owed → Acts e h.client.endpoint h.server.endpoint a g.client.endpoint g.server.endpoint → Moves h g (e ∷ []) (a ∷ [])
+  ActsSo : {h g : Handles} {e : Event} {a : Answer} → IsOfC e → IsCall e → NotEnded e a → KeepsFlow h g → Acts e h.client.endpoint h.server.endpoint a g.client.endpoint g.server.endpoint → Moves h g (e ∷ []) (a ∷ [])
   LeavesSo : {h g : Handles} {events : List Event} {answers : List Answer} → ((ends : Ends) (stand : Stand h ends) → Left ends h g stand.said events answers) → Moves h g events answers
-  StaysSo : {h g : Handles} → StaysAt h.client g.client → StaysAt h.server g.server → g.carried ≡ h.carried → g.owed ≡ h.owed → Moves h g [] []
+  StaysSo : {h g : Handles} → StaysAt h.client g.client → StaysAt h.server g.server → KeepsFlow h g → Moves h g [] []
   ThenSo : {h mid g : Handles} {first events : List Event} {given answers : List Answer} → Moves h mid first given → Moves mid g events answers → Moves h g (first ++ events) (given ++ answers)
 
 -- runs one after another
@@ -168,9 +172,9 @@ resets_alike carried said ends new (event.Show side) a not step = tt
 
 -- A run to a schedule of which both sides carry on
 pub run_left : (ends new : Ends) (h g : Handles) (said : Side → ℕ → List ℕ) (events : List Event) (answers : List Answer) → AreOfC events → EndsRun (both_seen (views_of h.carried said) ends) events answers (both_seen (views_of h.carried said) new)
-    → Carries Client (h.carried Client) (said Client) (h.owed Client) new.client → Carries Server (h.carried Server) (said Server) (h.owed Server) new.server → g.carried ≡ h.carried → g.owed ≡ h.owed → StandsFor g.client.endpoint new.client
+    → Carries Client (h.carried Client) (said Client) (h.owed Client) new.client → Carries Server (h.carried Server) (said Server) (h.owed Server) new.server → KeepsFlow h g → StandsFor g.client.endpoint new.client
     → StandsFor g.server.endpoint new.server → Left ends h g said events answers
-run_left ends new h g said events answers of run client_carries server_carries same owed client server =
+run_left ends new h g said events answers of run client_carries server_carries same client server =
     record {
       new = new;
       of = of;
@@ -181,37 +185,37 @@ run_left ends new h g said events answers of run client_carries server_carries s
         client_carries = on_carries Client new.client client_carries;
         server_carries = on_carries Server new.server server_carries;
       };
-      run = subst (λ c. EndsRun (both_seen (views_of h.carried said) ends) events answers (both_seen (views_of c said) new)) (sym same) run;
+      run = subst (λ c. EndsRun (both_seen (views_of h.carried said) ends) events answers (both_seen (views_of c said) new)) (sym same.0) run;
     }
   where
     on_carries : (side : Side) (e : EndpointHistory) → Carries side (h.carried side) (said side) (h.owed side) e → Carries side (g.carried side) (said side) (g.owed side) e
     on_carries side e k =
-        subst (λ (o : Side → ℕ → List ℕ). Carries side (g.carried side) (said side) (o side) e) (sym owed) (subst (λ (c : Side → ℕ → List ℕ). Carries side (c side) (said side) (h.owed side) e) (sym same) k)
+        subst (λ (o : Side → ℕ → List ℕ). Carries side (g.carried side) (said side) (o side) e) (sym same.1) (subst (λ (c : Side → ℕ → List ℕ). Carries side (c side) (said side) (h.owed side) e) (sym same.0) k)
 
 -- **A step that one side makes is one to a schedule.**
-pub step_left : (ends new : Ends) (h g : Handles) (e : Event) (a : Answer) → IsOfC e → IsCall e → NotEnded e a → g.carried ≡ h.carried → g.owed ≡ h.owed → (stand : Stand h ends) → EndsStep ends e a new
+pub step_left : (ends new : Ends) (h g : Handles) (e : Event) (a : Answer) → IsOfC e → IsCall e → NotEnded e a → KeepsFlow h g → (stand : Stand h ends) → EndsStep ends e a new
     → StandsFor g.client.endpoint new.client → StandsFor g.server.endpoint new.server → Left ends h g stand.said (e ∷ []) (a ∷ [])
-step_left ends new h g e a of call not same owed stand step client server =
+step_left ends new h g e a of call not same stand step client server =
     let V = views_of h.carried stand.said in
     let seen_step = step_seen V (keep_lagging h.carried stand.said) ends new e a of call (resets_alike h.carried stand.said ends new e a not step) step in
     let grow = step_grows ends (stood stand) new e a of call step in
     run_left ends new h g stand.said (e ∷ []) (a ∷ []) (of, tt) (both_seen V new, seen_step, refl)
     (carries_grown Client (h.carried Client) (stand.said Client) (h.owed Client) ends.client new.client stand.client_carries grow.client)
-    (carries_grown Server (h.carried Server) (stand.said Server) (h.owed Server) ends.server new.server stand.server_carries grow.server) same owed client server
+    (carries_grown Server (h.carried Server) (stand.said Server) (h.owed Server) ends.server new.server stand.server_carries grow.server) same client server
 
 pub ends_are : (a b : Ends) → a.client ≡ b.client → a.server ≡ b.server → a ≡ b
 ends_are a b client server = ap (λ e. let x : Ends = record { client = e; server = a.server } in x) client ∙ ap (λ e. let x : Ends = record { client = b.client; server = e } in x) server
 
 -- what changes nothing of which a schedule speaks
-pub stays_left : (ends : Ends) (h g : Handles) (client server : EndpointHistory) → g.carried ≡ h.carried → g.owed ≡ h.owed → (stand : Stand h ends) → unordered client ≡ unordered ends.client → unordered server ≡ unordered ends.server
+pub stays_left : (ends : Ends) (h g : Handles) (client server : EndpointHistory) → KeepsFlow h g → (stand : Stand h ends) → unordered client ≡ unordered ends.client → unordered server ≡ unordered ends.server
     → StandsFor g.client.endpoint client → StandsFor g.server.endpoint server → Left ends h g stand.said [] []
-stays_left ends h g client server same owed stand client_same server_same client_stands server_stands =
+stays_left ends h g client server same stand client_same server_same client_stands server_stands =
     let new : Ends = record { client = client; server = server } in
     run_left ends new h g stand.said [] [] tt
     (ends_are (both_seen (views_of h.carried stand.said) new) (both_seen (views_of h.carried stand.said) ends) (stays_seen Client (h.carried Client) (stand.said Client) ends.client client client_same)
     (stays_seen Server (h.carried Server) (stand.said Server) ends.server server server_same))
     (carries_grown Client (h.carried Client) (stand.said Client) (h.owed Client) ends.client client stand.client_carries (stays_grows ends.client client client_same))
-    (carries_grown Server (h.carried Server) (stand.said Server) (h.owed Server) ends.server server stand.server_carries (stays_grows ends.server server server_same)) same owed client_stands server_stands
+    (carries_grown Server (h.carried Server) (stand.said Server) (h.owed Server) ends.server server stand.server_carries (stays_grows ends.server server server_same)) same client_stands server_stands
 
 -- what is cited: events that were answered by their calls are steps of the ends that were stood for
 abbrev pub CallsAreSteps : Type 0
@@ -219,7 +223,7 @@ CallsAreSteps = (ends : Ends) (events : List Event) (answers : List Answer) (cli
     → (new : Ends) × EndsRun ends events answers new × StandsFor client new.client × StandsFor server new.server
 
 pub leaves : CallsAreSteps → {h g : Handles} (ends : Ends) {events : List Event} {answers : List Answer} (stand : Stand h ends) → Moves h g events answers → Left ends h g stand.said events answers
-leaves law ends stand (ActsSo {h = h} {g = g} {e = e} {a = a} of call not same owed acts) =
+leaves law ends stand (ActsSo {h = h} {g = g} {e = e} {a = a} of call not same acts) =
     let on = law ends (e ∷ []) (a ∷ []) g.client.endpoint g.server.endpoint (record {
       client = h.client.endpoint;
       server = h.server.endpoint;
@@ -230,11 +234,11 @@ leaves law ends stand (ActsSo {h = h} {g = g} {e = e} {a = a} of call not same o
     one_step on.0 on.1 on.2 on.3
   where
     one_step : (new : Ends) → EndsRun ends (e ∷ []) (a ∷ []) new → StandsFor g.client.endpoint new.client → StandsFor g.server.endpoint new.server → Left ends h g stand.said (e ∷ []) (a ∷ [])
-    one_step new (mid, step, is) client server = step_left ends new h g e a of call not same owed stand (subst (λ x. EndsStep ends e a x) (sym is) step) client server
+    one_step new (mid, step, is) client server = step_left ends new h g e a of call not same stand (subst (λ x. EndsStep ends e a x) (sym is) step) client server
 leaves law ends stand (LeavesSo left) = left ends stand
-leaves law ends stand (StaysSo {h = h} {g = g} client_stays server_stays same owed) =
+leaves law ends stand (StaysSo {h = h} {g = g} client_stays server_stays same) =
     let c = client_stays ends.client stand.client in
     let s = server_stays ends.server stand.server in
-    stays_left ends h g c.after s.after same owed stand c.same s.same c.stands s.stands
+    stays_left ends h g c.after s.after same stand c.same s.same c.stands s.stands
 leaves law ends stand (ThenSo {h = h} {mid = mid} {g = g} {first = first} {events = events} {given = given} {answers = answers} before behind) =
     let one = leaves law ends stand before in left_then ends h mid g stand.said first events given answers one (leaves law one.new one.stand behind)

@@ -134,6 +134,10 @@ IsEmpty state = (state.has_outgoing ≡ 1) × (state.waiting ≡ 0)
 abbrev pub NothingLeft : Side → ℕ → (StreamState → Type 0) → Handles → Type 0
 NothingLeft from id tells h = (h.carried from id ≡ []) × Tells (handle_at h from) id tells
 
+-- The other side's handle is as it was, and nothing more is carried.
+abbrev pub IsAlone : Side → Handles → Handles → Type 0
+IsAlone side h g = (handle_at g (other side) ≡ handle_at h (other side)) × (g.carried ≡ h.carried)
+
 -- H3_OK and H3_KEPT: the other side has the bytes
 abbrev pub is_taken : Told → Bool
 is_taken n = (n.number == 0) || (n.number == 5)
@@ -141,10 +145,9 @@ is_taken n = (n.number == 0) || (n.number == 5)
 -- One thing happens.
 abbrev pub Happens : Act → Handles → Handles → Type 0
 Happens (Call side call) h g =
-    (is_left_out call (handle_at h side) ≡ false) × GivesBytes call × Does call (handle_at h side) (handle_at g side) × (handle_at g (other side) ≡ handle_at h (other side)) × (g.carried ≡ h.carried)
-    × (g.owed ≡ h.owed)
+    (is_left_out call (handle_at h side) ≡ false) × GivesBytes call × Does call (handle_at h side) (handle_at g side) × IsAlone side h g × (g.owed ≡ h.owed)
 Happens (Announce side id payload n) h g =
-    AreBytes payload × Does (SendBodyOf id (length payload) n) (handle_at h side) (handle_at g side) × (handle_at g (other side) ≡ handle_at h (other side)) × (g.carried ≡ h.carried)
+    AreBytes payload × Does (SendBodyOf id (length payload) n) (handle_at h side) (handle_at g side) × IsAlone side h g
     × (g.owed ≡ (if n.number == 0 then carrying h.owed side id (h.owed side id ++ payload) else h.owed))
 Happens (Take from id bytes) h g = Takes from id bytes h g
 Happens (Bytes from id bytes n) h g = Gives from id bytes (taken_of (is_taken n) (length bytes)) (Deliver id bytes n) h g × Tells (handle_at h from) id GoesOn
