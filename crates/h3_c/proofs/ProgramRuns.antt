@@ -48,24 +48,30 @@ delivered {P} id n r s does told below on rejects takes = by (is_rejected_in r.e
     by false is = takes ((on.known below).taken is)
 
 -- What the handles are then.
-handles_are : (g : Handles) (client server : Seen) (carried : Side → ℕ → List ℕ) → g.client ≡ client → g.server ≡ server → g.carried ≡ carried → g ≡ record { client = client; server = server; carried = carried }
-handles_are g client server carried a b c =
-    ap (λ v. let x : Handles = record { client = v; server = g.server; carried = g.carried } in x) a ∙ ap (λ v. let x : Handles = record { client = client; server = v; carried = g.carried } in x) b
-    ∙ ap (λ v. let x : Handles = record { client = client; server = server; carried = v } in x) c
+handles_are : (g : Handles) (client server : Seen) (carried owed : Side → ℕ → List ℕ) → g.client ≡ client → g.server ≡ server → g.carried ≡ carried → g.owed ≡ owed
+    → g ≡ record { client = client; server = server; carried = carried; owed = owed }
+handles_are g client server carried owed a b c d =
+    ap (λ v. let x : Handles = record { client = v; server = g.server; carried = g.carried; owed = g.owed } in x) a
+    ∙ ap (λ v. let x : Handles = record { client = client; server = v; carried = g.carried; owed = g.owed } in x) b
+    ∙ ap (λ v. let x : Handles = record { client = client; server = server; carried = v; owed = g.owed } in x) c
+    ∙ ap (λ v. let x : Handles = record { client = client; server = server; carried = carried; owed = v } in x) d
 
-given_is : (from : Side) (h g : Handles) (id : ℕ) (bytes : List ℕ) → handle_at g from ≡ handle_at h from → g.carried ≡ carrying h.carried from id bytes → g ≡ given_to from h (handle_at g (other from)) id bytes
-given_is Client h g id bytes there carried = handles_are g h.client g.server (carrying h.carried Client id bytes) there refl carried
-given_is Server h g id bytes there carried = handles_are g g.client h.server (carrying h.carried Server id bytes) refl there carried
+given_is : (from : Side) (h g : Handles) (id : ℕ) (bytes : List ℕ) → handle_at g from ≡ handle_at h from → g.carried ≡ carrying h.carried from id bytes → g.owed ≡ h.owed → g ≡ given_to from h (handle_at g (other from)) id bytes
+given_is Client h g id bytes there carried owed = handles_are g h.client g.server (carrying h.carried Client id bytes) h.owed there refl carried owed
+given_is Server h g id bytes there carried owed = handles_are g g.client h.server (carrying h.carried Server id bytes) h.owed refl there carried owed
 
-taken_is : (from : Side) (h g : Handles) (id : ℕ) (bytes : List ℕ) → handle_at g (other from) ≡ handle_at h (other from) → g.carried ≡ carrying h.carried from id (h.carried from id ++ bytes) → g ≡ taken_from from h (handle_at g from) id bytes
-taken_is Client h g id bytes there carried = handles_are g g.client h.server (carrying h.carried Client id (h.carried Client id ++ bytes)) refl there carried
-taken_is Server h g id bytes there carried = handles_are g h.client g.server (carrying h.carried Server id (h.carried Server id ++ bytes)) there refl carried
+taken_is : (from : Side) (h g : Handles) (id : ℕ) (bytes : List ℕ) (shown : ℕ) → handle_at g (other from) ≡ handle_at h (other from) → g.carried ≡ carrying h.carried from id (h.carried from id ++ bytes)
+    → g.owed ≡ carrying h.owed from id (drop (length bytes - shown) (h.owed from id)) → g ≡ taken_from from h (handle_at g from) id bytes shown
+taken_is Client h g id bytes shown there carried owed =
+    handles_are g g.client h.server (carrying h.carried Client id (h.carried Client id ++ bytes)) (carrying h.owed Client id (drop (length bytes - shown) (h.owed Client id))) refl there carried owed
+taken_is Server h g id bytes shown there carried owed =
+    handles_are g h.client g.server (carrying h.carried Server id (h.carried Server id ++ bytes)) (carrying h.owed Server id (drop (length bytes - shown) (h.owed Server id))) there refl carried owed
 
-pair_is : (from : Side) (h : Handles) → pair from (handle_at h from) (handle_at h (other from)) h.carried ≡ h
+pair_is : (from : Side) (h : Handles) → pair from (handle_at h from) (handle_at h (other from)) h.carried h.owed ≡ h
 pair_is Client h = refl
 pair_is Server h = refl
 
-pair_given : (from : Side) (h : Handles) (s : Seen) (id : ℕ) (bytes : List ℕ) → pair from (handle_at h from) s (carrying h.carried from id bytes) ≡ given_to from h s id bytes
+pair_given : (from : Side) (h : Handles) (s : Seen) (id : ℕ) (bytes : List ℕ) → pair from (handle_at h from) s (carrying h.carried from id bytes) h.owed ≡ given_to from h s id bytes
 pair_given Client h s id bytes = refl
 pair_given Server h s id bytes = refl
 
@@ -76,8 +82,8 @@ then_rest Server h s id rest e a moves is = ThenSo moves (rest_given (read_by Se
 
 -- it was rejected
 rejected_moves : (from : Side) (h : Handles) (s : Seen) (id : ℕ) (rest : List ℕ) → s ≡ handle_at h (other from) → h.carried from id ≡ rest → Moves h (given_to from h s id rest) [] []
-rejected_moves Client h s id rest same is = ThenSo (StaysSo {h = h} {g = read_by Client h s} (stays_same h.client h.client refl) (stays_same h.server s same) refl) (rest_given (read_by Client h s) Client id rest is)
-rejected_moves Server h s id rest same is = ThenSo (StaysSo {h = h} {g = read_by Server h s} (stays_same h.client s same) (stays_same h.server h.server refl) refl) (rest_given (read_by Server h s) Server id rest is)
+rejected_moves Client h s id rest same is = ThenSo (StaysSo {h = h} {g = read_by Client h s} (stays_same h.client h.client refl) (stays_same h.server s same) (refl, refl)) (rest_given (read_by Client h s) Client id rest is)
+rejected_moves Server h s id rest same is = ThenSo (StaysSo {h = h} {g = read_by Server h s} (stays_same h.client s same) (stays_same h.server h.server refl) (refl, refl)) (rest_given (read_by Server h s) Server id rest is)
 
 -- so an act comes to this
 made_moves : (act : Act) (h g x : Handles) (events : List Event) (answers : List Answer) → g ≡ x → Comes act h g events answers → Moves h x events answers → Made act h g
@@ -107,7 +113,7 @@ bytes_made from id bytes n h g ends stand (gives, tells) =
     delivered id n (handle_at h (other from)) s _ _ below gives.given
     (λ x.
     let same : drop (taken_of (is_taken n) (length bytes)) bytes ≡ bytes = ap (λ b. drop (taken_of b (length bytes)) bytes) (untaken n x.0) in
-    made_moves (Bytes from id bytes n) h g _ [] [] (given_is from h g id _ gives.there gives.carried) (IsRefused refl (inr x.0))
+    made_moves (Bytes from id bytes n) h g _ [] [] (given_is from h g id _ gives.there gives.carried gives.owed) (IsRefused refl (inr x.0))
     (rejected_moves from h s id _ x.1 (gives.first ∙ ap (λ l. l ++ gives.rest) (sym same))))
     (λ k.
     let result = k.answer in
@@ -115,7 +121,7 @@ bytes_made from id bytes n h g ends stand (gives, tells) =
     let left : (if is_stored result then [] else bytes) ++ gives.rest ≡ drop (taken_of (is_taken n) (length bytes)) bytes ++ gives.rest =
     ap (λ b. (if b then [] else bytes) ++ gives.rest) (sym stored) ∙ ap (λ l. l ++ gives.rest) (left_of (is_taken n) bytes) in
     made_moves (Bytes from id bytes n) h g _ (event.Deliver from id (length bytes) ∷ []) (answer_of (answer.Delivered (length bytes)) (delivery_refused result) ∷ [])
-    (given_is from h g id _ gives.there gives.carried ∙ ap (λ l. given_to from h s id l) (sym left))
+    (given_is from h g id _ gives.there gives.carried gives.owed ∙ ap (λ l. given_to from h s id l) (sym left))
     (IsEvent refl (delivery_tells (answer.Delivered (length bytes)) n result (refl, refl) k.is))
     (bytes_given h s id from bytes gives.rest result gives.first (goes_told (handle_at h from) id tells) k.done))
 
@@ -124,8 +130,8 @@ end_made from id n h g (gives, (none, tells)) =
     let below = (tells_stream (handle_at h from) id _ tells).0 in
     let s = handle_at g (other from) in
     delivered id n (handle_at h (other from)) s _ _ below gives.given
-    (λ x. made_moves (End from id n) h g _ [] [] (given_is from h g id gives.rest gives.there gives.carried) (IsRefused refl (inr x.0)) (rejected_moves from h s id gives.rest x.1 gives.first))
-    (λ k. made_moves (End from id n) h g _ (event.DeliverEnd from id ∷ []) (answer_of answer.Done (delivery_refused k.answer) ∷ []) (given_is from h g id gives.rest gives.there gives.carried)
+    (λ x. made_moves (End from id n) h g _ [] [] (given_is from h g id gives.rest gives.there gives.carried gives.owed) (IsRefused refl (inr x.0)) (rejected_moves from h s id gives.rest x.1 gives.first))
+    (λ k. made_moves (End from id n) h g _ (event.DeliverEnd from id ∷ []) (answer_of answer.Done (delivery_refused k.answer) ∷ []) (given_is from h g id gives.rest gives.there gives.carried gives.owed)
     (IsEvent refl (delivery_tells answer.Done n k.answer (refl, refl) k.is))
     (then_rest from h s id gives.rest _ _ (end_given h s id from k.answer none (ended_told (handle_at h from) id tells) k.done) gives.first))
 
@@ -134,35 +140,45 @@ reset_made from id n h g (gives, tells) =
     let below = (tells_stream (handle_at h from) id _ tells).0 in
     let s = handle_at g (other from) in
     delivered id n (handle_at h (other from)) s _ _ below gives.given
-    (λ x. made_moves (Reset from id n) h g _ [] [] (given_is from h g id gives.rest gives.there gives.carried) (IsRefused refl (inr x.0)) (rejected_moves from h s id gives.rest x.1 gives.first))
-    (λ k. made_moves (Reset from id n) h g _ (event.DeliverReset from id ∷ []) (answer_of answer.Done (delivery_refused k.answer) ∷ []) (given_is from h g id gives.rest gives.there gives.carried)
+    (λ x. made_moves (Reset from id n) h g _ [] [] (given_is from h g id gives.rest gives.there gives.carried gives.owed) (IsRefused refl (inr x.0)) (rejected_moves from h s id gives.rest x.1 gives.first))
+    (λ k. made_moves (Reset from id n) h g _ (event.DeliverReset from id ∷ []) (answer_of answer.Done (delivery_refused k.answer) ∷ []) (given_is from h g id gives.rest gives.there gives.carried gives.owed)
     (IsEvent refl (delivery_tells answer.Done n k.answer (refl, refl) k.is))
     (then_rest from h s id gives.rest _ _ (reset_given h s id from k.answer (reset_told (handle_at h from) id tells) k.done) gives.first))
 
 take_made : (from : Side) (id : ℕ) (bytes : List ℕ) (h g : Handles) → Takes from id bytes h g → Made (Take from id bytes) h g
 take_made from id bytes h g t =
-    made_moves (Take from id bytes) h g _ [] [] (taken_is from h g id bytes t.there t.carried) (HasNone refl refl tt)
-    (taken_so h from (handle_at g from) id bytes (λ e stands.
-    let front = shown_front (handle_at h from) id bytes t.shown e stands in
-    let all : min (length bytes) (length (bytes_waiting e id)) ≡ length bytes = let few = front.1 in omega (arith, few) in
-    (front.0, subst (λ n. StandsFor (handle_at g from).endpoint (advance e id n)) all (((known_id id _ _ _ t.taken).1.few e stands front.1).1 e stands))))
+    let s = t.shown in
+    made_moves (Take from id bytes) h g _ [] [] (taken_is from h g id bytes s.count t.there t.carried t.owed) (HasNone refl refl tt)
+    (taken_so h from (handle_at g from) id bytes s.count (λ e stands.
+    let front = shown_front (handle_at h from) id (h.owed from id) bytes s e stands in
+    let few = waits_enough (bytes_waiting e id) s.buffer s.count s.past front (length bytes) s.within in
+    let all : min (length bytes) (length (bytes_waiting e id)) ≡ length bytes = omega (arith, few) in (
+      record { buffer = s.buffer; count = s.count; past = s.past; fronted = front; within = s.within; front = s.front },
+      refl,
+      subst (λ n. StandsFor (handle_at g from).endpoint (advance e id n)) all (((known_id id _ _ _ t.taken).1.few e stands few).1 e stands),
+    )))
+
+-- **A body is announced by its length.**
+announce_made : (side : Side) (id : ℕ) (payload : List ℕ) (n : Told) (h g : Handles) → Happens (Announce side id payload n) h g → Made (Announce side id payload n) h g
+announce_made side id payload n h g happens = ?
 
 -- **What happens comes to events that both endpoints answer.**
-pub act_made : CallsAreSteps → (act : Act) (h g : Handles) (ends : Ends) → Stand h ends → Happens act h g → MadeAt act h g ends
-act_made law (Call side c) h g ends stand happens = by (call_made side h g happens.3 happens.4 c happens.0 happens.1 happens.2)
+pub act_made : CallsAreSteps → (act : Act) (h g : Handles) (ends : Ends) (stand : Stand h ends) → Happens act h g → MadeAt act h g ends stand.said
+act_made law (Call side c) h g ends stand (out, given, does, alone, owed) = by (call_made side h g alone.0 (alone.1, owed) c out given does)
   where
-    by : Made (Call side c) h g ⊎ ByHistory c → MadeAt (Call side c) h g ends
+    by : Made (Call side c) h g ⊎ ByHistory c → MadeAt (Call side c) h g ends stand.said
     by (inl made) = at_ends law ends stand made
-    by (inr history) = by_history side h g happens.3 happens.4 ends stand c history happens.2
+    by (inr history) = by_history side h g alone.0 (alone.1, owed) ends stand c history does
+act_made law (Announce side id payload n) h g ends stand happens = at_ends law ends stand (announce_made side id payload n h g happens)
 act_made law (Take from id bytes) h g ends stand happens = at_ends law ends stand (take_made from id bytes h g happens)
 act_made law (Bytes from id bytes n) h g ends stand happens = at_ends law ends stand (bytes_made from id bytes n h g ends stand happens)
 act_made law (Read from id bytes fin used before item n) h g ends stand (gives, tells, ended) =
     let v = handle_at h from in
     let s = handle_at g (other from) in
-    let made = read_made from id bytes fin used before item n v (handle_at h (other from)) s h.carried gives.rest (tells_stream v id _ tells).0 gives.first (goes_told v id tells)
+    let made = read_made from id bytes fin used before item n v (handle_at h (other from)) s h.carried h.owed gives.rest (tells_stream v id _ tells).0 gives.first (goes_told v id tells)
     (λ ends_so. let none = ended ends_so in (sym (carried_here g (drop used bytes ++ gives.rest) gives.carried) ∙ none.0, ended_told v id (subst (λ x. Tells x id HasEnded) gives.there none.1))) gives.given in
-    at_ends law ends stand (made_moves (Read from id bytes fin used before item n) h g _ made.events made.answers (given_is from h g id (drop used bytes ++ gives.rest) gives.there gives.carried) (IsRead refl made.comes)
-    (subst (λ x. Moves h x made.events made.answers) (pair_given from h s id (drop used bytes ++ gives.rest)) (subst (λ x. Moves x (pair from v s (carrying h.carried from id (drop used bytes ++ gives.rest))) made.events made.answers) (pair_is from h) made.moves)))
+    at_ends law ends stand (made_moves (Read from id bytes fin used before item n) h g _ made.events made.answers (given_is from h g id (drop used bytes ++ gives.rest) gives.there gives.carried gives.owed) (IsRead refl made.comes)
+    (subst (λ x. Moves h x made.events made.answers) (pair_given from h s id (drop used bytes ++ gives.rest)) (subst (λ x. Moves x (pair from v s (carrying h.carried from id (drop used bytes ++ gives.rest)) h.owed) made.events made.answers) (pair_is from h) made.moves)))
   where
     carried_here : (g : Handles) (bytes : List ℕ) → g.carried ≡ carrying h.carried from id bytes → g.carried from id ≡ bytes
     carried_here g bytes is = ap (λ c. c from id) is ∙ carrying_here h.carried from id bytes
