@@ -36,6 +36,7 @@ use Rattle.h3_c.proofs.ProgramMoves.{CallsAreSteps, Moves, Stand, StaysSo, ThenS
 use Rattle.h3_c.proofs.ProgramReads.{carrying_here, pair, read_made}
 use Rattle.h3_c.proofs.UnorderedSteps.{both_unordered}
 use Rattle.h3_c.proofs.Views.{plain, seen}
+use Rattle.h3_c.proofs.Writing.{waits_enough}
 use Rattle.h3_c.proofs.ViewsSteps.{AreOfC, both_seen}
 
 -- a delivery is rejected, or is a call

@@ -1,10 +1,10 @@
 -- What `h3_outgoing` shows, and behind it what the program owes, is the front of the text with all that was announced.
-use Rattle.std.proofs.Common.{arith, ◌≡◌, ◌≤◌, ℕ, zero, suc, ◌+◌, ◌-◌, Bool, true, false, if◌then◌else◌, List, [], ◌∷◌, ◌++◌, flat_map, length, drop, take, refl, sym, ap, subst, ◌∙◌, nat_lt, drop-drop, length-append, length-drop, take-add, take-append-drop}
+use Rattle.std.proofs.Common.{arith, ◌≡◌, ◌≤◌, ℕ, zero, suc, ◌+◌, ◌-◌, Bool, true, false, if◌then◌else◌, List, [], ◌∷◌, ◌++◌, flat_map, length, drop, take, refl, sym, ap, subst, ◌∙◌, nat_lt, drop-drop, length-drop, take-add, take-append-drop}
 use Rattle.std.specs.List.{AllByRecursion}
 use Rattle.std.proofs.lemmas.Bool.{lt-ltb}
 use Rattle.h3_coding.specs.Encodings.{IsByte}
 use Rattle.h3_connection.specs.Outgoing.{Outgoing as Out, written_part}
-use Rattle.h3_outgoing.specs.Held.{filled_with, front_of, past_of}
+use Rattle.h3_outgoing.specs.Held.{filled_with, past_of}
 use Rattle.h3_c.proofs.Filling.{IsOfBytes, bytes_filled, filled_joined, filled_parts, length_filled, no_places, parts_places, parts_written, places, places_joined, places_of}
 use Rattle.h3_c.proofs.Grows.{part_bytes}
 
@@ -109,6 +109,19 @@ module _ (wire buffer owed : List ℕ) (count past : ℕ) (f : Fronted wire buff
   places_taken =
       ap (λ l. places (take (length bytes) l)) (sym cut)
       ∙ places_front front rest (length bytes) f.bytes (subst (λ n. length bytes ≤ length front + n) f.past_is fits) ∙ ap (λ n. length bytes - n) long
+
+past_short : (wire : List ℕ) → past_of wire ≤ length wire
+past_short [] = omega arith
+past_short (b ∷ wire) = by (nat_lt b 256)
+  where
+    by : (t : Bool) → (if t then 0 else suc (past_of wire)) ≤ suc (length wire)
+    by true = omega arith
+    by false = let more = past_short wire in omega (arith, more)
+
+-- So many wait.
+pub waits_enough : (wire buffer : List ℕ) (count past : ℕ) → Fronted wire buffer count past → (n : ℕ) → n ≤ count + past → n ≤ length wire
+waits_enough wire buffer count past f n within =
+    let behind = past_short (drop count wire) in let left = length-drop count wire in let few = f.few in let is = f.past_is in omega (arith, behind, left, few, is, within)
 
 -- of a stream: what waits, with what is owed in its places
 module _ (o : Out) (said owed : List ℕ) (all : places_of o.parts ≡ length said) (bytes : AllByRecursion IsOfBytes o.parts) (owes : owed ≡ drop (places (take o.taken (part_bytes o))) said) where
