@@ -13,6 +13,7 @@ pub mod Shown
 pub mod Datagrams
 pub mod NamedFields
 pub mod FrontsShown
+pub mod Announcing
 pub mod CarriedOver
 pub mod ProgramCalls
 pub mod ProgramRuns
