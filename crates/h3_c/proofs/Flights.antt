@@ -169,7 +169,7 @@ module _ (side : Side) (carried said owed : ℕ → List ℕ) (e : EndpointHisto
       (ap (λ o. waits_of (seen (lagging e.side carried said) e) id o) (at_seen e.outgoing (lagging e.side carried said).out id) ∙ waits_at carried said e id (stream_at e.outgoing id) (k.flies id) goes)
 
 -- More is written.
-flies_more : {text longer flying : List ℕ} {taken now : ℕ} → Flies text taken flying → More text longer → now ≡ taken → Flies longer now flying
+pub flies_more : {text longer flying : List ℕ} {taken now : ℕ} → Flies text taken flying → More text longer → now ≡ taken → Flies longer now flying
 flies_more {flying = flying} f more now =
     record { before = f.before; rest = f.rest ++ more.more; is = more.is ∙ ap (λ l. l ++ more.more) f.is ∙ append_assoc f.before (flying ++ f.rest) more.more ∙ ap (λ l. f.before ++ l) (append_assoc flying f.rest more.more); count = now ∙ f.count }
 
@@ -188,7 +188,7 @@ flies_none {flying = flying} f none = empty_left flying f.rest (sym (empty_right
 four_more : (next n : ℕ) → n ≡ 4 * next → n + 4 ≡ 4 * (suc next)
 four_more next n is = omega (arith, is)
 
-more_text : (said : List ℕ) (o p : Out) → PartsGrow o p → More (filled_text said o) (filled_text said p)
+pub more_text : (said : List ℕ) (o p : Out) → PartsGrow o p → More (filled_text said o) (filled_text said p)
 more_text said o p g = record {
   more = flat_map written_part (filled_parts (drop (places_of o.parts) said) g.more);
   is = ap (λ l. flat_map written_part (filled_parts said l)) g.is ∙ ap (λ l. flat_map written_part l) (filled_behind said o.parts g.more)
@@ -215,12 +215,12 @@ plain_bytes : (parts : List OwnPart) → AllByRecursion IsPlain parts → AllByR
 plain_bytes [] h = tt
 plain_bytes (part ∷ parts) h = (h.0.0, plain_bytes parts h.1)
 
-both_of_bytes : (xs ys : List OwnPart) → AllByRecursion IsOfBytes xs → AllByRecursion IsOfBytes ys → AllByRecursion IsOfBytes (xs ++ ys)
+pub both_of_bytes : (xs ys : List OwnPart) → AllByRecursion IsOfBytes xs → AllByRecursion IsOfBytes ys → AllByRecursion IsOfBytes (xs ++ ys)
 both_of_bytes [] ys a b = b
 both_of_bytes (x ∷ xs) ys a b = (a.0, both_of_bytes xs ys a.1 b)
 
 -- what was taken was written before
-take_front : (n : ℕ) (xs ys : List ℕ) → n ≤ length xs → take n (xs ++ ys) ≡ take n xs
+pub take_front : (n : ℕ) (xs ys : List ℕ) → n ≤ length xs → take n (xs ++ ys) ≡ take n xs
 take_front zero xs ys few = refl
 take_front (suc n) [] ys few = absurd (omega (arith, few))
 take_front (suc n) (x ∷ xs) ys few = ap (λ l. x ∷ l) (take_front n xs ys (omega (arith, few)))
