@@ -6,7 +6,7 @@ use Rattle.h3_proto.specs.declared.stream.Side.{Side}
 use Rattle.h3_messages.specs.Content.{left_behind}
 use Rattle.h3_connection.specs.Endpoint.{EndpointHistory}
 use Rattle.h3_connection.specs.Order.{default_precedence}
-use Rattle.h3_connection.specs.Outgoing.{Outgoing as Out, OwnPart, with_body}
+use Rattle.h3_connection.specs.Outgoing.{Outgoing as Out, OwnPart, with_body, written_part}
 use Rattle.h3_connection.specs.Outgoing.OwnPart.{OwnBody}
 use Rattle.h3_connection.specs.Sending.{with_outgoing}
 use Rattle.h3_connection.specs.OwnIds.{is_own}

@@ -1,5 +1,6 @@
 -- A payload in the places that were announced for it.
-use Rattle.std.proofs.Common.{arith, ◌≡◌, ◌≤◌, ℕ, zero, suc, ◌+◌, ◌*◌, ◌/◌, ◌^◌, Bool, true, false, if◌then◌else◌, List, [], ◌∷◌, ◌++◌, flat_map, length, drop, refl, sym, ap, ◌∙◌, nat_lt, drop-drop, length-append}
+use Rattle.std.proofs.Common.{arith, ◌≡◌, ◌≤◌, ℕ, zero, suc, ◌+◌, ◌*◌, ◌/◌, ◌^◌, Bool, true, false, if◌then◌else◌, List, [], ◌∷◌, ◌++◌, flat_map, length, drop, refl, sym, ap, ◌∙◌, nat_lt, drop-drop, length-append, lit<}
+use Rattle.std.specs.Prelude.{◌&&◌}
 use Rattle.std.specs.Int.{bytes_high_first}
 use Rattle.std.specs.List.{AllByRecursion, list_all}
 use Rattle.std.proofs.lemmas.Bool.{lt-ltb}
@@ -28,30 +29,30 @@ drop_none (suc n) = refl
 pub filled_joined : (xs ys bytes : List ℕ) → filled_with (xs ++ ys) bytes ≡ filled_with xs bytes ++ filled_with ys (drop (places xs) bytes)
 filled_joined [] ys bytes = refl
 filled_joined (b ∷ xs) ys [] = ap (λ l. (b ∷ xs) ++ l) (sym (filled_none ys) ∙ ap (λ l. filled_with ys l) (sym (drop_none (places (b ∷ xs)))))
-filled_joined (b ∷ xs) ys (byte ∷ bytes) = by (nat_lt b 256)
+filled_joined (b ∷ xs) ys (byte ∷ bytes) = by (nat_lt b 256) (filled_joined xs ys (byte ∷ bytes)) (filled_joined xs ys bytes)
   where
-    by : (t : Bool)
+    by : (t : Bool) → filled_with (xs ++ ys) (byte ∷ bytes) ≡ filled_with xs (byte ∷ bytes) ++ filled_with ys (drop (places xs) (byte ∷ bytes)) → filled_with (xs ++ ys) bytes ≡ filled_with xs bytes ++ filled_with ys (drop (places xs) bytes)
         → (if t then b ∷ filled_with (xs ++ ys) (byte ∷ bytes) else byte ∷ filled_with (xs ++ ys) bytes)
         ≡ (if t then b ∷ filled_with xs (byte ∷ bytes) else byte ∷ filled_with xs bytes) ++ filled_with ys (drop (if t then places xs else suc (places xs)) (byte ∷ bytes))
-    by true = ap (λ l. b ∷ l) (filled_joined xs ys (byte ∷ bytes))
-    by false = ap (λ l. byte ∷ l) (filled_joined xs ys bytes)
+    by true all less = ap (λ l. b ∷ l) all
+    by false all less = ap (λ l. byte ∷ l) less
 
 pub places_joined : (xs ys : List ℕ) → places (xs ++ ys) ≡ places xs + places ys
 places_joined [] ys = omega arith
-places_joined (b ∷ xs) ys = by (nat_lt b 256)
+places_joined (b ∷ xs) ys = by (nat_lt b 256) (places_joined xs ys)
   where
-    by : (t : Bool) → (if t then places (xs ++ ys) else suc (places (xs ++ ys))) ≡ (if t then places xs else suc (places xs)) + places ys
-    by true = places_joined xs ys
-    by false = let more = places_joined xs ys in omega (arith, more)
+    by : (t : Bool) → places (xs ++ ys) ≡ places xs + places ys → (if t then places (xs ++ ys) else suc (places (xs ++ ys))) ≡ (if t then places xs else suc (places xs)) + places ys
+    by true more = more
+    by false more = omega (arith, more)
 
 pub length_filled : (wire bytes : List ℕ) → length (filled_with wire bytes) ≡ length wire
 length_filled [] bytes = refl
 length_filled (b ∷ wire) [] = refl
-length_filled (b ∷ wire) (byte ∷ bytes) = by (nat_lt b 256)
+length_filled (b ∷ wire) (byte ∷ bytes) = by (nat_lt b 256) (length_filled wire (byte ∷ bytes)) (length_filled wire bytes)
   where
-    by : (t : Bool) → length (if t then b ∷ filled_with wire (byte ∷ bytes) else byte ∷ filled_with wire bytes) ≡ suc (length wire)
-    by true = ap (λ n. suc n) (length_filled wire (byte ∷ bytes))
-    by false = ap (λ n. suc n) (length_filled wire bytes)
+    by : (t : Bool) → length (filled_with wire (byte ∷ bytes)) ≡ length wire → length (filled_with wire bytes) ≡ length wire → length (if t then b ∷ filled_with wire (byte ∷ bytes) else byte ∷ filled_with wire bytes) ≡ suc (length wire)
+    by true all less = ap (λ n. suc n) all
+    by false all less = ap (λ n. suc n) less
 
 -- bytes have no place
 pub no_places : (xs : List ℕ) → AllByRecursion IsByte xs → places xs ≡ 0
@@ -77,17 +78,18 @@ held_filled (byte ∷ bytes) = ap (λ l. byte ∷ l) (held_filled bytes)
 pub filled_enough : (xs said more : List ℕ) → places xs ≤ length said → filled_with xs (said ++ more) ≡ filled_with xs said
 filled_enough [] said more few = refl
 filled_enough (x ∷ xs) [] [] few = refl
-filled_enough (x ∷ xs) [] (byte ∷ more) few = by (nat_lt x 256) few
+filled_enough (x ∷ xs) [] (byte ∷ more) few = by (nat_lt x 256) few (λ none. filled_enough xs [] (byte ∷ more) none)
   where
-    by : (t : Bool) → (if t then places xs else suc (places xs)) ≤ 0 → (if t then x ∷ filled_with xs (byte ∷ more) else byte ∷ filled_with xs more) ≡ x ∷ xs
-    by true none = ap (λ l. x ∷ l) (filled_enough xs [] (byte ∷ more) none ∙ filled_none xs)
-    by false none = absurd (omega (arith, none))
-filled_enough (x ∷ xs) (byte ∷ said) more few = by (nat_lt x 256) few
+    by : (t : Bool) → (if t then places xs else suc (places xs)) ≤ 0 → (places xs ≤ 0 → filled_with xs (byte ∷ more) ≡ filled_with xs []) → (if t then x ∷ filled_with xs (byte ∷ more) else byte ∷ filled_with xs more) ≡ x ∷ xs
+    by true none rest = ap (λ l. x ∷ l) (rest none ∙ filled_none xs)
+    by false none rest = absurd (omega (arith, none))
+filled_enough (x ∷ xs) (byte ∷ said) more few = by (nat_lt x 256) few (λ all. filled_enough xs (byte ∷ said) more all) (λ less. filled_enough xs said more less)
   where
-    by : (t : Bool) → (if t then places xs else suc (places xs)) ≤ suc (length said)
+    by : (t : Bool) → (if t then places xs else suc (places xs)) ≤ suc (length said) → (places xs ≤ suc (length said) → filled_with xs (byte ∷ (said ++ more)) ≡ filled_with xs (byte ∷ said))
+        → (places xs ≤ length said → filled_with xs (said ++ more) ≡ filled_with xs said)
         → (if t then x ∷ filled_with xs (byte ∷ (said ++ more)) else byte ∷ filled_with xs (said ++ more)) ≡ (if t then x ∷ filled_with xs (byte ∷ said) else byte ∷ filled_with xs said)
-    by true few = ap (λ l. x ∷ l) (filled_enough xs (byte ∷ said) more few)
-    by false few = ap (λ l. byte ∷ l) (filled_enough xs said more (omega (arith, few)))
+    by true few all less = ap (λ l. x ∷ l) (all few)
+    by false few all less = ap (λ l. byte ∷ l) (less (omega (arith, few)))
 
 -- A part, and parts: bodies alone have places.
 abbrev pub part_places : OwnPart → ℕ
@@ -150,7 +152,7 @@ pub unsent_stays : (said : List ℕ) (parts : List OwnPart) → is_unsent (fille
 unsent_stays said [] = refl
 unsent_stays said (part ∷ parts) =
     let rest = unsent_stays (drop (part_places part) said) parts in
-    ap (λ b. if b then list_all is_interim_part (filled_parts (drop (part_places part) said) parts) else false) (interim_stays said part) ∙ ap (λ b. if is_interim_part part then b else false) rest
+    ap (λ b. b && list_all is_interim_part (filled_parts (drop (part_places part) said) parts)) (interim_stays said part) ∙ ap (λ b. is_interim_part part && b) rest
 
 pub trailer_stays : (said : List ℕ) (parts : List OwnPart) → last_is_trailer (filled_parts said parts) ≡ last_is_trailer parts
 trailer_stays said [] = refl

@@ -1,5 +1,5 @@
 -- A section of fields of bytes is of bytes.
-use Rattle.std.proofs.Common.{arith, ◌≡◌, ℕ, zero, suc, ◌+◌, ◌*◌, ◌-◌, ◌/◌, ◌%◌, ◌^◌, ◌<◌, Bool, true, false, if◌then◌else◌, List, [], ◌∷◌, ◌++◌, length, flat_map, fold, nat_lt, nat_le, refl, Option, Some, None}
+use Rattle.std.proofs.Common.{arith, ◌≡◌, ℕ, zero, suc, ◌+◌, ◌*◌, ◌-◌, ◌/◌, ◌%◌, ◌^◌, ◌<◌, Bool, true, false, if◌then◌else◌, List, [], ◌∷◌, ◌++◌, length, flat_map, fold, nat_lt, nat_le, refl, Option, Some, None, lit<}
 use Rattle.std.specs.Prelude.{◌==◌, nat_eq, option_map, position, unwrap_or}
 use Rattle.std.specs.List.{AllByRecursion}
 use Rattle.std.proofs.lemmas.Grind.{common_steps}
@@ -19,29 +19,33 @@ use Rattle.h3_qpack.specs.EncoderHistory.{EncoderHistory, writing_on}
 use Rattle.h3_qpack.specs.SectionEncoding.{Draft, add_field, add_line, add_literal, draft_of, encoded_section, entry_name_line, first_draft, found, found_name, guarded_fields, is_insertable, is_insertable_ahead, marks_after, required_insert_count, write_field}
 use Rattle.h3_connection.specs.Sections.{written_section}
 
-pub both_bytes : {P : ℕ → Type 0} (xs ys : List ℕ) → AllByRecursion P xs → AllByRecursion P ys → AllByRecursion P (xs ++ ys)
+pub both_bytes : (xs ys : List ℕ) → AllByRecursion IsByte xs → AllByRecursion IsByte ys → AllByRecursion IsByte (xs ++ ys)
 both_bytes [] ys h k = k
 both_bytes (x ∷ xs) ys h k = (h.0, both_bytes xs ys h.1 k)
 
 -- words of the Huffman code
+both_bits : (xs ys : List ℕ) → AllByRecursion IsBit xs → AllByRecursion IsBit ys → AllByRecursion IsBit (xs ++ ys)
+both_bits [] ys h k = k
+both_bits (x ∷ xs) ys h k = (h.0, both_bits xs ys h.1 k)
+
 bits_are : (count n : ℕ) → AllByRecursion IsBit (bits count n)
 unfolding bits
 bits_are zero n = tt
-bits_are (suc count) n = both_bytes (bits count (n / 2)) ((n % 2) ∷ []) (bits_are count (n / 2)) (mod_below n 2 (lit< tt), tt)
+bits_are (suc count) n = both_bits (bits count (n / 2)) ((n % 2) ∷ []) (bits_are count (n / 2)) (mod_below n 2 (lit< tt), tt)
 
 word_bits : (next before : ℕ) (rows : List (ℕ × List ℕ)) (symbol : ℕ) → AllByRecursion IsBit (word_from next before rows symbol)
 word_bits next before [] symbol = tt
-word_bits next before ((len, symbols) ∷ rows) symbol = by (position (nat_eq symbol) symbols)
+word_bits next before ((len, symbols) ∷ rows) symbol = by (position (nat_eq symbol) symbols) (word_bits (next * 2 ^ (len - before) + length symbols) len rows symbol)
   where
-    by : (place : Option ℕ)
+    by : (place : Option ℕ) → AllByRecursion IsBit (word_from (next * 2 ^ (len - before) + length symbols) len rows symbol)
         → AllByRecursion IsBit (unwrap_or (option_map (λ at. bits len (next * 2 ^ (len - before) + at)) place) (word_from (next * 2 ^ (len - before) + length symbols) len rows symbol))
-    by (Some at) = bits_are len (next * 2 ^ (len - before) + at)
-    by None = word_bits (next * 2 ^ (len - before) + length symbols) len rows symbol
+    by (Some at) later = bits_are len (next * 2 ^ (len - before) + at)
+    by None later = later
 
 words_bits : (plain : List ℕ) → AllByRecursion IsBit (flat_map code_word plain)
 unfolding code_word
 words_bits [] = tt
-words_bits (x ∷ xs) = both_bytes (code_word x) (flat_map code_word xs) (word_bits 0 0 symbols_by_length x) (words_bits xs)
+words_bits (x ∷ xs) = both_bits (code_word x) (flat_map code_word xs) (word_bits 0 0 symbols_by_length x) (words_bits xs)
 
 -- strings
 octets_bytes : (r : List ℕ) → AllByRecursion IsBit r → AllByRecursion IsByte (octets r)
@@ -64,11 +68,11 @@ huffman_bytes plain = octets_bytes (flat_map code_word plain) (words_bits plain)
 -- integers
 groups_bytes : (most n : ℕ) → AllByRecursion IsByte (groups most n)
 groups_bytes zero n = tt
-groups_bytes (suc most) n = by (nat_lt n 128) refl
+groups_bytes (suc most) n = by (nat_lt n 128) refl (groups_bytes most (n / 128))
   where
-    by : (b : Bool) → nat_lt n 128 ≡ b → AllByRecursion IsByte (if b then n ∷ [] else (128 + n % 128) ∷ groups most (n / 128))
-    by true is = (grind (arith, common_steps, is), tt)
-    by false is = (let rest = mod_below n 128 (lit< tt) in omega (arith, rest), groups_bytes most (n / 128))
+    by : (b : Bool) → nat_lt n 128 ≡ b → AllByRecursion IsByte (groups most (n / 128)) → AllByRecursion IsByte (if b then n ∷ [] else (128 + n % 128) ∷ groups most (n / 128))
+    by true is later = (grind (arith, common_steps, is), tt)
+    by false is later = (let rest = mod_below n 128 (lit< tt) in omega (arith, rest), later)
 
 prefixed_bytes : (size flags n : ℕ) → flags * 2 ^ size + ones size < 256 → AllByRecursion IsByte (prefixed size flags n)
 prefixed_bytes size flags n fits = by (nat_lt n (ones size)) refl

@@ -107,8 +107,8 @@ open_second true b first r later is = absurd (let never : Some first ≡ None = 
 open_second false b first r later is = open_first b r later is
 
 -- a stream that was written to
-part_grows : (o : Out) (part : OwnPart) (content : Content) → IsPlain part → PartsGrow o (record o { parts = o.parts ++ part ∷ []; content = content })
-part_grows o part content plain = record { taken = refl; reset = λ goes. goes; more = part ∷ []; is = refl; plain = (plain, tt) }
+part_grows : (o : Out) (part : OwnPart) (now : Content) → IsPlain part → PartsGrow o (record o { parts = o.parts ++ part ∷ []; content = now })
+part_grows o part now plain = record { taken = refl; reset = λ goes. goes; more = part ∷ []; is = refl; plain = (plain, tt) }
 
 same_text : (o p : Out) → p.taken ≡ o.taken → p.parts ≡ o.parts → (p.is_reset ≡ false → o.is_reset ≡ false) → PartsGrow o p
 same_text o p taken parts reset = record { taken = taken; reset = reset; more = []; is = parts ∙ sym (append-nil o.parts); plain = tt }

@@ -30,21 +30,21 @@ past_filled (b ∷ wire) [] few = by (nat_lt b 256) few
     by : (t : Bool) → (if t then 0 else suc (past_of wire)) ≤ 0 → take (if t then 0 else suc (past_of wire)) (b ∷ wire) ≡ take (if t then 0 else suc (past_of wire)) []
     by true few = refl
     by false few = absurd (omega (arith, few))
-past_filled (b ∷ wire) (byte ∷ owed) few = by (nat_lt b 256) few
+past_filled (b ∷ wire) (byte ∷ owed) few = by (nat_lt b 256) few (λ less. past_filled wire owed less)
   where
-    by : (t : Bool) → (if t then 0 else suc (past_of wire)) ≤ suc (length owed)
+    by : (t : Bool) → (if t then 0 else suc (past_of wire)) ≤ suc (length owed) → (past_of wire ≤ length owed → take (past_of wire) (filled_with wire owed) ≡ take (past_of wire) owed)
         → take (if t then 0 else suc (past_of wire)) (if t then b ∷ filled_with wire (byte ∷ owed) else byte ∷ filled_with wire owed) ≡ take (if t then 0 else suc (past_of wire)) (byte ∷ owed)
-    by true few = refl
-    by false few = ap (λ l. byte ∷ l) (past_filled wire owed (omega (arith, few)))
+    by true few rest = refl
+    by false few rest = ap (λ l. byte ∷ l) (rest (omega (arith, few)))
 
 places_past : (wire : List ℕ) (k : ℕ) → k ≤ past_of wire → places (take k wire) ≡ k
 places_past wire zero few = refl
 places_past [] (suc k) few = absurd (omega (arith, few))
-places_past (b ∷ wire) (suc k) few = by (nat_lt b 256) few
+places_past (b ∷ wire) (suc k) few = by (nat_lt b 256) few (λ less. places_past wire k less)
   where
-    by : (t : Bool) → suc k ≤ (if t then 0 else suc (past_of wire)) → (if t then places (take k wire) else suc (places (take k wire))) ≡ suc k
-    by true few = absurd (omega (arith, few))
-    by false few = ap (λ n. suc n) (places_past wire k (omega (arith, few)))
+    by : (t : Bool) → suc k ≤ (if t then 0 else suc (past_of wire)) → (k ≤ past_of wire → places (take k wire) ≡ k) → (if t then places (take k wire) else suc (places (take k wire))) ≡ suc k
+    by true few rest = absurd (omega (arith, few))
+    by false few rest = ap (λ n. suc n) (rest (omega (arith, few)))
 
 places_front : (front rest : List ℕ) (k : ℕ) → AllByRecursion IsByte front → k ≤ length front + past_of rest → places (take k (front ++ rest)) ≡ k - length front
 places_front [] rest k bytes few = let there = places_past rest k (omega (arith, few)) in omega (arith, there)
@@ -58,11 +58,11 @@ places_front (x ∷ front) rest (suc k) bytes few =
 
 few_past : (wire : List ℕ) → past_of wire ≤ places wire
 few_past [] = omega arith
-few_past (b ∷ wire) = by (nat_lt b 256)
+few_past (b ∷ wire) = by (nat_lt b 256) (few_past wire)
   where
-    by : (t : Bool) → (if t then 0 else suc (past_of wire)) ≤ (if t then places wire else suc (places wire))
-    by true = omega arith
-    by false = let more = few_past wire in omega (arith, more)
+    by : (t : Bool) → past_of wire ≤ places wire → (if t then 0 else suc (past_of wire)) ≤ (if t then places wire else suc (places wire))
+    by true more = omega arith
+    by false more = omega (arith, more)
 
 length_take : (n : ℕ) (xs : List ℕ) → n ≤ length xs → length (take n xs) ≡ n
 length_take zero xs few = refl
@@ -71,10 +71,10 @@ length_take (suc n) (x ∷ xs) few = ap (λ k. suc k) (length_take n xs (omega (
 
 module _ (wire buffer owed : List ℕ) (count past : ℕ) (f : Fronted wire buffer count past) (enough : places wire ≤ length owed) (bytes : List ℕ) (within : length bytes ≤ count + past)
     (shown : bytes ≡ take (length bytes) (take count buffer ++ take past owed)) where
-  front : List ℕ
+  abbrev front : List ℕ
   front = take count wire
 
-  rest : List ℕ
+  abbrev rest : List ℕ
   rest = drop count wire
 
   cut : front ++ rest ≡ wire
@@ -112,11 +112,11 @@ module _ (wire buffer owed : List ℕ) (count past : ℕ) (f : Fronted wire buff
 
 past_short : (wire : List ℕ) → past_of wire ≤ length wire
 past_short [] = omega arith
-past_short (b ∷ wire) = by (nat_lt b 256)
+past_short (b ∷ wire) = by (nat_lt b 256) (past_short wire)
   where
-    by : (t : Bool) → (if t then 0 else suc (past_of wire)) ≤ suc (length wire)
-    by true = omega arith
-    by false = let more = past_short wire in omega (arith, more)
+    by : (t : Bool) → past_of wire ≤ length wire → (if t then 0 else suc (past_of wire)) ≤ suc (length wire)
+    by true more = omega arith
+    by false more = omega (arith, more)
 
 -- So many wait.
 pub waits_enough : (wire buffer : List ℕ) (count past : ℕ) → Fronted wire buffer count past → (n : ℕ) → n ≤ count + past → n ≤ length wire
