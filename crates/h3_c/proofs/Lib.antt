@@ -15,6 +15,7 @@ pub mod NamedFields
 pub mod FrontsShown
 pub mod Announcing
 pub mod CarriedOver
+pub mod ProgramAnnounces
 pub mod ProgramCalls
 pub mod ProgramRuns
 pub mod UnheardUpdates

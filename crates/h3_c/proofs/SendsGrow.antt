@@ -94,11 +94,11 @@ does_grows None e new grows = grows refl
 does_grows (Some r) e new grows = grows_none e
 
 -- What is not refused is open.
-closed_none : (closed : Option ℕ) (r : Option Refusal) → closed_or closed r ≡ None → r ≡ None
+pub closed_none : (closed : Option ℕ) (r : Option Refusal) → closed_or closed r ≡ None → r ≡ None
 closed_none (Some code) r is = absurd (let never : Some (refusal.Closed code) ≡ None = is in cc)
 closed_none None r is = is
 
-open_first : (b : Bool) (r : Refusal) (later : Option Refusal) → (if not b then Some r else later) ≡ None → b ≡ true
+pub open_first : (b : Bool) (r : Refusal) (later : Option Refusal) → (if not b then Some r else later) ≡ None → b ≡ true
 open_first true r later is = refl
 open_first false r later is = absurd (let never : Some r ≡ None = is in cc)
 
@@ -153,7 +153,7 @@ asked_grows e id fields =
       streams = if_grows e.side e.next_id e.announced.choices.strict_messages e.outgoing (saying_at e.outgoing id said (stream_at e.outgoing id)) (said_grows e.side e.next_id e.outgoing id said (stream_at e.outgoing id) refl);
     }
 
-counted_grows : (e : EndpointHistory) (cost : ℕ) → Grows e (counted e cost)
+pub counted_grows : (e : EndpointHistory) (cost : ℕ) → Grows e (counted e cost)
 counted_grows e cost = quiet_grows e (counted e cost) refl refl refl refl refl
 
 section_grows : (e : EndpointHistory) (id : ℕ) (fields : List Field) (part : OwnPart) → is_open e id ≡ true → IsPlain part → Grows e (counted (appended (encoded e id fields) id part) (fields_cost fields))
