@@ -18,6 +18,7 @@ use Rattle.h3_connection.specs.declared.event.Refusal.TheVariants as refusal
 use Rattle.h3_outgoing.specs.Held.{held}
 use Rattle.h3_session.specs.Held.{SendsBodyOf}
 use Rattle.h3_world.specs.Ends.{Ends, done}
+use Rattle.h3_world.specs.Headline.{is_out_of_memory}
 use Rattle.h3_world.specs.declared.event.Answer.TheVariants as answer
 use Rattle.h3_world.specs.declared.event.Event.TheVariants as event
 use Rattle.h3_c.specs.Programs.{Handles, carrying, handle_at}
@@ -101,3 +102,106 @@ module _ (side : Side) (carried said owed : ℕ → List ℕ) (e : EndpointHisto
           is_there None = false
           is_there (Some o) = true
       by (Some o) at = announced_at payload o at none
+
+-- The handles once a side announced this, or was refused.
+abbrev pub announced_by : Side → Handles → Seen → ℕ → List ℕ → Handles
+announced_by Client h v id payload = record { client = v; server = h.server; carried = h.carried; owed = carrying h.owed Client id (h.owed Client id ++ payload) }
+announced_by Server h v id payload = record { client = h.client; server = v; carried = h.carried; owed = carrying h.owed Server id (h.owed Server id ++ payload) }
+
+abbrev pub refused_by : Side → Handles → Seen → Handles
+refused_by Client h v = record { client = v; server = h.server; carried = h.carried; owed = h.owed }
+refused_by Server h v = record { client = h.client; server = v; carried = h.carried; owed = h.owed }
+
+does_refusal : (r : Option Refusal) (e new : EndpointHistory) → (does r e new).0 ≡ r
+does_refusal None e new = refl
+does_refusal (Some r) e new = refl
+
+does_some : (o : Option Refusal) (e new : EndpointHistory) (r : Refusal) → o ≡ Some r → does o e new ≡ (Some r, e)
+does_some o e new r is = ap (λ x. does x e new) is
+
+refusal_is : (e : EndpointHistory) (id : ℕ) (payload : List ℕ) → sender.body_refusal e id (length payload) ≡ (sender.send_body e id (held (length payload))).0
+refusal_is e id payload =
+    ap (λ n. sender.body_refusal e id n) (sym (length-replicate (length payload) 256))
+    ∙ sym (does_refusal (sender.body_refusal e id (length (held (length payload)))) e (counted (sent_bytes e id (held (length payload))) (length (held (length payload)))))
+
+-- **It is accepted.**
+pub announce_accepted : (h : Handles) (side : Side) (v : Seen) (id : ℕ) (payload : List ℕ) → AreBytes payload
+    → ((e : EndpointHistory) → StandsFor (handle_at h side).endpoint e → (None ≡ (sender.send_body e id (held (length payload))).0) × StandsFor v.endpoint (sender.send_body e id (held (length payload))).1)
+    → Moves h (announced_by side h v id payload) (event.Body side id payload ∷ []) (answer.Done ∷ [])
+announce_accepted h Client v id payload all there = LeavesSo (λ ends stand.
+    let e = ends.client in
+    let about = there e stand.client in
+    let a = announces Client (h.carried Client) (stand.said Client) (h.owed Client) e stand.client_carries id payload (refusal_is e id payload ∙ sym about.0) in
+    let V = both_seen (views_of h.carried stand.said) ends in
+    let said = carrying stand.said Client id (stand.said Client id ++ payload) in
+    let new : Ends = record { client = (sender.send_body e id (held (length payload))).1; server = ends.server } in
+    record {
+      new = new;
+      of = (all, tt);
+      stand = record { client = about.1; server = stand.server; said = said; client_carries = a.carries; server_carries = stand.server_carries };
+      run = (both_seen (views_of h.carried said) new, told_so V (both_seen (views_of h.carried said) new) (event.Body Client id payload) answer.Done refl (ap (λ x. done V Client answer.Done x) a.seen_so), refl);
+    })
+announce_accepted h Server v id payload all there = LeavesSo (λ ends stand.
+    let e = ends.server in
+    let about = there e stand.server in
+    let a = announces Server (h.carried Server) (stand.said Server) (h.owed Server) e stand.server_carries id payload (refusal_is e id payload ∙ sym about.0) in
+    let V = both_seen (views_of h.carried stand.said) ends in
+    let said = carrying stand.said Server id (stand.said Server id ++ payload) in
+    let new : Ends = record { client = ends.client; server = (sender.send_body e id (held (length payload))).1 } in
+    record {
+      new = new;
+      of = (all, tt);
+      stand = record { client = stand.client; server = about.1; said = said; client_carries = stand.client_carries; server_carries = a.carries };
+      run = (both_seen (views_of h.carried said) new, told_so V (both_seen (views_of h.carried said) new) (event.Body Server id payload) answer.Done refl (ap (λ x. done V Server answer.Done x) a.seen_so), refl);
+    })
+
+-- **It is refused.**
+seen_refused : (side : Side) (carried said : ℕ → List ℕ) (e : EndpointHistory) (id : ℕ) (payload : List ℕ) (r : Refusal) → Some r ≡ (sender.send_body e id (held (length payload))).0
+    → sender.send_body (seen (lagging side carried said) e) id payload ≡ (Some r, seen (lagging side carried said) e)
+seen_refused side carried said e id payload r is =
+    does_some (sender.body_refusal (seen (lagging side carried said) e) id (length payload)) (seen (lagging side carried said) e) _ r
+    (sending.body_refused_seen (lagging side carried said) (keeps_lagging side carried said) e id (length payload) ∙ refusal_is e id payload ∙ sym is)
+
+pub announce_refused : (h : Handles) (side : Side) (v : Seen) (id : ℕ) (payload : List ℕ) (r : Refusal) → AreBytes payload → is_out_of_memory (answer.Refused r) ≡ false
+    → ((e : EndpointHistory) → StandsFor (handle_at h side).endpoint e → (Some r ≡ (sender.send_body e id (held (length payload))).0) × StandsFor v.endpoint e)
+    → Moves h (refused_by side h v) (event.Body side id payload ∷ []) (answer.Refused r ∷ [])
+announce_refused h Client v id payload r all plain there = LeavesSo (λ ends stand.
+    let e = ends.client in
+    let about = there e stand.client in
+    let V = both_seen (views_of h.carried stand.said) ends in
+    record {
+      new = ends;
+      of = (all, tt);
+      stand = record { client = about.1; server = stand.server; said = stand.said; client_carries = stand.client_carries; server_carries = stand.server_carries };
+      run = (V, told_so V V (event.Body Client id payload) (answer.Refused r) plain (ap (λ x. done V Client answer.Done x) (seen_refused Client (h.carried Client) (stand.said Client) e id payload r about.0)), refl);
+    })
+announce_refused h Server v id payload r all plain there = LeavesSo (λ ends stand.
+    let e = ends.server in
+    let about = there e stand.server in
+    let V = both_seen (views_of h.carried stand.said) ends in
+    record {
+      new = ends;
+      of = (all, tt);
+      stand = record { client = stand.client; server = about.1; said = stand.said; client_carries = stand.client_carries; server_carries = stand.server_carries };
+      run = (V, told_so V V (event.Body Server id payload) (answer.Refused r) plain (ap (λ x. done V Server answer.Done x) (seen_refused Server (h.carried Server) (stand.said Server) e id payload r about.0)), refl);
+    })
+
+-- **Memory is lacking.**
+pub announce_lacks : (h : Handles) (side : Side) (v : Seen) (id : ℕ) (payload : List ℕ) → AreBytes payload → ((e : EndpointHistory) → StandsFor (handle_at h side).endpoint e → StandsFor v.endpoint e)
+    → Moves h (refused_by side h v) (event.Body side id payload ∷ []) (answer.Refused refusal.OutOfMemory ∷ [])
+announce_lacks h Client v id payload all there = LeavesSo (λ ends stand.
+    let V = both_seen (views_of h.carried stand.said) ends in
+    record {
+      new = ends;
+      of = (all, tt);
+      stand = record { client = there ends.client stand.client; server = stand.server; said = stand.said; client_carries = stand.client_carries; server_carries = stand.server_carries };
+      run = (V, refl, refl);
+    })
+announce_lacks h Server v id payload all there = LeavesSo (λ ends stand.
+    let V = both_seen (views_of h.carried stand.said) ends in
+    record {
+      new = ends;
+      of = (all, tt);
+      stand = record { client = stand.client; server = there ends.server stand.server; said = stand.said; client_carries = stand.client_carries; server_carries = stand.server_carries };
+      run = (V, refl, refl);
+    })
