@@ -161,17 +161,7 @@ take_made from id bytes h g t =
 
 -- **A body is announced by its length.**
 announce_made : (side : Side) (id : ℕ) (payload : List ℕ) (n : Told) (h g : Handles) → Happens (Announce side id payload n) h g → Made (Announce side id payload n) h g
-announce_made side id payload n h g (all, does, alone, owed) = elim (below_or_not id (2 ^ 62)) [
-  | inl below ↦ (let k = does.known below in by k.answer k.is k.done)
-  | inr above ↦ (let u = does.unknown above in
-      made_moves (Announce side id payload n) h g h [] [] (unchanged side u.1 alone (owed ∙ ap (λ (t : Told). if t.number == 0 then _ else h.owed) u.0)) (IsRefused refl (inl u.0)) (nothing_moves h))
-]
-  where
-    v : Seen
-    v = handle_at g side
-
-    by : (r : Result Unit Refusal) → n ≡ call_told r → SendsBodyOf (handle_at h side).endpoint v.endpoint id (length payload) r → Made (Announce side id payload n) h g
-    by r told sends = ?
+announce_made side id payload n h g happens = ?
 
 -- **What happens comes to events that both endpoints answer.**
 pub act_made : CallsAreSteps → (act : Act) (h g : Handles) (ends : Ends) (stand : Stand h ends) → Happens act h g → MadeAt act h g ends stand.said
