@@ -43,8 +43,8 @@ type Config struct {
 	// PriorityUpdates is for how many streams a server stores PRIORITY_UPDATE frames that did not take effect yet (RFC 9218, section 7.2):
 	// at most 128. With 0 it ignores these frames.
 	PriorityUpdates uint64
-	// OtherSettings: how many of the peer's settings are kept whose ids are not known here, for PeerSetting: the first ones, at most 64. With 0
-	// all of them are ignored (RFC 9114, section 7.2.4).
+	// OtherSettings is how many of the peer's settings with unknown ids are kept for PeerSetting: the first ones, at most 64. With 0 all of
+	// them are ignored (RFC 9114, section 7.2.4).
 	OtherSettings uint64
 	// OtherStreams: unidirectional streams of the peer whose types are not known here are delivered, as StreamOther. Without it what comes on
 	// them is dropped.

@@ -63,8 +63,8 @@ func NewWith(config Config, further ...FurtherSetting) (*Endpoint, error) {
 	return endpoint, nil
 }
 
-// NewResumed makes a client for a connection that sends 0-RTT data. It remembers settings of its server, as RememberSettings copied them in an
-// earlier connection (RFC 9114, section 7.2.4.2), and announces further settings as NewWith does.
+// NewResumed makes a client for a connection that sends 0-RTT data. RememberSettings of an earlier connection copied the settings that it keeps
+// to until the server's settings come (RFC 9114, section 7.2.4.2). It announces further settings as NewWith does.
 func NewResumed(config Config, remembered []byte, further ...FurtherSetting) (*Endpoint, error) {
 	var detail C.uint64_t
 	raw := config.raw()

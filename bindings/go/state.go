@@ -123,8 +123,8 @@ func (e *Endpoint) PeerSetting(setting uint64) (uint64, bool) {
 	return uint64(value), answer == C.H3_OK
 }
 
-// RememberSettings copies the settings of the server, at most 128 bytes, to be kept with its session ticket for NewResumed; false: they have not
-// come, or there is no memory.
+// RememberSettings copies the settings of the server, at most 128 bytes. Keep them with its session ticket for NewResumed. It returns false
+// before they came, or out of memory.
 func (e *Endpoint) RememberSettings() ([]byte, bool) {
 	var buffer [128]byte
 	var n C.size_t
@@ -132,8 +132,9 @@ func (e *Endpoint) RememberSettings() ([]byte, bool) {
 	return buffer[:n], answer == C.H3_OK
 }
 
-// SettingsKept says whether the settings that came keep to those that were remembered; the second result is false before they came, or if the bytes
-// are no settings. If they do not, and the server accepted the 0-RTT data, close the connection with CodeSettingsError (RFC 9114, section 7.2.4.2).
+// SettingsKept returns whether the settings that came keep to those that were remembered. The second result is false before they came, or if
+// the bytes are no settings. If kept is false, and the server accepted the 0-RTT data, close the connection with CodeSettingsError (RFC 9114,
+// section 7.2.4.2).
 func (e *Endpoint) SettingsKept(remembered []byte) (kept, known bool) {
 	var is C.uint32_t
 	answer := C.h3_settings_kept(&e.raw, start(remembered), C.size_t(len(remembered)), &is)

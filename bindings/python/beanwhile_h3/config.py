@@ -66,11 +66,10 @@ class Config:
     """For how many streams a server stores PRIORITY_UPDATE frames that did not take effect yet (RFC 9218, section 7.2): at most 128.
     With 0 it ignores these frames."""
     other_settings: int
-    """How many of the peer's settings are kept whose ids are not known here, for `peer_setting`: the first ones, at most 64. With 0 all of them are
-    ignored (RFC 9114, section 7.2.4)."""
+    """How many of the peer's settings with unknown ids are kept for `peer_setting`: the first ones, at most 64. With 0 all of them are ignored
+    (RFC 9114, section 7.2.4)."""
     other_streams: bool
-    """Unidirectional streams of the peer whose types are not known here are delivered, as `StreamType.OTHER`. Without it what comes on them is
-    dropped."""
+    """Delivers unidirectional streams of unknown types, as `StreamType.OTHER`. Without it what comes on them is dropped."""
 
     @classmethod
     def client(cls) -> Self:
