@@ -67,9 +67,6 @@ module _ (a b c : Streams SessionStream) (id : ℕ) (x : SessionStream) where
 alone_again : (s m t : Joint) → StreamsAlone s m → StreamsAlone m t → StreamsAlone s t
 alone_again s m t first next = next ∙ ap (λ (x : Joint). record x { sessions = record x.sessions { streams = t.sessions.streams } }) first
 
-pub once_alone : (s : Joint) (v : SessionsState) → v ≡ record s.sessions { streams = v.streams } → StreamsAlone s (record s { sessions = v })
-once_alone s v is = ap (λ (x : SessionsState). record s { sessions = x }) is
-
 pub twice_alone : (s : Joint) (v w : SessionsState) → v ≡ record s.sessions { streams = v.streams } → w ≡ record v { streams = w.streams }
     → record s { sessions = w } ≡ record s { sessions = record s.sessions { streams = w.streams } }
 twice_alone s v w first next = ap (λ (x : SessionsState). record s { sessions = x }) (next ∙ ap (λ (x : SessionsState). record x { streams = w.streams }) first)
@@ -163,11 +160,12 @@ there_at : (s t : Joint) (id : ℕ) (told : Pull) (o : Option SessionStream) →
 there_at s t id told None none h = absurd (cc)
 there_at s t id told (Some x) some h = h
 
-pub pulls_there : (s t : Joint) (id : ℕ) (answer told : Pull) → is_some (stored_at s id) ≡ true → Acts pull.NoMessages pulls_raw s.sessions.streams t.sessions.streams id answer
-    → (has_header answer ≡ false → told ≡ answer) → StreamsAlone s t → PullsThere s t id told (stored_at s id)
-pulls_there s t id answer told is acts same alone =
-    let told_is : told ≡ answer = same (is_plain s.sessions.streams t.sessions.streams id answer (stored_at s id) acts) in
-    there_at s t id told (stored_at s id) is (subst (Acts pull.NoMessages pulls_raw s.sessions.streams t.sessions.streams id) (sym told_is) acts, alone)
+pub pulls_there : (s : Joint) (v : SessionsState) (id : ℕ) (answer told : Pull) → is_some (stored_at s id) ≡ true → Acts pull.NoMessages pulls_raw s.sessions.streams v.streams id answer
+    → (has_header answer ≡ false → told ≡ answer) → v ≡ record s.sessions { streams = v.streams } → PullsThere s (record s { sessions = v }) id told (stored_at s id)
+pulls_there s v id answer told is acts same rest =
+    let told_is : told ≡ answer = same (is_plain s.sessions.streams v.streams id answer (stored_at s id) acts) in
+    there_at s (record s { sessions = v }) id told (stored_at s id) is
+    (subst (Acts pull.NoMessages pulls_raw s.sessions.streams v.streams id) (sym told_is) acts, ap (λ (x : SessionsState). record s { sessions = x }) rest)
 
 absent_at : (s : Joint) (id : ℕ) (told : Pull) (o : Option SessionStream) → is_some o ≡ false → told ≡ pull.Pending → PullsThere s s id told o
 absent_at s id told None none paused = (paused, refl)
