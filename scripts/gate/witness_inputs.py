@@ -26,7 +26,7 @@ IN_C = {
     "tests/c/lists.c": ([], []), "tests/c/never_indexed.c": ([], []), "tests/c/streams.c": (REFUSES, []),
     "tests/c/strict_connection.c": ([], []), "tests/c/priority_updates.c": (REFUSES, []), "tests/c/over_streams.c": (FREES, []),
     "tests/c/frame_left.c": ([], []), "tests/c/other_settings.c": (REFUSES, []), "tests/c/other_streams.c": (REFUSES, []),
-    "tests/c/remembered_settings.c": (REFUSES, []),
+    "tests/c/remembered_settings.c": (REFUSES, []), "tests/c/sessions.c": (REFUSES, []),
     "tests/witness/far.c": ([], []), "tests/witness/over.c": ([], []), "tests/witness/lacking.c": (REFUSES, []),
 }
 CALLS, PRINTED, REFUSED, LAYERS = "tests/c/calls.c", "tests/c/in_memory.c", "tests/witness/refused.c", "tests/witness/layers.rattle"
