@@ -123,7 +123,7 @@ impl Endpoint {
     }
 
     // Why a list is refused as a header section that is refused by itself: the stream's own refusal comes first.
-    fn refusal_of_head(&self, id: StreamId, later: Refusal) -> Refusal
+    pub(super) fn refusal_of_head(&self, id: StreamId, later: Refusal) -> Refusal
         ensures { result ≡ refusal_after (head_refused_in self.now id) later }
     {
         match self.head_order_refusal(id) {
@@ -143,7 +143,7 @@ impl Endpoint {
     }
 
     // A list that reads as a header section of this side goes out, and the message is at this place after it.
-    fn send_head_at(
+    pub(super) fn send_head_at(
         &mut self,
         id: StreamId,
         fields: &[HeaderField],
@@ -158,7 +158,7 @@ impl Endpoint {
         ensures names { (head : Head) → head_by self.old.announced.choices.extensions.any_protocol fields.now ≡ IsHead head
             → place ≢ SendPlace.TrailerSent → NamesField (call_refused result) self.old.announced.choices fields.now }
     {
-        let room = match self.reserve_head(id, None) {
+        let room = match self.reserve_head(id) {
             Ok(room) => room,
             Err(refusal) => return Err(self.judged_or(id, refusal, fields, place, read)),
         };
