@@ -28,7 +28,7 @@ pub returns : goal.returns
 returns c =
     let none : own_head_refused c.args.self.now.announced c.args.self.now.side c.args.head.now ≡ None =
     sym (sym c.in_default-head_refusal.is ∙ c.head_refusal.ensures ∙ ap (λ (s : EndpointState). own_head_refused s.announced s.side c.args.head.now) c.self.view_is) in
-    subst (λ fs. SendsSection (λ e. send_listed_head e c.args.id c.args.head.now fs) c.args.self.now c.send_head_at.new.self c.args.id fs (call_refused c.send_head_at.result)) (c.as_slice-list.ensures.value ∙ c.in-Ok-fields.ensures.value)
+    subst (λ fs. SendsSection (λ e. send_listed_head e c.args.id c.args.head.now fs) c.args.self.now c.send_head_at.new.self c.args.id fs (call_refused c.send_head_at.result)) (c.as_slice-list.ensures.value ∙ c.in-Ok.ensures.value)
     (c.send_head_at.ensures.sends c.args.head.now none c.place_behind.ensures).sends
 
 pub send_head_at-requires-clause-read : goal.send_head_at-requires-clause-read
