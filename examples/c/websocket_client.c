@@ -170,6 +170,8 @@ static void run(quic_socket *socket) {
     if (!client.request && client.connection && http3_has_settings(client.connection)) open_websocket();
     if (quic_time() > last) fail("not over in time");
   }
+  quic_ending ending = quic_last_ending(socket);
+  if (!client.is_over) fail(http3_why_over(&ending)); /* before the handshake was done: on_over is not called */
 }
 
 int main(int count, char **arguments) {

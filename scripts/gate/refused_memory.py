@@ -19,17 +19,19 @@ from refusing import FOR_GOOD, Refused, Refusing, can_refuse  # noqa: E402
 TOP = os.path.dirname(os.path.dirname(os.path.dirname(os.path.abspath(__file__))))
 SCRIPTS = ("first", "table", "interim", "refused_event", "lists_pulled")
 MEMORY = (b"refused OutOfMemory", b"refused Kept", b"fault out of memory")
-# A client whose peer takes a table of 220 bytes and lets two streams wait. The answers of both sends, and what waits on the encoder stream and on
-# the section's own behind each, depend on how many insertions were made when memory was refused.
-BEGUN = [b"call new c 1000 0 0", b"call deliver 3 0004050140dc0702", b"call open"]
-WAITS, CAPACITY = [b"call waits 6", b"call waits 0"], b"023fbd01"
-REQUEST = b" 0 :method=GET :scheme=https :authority=www.example.com :path=/sample/path"
-# Of each command what stands on the stream before it, its fields, their insertions, and the frame: its entries are both inserted behind the base, one
+# A client whose peer takes a table of 4,096 bytes and lets 100 streams wait. It has inserted 15 fields for stream 0. An encoder asks for the memory of 16
+# entries at once, so one more insertion takes none, and a second one does. So the answers of both sends on stream 4, and what waits on the encoder
+# stream and on stream 4 after each, depend on how many insertions were made when memory was refused.
+BEGUN = [b"call new c 1000 0 0", b"call deliver 3 000406015000074064", b"call open",
+         b"call fields 0 :method=GET " + b" ".join(n * b"b" + b"=1" for n in range(1, 16)), b"call waits 6", b"call open"]
+WAITS = [b"call waits 6", b"call waits 4"]
+REQUEST = b" 4 :method=GET :scheme=https :authority=www.example.com :path=/sample/path"
+# Of each command what stands on stream 4 before it, its fields, their insertions, and the frame: its entries are both inserted behind the base, one
 # of them before it, both before it (RFC 9204, section 4.5).
-FRAMES = (b"01060381d1d71011", b"01060380d1d78010", b"01060300d1d78180")
+FRAMES = (b"01061281d1d71011", b"01061280d1d78010", b"01061200d1d78180")
 OF_REQUEST = (b"", REQUEST, (b"c08cf1e3c2e5f23a6ba0ab90f4ff", b"c1896103a6ba0ac5634cff"), FRAMES)
 SENT = {b"head": OF_REQUEST, b"fields": OF_REQUEST,
-        b"trailers": (b"01030000d1", b" 0 x=1 y=2", (b"61f3810f", b"61f58117"), (b"010403811011", b"010403808010", b"010403008180"))}
+        b"trailers": (b"01030000d1", b" 4 x=1 y=2", (b"61f3810f", b"61f58117"), (b"010412811011", b"010412808010", b"010412008180"))}
 
 
 def is_allowed(wrote, status, met, wanted, usual):
@@ -70,9 +72,12 @@ def waits(bytes):
 def insertions(refusing, cases, sent):
     """each call for memory of the calls refused in turn: how often the command, of a header or of a list, was refused with no insertion, one and two made"""
     front, fields, inserted, frames = SENT[sent]
-    begun, opened = [*BEGUN, *([b"call fields 0 :method=GET"] if front else [])], [b"ok", b"ok", b"stream 0", *([b"ok"] if front else [])]
+    begun = [*BEGUN, *([b"call fields 4 :method=GET"] if front else [])]
     section = [b"call " + sent + fields, *WAITS]
-    both, told, at = waits(CAPACITY + b"".join(inserted)), f"insertions of {sent.decode()} with memory refused", len(begun)
+    told, at = f"insertions of {sent.decode()} with memory refused", len(begun)
+    before = refusing.run(cases, b"\n".join(begun) + b"\n").wrote.split(b"\n")[4]
+    first, opened = before.removeprefix(b"waits "), [b"ok", b"ok", b"stream 0", b"ok", before, b"stream 4", *([b"ok"] if front else [])]
+    both = waits(first + b"".join(inserted))
     found, met, number = [0, 0, 0], True, 0
     while met:
         number += 1
@@ -81,7 +86,7 @@ def insertions(refusing, cases, sent):
         if lines[:at + 1] != opened + [b"refused OutOfMemory"]:
             # memory was refused elsewhere, or not at all
             continue
-        made = {waits(CAPACITY + b"".join(inserted[:made])): made for made in range(3)}.get(lines[at + 1])
+        made = {waits(first + b"".join(inserted[:made])): made for made in range(3)}.get(lines[at + 1])
         if made is None or lines[at + 2:] != [waits(front), b"ok", both, waits(front + frames[made])] or ran.status:
             print(f"failed {told}: call {number} for memory refused: status {ran.status}, {lines[at:]}")
             return 1

@@ -264,6 +264,8 @@ check "websocket, websocket_client: messages of 0, 6 and 10,000,000 bytes" own_w
 check "websocket, websocket_client, packets lost: messages of 0, 6 and 10,000,000 bytes" own_websocket "${ports[20]}"
 check "websocket_client, serve: no extended CONNECT" refuses "takes no extended CONNECT" "$work/checked/websocket_client" "$cert" 127.0.0.1 \
   "${ports[0]}" localhost / "$folder/hello.txt"
+check "websocket_client: nobody listens" refuses "nobody listens" "$work/checked/websocket_client" "$cert" 127.0.0.1 "${ports[21]}" localhost / \
+  "$folder/hello.txt"
 check "websocket: it ends" stop "$websockets"
 check "websocket: no leak and no error of memory" is_silent websocket.log
 check "serve: GOAWAY at its end" going_away "${ports[0]}" "$c_server"

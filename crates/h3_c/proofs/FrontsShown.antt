@@ -1,6 +1,7 @@
 -- What `h3_outgoing` shows is the front of what waits, and what `h3_stream` tells of a stream is so.
-use Rattle.std.proofs.Common.{arith, ◌≡◌, ◌≤◌, ◌<◌, ◌⊎◌, inl, inr, ℕ, zero, suc, Bool, true, false, List, [], ◌∷◌, length, take, refl, sym, ap, subst, ◌∙◌, Option, Some, None}
+use Rattle.std.proofs.Common.{arith, ◌≡◌, ◌≤◌, ◌<◌, ◌⊎◌, inl, inr, ℕ, zero, suc, Bool, true, false, if◌then◌else◌, List, [], ◌∷◌, length, take, refl, sym, ap, subst, ◌∙◌, Option, Some, None}
 use Rattle.std.specs.Prelude.{◌||◌, ◌^◌, min, nat_lt, is_some, option_map, unwrap_or}
+use Rattle.std.specs.List.{AllByRecursion}
 use Rattle.std.proofs.lemmas.Bool.{cases_Bool}
 use Rattle.std.proofs.lemmas.Grind.{common_steps}
 use Rattle.h3_connection.specs.Endpoint.{EndpointHistory, bytes_waiting}
@@ -9,6 +10,7 @@ use Rattle.h3_connection.specs.OwnIds.{is_own}
 use Rattle.h3_connection.specs.Shown.{has_outgoing, is_finished, is_reset, waiting}
 use Rattle.h3_connection.specs.State.{StandsFor}
 use Rattle.h3_connection.specs.StreamSets.{stream_at}
+use Rattle.h3_coding.specs.Encodings.{IsByte}
 use Rattle.h3_outgoing.specs.Copied.{put}
 use Rattle.h3_outgoing.specs.Held.{front_of}
 use Rattle.h3_outgoing.specs.HeldLaws.{front_in, front_out, front_within}
@@ -20,6 +22,7 @@ use Rattle.h3_c.specs.Seen.{Seen}
 use Rattle.h3_c.specs.Showing.{IsStream}
 use Rattle.h3_c.specs.declared.state.StreamState.{StreamState}
 use Rattle.h3_c.specs.declared.numbers.Told.{Told}
+use Rattle.h3_c.proofs.Writing.{Fronted}
 
 pub below_or_not : (a b : ℕ) → (a < b) ⊎ (b ≤ a)
 below_or_not a b = elim (cases_Bool (nat_lt a b)) [
@@ -52,22 +55,38 @@ take_front (suc k) (b ∷ wire) h = elim (cases_Bool (nat_lt b 256)) [
   | inr is ↦ (let n = ap (λ l. length l) (front_out b wire is) in absurd (omega (arith, h, n)))
 ]
 
-copies : (v : Seen) (id : ℕ) (bytes : List ℕ) (s : Shows v id bytes) → CopiesOut v id ok s.before s.buffer s.count s.past s.fin
-copies v id bytes s = (known_id id v v _ s.call.1).1
+front_bytes : (wire : List ℕ) → AllByRecursion IsByte (front_of wire)
+front_bytes [] = tt
+front_bytes (b ∷ wire) = by (nat_lt b 256) refl (front_bytes wire)
+  where
+    by : (t : Bool) → nat_lt b 256 ≡ t → AllByRecursion IsByte (front_of wire) → AllByRecursion IsByte (if t then b ∷ front_of wire else [])
+    by true is rest = (grind (arith, common_steps, is), rest)
+    by false is rest = tt
 
--- so many of them are the first that wait
-pub shown_front : (v : Seen) (id : ℕ) (bytes : List ℕ) → Shows v id bytes → (e : EndpointHistory) → StandsFor v.endpoint e → (bytes ≡ take (length bytes) (bytes_waiting e id)) × (length bytes ≤ waiting e id)
-shown_front v id bytes s e h =
-    let c = copies v id bytes s in
+taken_bytes : (n : ℕ) (xs : List ℕ) → AllByRecursion IsByte xs → AllByRecursion IsByte (take n xs)
+taken_bytes zero xs h = tt
+taken_bytes (suc n) [] h = tt
+taken_bytes (suc n) (x ∷ xs) h = (h.0, taken_bytes n xs h.1)
+
+copies : (v : Seen) (id : ℕ) (owed bytes : List ℕ) (s : Shows v id owed bytes) → CopiesOut v id ok s.before s.buffer s.count s.past s.fin
+copies v id owed bytes s = (known_id id v v _ s.call.1).1
+
+-- so many bytes are shown of what waits, and so many places behind them
+pub shown_front : (v : Seen) (id : ℕ) (owed bytes : List ℕ) (s : Shows v id owed bytes) → (e : EndpointHistory) → StandsFor v.endpoint e → Fronted (bytes_waiting e id) s.buffer s.count s.past
+shown_front v id owed bytes s e h =
+    let c = copies v id owed bytes s in
     let f = (c.copied e h).copied in
-    let front = front_of (bytes_waiting e id) in
-    let few : length bytes ≤ min (length front) (length s.before) = subst (λ n. length bytes ≤ n) f.place s.within in
-    let fits : length bytes ≤ length front = omega (arith, few) in
-    let room : length bytes ≤ length s.before = omega (arith, few) in
-    let there = front_within (bytes_waiting e id) in (
-      s.front ∙ ap (λ l. take (length bytes) l) f.filled ∙ take_put (length bytes) front s.before fits room ∙ take_front (length bytes) (bytes_waiting e id) fits,
-      omega (arith, fits, there),
-    )
+    let wire = bytes_waiting e id in
+    let place : s.count ≡ min (length (front_of wire)) (length s.before) = f.place in
+    let fits : s.count ≤ length (front_of wire) = omega (arith, place) in
+    let room : s.count ≤ length s.before = omega (arith, place) in
+    let there = front_within wire in
+    record {
+      bytes = subst (λ l. AllByRecursion IsByte l) (take_front s.count wire fits) (taken_bytes s.count (front_of wire) (front_bytes wire));
+      few = omega (arith, fits, there);
+      copied = ap (λ l. take s.count l) f.filled ∙ take_put s.count (front_of wire) s.before fits room ∙ take_front s.count wire fits;
+      past_is = (c.copied e h).past;
+    }
 
 -- what is finished is open to send
 finished_there : (o : Option Out) → unwrap_or (option_map (λ (o : Out). o.is_finished) o) false ≡ true → is_some o ≡ true

@@ -1,5 +1,6 @@
 -- What an endpoint writes comes behind what it wrote, and no call but `advance` takes any of it.
 use Rattle.std.proofs.Common.{◌≡◌, ◌⊎◌, inr, ℕ, ◌+◌, Bool, true, false, if◌then◌else◌, List, [], ◌∷◌, ◌++◌, flat_map, refl, sym, ap, subst, ◌∙◌, Option, Some, None, append_assoc, append-nil}
+use Rattle.std.specs.List.{AllByRecursion}
 use Rattle.std.specs.Prelude.{◌<◌, ◌==◌, ◌||◌, drop}
 use Rattle.h3_coding.specs.Encodings.{encoding}
 use Rattle.h3_field.specs.Instruction.{DecoderInstruction, EncoderInstruction, decoder_bytes, encoder_bytes}
@@ -7,12 +8,13 @@ use Rattle.h3_proto.specs.declared.stream.Side.{Side}
 use Rattle.h3_proto.specs.declared.stream.Side.TheVariants.{Client, Server}
 use Rattle.h3_connection.specs.Endpoint.{EndpointHistory, Own, kind_of, own_waiting}
 use Rattle.h3_connection.specs.Endpoint.Kind.{Request}
-use Rattle.h3_connection.specs.Outgoing.{Outgoing as Out, nothing_sent, written_part}
+use Rattle.h3_connection.specs.Outgoing.{Outgoing as Out, OwnPart, nothing_sent, written_part}
 use Rattle.h3_connection.specs.OwnIds.{control_id, decoder_id, encoder_id, is_own}
 use Rattle.h3_connection.specs.OwnSettings.{control_start}
 use Rattle.h3_connection.specs.OwnUpdates.{control_frames, goaway_encoding}
 use Rattle.h3_connection.specs.StreamSets.{Streams, set_stream, stream_at}
 use Rattle.h3_connection.specs.StreamSetLaws.{set-here, set-other}
+use Rattle.h3_c.proofs.Filling.{IsOfBytes, part_places}
 use Rattle.h3_c.proofs.Views.{by_id}
 
 -- the text of an own stream, and how much of it was taken
@@ -53,15 +55,22 @@ nothing_more text = record { more = []; is = sym (append-nil text) }
 pub more_of : (x y z : List ℕ) → More x y → More y z → More x z
 more_of x y z a b = record { more = a.more ++ b.more; is = b.is ∙ ap (λ l. l ++ b.more) a.is ∙ append_assoc x a.more b.more }
 
+-- it is of bytes, without a place
+abbrev pub IsPlain : OwnPart → Type 0
+IsPlain part = IsOfBytes part × (part_places part ≡ 0)
+
 -- of a request stream
 pub record PartsGrow (o p : Out) : Type 0 where
   pub taken : p.taken ≡ o.taken
-  pub text : p.is_reset ≡ false → (o.is_reset ≡ false) × More (part_bytes o) (part_bytes p)
+  pub reset : p.is_reset ≡ false → o.is_reset ≡ false
+  pub more : List OwnPart
+  pub is : p.parts ≡ o.parts ++ more
+  pub plain : AllByRecursion IsPlain more
 
 -- A client opens requests in order: `next` is the id behind them.
 abbrev pub StreamGrows : Side → ℕ → ℕ → Option Out → Option Out → Type 0
 StreamGrows side next id None None = Unit {0}
-StreamGrows side next id None (Some p) = (p.taken ≡ 0) × (is_own side id ≡ false) × ((side ≡ Server) ⊎ (id < next))
+StreamGrows side next id None (Some p) = (p.taken ≡ 0) × (is_own side id ≡ false) × ((side ≡ Server) ⊎ (id < next)) × AllByRecursion IsPlain p.parts
 StreamGrows side next id (Some o) (Some p) = PartsGrow o p
 StreamGrows side next id (Some o) None = ⊥
 
@@ -169,7 +178,7 @@ goaways_grow o goaways = record {
 }
 
 pub same_parts : (o : Out) → PartsGrow o o
-same_parts o = record { taken = refl; text = λ goes. (goes, nothing_more (part_bytes o)) }
+same_parts o = record { taken = refl; reset = λ goes. goes; more = []; is = sym (append-nil o.parts); plain = tt }
 
 pub stream_same : (side : Side) (next id : ℕ) (o : Option Out) → StreamGrows side next id o o
 stream_same side next id None = tt
@@ -188,7 +197,7 @@ pub new_grows : (side : Side) (next : ℕ) (streams : Streams Out) (id : ℕ) �
 new_grows side next streams id at other below i =
     by_id id i (λ b. StreamGrows side next i (stream_at streams i) (stream_at (set_stream streams id nothing_sent) i))
     (λ same. subst (λ j. StreamGrows side next j (stream_at streams j) (stream_at (set_stream streams id nothing_sent) j)) same
-    (subst (λ x. StreamGrows side next id x (stream_at (set_stream streams id nothing_sent) id)) (sym at) (subst (λ x. StreamGrows side next id None x) (sym (set-here streams id nothing_sent)) (refl, other, inr below))))
+    (subst (λ x. StreamGrows side next id x (stream_at (set_stream streams id nothing_sent) id)) (sym at) (subst (λ x. StreamGrows side next id None x) (sym (set-here streams id nothing_sent)) (refl, other, inr below, tt))))
     (λ differs. subst (λ x. StreamGrows side next i (stream_at streams i) x) (sym (set-other streams id i nothing_sent differs)) (stream_same side next i (stream_at streams i)))
 
 -- A request stream is none of the own ones.

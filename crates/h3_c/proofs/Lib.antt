@@ -13,10 +13,13 @@ pub mod Shown
 pub mod Datagrams
 pub mod NamedFields
 pub mod FrontsShown
+pub mod Announcing
 pub mod CarriedOver
+pub mod ProgramAnnounces
 pub mod ProgramCalls
 pub mod ProgramRuns
 pub mod UnheardUpdates
+pub mod Writing
 pub mod Views
 pub mod ViewsReading
 pub mod ViewsSending
@@ -26,8 +29,10 @@ pub mod Unordered
 pub mod UnorderedSteps
 pub mod Grows
 pub mod ReadsGrow
+pub mod Filling
 pub mod Flights
 pub mod Landings
+pub mod SectionBytes
 pub mod SendsGrow
 pub mod Comings
 pub mod ProgramGives

@@ -2,6 +2,7 @@
 use Rattle.std.proofs.Common.{◌≡◌, ◌⊎◌, inl, inr, ℕ, Bool, true, false, List, [], ◌∷◌, refl, sym, ap, subst, ◌∙◌, Option, Some, None, Result, Ok, Err}
 use Rattle.std.specs.Prelude.{◌<◌, ◌≢◌, ◌^◌, ◌&&◌, ◌==◌, is_none, option_map}
 use Rattle.h3_field.specs.Field.{Field}
+use Rattle.h3_field.specs.ReadBack.{AreBytes}
 use Rattle.h3_proto.specs.declared.stream.Side.{Side}
 use Rattle.h3_proto.specs.declared.stream.Side.TheVariants.{Client, Server}
 use Rattle.h3_priority.specs.Priority.{PriorityParameters}
@@ -44,7 +45,7 @@ use Rattle.h3_c.specs.declared.items.PulledItem.{PulledItem}
 use Rattle.h3_c.specs.declared.numbers.Told.{Told}
 use Rattle.h3_c.proofs.FrontsShown.{below_or_not}
 use Rattle.h3_c.proofs.GivenBytes.{given_bytes}
-use Rattle.h3_c.proofs.ProgramMoves.{ActsSo, Moves, NotEnded, StaysAt, StaysSo, stays_same}
+use Rattle.h3_c.proofs.ProgramMoves.{ActsSo, KeepsFlow, Moves, NotEnded, StaysAt, StaysSo, stays_same}
 use Rattle.h3_c.proofs.QuietCalls.{datagram_same, does_same, end_taken_same, fault_told, hold_same, is_fault, set_initial_same, set_priority_same, stands_unchanged, updates_same}
 use Rattle.h3_c.proofs.Unordered.{unordered}
 use Rattle.h3_c.proofs.ViewsSteps.{IsCall, IsOfC}
@@ -57,24 +58,26 @@ pub record Made (act : Act) (h g : Handles) : Type 0 where
   pub moves : Moves h g events answers
 
 -- an event
-made_event : (act : Act) (h g : Handles) (e : Event) (n : Told) (a : Answer) → event_of act ≡ Some (e, n) → LearnsOf act g a → IsOfC e → IsCall e → NotEnded e a → g.carried ≡ h.carried
+made_event : (act : Act) (h g : Handles) (e : Event) (n : Told) (a : Answer) → event_of act ≡ Some (e, n) → LearnsOf act g a → IsOfC e → IsCall e → NotEnded e a → KeepsFlow h g
     → Acts e h.client.endpoint h.server.endpoint a g.client.endpoint g.server.endpoint → Made act h g
 made_event act h g e n a is learns of call not same acts = record { events = e ∷ []; answers = a ∷ []; comes = IsEvent is learns; moves = ActsSo of call not same acts }
 
 -- no event
-made_none : (act : Act) (h g : Handles) → StaysAt h.client g.client → StaysAt h.server g.server → g.carried ≡ h.carried → Comes act h g [] [] → Made act h g
+made_none : (act : Act) (h g : Handles) → StaysAt h.client g.client → StaysAt h.server g.server → KeepsFlow h g → Comes act h g [] [] → Made act h g
 made_none act h g client server same comes = record { events = []; answers = []; comes = comes; moves = StaysSo client server same }
 
-made_at : (act : Act) (side : Side) (h g : Handles) → StaysAt (handle_at h side) (handle_at g side) → handle_at g (other side) ≡ handle_at h (other side) → g.carried ≡ h.carried → Comes act h g [] [] → Made act h g
+made_at : (act : Act) (side : Side) (h g : Handles) → StaysAt (handle_at h side) (handle_at g side) → handle_at g (other side) ≡ handle_at h (other side) → KeepsFlow h g → Comes act h g [] [] → Made act h g
 made_at act Client h g here there same comes = made_none act h g here (stays_same h.server g.server there) same comes
 made_at act Server h g here there same comes = made_none act h g (stays_same h.client g.client there) here same comes
 
-handles_are : (h g : Handles) → g.client ≡ h.client → g.server ≡ h.server → g.carried ≡ h.carried → g ≡ h
-handles_are h g client server carried =
-    ap (λ v. let x : Handles = record { client = v; server = g.server; carried = g.carried } in x) client ∙ ap (λ v. let x : Handles = record { client = h.client; server = v; carried = g.carried } in x) server
-    ∙ ap (λ c. let x : Handles = record { client = h.client; server = h.server; carried = c } in x) carried
+handles_are : (h g : Handles) → g.client ≡ h.client → g.server ≡ h.server → KeepsFlow h g → g ≡ h
+handles_are h g client server same =
+    ap (λ v. let x : Handles = record { client = v; server = g.server; carried = g.carried; owed = g.owed } in x) client
+    ∙ ap (λ v. let x : Handles = record { client = h.client; server = v; carried = g.carried; owed = g.owed } in x) server
+    ∙ ap (λ c. let x : Handles = record { client = h.client; server = h.server; carried = c; owed = g.owed } in x) same.0
+    ∙ ap (λ c. let x : Handles = record { client = h.client; server = h.server; carried = h.carried; owed = c } in x) same.1
 
-same_handles : (side : Side) (h g : Handles) → handle_at g side ≡ handle_at h side → handle_at g (other side) ≡ handle_at h (other side) → g.carried ≡ h.carried → g ≡ h
+same_handles : (side : Side) (h g : Handles) → handle_at g side ≡ handle_at h side → handle_at g (other side) ≡ handle_at h (other side) → KeepsFlow h g → g ≡ h
 same_handles Client h g here there same = handles_are h g here there same
 same_handles Server h g here there same = handles_are h g there here same
 
@@ -179,7 +182,7 @@ ended_or_not refusal.OutOfMemory = inr refl
 not_over : (a : Answer) → is_over a ≡ false → a ≢ answer.Refused refusal.Ended
 not_over a differs is = absurd (let never : true ≡ false = sym (ap is_over is) ∙ differs in cc)
 
-module _ (side : Side) (h g : Handles) (there : handle_at g (other side) ≡ handle_at h (other side)) (same : g.carried ≡ h.carried) where
+module _ (side : Side) (h g : Handles) (there : handle_at g (other side) ≡ handle_at h (other side)) (same : KeepsFlow h g) where
   abbrev HasNoEvent : CallOfC → Type 0
   HasNoEvent c = (event_of (Call side c) ≡ None) × (are_events (Call side c) ≡ false) × WritesNone (Call side c) h g
 
@@ -237,11 +240,11 @@ module _ (side : Side) (h g : Handles) (there : handle_at g (other side) ≡ han
       made_event (Call side (call.OpenRequest before id n)) h g (event.OpenRequest side) n a refl (opened_tells (handle_at h side) (handle_at g side) before id n o) tt tt tt same
       (by_side side (TellsCall opened_answer Opens) h g a (record { result = o.calls.answer; given_is = refl; called = o.calls.done }) there)
 
-  sends_body : (id : ℕ) (bytes : List ℕ) (n : Told) → Does (call.SendBody id bytes n) (handle_at h side) (handle_at g side) → Made (Call side (call.SendBody id bytes n)) h g
-  sends_body id bytes n on = elim (below_or_not id (2 ^ 62)) [
+  sends_body : (id : ℕ) (bytes : List ℕ) (n : Told) → AreBytes bytes → Does (call.SendBody id bytes n) (handle_at h side) (handle_at g side) → Made (Call side (call.SendBody id bytes n)) h g
+  sends_body id bytes n all on = elim (below_or_not id (2 ^ 62)) [
     | inl below ↦ (let k = on.known below in
         let a = body_answer k.answer in
-        made_event (Call side (call.SendBody id bytes n)) h g (event.Body side id bytes) n a refl (body_tells n k.answer k.is) tt tt tt same
+        made_event (Call side (call.SendBody id bytes n)) h g (event.Body side id bytes) n a refl (body_tells n k.answer k.is) all tt tt same
         (by_side side (SendsShared id bytes) h g a (inl (record { result = k.answer; given_is = refl; called = k.done })) there))
     | inr above ↦ refused (call.SendBody id bytes n) (event.Body side id bytes) n refl (on.unknown above)
   ]
@@ -339,7 +342,7 @@ module _ (side : Side) (h g : Handles) (there : handle_at g (other side) ≡ han
   call_made (call.OpenRequestAt id n) out given d = inr (OpensUpToOf id n)
   call_made (call.SendHead id sizes flags bytes n) out given d = inl (sends (call.SendHead id sizes flags bytes n) (λ fields. event.Fields side id fields) n id (fields_given sizes flags bytes) (λ e. place_refusal e id) (λ fields s t r. SendsFieldList s t id fields r) refl (refl, tt) (λ fields. (refl, λ is. given_bytes sizes flags bytes fields given is, tt, λ a. tt)) (λ a tells. tells) (λ fields a acts. acts) d)
   call_made (call.SendTrailer id sizes flags bytes n) out given d = inl (sends (call.SendTrailer id sizes flags bytes n) (λ fields. event.TrailerFields side id fields) n id (fields_given sizes flags bytes) (λ e. order_refusal e id) (λ fields s t r. SendsTrailerList s t id fields r) refl (refl, tt) (λ fields. (refl, λ is. given_bytes sizes flags bytes fields given is, tt, λ a. tt)) (λ a tells. tells) (λ fields a acts. acts) d)
-  call_made (call.SendBody id bytes n) out given d = inl (sends_body id bytes n d)
+  call_made (call.SendBody id bytes n) out given d = inl (sends_body id bytes n given d)
   call_made (call.SendBodyOf id len n) out given d = inl (never out)
   call_made (call.Finish id n) out given d = inl (calls (call.Finish id n) (event.Finish side id) n id (λ s t r. Finishes s t id r) refl (λ below. tt) tt (λ a. tt) (λ a tells. tells) (λ a acts. acts) d)
   call_made (call.Reset id n) out given d = inl (resets id n d)

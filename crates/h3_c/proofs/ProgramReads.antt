@@ -53,9 +53,9 @@ use Rattle.h3_c.proofs.ProgramMoves.{ActsSo, Moves, StaysAt, StaysSo, ThenSo, st
 use Rattle.h3_c.proofs.QuietCalls.{stands_unchanged}
 
 -- The handles of the side from which bytes come, and of the other one.
-abbrev pub pair : Side → Seen → Seen → (Side → ℕ → List ℕ) → Handles
-pair Client v r carried = record { client = v; server = r; carried = carried }
-pair Server v r carried = record { client = r; server = v; carried = carried }
+abbrev pub pair : Side → Seen → Seen → (carried owed : Side → ℕ → List ℕ) → Handles
+pair Client v r carried owed = record { client = v; server = r; carried = carried; owed = owed }
+pair Server v r carried owed = record { client = r; server = v; carried = carried; owed = owed }
 
 abbrev Carried : Type 0
 Carried = Side → ℕ → List ℕ
@@ -66,27 +66,27 @@ StillSends v id = (e : EndpointHistory) → StandsFor v.endpoint e → (has_outg
 abbrev pub SentAll : Seen → ℕ → Type 0
 SentAll v id = (e : EndpointHistory) → StandsFor v.endpoint e → (has_outgoing e id ≡ true) × (is_finished e id ≡ true) × (waiting e id ≡ 0)
 
-bytes_move : (from : Side) (id : ℕ) (v r s : Seen) (c : Carried) (bytes rest : List ℕ) (result : Result Unit DeliverError) → c from id ≡ bytes ++ rest → StillSends v id → Delivers r.endpoint s.endpoint id bytes result
-    → Moves (pair from v r c) (pair from v s (carrying c from id ((if is_stored result then [] else bytes) ++ rest))) (event.Deliver from id (length bytes) ∷ []) (answer_of (answer.Delivered (length bytes)) (delivery_refused result) ∷ [])
-bytes_move Client id v r s c bytes rest result is goes delivers = bytes_given (pair Client v r c) s id Client bytes rest result is goes delivers
-bytes_move Server id v r s c bytes rest result is goes delivers = bytes_given (pair Server v r c) s id Server bytes rest result is goes delivers
+bytes_move : (from : Side) (id : ℕ) (v r s : Seen) (c w : Carried) (bytes rest : List ℕ) (result : Result Unit DeliverError) → c from id ≡ bytes ++ rest → StillSends v id → Delivers r.endpoint s.endpoint id bytes result
+    → Moves (pair from v r c w) (pair from v s (carrying c from id ((if is_stored result then [] else bytes) ++ rest)) w) (event.Deliver from id (length bytes) ∷ []) (answer_of (answer.Delivered (length bytes)) (delivery_refused result) ∷ [])
+bytes_move Client id v r s c w bytes rest result is goes delivers = bytes_given (pair Client v r c w) s id Client bytes rest result is goes delivers
+bytes_move Server id v r s c w bytes rest result is goes delivers = bytes_given (pair Server v r c w) s id Server bytes rest result is goes delivers
 
-end_moves : (from : Side) (id : ℕ) (v r s : Seen) (c : Carried) (result : Result Unit DeliverError) → c from id ≡ [] → SentAll v id → DeliversEnd r.endpoint s.endpoint id result
-    → Moves (pair from v r c) (pair from v s c) (event.DeliverEnd from id ∷ []) (answer_of answer.Done (delivery_refused result) ∷ [])
-end_moves Client id v r s c result none ended delivers = end_given (pair Client v r c) s id Client result none ended delivers
-end_moves Server id v r s c result none ended delivers = end_given (pair Server v r c) s id Server result none ended delivers
+end_moves : (from : Side) (id : ℕ) (v r s : Seen) (c w : Carried) (result : Result Unit DeliverError) → c from id ≡ [] → SentAll v id → DeliversEnd r.endpoint s.endpoint id result
+    → Moves (pair from v r c w) (pair from v s c w) (event.DeliverEnd from id ∷ []) (answer_of answer.Done (delivery_refused result) ∷ [])
+end_moves Client id v r s c w result none ended delivers = end_given (pair Client v r c w) s id Client result none ended delivers
+end_moves Server id v r s c w result none ended delivers = end_given (pair Server v r c w) s id Server result none ended delivers
 
-pull_moves : (from : Side) (id : ℕ) (v r s : Seen) (c : Carried) (l : ListPull) → PullsList r.endpoint s.endpoint id l → Moves (pair from v r c) (pair from v s c) (event.PullFields (other from) id ∷ []) (answer.Listed l ∷ [])
-pull_moves Client id v r s c l pulled = ActsSo tt tt tt refl (record { result = l; given_is = refl; called = pulled }, refl)
-pull_moves Server id v r s c l pulled = ActsSo tt tt tt refl (record { result = l; given_is = refl; called = pulled }, refl)
+pull_moves : (from : Side) (id : ℕ) (v r s : Seen) (c w : Carried) (l : ListPull) → PullsList r.endpoint s.endpoint id l → Moves (pair from v r c w) (pair from v s c w) (event.PullFields (other from) id ∷ []) (answer.Listed l ∷ [])
+pull_moves Client id v r s c w l pulled = ActsSo tt tt tt (refl, refl) (record { result = l; given_is = refl; called = pulled }, refl)
+pull_moves Server id v r s c w l pulled = ActsSo tt tt tt (refl, refl) (record { result = l; given_is = refl; called = pulled }, refl)
 
-none_moves : (from : Side) (v r s : Seen) (c : Carried) → StaysAt r s → Moves (pair from v r c) (pair from v s c) [] []
-none_moves Client v r s c there = StaysSo (stays_same v v refl) there refl
-none_moves Server v r s c there = StaysSo there (stays_same v v refl) refl
+none_moves : (from : Side) (v r s : Seen) (c w : Carried) → StaysAt r s → Moves (pair from v r c w) (pair from v s c w) [] []
+none_moves Client v r s c w there = StaysSo (stays_same v v refl) there (refl, refl)
+none_moves Server v r s c w there = StaysSo there (stays_same v v refl) (refl, refl)
 
-rest_moves : (from : Side) (id : ℕ) (v r : Seen) (c : Carried) (bytes : List ℕ) → c from id ≡ bytes → Moves (pair from v r c) (pair from v r (carrying c from id bytes)) [] []
-rest_moves Client id v r c bytes is = rest_given (pair Client v r c) Client id bytes is
-rest_moves Server id v r c bytes is = rest_given (pair Server v r c) Server id bytes is
+rest_moves : (from : Side) (id : ℕ) (v r : Seen) (c w : Carried) (bytes : List ℕ) → c from id ≡ bytes → Moves (pair from v r c w) (pair from v r (carrying c from id bytes) w) [] []
+rest_moves Client id v r c w bytes is = rest_given (pair Client v r c w) Client id bytes is
+rest_moves Server id v r c w bytes is = rest_given (pair Server v r c w) Server id bytes is
 
 -- a handle with another endpoint
 abbrev with_endpoint : Seen → EndpointState → Seen
@@ -126,15 +126,15 @@ carrying_here c Server id bytes = ap (λ b. if b then bytes else c Server id) (s
     same_number i = grind (arith, common_steps)
 
 -- What a read stands for, and what both handles are after it.
-pub record ReadMade (from : Side) (id : ℕ) (bytes : List ℕ) (fin used : ℕ) (item : PulledItem) (n : Told) (v r s : Seen) (c : Side → ℕ → List ℕ) (rest : List ℕ) : Type 0 where
+pub record ReadMade (from : Side) (id : ℕ) (bytes : List ℕ) (fin used : ℕ) (item : PulledItem) (n : Told) (v r s : Seen) (c w : Side → ℕ → List ℕ) (rest : List ℕ) : Type 0 where
   pub events : List Event
   pub answers : List Answer
   pub comes : ComesOfRead from id bytes fin used item n s events answers
-  pub moves : Moves (pair from v r c) (pair from v s (carrying c from id (drop used bytes ++ rest))) events answers
+  pub moves : Moves (pair from v r c w) (pair from v s (carrying c from id (drop used bytes ++ rest)) w) events answers
 
-module _ (from : Side) (id : ℕ) (bytes : List ℕ) (fin used : ℕ) (item : PulledItem) (n : Told) (v r s : Seen) (c : Side → ℕ → List ℕ) (rest : List ℕ) (first : c from id ≡ bytes ++ rest) (goes : StillSends v id) (ended : ends_with fin bytes used ≡ true → (drop used bytes ++ rest ≡ []) × SentAll v id) where
+module _ (from : Side) (id : ℕ) (bytes : List ℕ) (fin used : ℕ) (item : PulledItem) (n : Told) (v r s : Seen) (c w : Side → ℕ → List ℕ) (rest : List ℕ) (first : c from id ≡ bytes ++ rest) (goes : StillSends v id) (ended : ends_with fin bytes used ≡ true → (drop used bytes ++ rest ≡ []) × SentAll v id) where
   abbrev Goal : Type 0
-  Goal = ReadMade from id bytes fin used item n v r s c rest
+  Goal = ReadMade from id bytes fin used item n v r s c w rest
 
   abbrev left : Carried
   left = carrying c from id (drop used bytes ++ rest)
@@ -145,35 +145,35 @@ module _ (from : Side) (id : ℕ) (bytes : List ℕ) (fin used : ℕ) (item : Pu
 
   -- what was used is delivered, where anything was
   bytes_part : (start mid : EndpointState) → used ≤ length bytes → (0 < length bytes → 0 < used) → TakesBytes start mid id (take used bytes)
-      → Moves (pair from v (with_endpoint r start) c) (pair from v (with_endpoint r mid) left) (bytes_events from id used) (bytes_answers used)
+      → Moves (pair from v (with_endpoint r start) c w) (pair from v (with_endpoint r mid) left w) (bytes_events from id used) (bytes_answers used)
   bytes_part start mid few some takes = by (used == 0) refl
     where
       by : (b : Bool) → (used == 0) ≡ b
-          → Moves (pair from v (with_endpoint r start) c) (pair from v (with_endpoint r mid) left) (if used == 0 then [] else event.Deliver from id used ∷ []) (if used == 0 then [] else answer.Delivered used ∷ [])
+          → Moves (pair from v (with_endpoint r start) c w) (pair from v (with_endpoint r mid) left w) (if used == 0 then [] else event.Deliver from id used ∷ []) (if used == 0 then [] else answer.Delivered used ∷ [])
       by true is =
           let none = is_zero used is in
           let same : mid ≡ start = subst (λ k. TakesBytes start mid id (take k bytes)) none takes in
-          subst (λ b. Moves (pair from v (with_endpoint r start) c) (pair from v (with_endpoint r mid) left) (if b then [] else event.Deliver from id used ∷ []) (if b then [] else answer.Delivered used ∷ [])) (sym is)
-          (subst (λ x. Moves (pair from v (with_endpoint r start) c) (pair from v (with_endpoint r x) left) [] []) (sym same) (rest_moves from id v (with_endpoint r start) c (drop used bytes ++ rest) (first ∙ stays_there none)))
+          subst (λ b. Moves (pair from v (with_endpoint r start) c w) (pair from v (with_endpoint r mid) left w) (if b then [] else event.Deliver from id used ∷ []) (if b then [] else answer.Delivered used ∷ [])) (sym is)
+          (subst (λ x. Moves (pair from v (with_endpoint r start) c w) (pair from v (with_endpoint r x) left w) [] []) (sym same) (rest_moves from id v (with_endpoint r start) c w (drop used bytes ++ rest) (first ∙ stays_there none)))
       by false is =
           let count = length-take-le used bytes few in
           let length_some = positive used is in
           let delivers = delivers_some start mid id (take used bytes) (omega (arith, count, length_some)) takes in
-          subst (λ b. Moves (pair from v (with_endpoint r start) c) (pair from v (with_endpoint r mid) left) (if b then [] else event.Deliver from id used ∷ []) (if b then [] else answer.Delivered used ∷ [])) (sym is)
-          (subst (λ k. Moves (pair from v (with_endpoint r start) c) (pair from v (with_endpoint r mid) left) (event.Deliver from id k ∷ []) (answer.Delivered k ∷ [])) count
-          (bytes_move from id v (with_endpoint r start) (with_endpoint r mid) c (take used bytes) (drop used bytes ++ rest) (Ok tt) (first ∙ cut_behind used bytes rest) goes delivers))
+          subst (λ b. Moves (pair from v (with_endpoint r start) c w) (pair from v (with_endpoint r mid) left w) (if b then [] else event.Deliver from id used ∷ []) (if b then [] else answer.Delivered used ∷ [])) (sym is)
+          (subst (λ k. Moves (pair from v (with_endpoint r start) c w) (pair from v (with_endpoint r mid) left w) (event.Deliver from id k ∷ []) (answer.Delivered k ∷ [])) count
+          (bytes_move from id v (with_endpoint r start) (with_endpoint r mid) c w (take used bytes) (drop used bytes ++ rest) (Ok tt) (first ∙ cut_behind used bytes rest) goes delivers))
 
   -- the end
   none_left : ends_with fin bytes used ≡ true → left from id ≡ []
   none_left ends = carrying_here c from id (drop used bytes ++ rest) ∙ (ended ends).0
 
   -- a pull
-  pulled_last : (ended_at : EndpointState) → PullsSo id n (with_endpoint r ended_at) s item → Moves (pair from v (with_endpoint r ended_at) left) (pair from v s left) (event.PullFields (other from) id ∷ []) (answer.Listed (pull_listed s.last) ∷ [])
-  pulled_last ended_at p = pull_moves from id v (with_endpoint r ended_at) s left (pull_listed s.last) (listed_pulls id n (with_endpoint r ended_at) s item p)
+  pulled_last : (ended_at : EndpointState) → PullsSo id n (with_endpoint r ended_at) s item → Moves (pair from v (with_endpoint r ended_at) left w) (pair from v s left w) (event.PullFields (other from) id ∷ []) (answer.Listed (pull_listed s.last) ∷ [])
+  pulled_last ended_at p = pull_moves from id v (with_endpoint r ended_at) s left w (pull_listed s.last) (listed_pulls id n (with_endpoint r ended_at) s item p)
 
   -- where nothing changed before
-  starts : (start : EndpointState) → IsSame r.endpoint start → Moves (pair from v r c) (pair from v (with_endpoint r start) c) [] []
-  starts start same = none_moves from v r (with_endpoint r start) c (λ e h. record { after = e; stands = stands_unchanged r.endpoint start e same h; same = refl })
+  starts : (start : EndpointState) → IsSame r.endpoint start → Moves (pair from v r c w) (pair from v (with_endpoint r start) c w) [] []
+  starts start same = none_moves from v r (with_endpoint r start) c w (λ e h. record { after = e; stands = stands_unchanged r.endpoint start e same h; same = refl })
 
   copied : (start : EndpointState) → IsSame r.endpoint start → (before : PulledItem) → ReadsCopied (with_endpoint r start) s id bytes fin n before item used → Goal
   copied start same before (was_pulled mid ended_at few some takes takes_end p) = by (ends_with fin bytes used) refl takes_end
@@ -192,14 +192,14 @@ module _ (from : Side) (id : ℕ) (bytes : List ℕ) (fin used : ℕ) (item : Pu
         answers = bytes_answers used ++ answer.Done ∷ answer.Listed (pull_listed s.last) ∷ [];
         comes = PullsEnd answer.Done is (inl refl) p.done p.given_so;
         moves = ThenSo (starts start same) (ThenSo (bytes_part start mid few some takes) (ThenSo
-            (end_moves from id v (with_endpoint r mid) (with_endpoint r ended_at) left (Ok tt) (none_left is) (ended is).1 delivers) (pulled_last ended_at p)));
+            (end_moves from id v (with_endpoint r mid) (with_endpoint r ended_at) left w (Ok tt) (none_left is) (ended is).1 delivers) (pulled_last ended_at p)));
       }
       by true is (inr (alone, delivers)) = record {
         events = bytes_events from id used ++ event.DeliverEnd from id ∷ event.PullFields (other from) id ∷ [];
         answers = bytes_answers used ++ answer.Refused refusal.AfterEnd ∷ answer.Listed (pull_listed s.last) ∷ [];
         comes = PullsEnd (answer.Refused refusal.AfterEnd) is (inr refl) p.done p.given_so;
         moves = ThenSo (starts start same) (ThenSo (bytes_part start mid few some takes) (ThenSo
-            (end_moves from id v (with_endpoint r mid) (with_endpoint r ended_at) left (Err (deliver_error.Refused refusal.AfterEnd)) (none_left is) (ended is).1 delivers)
+            (end_moves from id v (with_endpoint r mid) (with_endpoint r ended_at) left w (Err (deliver_error.Refused refusal.AfterEnd)) (none_left is) (ended is).1 delivers)
             (pulled_last ended_at p)));
       }
   copied start same before (was_stopped count stop few told stops last events used_is given) = by stops.error stops.told stops.refused stops.taken
@@ -212,11 +212,11 @@ module _ (from : Side) (id : ℕ) (bytes : List ℕ) (fin used : ℕ) (item : Pu
 
       -- so many bytes were offered
       offers : (e : DeliverError) → Delivers start s.endpoint id (take count bytes) (Err e)
-          → Moves (pair from v (with_endpoint r start) c) (pair from v s (carrying c from id ((if is_stored (Err e) then [] else take count bytes) ++ (drop count bytes ++ rest)))) (event.Deliver from id count ∷ []) (given_answer e ∷ [])
+          → Moves (pair from v (with_endpoint r start) c w) (pair from v s (carrying c from id ((if is_stored (Err e) then [] else take count bytes) ++ (drop count bytes ++ rest))) w) (event.Deliver from id count ∷ []) (given_answer e ∷ [])
       offers e refused =
-          subst (λ k. Moves (pair from v (with_endpoint r start) c) (pair from v s (carrying c from id ((if is_stored (Err e) then [] else take count bytes) ++ (drop count bytes ++ rest)))) (event.Deliver from id k ∷ [])
+          subst (λ k. Moves (pair from v (with_endpoint r start) c w) (pair from v s (carrying c from id ((if is_stored (Err e) then [] else take count bytes) ++ (drop count bytes ++ rest))) w) (event.Deliver from id k ∷ [])
           (answer_of (answer.Delivered k) (delivery_refused {X = Unit {0}} (Err e)) ∷ [])) (length-take-le count bytes few)
-          (bytes_move from id v (with_endpoint r start) s c (take count bytes) (drop count bytes ++ rest) (Err e) (first ∙ cut_behind count bytes rest) goes refused)
+          (bytes_move from id v (with_endpoint r start) s c w (take count bytes) (drop count bytes ++ rest) (Err e) (first ∙ cut_behind count bytes rest) goes refused)
 
       ends_so : (e : DeliverError) → stop.told ≡ delivery_told {X = Unit {0}} (Err e) → Delivers start s.endpoint id (take count bytes) (Err e)
           → (if is_stored (Err e) then [] else take count bytes) ++ (drop count bytes ++ rest) ≡ drop used bytes ++ rest → Goal
@@ -224,7 +224,7 @@ module _ (from : Side) (id : ℕ) (bytes : List ℕ) (fin used : ℕ) (item : Pu
         events = event.Deliver from id count ∷ [];
         answers = given_answer e ∷ [];
         comes = Stops (given_answer e) count few (tells e is);
-        moves = ThenSo (starts start same) (subst (λ l. Moves (pair from v (with_endpoint r start) c) (pair from v s (carrying c from id l)) (event.Deliver from id count ∷ []) (given_answer e ∷ [])) same_left (offers e refused));
+        moves = ThenSo (starts start same) (subst (λ l. Moves (pair from v (with_endpoint r start) c w) (pair from v s (carrying c from id l) w) (event.Deliver from id count ∷ []) (given_answer e ∷ [])) same_left (offers e refused));
       }
 
       untaken : stop.is_taken ≡ false → take count bytes ++ (drop count bytes ++ rest) ≡ drop used bytes ++ rest
@@ -243,7 +243,7 @@ module _ (from : Side) (id : ℕ) (bytes : List ℕ) (fin used : ℕ) (item : Pu
         answers = bytes_answers used ++ a ∷ [];
         comes = StopsEnd a ends (delivery_tells answer.Done n (Err refuses.0) (refl, refl) refuses.1);
         moves = ThenSo (starts start same) (ThenSo (bytes_part start mid (omega (arith, all)) (λ some. omega (arith, all, some)) took)
-            (end_moves from id v (with_endpoint r mid) s left (Err refuses.0) (none_left ends) (ended ends).1 refuses.2));
+            (end_moves from id v (with_endpoint r mid) s left w (Err refuses.0) (none_left ends) (ended ends).1 refuses.2));
       }
 
 -- A piece of a body lies in the bytes where nothing is kept, on a request stream.
@@ -279,25 +279,25 @@ came_kept e id bytes none kind =
     let found_is : (bytes_at e id bytes (kind_of e.side id)).0.kept ≡ e.kept = ap (λ k. (bytes_at e id bytes k).0.kept) kind ∙ opened_kept e id (stream_at e.incoming id) in
     ap (λ l. (arrives_behind l e (BytesCame id bytes)).1.kept) none ∙ taken_kept e.closed (delivery_refusal e id) e (bytes_at e id bytes (kind_of e.side id)) found_is ∙ none
 
-pieces_move : (from : Side) (id used : ℕ) (bytes rest front piece : List ℕ) (v r s : Seen) (c : Carried) → c from id ≡ bytes ++ rest → front ≡ take used bytes → used ≤ length bytes → StillSends v id
+pieces_move : (from : Side) (id used : ℕ) (bytes rest front piece : List ℕ) (v r s : Seen) (c w : Carried) → c from id ≡ bytes ++ rest → front ≡ take used bytes → used ≤ length bytes → StillSends v id
     → ((e : EndpointHistory) → StandsFor r.endpoint e → HandsPiece s.endpoint id front piece e)
-    → Moves (pair from v r c) (pair from v s (carrying c from id (drop used bytes ++ rest))) (event.Deliver from id used ∷ event.PullFields (other from) id ∷ []) (answer.Delivered used ∷ answer.Listed (list.Item (listed.Body piece)) ∷ [])
-pieces_move from id used bytes rest front piece v r s c first is few goes hands =
+    → Moves (pair from v r c w) (pair from v s (carrying c from id (drop used bytes ++ rest)) w) (event.Deliver from id used ∷ event.PullFields (other from) id ∷ []) (answer.Delivered used ∷ answer.Listed (list.Item (listed.Body piece)) ∷ [])
+pieces_move from id used bytes rest front piece v r s c w first is few goes hands =
     let count = ap (λ l. length l) is ∙ length-take-le used bytes few in
-    subst (λ k. Moves (pair from v r c) (pair from v s (carrying c from id (drop used bytes ++ rest))) (event.Deliver from id k ∷ event.PullFields (other from) id ∷ []) (answer.Delivered k ∷ answer.Listed (list.Item (listed.Body piece)) ∷ [])) count
+    subst (λ k. Moves (pair from v r c w) (pair from v s (carrying c from id (drop used bytes ++ rest)) w) (event.Deliver from id k ∷ event.PullFields (other from) id ∷ []) (answer.Delivered k ∷ answer.Listed (list.Item (listed.Body piece)) ∷ [])) count
     (by from (first ∙ cut_behind used bytes rest ∙ ap (λ l. l ++ (drop used bytes ++ rest)) (sym is)))
   where
     by : (side : Side) → c side id ≡ front ++ (drop used bytes ++ rest)
-        → Moves (pair side v r c) (pair side v s (carrying c side id (drop used bytes ++ rest))) (event.Deliver side id (length front) ∷ event.PullFields (other side) id ∷ []) (answer.Delivered (length front) ∷ answer.Listed (list.Item (listed.Body piece)) ∷ [])
-    by Client at = piece_given (pair Client v r c) s id Client front (drop used bytes ++ rest) piece at goes hands
-    by Server at = piece_given (pair Server v r c) s id Server front (drop used bytes ++ rest) piece at goes hands
+        → Moves (pair side v r c w) (pair side v s (carrying c side id (drop used bytes ++ rest)) w) (event.Deliver side id (length front) ∷ event.PullFields (other side) id ∷ []) (answer.Delivered (length front) ∷ answer.Listed (list.Item (listed.Body piece)) ∷ [])
+    by Client at = piece_given (pair Client v r c w) s id Client front (drop used bytes ++ rest) piece at goes hands
+    by Server at = piece_given (pair Server v r c w) s id Server front (drop used bytes ++ rest) piece at goes hands
 
 -- **So is each read.**
-pub read_made : (from : Side) (id : ℕ) (bytes : List ℕ) (fin used : ℕ) (before item : PulledItem) (n : Told) (v r s : Seen) (c : Side → ℕ → List ℕ) (rest : List ℕ) → id < 2 ^ 62 → c from id ≡ bytes ++ rest → StillSends v id
-    → (ends_with fin bytes used ≡ true → (drop used bytes ++ rest ≡ []) × SentAll v id) → ReadsOn r s id bytes fin n before item used → ReadMade from id bytes fin used item n v r s c rest
-read_made from id bytes fin used before item n v r s c rest known first goes ended reads_on = by (is_rejected_in r.endpoint id) refl
+pub read_made : (from : Side) (id : ℕ) (bytes : List ℕ) (fin used : ℕ) (before item : PulledItem) (n : Told) (v r s : Seen) (c w : Side → ℕ → List ℕ) (rest : List ℕ) → id < 2 ^ 62 → c from id ≡ bytes ++ rest → StillSends v id
+    → (ends_with fin bytes used ≡ true → (drop used bytes ++ rest ≡ []) × SentAll v id) → ReadsOn r s id bytes fin n before item used → ReadMade from id bytes fin used item n v r s c w rest
+read_made from id bytes fin used before item n v r s c w rest known first goes ended reads_on = by (is_rejected_in r.endpoint id) refl
   where
-    placed : (p : BodyPlace) → ((e : EndpointHistory) → StandsFor r.endpoint e → Some p ≡ place_next e id bytes) → ReadsPlaced r s id bytes p n item used → ReadMade from id bytes fin used item n v r s c rest
+    placed : (p : BodyPlace) → ((e : EndpointHistory) → StandsFor r.endpoint e → Some p ≡ place_next e id bytes) → ReadsPlaced r s id bytes p n item used → ReadMade from id bytes fin used item n v r s c w rest
     placed p is_next x =
         let few : used ≤ length bytes = subst (λ k. k ≤ length bytes) (sym x.used_is) x.reads.within in
         let same : take used bytes ≡ front_to p bytes = ap (λ k. take k bytes) x.used_is in
@@ -305,16 +305,16 @@ read_made from id bytes fin used before item n v r s c rest known first goes end
           events = event.Deliver from id used ∷ event.PullFields (other from) id ∷ [];
           answers = answer.Delivered used ∷ answer.Listed (list.Item (listed.Body (piece_of p bytes))) ∷ [];
           comes = InPlace p x.done x.given_so;
-          moves = pieces_move from id used bytes rest (front_to p bytes) (piece_of p bytes) v r s c first (sym same) few goes (λ e h.
+          moves = pieces_move from id used bytes rest (front_to p bytes) (piece_of p bytes) v r s c w first (sym same) few goes (λ e h.
               let behind = behind_none e.kept e id bytes p (open_place e.closed e id bytes p (sym (is_next e h))) in
               record { accepted = x.reads.accepted e h; kept = came_kept e id (front_to p bytes) behind.0 (request_place e id bytes p (kind_of e.side id) behind.1); pulled = x.reads.pulled e h; stands = x.reads.stands e h });
         }
 
-    at : (place : Option BodyPlace) → ((e : EndpointHistory) → StandsFor r.endpoint e → place ≡ place_next e id bytes) → ReadsAt place r s id bytes fin n before item used → ReadMade from id bytes fin used item n v r s c rest
+    at : (place : Option BodyPlace) → ((e : EndpointHistory) → StandsFor r.endpoint e → place ≡ place_next e id bytes) → ReadsAt place r s id bytes fin n before item used → ReadMade from id bytes fin used item n v r s c w rest
     at (Some p) is_next x = placed p is_next x
-    at None is_next x = copied from id bytes fin used item n v r s c rest first goes ended x.start x.same before x.reads
+    at None is_next x = copied from id bytes fin used item n v r s c w rest first goes ended x.start x.same before x.reads
 
-    by : (b : Bool) → is_rejected_in r.endpoint id ≡ b → ReadMade from id bytes fin used item n v r s c rest
+    by : (b : Bool) → is_rejected_in r.endpoint id ≡ b → ReadMade from id bytes fin used item n v r s c w rest
     by true is =
         let rejects = (reads_on.reads.known known).refused is in
         let none : used ≡ 0 = (reads_on.rejected known is).1 in
@@ -322,6 +322,6 @@ read_made from id bytes fin used before item n v r s c rest known first goes end
           events = [];
           answers = [];
           comes = Rejects rejects.0;
-          moves = ThenSo (none_moves from v r s c (stays_same r s rejects.1)) (rest_moves from id v s c (drop used bytes ++ rest) (first ∙ ap (λ k. drop k bytes ++ rest) (sym none)));
+          moves = ThenSo (none_moves from v r s c w (stays_same r s rejects.1)) (rest_moves from id v s c w (drop used bytes ++ rest) (first ∙ ap (λ k. drop k bytes ++ rest) (sym none)));
         }
     by false is = let reads = (reads_on.reads.known known).taken is in at reads.place reads.is_next reads.reads

@@ -499,7 +499,7 @@ sent_none (Some r) i o incoming outgoing none = absurd (let never : Some r.incom
 
 grows_by : (side : Side) (id : ℕ) (i : Option Incoming) (o : Option Out) (j : Option Incoming) (p : Option Out) (next : ℕ) → (i ≡ None → o ≡ None) → StreamReads side id i o j p → StreamGrows side next id o p
 grows_by side id i o j p next both (Stays is some) = subst (λ x. StreamGrows side next id o x) (sym is) (stream_same side next id o)
-grows_by side id i o j p next both (IsOpened server none some is other) = subst (λ x. StreamGrows side next id x p) (sym (both none)) (subst (λ x. StreamGrows side next id None x) (sym is) (refl, other, inl server))
+grows_by side id i o j p next both (IsOpened server none some is other) = subst (λ x. StreamGrows side next id x p) (sym (both none)) (subst (λ x. StreamGrows side next id None x) (sym is) (refl, other, inl server, tt))
 
 pub reads_grow : (s : EndpointState) (e f : EndpointHistory) → StandsFor s e → Reads e f → Grows e f
 reads_grow s e f stands reads = record {

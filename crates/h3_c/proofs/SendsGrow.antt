@@ -1,7 +1,9 @@
 -- Each step that one side makes writes behind what was written.
-use Rattle.std.proofs.Common.{arith, ◌≡◌, ◌⊎◌, inl, inr, ℕ, ◌+◌, ◌*◌, Bool, true, false, if◌then◌else◌, List, [], ◌∷◌, ◌++◌, flat_map, length, take, refl, sym, ap, subst, ◌∙◌, Option, Some, None, append_assoc, append-nil}
+use Rattle.std.proofs.Common.{arith, ◌≡◌, ◌⊎◌, inl, inr, ℕ, ◌+◌, ◌*◌, Bool, true, false, if◌then◌else◌, List, [], ◌∷◌, ◌++◌, length, take, refl, sym, ap, subst, ◌∙◌, Option, Some, None, append_assoc, append-nil}
 use Rattle.std.specs.Prelude.{◌==◌, ◌||◌, not, is_some, unwrap_or}
+use Rattle.std.specs.List.{AllByRecursion}
 use Rattle.h3_field.specs.Field.{Field}
+use Rattle.h3_field.specs.ReadBack.{AreBytes, IsFieldOfBytes}
 use Rattle.h3_messages.specs.Content.{left_behind}
 use Rattle.h3_messages.specs.declared.content.Content.{Content}
 use Rattle.h3_proto.specs.declared.stream.Side.{Side}
@@ -9,8 +11,9 @@ use Rattle.h3_proto.specs.declared.stream.Side.TheVariants.{Client, Server}
 use Rattle.h3_connection.specs.Delivering.{give_up, incoming_at, opened_at, with_incoming}
 use Rattle.h3_connection.specs.Endpoint.{EndpointHistory, is_critical_id}
 use Rattle.h3_connection.specs.Keeping.{pulls}
-use Rattle.h3_connection.specs.Outgoing.{Outgoing as Out, OwnPart, nothing_sent, with_body, with_finish, with_reset, with_said, written_part}
-use Rattle.h3_connection.specs.Outgoing.OwnPart.{OwnBody, OwnTrailer}
+use Rattle.h3_connection.specs.Outgoing.{Outgoing as Out, OwnPart, nothing_sent, with_body, with_finish, with_reset, with_said}
+use Rattle.h3_connection.specs.Outgoing.OwnPart.{OwnBody, OwnHead, OwnInterim, OwnTrailer}
+use Rattle.h3_connection.specs.Pulling.{is_interim}
 use Rattle.h3_connection.specs.OwnIds.{is_own}
 use Rattle.h3_connection.specs.Refusals.{refusal_to_open}
 use Rattle.h3_connection.specs.Sections.{own_instructions, with_insertions, written_section}
@@ -33,8 +36,10 @@ use Rattle.h3_world.specs.declared.event.Event.{Event}
 use Rattle.h3_world.specs.declared.event.Event.TheVariants as event
 use Rattle.h3_memory.specs.Refused.{AnswerOf, CutsList, EndsStep, IsAsked, LacksMemory, LosesNothing}
 use Rattle.h3_c.proofs.Flights.{Carries}
-use Rattle.h3_c.proofs.Grows.{Grows, PartsGrow, StreamGrows, goaways_grow, instructions_grow, more_of, new_grows, own_is, own_same, own_then, part_bytes, set_grows, stream_same}
+use Rattle.h3_c.proofs.Filling.{no_places}
+use Rattle.h3_c.proofs.Grows.{Grows, IsPlain, PartsGrow, StreamGrows, goaways_grow, instructions_grow, new_grows, own_is, own_same, own_then, set_grows, stream_same}
 use Rattle.h3_c.proofs.ReadsGrow.{Reads, gives_up, kept_reads, pulls_reads, reads_grow, reads_then, sets}
+use Rattle.h3_c.proofs.SectionBytes.{section_bytes}
 use Rattle.h3_c.proofs.Views.{by_id}
 use Rattle.h3_c.proofs.ViewsMemory.{Cancels, GoesAway, KeepsBytes, KeepsEnd, KeepsReset, LacksOf, Opens, Pulls, SendsBody, SendsFields, SendsTrailer, TakesNoEnd, TakesNoReset, TakesNone, lacking, lacks_of}
 use Rattle.h3_c.proofs.ViewsSteps.{IsCall, IsOfC}
@@ -51,16 +56,23 @@ quiet_grows e f side announced next own outgoing = record {
 pub grows_none : (e : EndpointHistory) → Grows e e
 grows_none e = quiet_grows e e refl refl refl refl refl
 
+both_plain : (xs ys : List OwnPart) → AllByRecursion IsPlain xs → AllByRecursion IsPlain ys → AllByRecursion IsPlain (xs ++ ys)
+both_plain [] ys a b = b
+both_plain (x ∷ xs) ys a b = (a.0, both_plain xs ys a.1 b)
+
 parts_then : (o p q : Out) → PartsGrow o p → PartsGrow p q → PartsGrow o q
 parts_then o p q a b = record {
   taken = b.taken ∙ a.taken;
-  text = λ goes. let second = b.text goes in let first = a.text second.0 in (first.0, more_of (part_bytes o) (part_bytes p) (part_bytes q) first.1 second.1);
+  reset = λ goes. a.reset (b.reset goes);
+  more = a.more ++ b.more;
+  is = b.is ∙ ap (λ l. l ++ b.more) a.is ∙ append_assoc o.parts a.more b.more;
+  plain = both_plain a.more b.more a.plain b.plain;
 }
 
 stream_then : (side : Side) (next id : ℕ) (o p q : Option Out) → StreamGrows side next id o p → StreamGrows side next id p q → StreamGrows side next id o q
 stream_then side next id None None q a b = b
 stream_then side next id None (Some p) None a b = absurd b
-stream_then side next id None (Some p) (Some q) a b = (b.taken ∙ a.0, a.1, a.2)
+stream_then side next id None (Some p) (Some q) a b = (b.taken ∙ a.0, a.1, a.2, subst (λ l. AllByRecursion IsPlain l) (sym b.is) (both_plain p.parts b.more a.3 b.plain))
 stream_then side next id (Some o) None q a b = absurd a
 stream_then side next id (Some o) (Some p) None a b = absurd b
 stream_then side next id (Some o) (Some p) (Some q) a b = parts_then o p q a b
@@ -82,11 +94,11 @@ does_grows None e new grows = grows refl
 does_grows (Some r) e new grows = grows_none e
 
 -- What is not refused is open.
-closed_none : (closed : Option ℕ) (r : Option Refusal) → closed_or closed r ≡ None → r ≡ None
+pub closed_none : (closed : Option ℕ) (r : Option Refusal) → closed_or closed r ≡ None → r ≡ None
 closed_none (Some code) r is = absurd (let never : Some (refusal.Closed code) ≡ None = is in cc)
 closed_none None r is = is
 
-open_first : (b : Bool) (r : Refusal) (later : Option Refusal) → (if not b then Some r else later) ≡ None → b ≡ true
+pub open_first : (b : Bool) (r : Refusal) (later : Option Refusal) → (if not b then Some r else later) ≡ None → b ≡ true
 open_first true r later is = refl
 open_first false r later is = absurd (let never : Some r ≡ None = is in cc)
 
@@ -95,15 +107,11 @@ open_second true b first r later is = absurd (let never : Some first ≡ None = 
 open_second false b first r later is = open_first b r later is
 
 -- a stream that was written to
-parts_joined : (parts more : List OwnPart) → flat_map written_part (parts ++ more) ≡ flat_map written_part parts ++ flat_map written_part more
-parts_joined [] more = refl
-parts_joined (part ∷ parts) more = ap (λ l. written_part part ++ l) (parts_joined parts more) ∙ sym (append_assoc (written_part part) (flat_map written_part parts) (flat_map written_part more))
-
-part_grows : (o : Out) (part : OwnPart) (now : Content) → PartsGrow o (record o { parts = o.parts ++ part ∷ []; content = now })
-part_grows o part now = record { taken = refl; text = λ goes. (goes, record { more = flat_map written_part (part ∷ []); is = parts_joined o.parts (part ∷ []) }) }
+part_grows : (o : Out) (part : OwnPart) (now : Content) → IsPlain part → PartsGrow o (record o { parts = o.parts ++ part ∷ []; content = now })
+part_grows o part now plain = record { taken = refl; reset = λ goes. goes; more = part ∷ []; is = refl; plain = (plain, tt) }
 
 same_text : (o p : Out) → p.taken ≡ o.taken → p.parts ≡ o.parts → (p.is_reset ≡ false → o.is_reset ≡ false) → PartsGrow o p
-same_text o p taken parts reset = record { taken = taken; text = λ goes. (reset goes, record { more = []; is = ap (λ l. flat_map written_part l) parts ∙ sym (append-nil (part_bytes o)) }) }
+same_text o p taken parts reset = record { taken = taken; reset = reset; more = []; is = parts ∙ sym (append-nil o.parts); plain = tt }
 
 writes_at : (e : EndpointHistory) (id : ℕ) (change : Out → Out) → ((o : Out) → PartsGrow o (change o)) → (o : Option Out) → stream_at e.outgoing id ≡ o → is_some o ≡ true → Grows e (with_outgoing e id (change (outgoing_at e id)))
 writes_at e id change grows None at there = absurd (let never : false ≡ true = there in cc)
@@ -123,8 +131,8 @@ writes e id change grows there = writes_at e id change grows (stream_at e.outgoi
 encoded_grows : (e : EndpointHistory) (id : ℕ) (fields : List Field) → Grows e (encoded e id fields)
 encoded_grows e id fields = record { side = refl; announced = refl; next = inl refl; own = instructions_grow e.own (own_instructions e.encoder id fields); streams = λ i. stream_same e.side e.next_id i (stream_at e.outgoing i) }
 
-appends : (e : EndpointHistory) (id : ℕ) (part : OwnPart) → is_open e id ≡ true → Grows e (appended e id part)
-appends e id part there = writes e id (λ (o : Out). record o { parts = o.parts ++ part ∷ [] }) (λ o. part_grows o part o.content) there
+appends : (e : EndpointHistory) (id : ℕ) (part : OwnPart) → is_open e id ≡ true → IsPlain part → Grows e (appended e id part)
+appends e id part there plain = writes e id (λ (o : Out). record o { parts = o.parts ++ part ∷ [] }) (λ o. part_grows o part o.content plain) there
 
 said_grows : (side : Side) (next : ℕ) (streams : Streams Out) (id : ℕ) (said : Content) (o : Option Out) → stream_at streams id ≡ o → (i : ℕ) → StreamGrows side next i (stream_at streams i) (stream_at (saying_at streams id said o) i)
 said_grows side next streams id said None at i = stream_same side next i (stream_at streams i)
@@ -145,34 +153,38 @@ asked_grows e id fields =
       streams = if_grows e.side e.next_id e.announced.choices.strict_messages e.outgoing (saying_at e.outgoing id said (stream_at e.outgoing id)) (said_grows e.side e.next_id e.outgoing id said (stream_at e.outgoing id) refl);
     }
 
-counted_grows : (e : EndpointHistory) (cost : ℕ) → Grows e (counted e cost)
+pub counted_grows : (e : EndpointHistory) (cost : ℕ) → Grows e (counted e cost)
 counted_grows e cost = quiet_grows e (counted e cost) refl refl refl refl refl
 
-section_grows : (e : EndpointHistory) (id : ℕ) (fields : List Field) (part : OwnPart) → is_open e id ≡ true → Grows e (counted (appended (encoded e id fields) id part) (fields_cost fields))
-section_grows e id fields part there =
+section_grows : (e : EndpointHistory) (id : ℕ) (fields : List Field) (part : OwnPart) → is_open e id ≡ true → IsPlain part → Grows e (counted (appended (encoded e id fields) id part) (fields_cost fields))
+section_grows e id fields part there plain =
     let sent = encoded e id fields in
     let more = appended sent id part in
-    grows_then e more (counted more (fields_cost fields)) (grows_then e sent more (encoded_grows e id fields) (appends sent id part there) refl) (counted_grows more (fields_cost fields)) refl
+    grows_then e more (counted more (fields_cost fields)) (grows_then e sent more (encoded_grows e id fields) (appends sent id part there plain) refl) (counted_grows more (fields_cost fields)) refl
 
-fields_grow : (e : EndpointHistory) (id : ℕ) (fields : List Field) → Grows e (send_fields e id fields).1
-fields_grow e id fields = does_grows (fields_refusal e id fields) e (after_fields e id fields) (λ none.
+plain_head : (b : Bool) (section : List ℕ) → AreBytes section → IsPlain (if b then OwnInterim section else OwnHead section)
+plain_head true section bytes = (bytes, refl)
+plain_head false section bytes = (bytes, refl)
+
+fields_grow : (e : EndpointHistory) (id : ℕ) (fields : List Field) → AllByRecursion IsFieldOfBytes fields → Grows e (send_fields e id fields).1
+fields_grow e id fields bytes = does_grows (fields_refusal e id fields) e (after_fields e id fields) (λ none.
     let there = open_first (is_open e id) refusal.NotOpen _ (closed_none e.closed _ none) in
     let part = head_part (head_of_fields fields) (written_section e.encoder id fields) in
     let sent = counted (appended (encoded e id fields) id part) (fields_cost fields) in
-    grows_then e sent (asked sent id fields) (section_grows e id fields part there) (asked_grows sent id fields) refl)
+    grows_then e sent (asked sent id fields) (section_grows e id fields part there (plain_head (is_interim (head_of_fields fields).status) (written_section e.encoder id fields) (section_bytes e.encoder id fields bytes))) (asked_grows sent id fields) refl)
 
-trailer_grows : (e : EndpointHistory) (id : ℕ) (fields : List Field) → Grows e (send_trailer_fields e id fields).1
-trailer_grows e id fields = does_grows (trailer_fields_refusal e id fields) e (after_trailer_fields e id fields) (λ none.
-    section_grows e id fields (OwnTrailer (written_section e.encoder id fields)) (open_first (is_open e id) refusal.NotOpen _ (closed_none e.closed _ none)))
+trailer_grows : (e : EndpointHistory) (id : ℕ) (fields : List Field) → AllByRecursion IsFieldOfBytes fields → Grows e (send_trailer_fields e id fields).1
+trailer_grows e id fields bytes = does_grows (trailer_fields_refusal e id fields) e (after_trailer_fields e id fields) (λ none.
+    section_grows e id fields (OwnTrailer (written_section e.encoder id fields)) (open_first (is_open e id) refusal.NotOpen _ (closed_none e.closed _ none)) (section_bytes e.encoder id fields bytes, refl))
 
-sent_bytes_grow : (e : EndpointHistory) (id : ℕ) (bytes : List ℕ) → is_open e id ≡ true → Grows e (sent_bytes e id bytes)
-sent_bytes_grow e id [] there = grows_none e
-sent_bytes_grow e id (byte ∷ bytes) there = writes e id (λ o. with_body o (byte ∷ bytes)) (λ o. part_grows o (OwnBody (byte ∷ bytes)) (left_behind o.content (length (byte ∷ bytes)))) there
+sent_bytes_grow : (e : EndpointHistory) (id : ℕ) (bytes : List ℕ) → AreBytes bytes → is_open e id ≡ true → Grows e (sent_bytes e id bytes)
+sent_bytes_grow e id [] all there = grows_none e
+sent_bytes_grow e id (byte ∷ bytes) all there = writes e id (λ o. with_body o (byte ∷ bytes)) (λ o. part_grows o (OwnBody (byte ∷ bytes)) (left_behind o.content (length (byte ∷ bytes))) (tt, no_places (byte ∷ bytes) all)) there
 
-body_grows : (e : EndpointHistory) (id : ℕ) (bytes : List ℕ) → Grows e (sender.send_body e id bytes).1
-body_grows e id bytes = does_grows (sender.body_refusal e id (length bytes)) e (counted (sent_bytes e id bytes) (length bytes)) (λ none.
+body_grows : (e : EndpointHistory) (id : ℕ) (bytes : List ℕ) → AreBytes bytes → Grows e (sender.send_body e id bytes).1
+body_grows e id bytes all = does_grows (sender.body_refusal e id (length bytes)) e (counted (sent_bytes e id bytes) (length bytes)) (λ none.
     let there = open_first (is_open e id) refusal.NotOpen _ (closed_none e.closed _ none) in
-    grows_then e (sent_bytes e id bytes) (counted (sent_bytes e id bytes) (length bytes)) (sent_bytes_grow e id bytes there) (counted_grows (sent_bytes e id bytes) (length bytes)) refl)
+    grows_then e (sent_bytes e id bytes) (counted (sent_bytes e id bytes) (length bytes)) (sent_bytes_grow e id bytes all there) (counted_grows (sent_bytes e id bytes) (length bytes)) refl)
 
 finish_grows : (e : EndpointHistory) (id : ℕ) → Grows e (sender.finish e id).1
 finish_grows e id = does_grows (sender.finish_refusal e id) e (with_outgoing e id (with_finish (outgoing_at e id))) (λ none. writes e id with_finish (λ o. same_text o (with_finish o) refl refl (λ goes. goes)) (open_first (is_open e id) refusal.NotOpen _ (closed_none e.closed _ none)))
@@ -193,7 +205,9 @@ pub record Stood (e : EndpointHistory) : Type 0 where
   pub stands : StandsFor state e
   pub side : Side
   pub carried : ℕ → List ℕ
-  pub carries : Carries side carried e
+  pub said : ℕ → List ℕ
+  pub owed : ℕ → List ℕ
+  pub carries : Carries side carried said owed e
 
 there_some : (e : EndpointHistory) (id : ℕ) → sender.cancel_refusal e id ≡ None → is_some (stream_at e.incoming id) ≡ true
 there_some e id none = open_second (is_critical_id e id) (is_some (stream_at e.incoming id)) refusal.Critical refusal.NotOpen _ (closed_none e.closed _ none)
@@ -221,8 +235,8 @@ four_apart : (n m : ℕ) → n ≡ 4 * m → (side : Side) → is_own side n ≡
 four_apart n m is Client = none_of (n == 2) (n == 6) (n == 10) (differs n 2 (λ same. omega (arith, is, same))) (differs n 6 (λ same. omega (arith, is, same))) (differs n 10 (λ same. omega (arith, is, same)))
 four_apart n m is Server = none_of (n == 3) (n == 7) (n == 11) (differs n 3 (λ same. omega (arith, is, same))) (differs n 7 (λ same. omega (arith, is, same))) (differs n 11 (λ same. omega (arith, is, same)))
 
-pub opens_grow : (e : EndpointHistory) (side : Side) (carried : ℕ → List ℕ) → Carries side carried e → Grows e (sender.open_request e).1
-opens_grow e side carried k = does_grows (sender.open_refusal e) e (record (opened_at e e.next_id None) { next_id = e.next_id + 4 }) (λ none.
+pub opens_grow : (e : EndpointHistory) (side : Side) (carried said owed : ℕ → List ℕ) → Carries side carried said owed e → Grows e (sender.open_request e).1
+opens_grow e side carried said owed k = does_grows (sender.open_refusal e) e (record (opened_at e e.next_id None) { next_id = e.next_id + 4 }) (λ none.
     let client = client_opens e.side (last_id e.peer.goaways) e.next_id (closed_none e.closed _ none) in
     record {
       side = refl;
@@ -256,16 +270,16 @@ module _ (ends : Ends) (stood : (side : Side) → Stood (end_at ends side)) wher
   done_grows side success x grows = subst (λ new. BothGrow ends new) (sym (done_end ends side success x)) (one_grows ends side x.1 grows)
 
   opened_so : (side : Side) → BothGrow ends (answered ends (event.OpenRequest side)).1
-  opened_so Client = done_grows Client (answer.Opened ends.client.next_id) (sender.open_request ends.client) (opens_grow ends.client (stood Client).side (stood Client).carried (stood Client).carries)
-  opened_so Server = done_grows Server (answer.Opened ends.server.next_id) (sender.open_request ends.server) (opens_grow ends.server (stood Server).side (stood Server).carried (stood Server).carries)
+  opened_so Client = done_grows Client (answer.Opened ends.client.next_id) (sender.open_request ends.client) (opens_grow ends.client (stood Client).side (stood Client).carried (stood Client).said (stood Client).owed (stood Client).carries)
+  opened_so Server = done_grows Server (answer.Opened ends.server.next_id) (sender.open_request ends.server) (opens_grow ends.server (stood Server).side (stood Server).carried (stood Server).said (stood Server).owed (stood Server).carries)
 
   answered_grows : (e : Event) → IsOfC e → IsCall e → BothGrow ends (answered ends e).1
   answered_grows (event.OpenRequest side) of call = opened_so side
   answered_grows (event.Head side id head) of call = absurd of
-  answered_grows (event.Fields side id fields) of call = done_grows side answer.Done (send_fields (end_at ends side) id fields) (fields_grow (end_at ends side) id fields)
-  answered_grows (event.Body side id bytes) of call = done_grows side answer.Done (sender.send_body (end_at ends side) id bytes) (body_grows (end_at ends side) id bytes)
+  answered_grows (event.Fields side id fields) of call = done_grows side answer.Done (send_fields (end_at ends side) id fields) (fields_grow (end_at ends side) id fields of)
+  answered_grows (event.Body side id bytes) of call = done_grows side answer.Done (sender.send_body (end_at ends side) id bytes) (body_grows (end_at ends side) id bytes of)
   answered_grows (event.Trailer side id trailer) of call = absurd of
-  answered_grows (event.TrailerFields side id fields) of call = done_grows side answer.Done (send_trailer_fields (end_at ends side) id fields) (trailer_grows (end_at ends side) id fields)
+  answered_grows (event.TrailerFields side id fields) of call = done_grows side answer.Done (send_trailer_fields (end_at ends side) id fields) (trailer_grows (end_at ends side) id fields of)
   answered_grows (event.Finish side id) of call = done_grows side answer.Done (sender.finish (end_at ends side) id) (finish_grows (end_at ends side) id)
   answered_grows (event.Reset side id) of call = done_grows side answer.Done (sender.reset (end_at ends side) id) (reset_grows (end_at ends side) id)
   answered_grows (event.Cancel side id) of call = done_grows side answer.Done (sender.cancel (end_at ends side) id) (cancel_grows (end_at ends side) id (stood side))

@@ -21,9 +21,9 @@ keeps_plain = record {
   reset = λ id o. refl;
   content = λ id o. refl;
   sender = λ id b o. refl;
-  part = λ id part o. refl;
+  part = λ id part o section. refl;
   said = λ id said o. refl;
-  body = λ id bytes o. refl;
+  body = λ id bytes o all. refl;
   finish = λ id o. refl;
   with_reset = λ id o. refl;
 }

@@ -4,9 +4,11 @@ use Rattle.std.proofs.Common.{arith, ◌≡◌, ℕ, ◌+◌, Bool, true, false,
 use Rattle.std.specs.Prelude.{◌==◌, is_some, option_map, unwrap_or}
 use Rattle.std.proofs.lemmas.Bool.{eqb-true}
 use Rattle.std.proofs.lemmas.Grind.{common_steps}
+use Rattle.h3_field.specs.ReadBack.{AreBytes}
 use Rattle.h3_connection.specs.Endpoint.{EndpointHistory}
 use Rattle.h3_connection.specs.Order.{default_precedence, no_order}
 use Rattle.h3_connection.specs.Outgoing.{Outgoing as Out, OwnPart, nothing_sent, with_body, with_finish, with_reset, with_said}
+use Rattle.h3_connection.specs.Outgoing.OwnPart.{OwnBody}
 use Rattle.h3_connection.specs.Refusals.{seen as seen_of}
 use Rattle.h3_connection.specs.Sending.{is_open, outgoing_at, seen_at, with_outgoing}
 use Rattle.h3_connection.specs.StreamSets.{Streams, set_stream, stream_at}
@@ -38,16 +40,21 @@ seen T e =
       own = record e.own { control_taken = T.control e.own.control_taken; encoder_taken = T.encoder e.own.encoder_taken; decoder_taken = T.decoder e.own.decoder_taken };
     }
 
--- What it keeps of a request stream: all but how much was taken, what sends first and the bytes of bodies.
+-- a part other than bytes of a body
+abbrev pub IsSection : OwnPart → Type 0
+IsSection (OwnBody bytes) = ⊥
+IsSection _ = Unit {0}
+
+-- What it keeps of a request stream: all but how much was taken, what sends first and payloads that are announced.
 pub record Keeps (T : View) : Type 0 where
   pub new : (id : ℕ) → T.out id nothing_sent ≡ nothing_sent
   pub finished : (id : ℕ) (o : Out) → (T.out id o).is_finished ≡ o.is_finished
   pub reset : (id : ℕ) (o : Out) → (T.out id o).is_reset ≡ o.is_reset
   pub content : (id : ℕ) (o : Out) → (T.out id o).content ≡ o.content
   pub sender : (id : ℕ) (b : Bool) (o : Out) → seen_of b (T.out id o) ≡ seen_of b o
-  pub part : (id : ℕ) (part : OwnPart) (o : Out) → record (T.out id o) { parts = (T.out id o).parts ++ part ∷ [] } ≡ T.out id (record o { parts = o.parts ++ part ∷ [] })
+  pub part : (id : ℕ) (part : OwnPart) (o : Out) → IsSection part → record (T.out id o) { parts = (T.out id o).parts ++ part ∷ [] } ≡ T.out id (record o { parts = o.parts ++ part ∷ [] })
   pub said : (id : ℕ) (said : Content) (o : Out) → with_said (T.out id o) said ≡ T.out id (with_said o said)
-  pub body : (id : ℕ) (bytes : List ℕ) (o : Out) → with_body (T.out id o) bytes ≡ T.out id (with_body o bytes)
+  pub body : (id : ℕ) (bytes : List ℕ) (o : Out) → AreBytes bytes → with_body (T.out id o) bytes ≡ T.out id (with_body o bytes)
   pub finish : (id : ℕ) (o : Out) → with_finish (T.out id o) ≡ T.out id (with_finish o)
   pub with_reset : (id : ℕ) (o : Out) → with_reset (T.out id o) ≡ T.out id (with_reset o)
 

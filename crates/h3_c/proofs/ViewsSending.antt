@@ -2,11 +2,13 @@
 use Rattle.std.proofs.Common.{◌≡◌, ◌+◌, ℕ, Bool, true, false, if◌then◌else◌, List, [], ◌∷◌, ◌++◌, length, refl, sym, ap, ◌∙◌, Option, Some, None}
 use Rattle.std.specs.Prelude.{not, option_map}
 use Rattle.h3_field.specs.Field.{Field}
+use Rattle.h3_field.specs.ReadBack.{AreBytes}
 use Rattle.h3_messages.specs.declared.content.Content.{Content}
 use Rattle.h3_connection.specs.Delivering.{opened_at}
 use Rattle.h3_connection.specs.Endpoint.{EndpointHistory, is_critical_id}
 use Rattle.h3_connection.specs.Outgoing.{Outgoing as Out, OwnPart, is_sent_off, with_body, with_finish, with_reset, with_said, nothing_sent}
-use Rattle.h3_connection.specs.Outgoing.OwnPart.{OwnTrailer}
+use Rattle.h3_connection.specs.Outgoing.OwnPart.{OwnHead, OwnInterim, OwnTrailer}
+use Rattle.h3_connection.specs.Pulling.{is_interim}
 use Rattle.h3_connection.specs.Remembering.{settings_known}
 use Rattle.h3_connection.specs.Refusals.{Sender, SenderStream, refusal_of_body, refusal_of_end, refusal_of_head, refusal_of_trailer, refusal_to_stop}
 use Rattle.h3_connection.specs.Sections.{written_section}
@@ -23,7 +25,7 @@ use Rattle.h3_header.specs.Reads.{head_of_fields}
 use Rattle.h3_world.specs.EndLists.{after_fields, after_trailer_fields, fields_refusal, send_fields, send_trailer_fields, trailer_fields_refusal}
 use Rattle.h3_world.specs.Lists.{unreadable}
 use Rattle.h3_world.specs.Setup.{takes_any}
-use Rattle.h3_c.proofs.Views.{Keeps, View, at_seen, content_seen, open_seen, outgoing_seen, seen, sender_seen, set_seen, streams_seen, with_seen}
+use Rattle.h3_c.proofs.Views.{IsSection, Keeps, View, at_seen, content_seen, open_seen, outgoing_seen, seen, sender_seen, set_seen, streams_seen, with_seen}
 use Rattle.h3_c.proofs.ViewsReading as reading
 
 module _ (T : View) (K : Keeps T) where
@@ -50,8 +52,12 @@ module _ (T : View) (K : Keeps T) where
   changed e id change alike =
       ap (λ o. with_outgoing (seen T e) id (change o)) (outgoing_seen T K e id) ∙ ap (λ o. with_outgoing (seen T e) id o) (alike (outgoing_at e id)) ∙ with_seen T K e id (change (outgoing_at e id))
 
-  part_seen : (e : EndpointHistory) (id : ℕ) (part : OwnPart) → appended (seen T e) id part ≡ seen T (appended e id part)
-  part_seen e id part = changed e id (λ (o : Out). record o { parts = o.parts ++ part ∷ [] }) (λ o. K.part id part o)
+  part_seen : (e : EndpointHistory) (id : ℕ) (part : OwnPart) → IsSection part → appended (seen T e) id part ≡ seen T (appended e id part)
+  part_seen e id part section = changed e id (λ (o : Out). record o { parts = o.parts ++ part ∷ [] }) (λ o. K.part id part o section)
+
+  is_head : (b : Bool) (section : List ℕ) → IsSection (if b then OwnInterim section else OwnHead section)
+  is_head true section = tt
+  is_head false section = tt
 
   whole_sender : (e : EndpointHistory) (id : ℕ) → sender_at (seen T e) id ≡ sender_at e id
   whole_sender e id =
@@ -84,7 +90,7 @@ module _ (T : View) (K : Keeps T) where
       let sent = encoded e id fields in
       done_so (fields_refusal (seen T e) id fields) (fields_refusal e id fields) e (after_fields (seen T e) id fields) (after_fields e id fields)
       (ap (λ s. unless_closed e (refusal_of_head s (unreadable (takes_any e.announced) fields) (broken_head_at e id fields) (head_of_fields fields) fields)) (whole_sender e id))
-      (ap (λ x. asked (counted x (fields_cost fields)) id fields) (part_seen sent id section) ∙ asked_seen (counted (appended sent id section) (fields_cost fields)) id fields)
+      (ap (λ x. asked (counted x (fields_cost fields)) id fields) (part_seen sent id section (is_head (is_interim (head_of_fields fields).status) (written_section e.encoder id fields))) ∙ asked_seen (counted (appended sent id section) (fields_cost fields)) id fields)
 
   pub trailer_sent_seen : (e : EndpointHistory) (id : ℕ) (fields : List Field) → send_trailer_fields (seen T e) id fields ≡ so_done (send_trailer_fields e id fields)
   trailer_sent_seen e id fields =
@@ -93,18 +99,21 @@ module _ (T : View) (K : Keeps T) where
       done_so (trailer_fields_refusal (seen T e) id fields) (trailer_fields_refusal e id fields) e (after_trailer_fields (seen T e) id fields) (after_trailer_fields e id fields)
       (ap (λ s. unless_closed e (refusal_of_trailer s (unreadable (takes_any e.announced) fields) (early_trailer (outgoing_at (seen T e) id).content) (broken_trailer e.announced fields) (head_of_fields fields) fields)) (whole_sender e id)
       ∙ ap (λ c. unless_closed e (refusal_of_trailer (sender_at e id) (unreadable (takes_any e.announced) fields) (early_trailer c) (broken_trailer e.announced fields) (head_of_fields fields) fields)) (content_seen T K e id))
-      (ap (λ x. counted x (fields_cost fields)) (part_seen sent id section))
+      (ap (λ x. counted x (fields_cost fields)) (part_seen sent id section tt))
 
-  sent_bytes_seen : (e : EndpointHistory) (id : ℕ) (bytes : List ℕ) → sent_bytes (seen T e) id bytes ≡ seen T (sent_bytes e id bytes)
-  sent_bytes_seen e id [] = refl
-  sent_bytes_seen e id (byte ∷ bytes) = changed e id (λ o. with_body o (byte ∷ bytes)) (λ o. K.body id (byte ∷ bytes) o)
+  sent_bytes_seen : (e : EndpointHistory) (id : ℕ) (bytes : List ℕ) → AreBytes bytes → sent_bytes (seen T e) id bytes ≡ seen T (sent_bytes e id bytes)
+  sent_bytes_seen e id [] all = refl
+  sent_bytes_seen e id (byte ∷ bytes) all = changed e id (λ o. with_body o (byte ∷ bytes)) (λ o. K.body id (byte ∷ bytes) o all)
 
-  pub body_sent_seen : (e : EndpointHistory) (id : ℕ) (bytes : List ℕ) → sender.send_body (seen T e) id bytes ≡ so_done (sender.send_body e id bytes)
-  body_sent_seen e id bytes =
-      done_so (sender.body_refusal (seen T e) id (length bytes)) (sender.body_refusal e id (length bytes)) e _ (counted (sent_bytes e id bytes) (length bytes))
-      (ap (λ s. unless_closed e (refusal_of_body s (passes_content (outgoing_at (seen T e) id).content (length bytes)))) (sender_seen T K e id)
-      ∙ ap (λ c. unless_closed e (refusal_of_body (seen_at e id) (passes_content c (length bytes)))) (content_seen T K e id))
-      (ap (λ x. counted x (length bytes)) (sent_bytes_seen e id bytes))
+  pub body_refused_seen : (e : EndpointHistory) (id size : ℕ) → sender.body_refusal (seen T e) id size ≡ sender.body_refusal e id size
+  body_refused_seen e id size =
+      ap (λ s. unless_closed e (refusal_of_body s (passes_content (outgoing_at (seen T e) id).content size))) (sender_seen T K e id)
+      ∙ ap (λ c. unless_closed e (refusal_of_body (seen_at e id) (passes_content c size))) (content_seen T K e id)
+
+  pub body_sent_seen : (e : EndpointHistory) (id : ℕ) (bytes : List ℕ) → AreBytes bytes → sender.send_body (seen T e) id bytes ≡ so_done (sender.send_body e id bytes)
+  body_sent_seen e id bytes all =
+      done_so (sender.body_refusal (seen T e) id (length bytes)) (sender.body_refusal e id (length bytes)) e _ (counted (sent_bytes e id bytes) (length bytes)) (body_refused_seen e id (length bytes))
+      (ap (λ x. counted x (length bytes)) (sent_bytes_seen e id bytes all))
 
   pub finish_seen : (e : EndpointHistory) (id : ℕ) → sender.finish (seen T e) id ≡ so_done (sender.finish e id)
   finish_seen e id =

@@ -2,7 +2,7 @@
 use Rattle.std.proofs.Common.{◌≡◌, ℕ, List, [], ◌∷◌, refl, ap, ◌∙◌, Option, Some, None}
 use Rattle.std.specs.List.{AllByRecursion}
 use Rattle.std.specs.Prelude.{◌<◌, ◌^◌}
-use Rattle.h3_field.specs.ReadBack.{IsFieldOfBytes}
+use Rattle.h3_field.specs.ReadBack.{AreBytes, IsFieldOfBytes}
 use Rattle.h3_proto.specs.declared.stream.Side.{Side}
 use Rattle.h3_proto.specs.declared.stream.Side.TheVariants.{Client, Server}
 use Rattle.h3_connection.specs.Coming.{fields_behind}
@@ -26,6 +26,7 @@ use Rattle.h3_c.proofs.ViewsSending as sending
 abbrev pub IsOfC : Event → Type 0
 IsOfC (event.Head side id head) = ⊥
 IsOfC (event.Fields side id fields) = AllByRecursion IsFieldOfBytes fields
+IsOfC (event.Body side id bytes) = AreBytes bytes
 IsOfC (event.Trailer side id trailer) = ⊥
 IsOfC (event.TrailerFields side id fields) = AllByRecursion IsFieldOfBytes fields
 IsOfC (event.Goaway side id) = id < 2 ^ 62
@@ -115,7 +116,7 @@ module _ (views : Views) (K : KeepBoth views) where
   answered_seen ends (event.OpenRequest side) of call resets = opened_so ends side
   answered_seen ends (event.Head side id head) of call resets = absurd of
   answered_seen ends (event.Fields side id fields) of call resets = one ends side answer.Done (λ e. send_fields e id fields) (sending.fields_sent_seen (view_at views side) (keeps_at side) (end_at ends side) id fields)
-  answered_seen ends (event.Body side id bytes) of call resets = one ends side answer.Done (λ e. sender.send_body e id bytes) (sending.body_sent_seen (view_at views side) (keeps_at side) (end_at ends side) id bytes)
+  answered_seen ends (event.Body side id bytes) of call resets = one ends side answer.Done (λ e. sender.send_body e id bytes) (sending.body_sent_seen (view_at views side) (keeps_at side) (end_at ends side) id bytes of)
   answered_seen ends (event.Trailer side id trailer) of call resets = absurd of
   answered_seen ends (event.TrailerFields side id fields) of call resets =
       one ends side answer.Done (λ e. send_trailer_fields e id fields) (sending.trailer_sent_seen (view_at views side) (keeps_at side) (end_at ends side) id fields)

@@ -39,7 +39,7 @@ asked side (Pull id before item n) = Some (event.PullFields side id, n)
 asked side _ = None
 
 -- The calls that are left out here, since no event says what they do: v is what the handle owned before. A datagram that is read is left out
--- where it closes the connection. The calls that deliver or take bytes stand in `Programs`.
+-- where it closes the connection. The calls that deliver or take bytes, or announce a body by its length, stand in `Programs`.
 abbrev pub is_left_out : CallOfC → Seen → Bool
 is_left_out (SendBodyOf id len n) v = true
 is_left_out (SendPriority id urgency incremental n) v = true
@@ -51,10 +51,11 @@ is_left_out (DeliverReset id code n) v = true
 is_left_out (ReadDatagram bytes id_before id from_before from n) v = is_none v.endpoint.closed && (n.number == 2)
 is_left_out _ v = false
 
--- What C gives are bytes. It is said of the lists that are sent: of them the laws of two endpoints ask it.
+-- What C gives are bytes.
 abbrev pub GivesBytes : CallOfC → Type 0
 GivesBytes (SendHead id sizes flags bytes n) = AreBytes bytes
 GivesBytes (SendTrailer id sizes flags bytes n) = AreBytes bytes
+GivesBytes (SendBody id bytes n) = AreBytes bytes
 GivesBytes _ = Unit {0}
 
 -- The number tells this answer: H3_OK that of success, and any other one why the call was refused.

@@ -1,8 +1,9 @@
 -- Two programs in C, a client and a server: their calls in the order of time, and the bytes that QUIC carries from one to the other, those of a stream in
 -- order (RFC 9000, section 2.2). And the schedule that these stand for, with its answers.
-use Rattle.std.specs.Prelude.{if◌then◌else◌, ◌≡◌, ◌⊎◌, ◌<◌, ◌≤◌, ℕ, zero, suc, ◌+◌, Bool, true, false, ◌||◌, ◌==◌, List, [], ◌∷◌, ◌++◌, drop, length, take, Option, Some, None, Ok}
+use Rattle.std.specs.Prelude.{if◌then◌else◌, ◌≡◌, ◌⊎◌, ◌<◌, ◌≤◌, ℕ, zero, suc, ◌+◌, ◌-◌, Bool, true, false, ◌||◌, ◌==◌, List, [], ◌∷◌, ◌++◌, drop, length, take, Option, Some, None, Ok}
 use Rattle.h3_proto.specs.declared.stream.Side.{Side}
 use Rattle.h3_proto.specs.declared.stream.Side.TheVariants.{Client, Server}
+use Rattle.h3_field.specs.ReadBack.{AreBytes}
 use Rattle.h3_connection.specs.OwnIds.{other}
 use Rattle.h3_connection.specs.declared.event.Refusal.{Refusal}
 use Rattle.h3_connection.specs.declared.event.Refusal.TheVariants as refusal
@@ -23,7 +24,7 @@ use Rattle.h3_session.specs.Running.{answer_of}
 use Rattle.h3_c.specs.Asked.{GivesBytes, Learns, Tells as TellsAnswer, asked, is_left_out, pull_listed}
 use Rattle.h3_c.specs.Configs.{MakesGiven, announced_of, side_of}
 use Rattle.h3_c.specs.Does.{CallOfC, Does}
-use Rattle.h3_c.specs.Does.CallOfC.{Advance, CloseStream, Deliver, DeliverEnd, DeliverReset, OpenRequestAt, Outgoing, Read as ReadOfC, Reset as ResetOfC, Shutdown, ShutdownNotice, Stream}
+use Rattle.h3_c.specs.Does.CallOfC.{Advance, CloseStream, Deliver, DeliverEnd, DeliverReset, OpenRequestAt, Outgoing, Read as ReadOfC, Reset as ResetOfC, SendBodyOf, Shutdown, ShutdownNotice, Stream}
 use Rattle.h3_c.specs.Numbers.{argument, memory, ok, refusal_told, rejected}
 use Rattle.h3_c.specs.Items.{shown}
 use Rattle.h3_c.specs.Reads.{ends_with, place_shown, taken_of}
@@ -33,11 +34,13 @@ use Rattle.h3_c.specs.declared.items.PulledItem.{PulledItem}
 use Rattle.h3_c.specs.declared.numbers.Told.{Told}
 use Rattle.h3_c.specs.declared.state.StreamState.{StreamState}
 
--- what both handles own, and what QUIC carries: of each stream of a side the bytes that it took and has not given to the other side, in order
+-- What both handles own. Of each stream of a side, what QUIC carries: the bytes that it took and has not given to the other side, in order. And what its
+-- program owes: of the bodies that it announced by their length, the bytes that it has not written, in order.
 pub record Handles : Type 0 where
   pub client : Seen
   pub server : Seen
   pub carried : Side → ℕ → List ℕ
+  pub owed : Side → ℕ → List ℕ
 
 abbrev pub handle_at : Handles → Side → Seen
 handle_at h Client = h.client
@@ -57,12 +60,14 @@ pub record AreMade (setup : Setup) (h : Handles) : Type 0 where
   pub client : IsMadeFor Client setup.client h.client
   pub server : IsMadeFor Server setup.server h.server
   pub take : takes_settings setup ≡ true
-  pub none : (side : Side) (id : ℕ) → h.carried side id ≡ []
+  pub none : (side : Side) (id : ℕ) → (h.carried side id ≡ []) × (h.owed side id ≡ [])
 
--- What happens: a side makes a call; or QUIC takes bytes of a stream from a side (`h3_advance`); or it gives them to the other side, which delivers or
--- reads them, or the end of the stream, or its reset, and n is what that returns; or it is seen that nothing is left to be given of a stream.
+-- What happens: a side makes a call; or it announces the length of a body that it will write (`h3_send_body_of`); or QUIC takes bytes of a stream from a
+-- side (`h3_advance`); or it gives them to the other side, which delivers or reads them, or the end of the stream, or its reset, and n is what that
+-- returns; or it is seen that nothing is left to be given of a stream.
 pub data Act : Type 0 where
   Call : (side : Side) (call : CallOfC) → Act
+  Announce : (side : Side) (id : ℕ) (payload : List ℕ) (n : Told) → Act
   Take : (from : Side) (id : ℕ) (bytes : List ℕ) → Act
   Bytes : (from : Side) (id : ℕ) (bytes : List ℕ) (n : Told) → Act
   Read : (from : Side) (id : ℕ) (bytes : List ℕ) (fin used : ℕ) (before item : PulledItem) (n : Told) → Act
@@ -70,8 +75,8 @@ pub data Act : Type 0 where
   Reset : (from : Side) (id : ℕ) (n : Told) → Act
   Empty : (from : Side) (id : ℕ) → Act
 
--- `h3_outgoing` shows these bytes at the front of what waits on the stream
-pub record Shows (v : Seen) (id : ℕ) (bytes : List ℕ) : Type 0 where
+-- `h3_outgoing` shows what waits on the stream: bytes, and how many of those that the program owes stand behind them. These are the first.
+pub record Shows (v : Seen) (id : ℕ) (owed bytes : List ℕ) : Type 0 where
   pub before : List ℕ
   pub buffer : List ℕ
   pub count_before : ℕ
@@ -81,8 +86,8 @@ pub record Shows (v : Seen) (id : ℕ) (bytes : List ℕ) : Type 0 where
   pub fin_before : ℕ
   pub fin : ℕ
   pub call : Does (Outgoing id before buffer count_before count past_before past fin_before fin ok) v v
-  pub within : length bytes ≤ count
-  pub front : bytes ≡ take (length bytes) buffer
+  pub within : length bytes ≤ count + past
+  pub front : bytes ≡ take (length bytes) (take count buffer ++ take past owed)
 
 -- `h3_stream` tells this of the stream
 pub record Tells (v : Seen) (id : ℕ) (tells : StreamState → Type 0) : Type 0 where
@@ -95,12 +100,13 @@ pub record Tells (v : Seen) (id : ℕ) (tells : StreamState → Type 0) : Type 0
 abbrev pub carrying : (Side → ℕ → List ℕ) → Side → ℕ → List ℕ → Side → ℕ → List ℕ
 carrying carried from id bytes = λ side i. if is_on from id side i then bytes else carried side i
 
--- QUIC takes bytes: it carries them behind those that it carries.
+-- QUIC takes bytes: it carries them behind those that it carries. The program wrote those of them that it owed.
 pub record Takes (from : Side) (id : ℕ) (bytes : List ℕ) (h g : Handles) : Type 0 where
-  pub shown : Shows (handle_at h from) id bytes
+  pub shown : Shows (handle_at h from) id (h.owed from id) bytes
   pub taken : Does (Advance id (length bytes) ok) (handle_at h from) (handle_at g from)
   pub there : handle_at g (other from) ≡ handle_at h (other from)
   pub carried : g.carried ≡ carrying h.carried from id (h.carried from id ++ bytes)
+  pub owed : g.owed ≡ carrying h.owed from id (drop (length bytes - shown.count) (h.owed from id))
 
 -- The other side is given bytes, the first that are carried, by this call, and so many of them are not carried any more.
 pub record Gives (from : Side) (id : ℕ) (bytes : List ℕ) (used : ℕ) (call : CallOfC) (h g : Handles) : Type 0 where
@@ -109,6 +115,7 @@ pub record Gives (from : Side) (id : ℕ) (bytes : List ℕ) (used : ℕ) (call 
   pub given : Does call (handle_at h (other from)) (handle_at g (other from))
   pub there : handle_at g from ≡ handle_at h from
   pub carried : g.carried ≡ carrying h.carried from id (drop used bytes ++ rest)
+  pub owed : g.owed ≡ h.owed
 
 -- Bytes come of a stream that was not reset, its end behind all of them, and its reset if it was reset.
 abbrev pub GoesOn : StreamState → Type 0
@@ -127,6 +134,10 @@ IsEmpty state = (state.has_outgoing ≡ 1) × (state.waiting ≡ 0)
 abbrev pub NothingLeft : Side → ℕ → (StreamState → Type 0) → Handles → Type 0
 NothingLeft from id tells h = (h.carried from id ≡ []) × Tells (handle_at h from) id tells
 
+-- The other side's handle is as it was, and nothing more is carried.
+abbrev pub IsAlone : Side → Handles → Handles → Type 0
+IsAlone side h g = (handle_at g (other side) ≡ handle_at h (other side)) × (g.carried ≡ h.carried)
+
 -- H3_OK and H3_KEPT: the other side has the bytes
 abbrev pub is_taken : Told → Bool
 is_taken n = (n.number == 0) || (n.number == 5)
@@ -134,7 +145,10 @@ is_taken n = (n.number == 0) || (n.number == 5)
 -- One thing happens.
 abbrev pub Happens : Act → Handles → Handles → Type 0
 Happens (Call side call) h g =
-    (is_left_out call (handle_at h side) ≡ false) × GivesBytes call × Does call (handle_at h side) (handle_at g side) × (handle_at g (other side) ≡ handle_at h (other side)) × (g.carried ≡ h.carried)
+    (is_left_out call (handle_at h side) ≡ false) × GivesBytes call × Does call (handle_at h side) (handle_at g side) × IsAlone side h g × (g.owed ≡ h.owed)
+Happens (Announce side id payload n) h g =
+    AreBytes payload × Does (SendBodyOf id (length payload) n) (handle_at h side) (handle_at g side) × IsAlone side h g
+    × (g.owed ≡ (if n.number == 0 then carrying h.owed side id (h.owed side id ++ payload) else h.owed))
 Happens (Take from id bytes) h g = Takes from id bytes h g
 Happens (Bytes from id bytes n) h g = Gives from id bytes (taken_of (is_taken n) (length bytes)) (Deliver id bytes n) h g × Tells (handle_at h from) id GoesOn
 Happens (Read from id bytes fin used before item n) h g =
@@ -154,6 +168,7 @@ abbrev pub event_of : Act → Option (Event × Told)
 event_of (Take from id bytes) = None
 event_of (Read from id bytes fin used before item n) = None
 event_of (Call side call) = asked side call
+event_of (Announce side id payload n) = Some (event.Body side id payload, n)
 event_of (Bytes from id bytes n) = Some (event.Deliver from id (length bytes), n)
 event_of (End from id n) = Some (event.DeliverEnd from id, n)
 event_of (Reset from id n) = Some (event.DeliverReset from id, n)
@@ -161,6 +176,7 @@ event_of (Empty from id) = Some (event.Deliver from id 1, ok)
 
 abbrev pub LearnsOf : Act → Handles → Answer → Type 0
 LearnsOf (Call side call) g a = Learns call (handle_at g side) a
+LearnsOf (Announce side id payload n) g a = TellsAnswer answer.Done n a
 LearnsOf (Take from id bytes) g a = ⊥
 LearnsOf (Bytes from id bytes n) g a = TellsAnswer (answer.Delivered (length bytes)) n a
 LearnsOf (Read from id bytes fin used before item n) g a = ⊥

@@ -19,10 +19,10 @@ use Rattle.h3_headline.specs.Messages.MessageContent.{Byte, FieldSection}
 use Rattle.h3_headline.specs.Messages.SectionKind.{OfHead}
 use Rattle.h3_session.specs.OpeningAt.{to_open}
 use Rattle.h3_c.specs.Asked.{pull_listed}
-use Rattle.h3_c.specs.Does.CallOfC.{EndTaken, Finish, NextToSend, OpenRequest, Pull, SendBody, SendHead}
+use Rattle.h3_c.specs.Does.CallOfC.{EndTaken, Finish, NextToSend, OpenRequest, Pull, SendHead}
 use Rattle.h3_c.specs.Items.{shown}
 use Rattle.h3_c.specs.Numbers.{ok}
-use Rattle.h3_c.specs.Programs.{Act, Bytes, Call, End, Take, carrying, event_of, opened_events}
+use Rattle.h3_c.specs.Programs.{Act, Announce, Bytes, Call, End, Take, carrying, event_of, opened_events}
 use Rattle.h3_proto.specs.declared.stream.Side.{Side}
 use Rattle.h3_c.specs.Rows.{row_of, sizes_of}
 use Rattle.h3_c.specs.declared.numbers.Told.{Told}
@@ -75,7 +75,7 @@ response_bytes =
 abbrev pub answering : List Act
 answering =
     Call Server (SendHead 0 (sizes_of response) [] (row_of response) ok) ∷ Take Server 0 (take 5 response_bytes) ∷
-    Call Server (SendBody 0 (codes "hi") ok) ∷ Call Server (Finish 0 ok) ∷ Take Server 0 (drop 5 response_bytes) ∷ Call Server (EndTaken 0 ok) ∷
+    Announce Server 0 (codes "hi") ok ∷ Call Server (Finish 0 ok) ∷ Take Server 0 (drop 5 response_bytes) ∷ Call Server (EndTaken 0 ok) ∷
     Bytes Server 0 (take 7 response_bytes) ok ∷ Bytes Server 0 (drop 7 response_bytes) ok ∷ End Server 0 ok ∷
     pulls_back (pulled.Item (came.Head response)) ∷ pulls_back (pulled.Item (came.Body (codes "hi"))) ∷ pulls_back (pulled.Item came.End) ∷ []
 

@@ -9,8 +9,9 @@ use Rattle.h3_c.proofs.laws.each_program_gets_what_the_other_sent.Goals as goal
 
 pub returns : goal.returns
 returns c = λ setup h g acts made happen.
-    let on = acts_run c.calls_are_steps_of_two_endpoints.ensures.steps acts h g (new_ends setup) (new_stand made) happen in
-    let run = run_ordered on.events on.answers (new_ends setup) on.new on.of (subst (λ x. EndsRun x on.events on.answers on.new) (new_both setup h.carried) on.run) in (
+    let stand = new_stand made in
+    let on = acts_run c.calls_are_steps_of_two_endpoints.ensures.steps acts h g (new_ends setup) stand happen in
+    let run = run_ordered on.events on.answers (new_ends setup) on.new on.of (subst (λ x. EndsRun x on.events on.answers on.new) (new_both setup h.carried stand.said) on.run) in (
       on.events,
       on.answers,
       on.stand,
