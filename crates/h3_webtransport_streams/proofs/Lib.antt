@@ -5,3 +5,4 @@ pub mod Sent
 pub mod CodesBack
 pub mod RowsHold
 pub mod Reading
+pub mod Indexing

@@ -4,6 +4,7 @@
 
 pub mod codes;
 mod front;
+mod index;
 pub mod laws;
 mod receiver;
 mod sender;

@@ -1,6 +1,6 @@
 //! One stream of a session, both ways.
 ghost use Rattle.std.specs.Prelude.{◌≡◌, IfOk, Some};
-ghost use Rattle.h3_webtransport_streams.specs.SessionStream.{both_ways, entered, one_way, unseen};
+ghost use Rattle.h3_webtransport_streams.specs.SessionStream.{both_ways, entered, has_something, one_way, takes_turns, unseen};
 ghost use Rattle.h3_webtransport_streams.specs.Sought.{is_sought};
 
 use crate::front::{both_ways_front, one_way_front};
@@ -116,19 +116,33 @@ impl StoredStream {
         self.session = Some(session);
     }
 
+    /// Whether bytes or an end wait on it.
+    pub(crate) fn has_something(&self) -> bool
+        ensures { result ≡ has_something self.now }
+    {
+        match &self.sender {
+            Some(sender) => sender.has_to_send(),
+            None => false,
+        }
+    }
+
+    /// Whether its turn may come: they do, and it is not held.
+    pub(crate) fn takes_turns(&self) -> bool
+        ensures { result ≡ takes_turns self.now }
+    {
+        match &self.sender {
+            Some(sender) => sender.sends(),
+            None => false,
+        }
+    }
+
     /// Whether it is looked for.
     pub(crate) fn is_sought(&self, sought: Sought) -> bool
         ensures { result ≡ is_sought sought self.now }
     {
         match sought {
-            Sought::ToSend => match &self.sender {
-                Some(sender) => sender.has_to_send(),
-                None => false,
-            },
-            Sought::Turn => match &self.sender {
-                Some(sender) => sender.sends(),
-                None => false,
-            },
+            Sought::ToSend => self.has_something(),
+            Sought::Turn => self.takes_turns(),
             Sought::Session(session) => match self.session {
                 Some(id) => id.into_inner() == session,
                 None => false,

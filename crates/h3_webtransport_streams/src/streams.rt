@@ -6,6 +6,7 @@ ghost use Rattle.h3_connection.specs.State.{kept_at};
 ghost use Rattle.h3_webtransport_streams.specs.SessionStream.{Changes, both_ways, entered, has_something, is_of, one_way, passes, receiver_of, session_of, takes_turns};
 ghost use Rattle.h3_webtransport_streams.specs.Sessions.{OpensNext, no_streams};
 
+use crate::index::{Index, note};
 use crate::stream::{Sought, StoredStream};
 use h3_connection::event::Refusal;
 use h3_proto::stream::{Side, StreamId};
@@ -23,17 +24,22 @@ mod sending;
 pub struct SessionStreams {
     alloc: Global,
     streams: BTreeMap<u64, StoredStream>,
+    // those that send, so that no call looks at the others
+    index: Index,
     next_both: u64,
     next_one: u64,
     from: u64,
 }
 
 impl Model for SessionStreams {
+    ghost use Rattle.h3_webtransport_streams.specs.Indexed.{Indexed};
     ghost use Rattle.h3_webtransport_streams.specs.Sessions.{SessionsState};
 
     ghost Value = { SessionsState };
 
     ghost view = { λ s. record { streams = s.streams.entries; next_both = s.next_both; next_one = s.next_one; from = s.from } };
+
+    ghost invariant = { λ s. Indexed s.index s.streams.entries };
 }
 
 impl SessionStreams {
@@ -48,6 +54,7 @@ impl SessionStreams {
         SessionStreams {
             alloc,
             streams: BTreeMap::new(alloc),
+            index: Index::new(alloc),
             next_both: 1,
             next_one,
             from: 0,
@@ -82,6 +89,7 @@ impl SessionStreams {
     }
 
     /// Opens a stream both ways of a session, of an id that was given for it. An `Err` changes nothing: an allocation failed.
+    #[tactic(auto, using(crate::proofs::Indexing::put_others))]
     pub fn open_at(&mut self, id: StreamId, session: SessionId) -> Result<(), AllocError>
         ensures ok { OnOk result (Sets self.old.streams self.new.streams id (both_ways session)) }
         ensures rest { self.new ≡ record self.old { streams = self.new.streams } }
@@ -90,7 +98,9 @@ impl SessionStreams {
         let Ok(stream) = StoredStream::both_ways(self.alloc, session) else {
             return Err(AllocError);
         };
-        map::put(&mut self.streams, id, stream)
+        let put = map::put(&mut self.streams, id, stream);
+        note(&mut self.index, &self.streams, id);
+        put
     }
 
     /// Opens the next stream both ways of a session at a server. An `Err` changes nothing: there are no further ids, or an allocation
@@ -111,6 +121,7 @@ impl SessionStreams {
     }
 
     /// Opens the next stream of a session that goes one way. Refused in the same way.
+    #[tactic(auto, using(crate::proofs::Indexing::put_others))]
     pub fn open_one_way(&mut self, session: SessionId) -> Result<StreamId, Refusal>
         ensures opens { OpensNext self.old.next_one self.old.streams self.new.streams (one_way session) result }
         ensures ok { OnOk result (self.new ≡ record self.old { streams = self.new.streams; next_one = self.old.next_one + 4 }) }
@@ -122,7 +133,9 @@ impl SessionStreams {
         let Ok(stream) = StoredStream::one_way(self.alloc, session) else {
             return Err(Refusal::OutOfMemory);
         };
-        let Ok(()) = map::put(&mut self.streams, id, stream) else {
+        let put = map::put(&mut self.streams, id, stream);
+        note(&mut self.index, &self.streams, id);
+        let Ok(()) = put else {
             return Err(Refusal::OutOfMemory);
         };
         self.next_one += 4;
@@ -131,6 +144,7 @@ impl SessionStreams {
 
     /// A stream of the peer that is read elsewhere is one of this session. It is answered if it goes both ways. An `Err` changes nothing:
     /// an allocation failed.
+    #[tactic(auto, using(crate::proofs::Indexing::put_others))]
     pub fn enter(
         &mut self,
         id: StreamId,
@@ -142,15 +156,19 @@ impl SessionStreams {
         ensures err { OnErr result (AllSame self.old.streams self.new.streams) }
     {
         let stream = StoredStream::entered(self.alloc, session, answers);
-        map::put(&mut self.streams, id, stream)
+        let put = map::put(&mut self.streams, id, stream);
+        note(&mut self.index, &self.streams, id);
+        put
     }
 
     /// A stream that was entered is of this session.
+    #[tactic(auto, using(crate::proofs::Indexing::changes_others))]
     pub fn set_session(&mut self, id: StreamId, session: SessionId)
         ensures acts { Changes (λ s. record s { session = Some session }) self.old.streams self.new.streams id }
         ensures rest { self.new ≡ record self.old { streams = self.new.streams } }
     {
         map::set_session(&mut self.streams, id, session);
+        note(&mut self.index, &self.streams, id);
     }
 
     /// Nothing is kept of a stream any longer.
@@ -160,13 +178,17 @@ impl SessionStreams {
         ensures rest { self.new ≡ record self.old { streams = self.new.streams } }
     {
         map::take_out(&mut self.streams, id);
+        note(&mut self.index, &self.streams, id);
     }
 
-    /// The least id from `from` on of a stream on which bytes or an end wait. It goes over all streams.
+    /// The least id from `from` on of a stream on which bytes or an end wait. It looks at no other stream.
     pub fn next_to_send(&self, from: u64) -> Option<u64>
         ensures value { IsLeast (λ id. passes has_something (kept_at self.now.streams id)) from result }
         ensures fits { IfSome result (λ id. id < 2 ^ 64) }
     {
+        if self.index.is_whole() {
+            return self.index.next_waiting(from);
+        }
         map::next(&self.streams, Sought::ToSend, from)
     }
 
@@ -183,6 +205,9 @@ impl SessionStreams {
         ensures value { IsLeast (λ id. passes takes_turns (kept_at self.now.streams id)) from result }
         ensures fits { IfSome result (λ id. id < 2 ^ 64) }
     {
+        if self.index.is_whole() {
+            return self.index.next_turn(from);
+        }
         map::next(&self.streams, Sought::Turn, from)
     }
 }

@@ -11,6 +11,7 @@ ghost use Rattle.h3_webtransport_streams.specs.Receiver.{canceled, pulled};
 ghost use Rattle.h3_webtransport_streams.specs.SessionStream.{Acts, receiving, unread_of};
 
 use super::{SessionStreams, map};
+use crate::index::note;
 use crate::receiver::Begun;
 use bytes::Bytes;
 use h3_connection::event::{DeliverError, Pull, Refusal};
@@ -34,48 +35,63 @@ impl SessionStreams {
     /// Bytes came on a stream, which they open if it is not there. Refused are first what comes on one that is read elsewhere, then what
     /// comes after the end or a reset. `OutOfMemory` returns the bytes, and nothing has changed. The answer says whether the first bytes
     /// are the front of a session's stream.
+    #[tactic(auto, using(crate::proofs::Indexing::deliver_others))]
     pub fn deliver(&mut self, id: StreamId, bytes: Bytes) -> Result<Begun, DeliverError>
         ensures delivers { Delivers self.old.streams self.new.streams id bytes result }
         ensures rest { self.new ≡ record self.old { streams = self.new.streams } }
     {
         let alloc = self.alloc;
-        map::deliver(&mut self.streams, alloc, id, bytes)
+        let begun = map::deliver(&mut self.streams, alloc, id, bytes);
+        note(&mut self.index, &self.streams, id);
+        begun
     }
 
     /// The end of a stream came. It is refused as bytes are.
+    #[tactic(auto, using(crate::proofs::Indexing::close_others))]
     pub fn deliver_end(&mut self, id: StreamId) -> Result<(), DeliverError>
         ensures closes { Closes self.old.streams self.new.streams id None result }
         ensures rest { self.new ≡ record self.old { streams = self.new.streams } }
     {
         let alloc = self.alloc;
-        map::close(&mut self.streams, alloc, id, None)
+        let ended = map::close(&mut self.streams, alloc, id, None);
+        note(&mut self.index, &self.streams, id);
+        ended
     }
 
     /// A stream was reset by its sender, with this code. What was not pulled is thrown away.
+    #[tactic(auto, using(crate::proofs::Indexing::close_others))]
     pub fn deliver_reset(&mut self, id: StreamId, code: u64) -> Result<(), DeliverError>
         ensures closes { Closes self.old.streams self.new.streams id (Some code) result }
         ensures rest { self.new ≡ record self.old { streams = self.new.streams } }
     {
         let alloc = self.alloc;
-        map::close(&mut self.streams, alloc, id, Some(code))
+        let closed = map::close(&mut self.streams, alloc, id, Some(code));
+        note(&mut self.index, &self.streams, id);
+        closed
     }
 
     /// What comes next on a stream: its session, unless this side opened it, the bytes that came, in pieces, and its end. A stream that is
     /// read elsewhere has no messages here.
+    #[tactic(auto, using(crate::proofs::Indexing::acts_others))]
     pub fn pull(&mut self, id: StreamId) -> Pull
         ensures acts { Acts NoMessages (λ s. receiving NoMessages (λ r. pulled r s.session) s) self.old.streams self.new.streams id result }
         ensures rest { self.new ≡ record self.old { streams = self.new.streams } }
     {
-        map::pull(&mut self.streams, id)
+        let answer = map::pull(&mut self.streams, id);
+        note(&mut self.index, &self.streams, id);
+        answer
     }
 
     /// Nothing more of a stream is needed, and what came is thrown away. Refused are first one that is not read here, then one whose end
     /// was pulled, which was reset or was given up before.
+    #[tactic(auto, using(crate::proofs::Indexing::acts_others))]
     pub fn cancel(&mut self, id: StreamId) -> Result<(), Refusal>
         ensures acts { Acts (Some NotOpen) (receiving (Some NotOpen) canceled) self.old.streams self.new.streams id (call_refused result) }
         ensures rest { self.new ≡ record self.old { streams = self.new.streams } }
     {
         let alloc = self.alloc;
-        map::cancel(&mut self.streams, alloc, id)
+        let canceled = map::cancel(&mut self.streams, alloc, id);
+        note(&mut self.index, &self.streams, id);
+        canceled
     }
 }

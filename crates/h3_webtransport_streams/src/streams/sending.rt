@@ -9,6 +9,7 @@ ghost use Rattle.h3_webtransport_streams.specs.SessionStream.{Acts, Changes, ans
 ghost use Rattle.h3_webtransport_streams.specs.Sessions.{IsTurn, turn_over};
 
 use super::{SessionStreams, map};
+use crate::index::note;
 use bytes::Bytes;
 use h3_connection::event::Refusal;
 use h3_proto::stream::StreamId;
@@ -89,34 +90,44 @@ impl SessionStreams {
 
     /// Sends bytes on a stream as they are. Refused are first a stream on which this side does not send, then one that was finished or
     /// reset. `OutOfMemory` comes last. Refused bytes come back.
+    #[tactic(auto, using(crate::proofs::Indexing::send_others))]
     pub fn send(&mut self, id: StreamId, bytes: Bytes) -> Result<(), (Refusal, Bytes)>
         ensures ok { OnOk result (Acts (Some NotOpen) (sending (Some NotOpen) (λ s. sent s bytes)) self.old.streams self.new.streams id None) }
         ensures why { IfErr result (λ e. e.0 ≡ unwrap_or (answer_at (Some NotOpen) (sending (Some NotOpen) (λ s. sent s bytes)) (kept_at self.old.streams id)) OutOfMemory) }
         ensures err { IfErr result (λ e. (e.1 ≡ bytes) × AllSame self.old.streams self.new.streams) }
         ensures rest { self.new ≡ record self.old { streams = self.new.streams } }
     {
-        map::send(&mut self.streams, id, bytes)
+        let sent = map::send(&mut self.streams, id, bytes);
+        note(&mut self.index, &self.streams, id);
+        sent
     }
 
     /// All was sent on a stream. Refused are first one on which this side does not send, then one that was finished or reset.
+    #[tactic(auto, using(crate::proofs::Indexing::acts_others))]
     pub fn finish(&mut self, id: StreamId) -> Result<(), Refusal>
         ensures acts { Acts (Some NotOpen) (sending (Some NotOpen) finished) self.old.streams self.new.streams id (call_refused result) }
         ensures rest { self.new ≡ record self.old { streams = self.new.streams } }
     {
-        map::finish(&mut self.streams, id)
+        let finished = map::finish(&mut self.streams, id);
+        note(&mut self.index, &self.streams, id);
+        finished
     }
 
     /// Sending on a stream ends here, and what waits is dropped. Refused are first one on which this side does not send, then one of which
     /// nothing is left to be sent.
+    #[tactic(auto, using(crate::proofs::Indexing::acts_others))]
     pub fn reset(&mut self, id: StreamId) -> Result<(), Refusal>
         ensures acts { Acts (Some NotOpen) (sending (Some NotOpen) cut_off) self.old.streams self.new.streams id (call_refused result) }
         ensures rest { self.new ≡ record self.old { streams = self.new.streams } }
     {
         let alloc = self.alloc;
-        map::reset(&mut self.streams, alloc, id)
+        let reset = map::reset(&mut self.streams, alloc, id);
+        note(&mut self.index, &self.streams, id);
+        reset
     }
 
     /// Takes the first bytes that wait on a stream, at most all. Its turn is over then.
+    #[tactic(auto, using(crate::proofs::Indexing::changes_others))]
     pub fn advance(&mut self, id: StreamId, count: usize)
         ensures acts { Changes (λ s. takes s count) self.old.streams self.new.streams id }
         ensures rest { self.new ≡ record self.old { streams = self.new.streams; from = turn_over self.old.from id count } }
@@ -125,22 +136,29 @@ impl SessionStreams {
             self.from = id.into_inner() + 1;
         }
         map::advance(&mut self.streams, id, count);
+        note(&mut self.index, &self.streams, id);
     }
 
     /// QUIC took the end of a stream, if that was next: it answers whether it was.
+    #[tactic(auto, using(crate::proofs::Indexing::acts_others))]
     pub fn end_taken(&mut self, id: StreamId) -> bool
         ensures acts { Acts false (sending false end_told) self.old.streams self.new.streams id result }
         ensures rest { self.new ≡ record self.old { streams = self.new.streams } }
     {
-        map::end_taken(&mut self.streams, id)
+        let taken = map::end_taken(&mut self.streams, id);
+        note(&mut self.index, &self.streams, id);
+        taken
     }
 
     /// QUIC has no credit for a stream, or has it again. It answers whether this side sends on it.
+    #[tactic(auto, using(crate::proofs::Indexing::acts_others))]
     pub fn hold(&mut self, id: StreamId, is_held: bool) -> bool
         ensures acts { Acts false (sending false (λ s. (true, held s is_held))) self.old.streams self.new.streams id result }
         ensures rest { self.new ≡ record self.old { streams = self.new.streams } }
     {
-        map::hold(&mut self.streams, id, is_held)
+        let held = map::hold(&mut self.streams, id, is_held);
+        note(&mut self.index, &self.streams, id);
+        held
     }
 
     /// The stream whose turn it is, of those on which bytes or an end wait and which are not held. They take turns by their ids.
