@@ -49,12 +49,15 @@ refuses_id s r is =
       id = λ taken result. absurd (cc);
     }
 
-pub takes_id : (s : EndpointState) (id : ℕ) → None ≡ open_refused s → id ≡ s.next_id → TakesId s (record s { next_id = s.next_id + 4 }) (Ok id)
-takes_id s id is same =
+takes_here : (s : EndpointState) (id : ℕ) → id ≡ s.next_id → open_refused s ≡ None → TakesId s (record s { next_id = s.next_id + 4 }) (Ok id)
+takes_here s id same is =
     record {
-      takes = always_acts open_refusal (λ e. record e { next_id = e.next_id + 4 }) s (record s { next_id = s.next_id + 4 }) (λ e h. sym (open_refusal_is s e h) ∙ sym is) (stands_next s);
-      id = λ taken result. let this : taken ≡ id = cc in this ∙ same;
+      takes = always_acts open_refusal (λ e. record e { next_id = e.next_id + 4 }) s (record s { next_id = s.next_id + 4 }) (λ e h. sym (open_refusal_is s e h) ∙ is) (stands_next s);
+      id = λ taken result. let here : taken ≡ id = cc in here ∙ same;
     }
+
+pub takes_id : (s now : EndpointState) (id : ℕ) → s ≡ now → open_refused now ≡ None → id ≡ s.next_id → TakesId now (record s { next_id = s.next_id + 4 }) (Ok id)
+takes_id s now id view is same = subst (λ v. open_refused v ≡ None → TakesId v (record s { next_id = s.next_id + 4 }) (Ok id)) view (takes_here s id same) is
 
 pub takes_far : (s : EndpointState) → None ≡ open_refused s → 2 ^ 62 ≤ s.next_id → TakesId s s (Err refusal.IdsUsedUp)
 takes_far s is far = absurd (used_up s.closed s.side (last_id s.peer.goaways) (nat_le (2 ^ 62) s.next_id) (le-leb (2 ^ 62) s.next_id far) is)

@@ -10,31 +10,34 @@ use Rattle.h3_connection.specs.declared.event.Refusal.TheVariants.{NotOpen}
 use Rattle.h3_session.specs.Closing.{ClosesStream}
 use Rattle.h3_session.specs.Lacking.{RefusesDeliveries}
 use Rattle.h3_session.specs.declared.endpoint.closing.ClosedStream.{ClosedStream}
-use Rattle.h3_webtransport_streams.specs.Begun.{refusal_of, stream_or_unseen}
+use Rattle.h3_webtransport_streams.specs.Begun.{refusal_of}
 use Rattle.h3_webtransport_streams.specs.Receiver.{Receiver}
 use Rattle.h3_webtransport_streams.specs.Sender.{cut_off}
 use Rattle.h3_webtransport_streams.specs.SessionStream.{SessionStream, ActsOn, answer_at, receiver_of, sending, unseen}
-use Rattle.h3_webtransport.specs.Closing.{ClosesRaw, Forgets, Gives, Stops, StopsAt, resets_raw, stop_of}
+use Rattle.h3_webtransport.specs.Closing.{ClosesRaw, Forgets, Stops, StopsAt, resets_raw, stop_of}
 use Rattle.h3_webtransport.specs.Joint.{Joint, stored_at}
 
 -- what comes on it: it is read here,
-module _ (e f : EndpointState) (id : ℕ) where
-  stops_own : (r : Option Receiver) (why : Option Refusal) → is_some r ≡ true → why ≡ refusal_of r → Stops r e e id (Ok (is_none why))
-  stops_own None why there is = absurd (cc)
-  stops_own (Some r) why there is = (ap (λ w. Ok (is_none w)) is, refl)
+stops_own : (e : EndpointState) (id : ℕ) (r : Option Receiver) (why : Option Refusal) → is_some r ≡ true → why ≡ refusal_of r → Stops r e e id (Ok (is_none why))
+stops_own e id None why there is = absurd (cc)
+stops_own e id (Some r) why there is = (ap (λ w. Ok (is_none w)) is, refl)
 
-  pub stops_here : (o : Option SessionStream) (why : Option Refusal) → is_some (receiver_of o) ≡ true → why ≡ refusal_of (unwrap_or o unseen).receiver → Stops (receiver_of o) e e id (Ok (is_none why))
-  stops_here None why there is = absurd (cc)
-  stops_here (Some s) why there is = stops_own s.receiver why there is
+pub stops_here : (e : EndpointState) (id : ℕ) (o : Option SessionStream) (why : Option Refusal) → is_some (receiver_of o) ≡ true → why ≡ refusal_of (unwrap_or o unseen).receiver
+    → Stops (receiver_of o) e e id (Ok (is_none why))
+stops_here e id None why there is = absurd (cc)
+stops_here e id (Some s) why there is = stops_own e id s.receiver why there is
 
-  -- or by the endpoint
-  stops_other : (r : Option Receiver) (result : Result Bool Refusal) → is_some r ≡ false → StopsAt (is_request_stream id) e f id result → Stops r e f id result
-  stops_other None result there stops = stops
-  stops_other (Some r) result there stops = absurd (cc)
+-- or by the endpoint
+module _ (e f : EndpointState) (id : ℕ) (r : Option Receiver) (result : Result Bool Refusal) where
+  stops_other : is_some r ≡ false → StopsAt (is_request_stream id) e f id result → Stops r e f id result
+  stops_other there stops = at r there
+    where
+      at : (o : Option Receiver) → is_some o ≡ false → Stops o e f id result
+      at None none = stops
+      at (Some x) none = absurd (cc)
 
-  pub stops_request : (r : Option Receiver) (inner : Result ClosedStream Refusal) (result : Result Bool Refusal) → is_some r ≡ false → is_request_stream id ≡ true → ClosesStream e f id inner
-      → result ≡ stop_of inner → Stops r e f id result
-  stops_request r inner result there is closes same = stops_other r result there (rw is (record { inner = inner; closes = closes; is = same }))
+  pub stops_request : (inner : Result ClosedStream Refusal) → is_some r ≡ false → is_request_stream id ≡ true → ClosesStream e f id inner → result ≡ stop_of inner → Stops r e f id result
+  stops_request inner there is closes same = stops_other there (rw is (record { inner = inner; closes = closes; is = same }))
 
 pub stops_one_way : (e : EndpointState) (id : ℕ) (r : Option Receiver) (why : Option Refusal) → is_some r ≡ false → is_request_stream id ≡ false → RefusesDeliveries e id why → Stops r e e id (Ok (is_none why))
 stops_one_way e id r why there is shows = stops_other e e id r (Ok (is_none why)) there (rw is (record { why = why; shows = shows; is = refl; same = refl }))

@@ -5,3 +5,5 @@ pub mod Opened
 pub mod Telling
 pub mod GivingUp
 pub mod Parting
+pub mod Arriving
+pub mod Turning

@@ -11,7 +11,7 @@ use Rattle.h3_connection.specs.Shown.{peer_setting}
 use Rattle.h3_connection.specs.State.{EndpointState, StandsFor}
 use Rattle.h3_connection.specs.declared.event.Refusal.{Refusal}
 use Rattle.h3_connection.specs.declared.event.Refusal.TheVariants.{Closed, OutOfMemory}
-use Rattle.h3_session.specs.Beside.{TakesId, take_request_id}
+use Rattle.h3_session.specs.Beside.{TakesId}
 use Rattle.h3_session.specs.Lacking.{RefusesBodies}
 use Rattle.h3_session.specs.NextRequest.{ShowsNextRequest, id_unless}
 use Rattle.h3_webtransport_streams.specs.SessionStream.{both_ways, one_way}
@@ -22,12 +22,12 @@ use Rattle.h3_webtransport.specs.declared.opening.OpenError.{OpenError}
 use Rattle.h3_webtransport.specs.declared.opening.OpenError.TheVariants.{Refused}
 
 -- what a call answers is what refuses it
-does_answers : {e f : EndpointHistory} (o : Option Refusal) → (does o e f).0 ≡ o
-does_answers None = refl
-does_answers (Some r) = refl
+does_answers : (e f : EndpointHistory) (o : Option Refusal) → (does o e f).0 ≡ o
+does_answers e f None = refl
+does_answers e f (Some r) = refl
 
 rule_of : (e : EndpointHistory) (id : ℕ) → (send_body e id []).0 ≡ body_refusal e id 0
-rule_of e id = does_answers (body_refusal e id 0)
+rule_of e id = does_answers e _ (body_refusal e id 0)
 
 -- the settings of the peer
 pub takes_of : (s : EndpointState) (side : Side) (connects taken datagrams : Bool) → ((e : EndpointHistory) → StandsFor s e → connects ≡ is_one (peer_setting e 8))
@@ -98,7 +98,7 @@ module _ (e : EndpointState) (session : ℕ) where
       let same : id ≡ taken = id_given id h.next_id (open_refusal h) (shows h stands) ∙ sym stands.next_id ∙ sym (takes.id taken refl) in
       (takes, subst (λ q. Sets s.streams t.streams q (both_ways session)) same sets, rest)
   client_takes f s t id (Err r) shows sets rest takes h stands =
-      let is : Some r ≡ open_refusal h = (takes.takes.done h stands).0 ∙ does_answers (open_refusal h) in
+      let is : Some r ≡ open_refusal h = (takes.takes.done h stands).0 ∙ does_answers h _ (open_refusal h) in
       let none : open_refusal h ≡ None = none_refuses id h.next_id (open_refusal h) (shows h stands) in
       absurd (let never : Some r ≡ None = is ∙ none in cc)
 
@@ -110,22 +110,23 @@ counts (Err r) old new counted ok err = err
 module _ (both : Bool) (side : Side) (e : EndpointState) (s t : SessionsState) (session : ℕ) (result : Result ℕ Refusal) where
   pub opens_one_way : both ≡ false → OpensNext s.next_one s.streams t.streams (one_way session) result → OnOk result (t ≡ record s { streams = t.streams; next_one = s.next_one + 4 })
       → OnErr result (t ≡ record s { streams = t.streams }) → (h : EndpointHistory) → StandsFor e h → OpensKind both side e e s t session result
-  opens_one_way is opens ok err h stands = rw is (refl, opens, counts result s t (record s { streams = t.streams; next_one = s.next_one + 4 }) ok err)
+  opens_one_way is opens ok err h stands = rw is (refl, (opens, counts result s t (record s { streams = t.streams; next_one = s.next_one + 4 }) ok err))
 
   pub opens_at_server : both ≡ true → side ≡ Server → OpensNext s.next_both s.streams t.streams (both_ways session) result
       → OnOk result (t ≡ record s { streams = t.streams; next_both = s.next_both + 4 }) → OnErr result (t ≡ record s { streams = t.streams })
       → (h : EndpointHistory) → StandsFor e h → OpensKind both side e e s t session result
-  opens_at_server is at opens ok err h stands = rw (is, at) (refl, opens, counts result s t (record s { streams = t.streams; next_both = s.next_both + 4 }) ok err)
+  opens_at_server is at opens ok err h stands = rw (is, at) (refl, (opens, counts result s t (record s { streams = t.streams; next_both = s.next_both + 4 }) ok err))
 
   pub opens_at_client : (f : EndpointState) → both ≡ true → side ≡ Client → ((h : EndpointHistory) → StandsFor e h → OpensAtClient e f s t session result)
       → (h : EndpointHistory) → StandsFor e h → OpensKind both side e f s t session result
   opens_at_client f is at opens h stands = rw (is, at) (opens h stands)
 
 -- all
-module _ (e f : EndpointState) (s t : Joint) (session : ℕ) (both : Bool) where
-  pub opens_not : (error : OpenError) → ((h : EndpointHistory) → StandsFor e h → h.side ≡ s.side → Some error ≡ open_error h s.is_on session) → OpensOn e e s s session both (Err error)
-  opens_not error is = λ h stands same. subst (λ o. OpensUnless o both e e s s session (Err error)) (is h stands same) (refl, refl, refl)
+pub opens_not : (e : EndpointState) (s : Joint) (session : ℕ) (both : Bool) (error : OpenError) → ((h : EndpointHistory) → StandsFor e h → h.side ≡ s.side → Some error ≡ open_error h s.is_on session)
+    → OpensOn e e s s session both (Err error)
+opens_not e s session both error is = λ h stands same. subst (λ o. OpensUnless o both e e s s session (Err error)) (is h stands same) (refl, refl, refl)
 
+module _ (e f : EndpointState) (s t : Joint) (session : ℕ) (both : Bool) where
   opens_as : (inner : Result ℕ Refusal) → ((h : EndpointHistory) → StandsFor e h → h.side ≡ s.side → None ≡ open_error h s.is_on session)
       → ((h : EndpointHistory) → StandsFor e h → OpensKind both s.side e f s.sessions t.sessions session inner) → t ≡ record s { sessions = t.sessions } → OpensOn e f s t session both (opened_as inner)
   opens_as inner none opens rest = λ h stands same.

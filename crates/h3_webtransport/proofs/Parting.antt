@@ -1,5 +1,5 @@
 -- A call is one on a stream of a session, or it is passed on; behind a fault of the connection it is refused.
-use Rattle.std.proofs.Common.{◌≡◌, ℕ, Bool, true, false, [], List, Option, Some, None, Ok, Err, refl, sym, ap, ◌∙◌}
+use Rattle.std.proofs.Common.{◌≡◌, ℕ, Bool, true, false, List, Option, Some, None, Ok, Err, refl, sym, ap, ◌∙◌}
 use Rattle.std.specs.Prelude.{Result, OnOk, IfErr, unwrap_or}
 use Rattle.h3_connection.specs.Calls.{AllSame}
 use Rattle.h3_connection.specs.State.{EndpointState}
@@ -41,6 +41,6 @@ pub sends_here : (e : EndpointState) (s t : Joint) (id : ℕ) (bytes : List ℕ)
     → OnOk result (Acts (Some NotOpen) (sends_raw bytes) s.sessions.streams t.sessions.streams id None)
     → IfErr result (λ x. x.0 ≡ unwrap_or (answer_at (Some NotOpen) (sends_raw bytes) (stored_at s id)) OutOfMemory)
     → IfErr result (λ x. (x.1 ≡ bytes) × AllSame s.sessions.streams t.sessions.streams) → StreamsAlone s t → SendsRaw e s t id bytes result
-sends_here e s t id bytes (Ok done) none ok why err alone = (none, ok, alone)
+sends_here e s t id bytes (Ok done) none ok why err alone = (none, (ok, alone))
 sends_here e s t id bytes (Err (refusal, back)) none ok why err alone =
     (why ∙ sym (ap (λ c. unwrap_or (raw_refusal c (stored_at s id) bytes) OutOfMemory) none), err.0, err.1.each, alone)

@@ -1,5 +1,5 @@
 -- The first pull of a stream that may turn out to be of a session, and what is read beside the endpoint.
-use Rattle.std.proofs.Common.{◌≡◌, ◌≢◌, ◌⊎◌, ◌%◌, ◌==◌, ℕ, Bool, true, false, ◌&&◌, ◌||◌, not, List, [], ◌∷◌, Option, Some, None, refl, sym, ap, subst, ◌∙◌, is_some, unwrap_or, if◌then◌else◌}
+use Rattle.std.proofs.Common.{arith, ◌≡◌, ◌≢◌, ◌⊎◌, inl, inr, ◌%◌, ℕ, Bool, true, false, ◌&&◌, ◌||◌, not, List, [], ◌∷◌, Option, Some, None, refl, sym, ap, subst, ◌∙◌, is_some, unwrap_or, if◌then◌else◌}
 use Rattle.std.proofs.lemmas.Bool.{cases_eq, eqb-true}
 use Rattle.h3_field.specs.Field.{Field}
 use Rattle.h3_proto.specs.StreamIds.{is_request_stream}
@@ -17,11 +17,12 @@ use Rattle.h3_connection.specs.declared.event.Pull.TheVariants as pull
 use Rattle.h3_incoming.specs.Answering.{Lists, has_header}
 use Rattle.h3_session.specs.Listing.{ListsNext}
 use Rattle.h3_webtransport_streams.specs.Receiver.{Receiver, pulled, raw, told_or_raw, unless_reset}
-use Rattle.h3_webtransport_streams.specs.SessionStream.{SessionStream, ActsOn, Changes, ChangesOn, entered, on_receiver, receiver_of}
+use Rattle.h3_webtransport_streams.specs.SessionStream.{SessionStream, Acts, ActsOn, Changes, ChangesOn, entered, on_receiver, receiver_of}
+use Rattle.h3_webtransport_streams.specs.Sessions.{SessionsState}
 use Rattle.h3_webtransport.specs.Closing.{Forgets}
 use Rattle.h3_webtransport.specs.Joint.{Joint, is_begun_by_peer, is_read, is_server_opened, may_begin, stored_at}
-use Rattle.h3_webtransport.specs.Parts.{StreamsAlone}
-use Rattle.h3_webtransport.specs.Receiving.{Begins, BeginsAt, BeginsIf, Enters, ListsAgain, PullsFirst, pulls_raw, session_of}
+use Rattle.h3_webtransport.specs.Parts.{ActsHere, StreamsAlone}
+use Rattle.h3_webtransport.specs.Receiving.{Begins, BeginsAt, BeginsIf, Enters, ListsAgain, PullsFirst, PullsOn, PullsRaw, PullsThere, pulls_raw, session_of}
 use Rattle.h3_webtransport.specs.Receiving.PullsFirst.{pulls}
 
 -- no stream of a session has such an id yet
@@ -35,7 +36,7 @@ is_free s id h = is_none_of (stored_at s id) s.is_on (is_begun_by_peer s.side id
 
 -- and it is not read here
 kinds_differ : (side : Side) (id : ℕ) → is_begun_by_peer side id ≡ true → is_server_opened side id ≡ true → false ≡ true
-kinds_differ Client id begun opened = let never : 3 ≡ 1 = sym (eqb-true (id % 4) 3 begun) ∙ eqb-true (id % 4) 1 opened in cc
+kinds_differ Client id begun opened = absurd (omega (arith, eqb-true (id % 4) 3 begun, eqb-true (id % 4) 1 opened))
 kinds_differ Server id begun opened = opened
 
 not_both : (o : Option SessionStream) (side : Side) (id : ℕ) (on : Bool) → (on && not (is_some o) && is_begun_by_peer side id) ≡ true
@@ -48,13 +49,13 @@ not_both None side id true begins read = kinds_differ side id begins (let it : (
     both_true true h = refl
     both_true false h = h
 
-pub not_read : (s : Joint) (id : ℕ) → may_begin s id ≡ true → is_read s id ≡ true → false ≡ true
+not_read : (s : Joint) (id : ℕ) → may_begin s id ≡ true → is_read s id ≡ true → false ≡ true
 not_read s id begins read = not_both (stored_at s id) s.side id s.is_on begins read
 
 -- what is set is set again, or taken away
 module _ (a b c : Streams SessionStream) (id : ℕ) (x : SessionStream) where
   sets_again : (y : SessionStream) → Sets a b id x → Sets b c id y → Sets a c id y
-  sets_again y first then = record { here = then.here; others = λ q differs. then.others q differs ∙ first.others q differs }
+  sets_again y first next = record { here = next.here; others = λ q differs. next.others q differs ∙ first.others q differs }
 
   gone_at : (q : ℕ) → kept_at a id ≡ None → Sets a b id x → kept_at c id ≡ None → ((q : ℕ) → q ≢ id → kept_at c q ≡ kept_at b q) → q ≡ id ⊎ q ≢ id → kept_at c q ≡ kept_at a q
   gone_at q free first gone others (inl same) = subst (λ n. kept_at c n ≡ kept_at a n) (sym same) (gone ∙ sym free)
@@ -63,8 +64,15 @@ module _ (a b c : Streams SessionStream) (id : ℕ) (x : SessionStream) where
   gone_again : kept_at a id ≡ None → Sets a b id x → kept_at c id ≡ None → ((q : ℕ) → q ≢ id → kept_at c q ≡ kept_at b q) → AllSame a c
   gone_again free first gone others = record { each = λ q. gone_at q free first gone others (cases_eq q id) }
 
-pub alone_again : (s m t : Joint) → StreamsAlone s m → StreamsAlone m t → StreamsAlone s t
-alone_again s m t first then = then ∙ ap (λ (x : Joint). record x { sessions = record x.sessions { streams = t.sessions.streams } }) first
+alone_again : (s m t : Joint) → StreamsAlone s m → StreamsAlone m t → StreamsAlone s t
+alone_again s m t first next = next ∙ ap (λ (x : Joint). record x { sessions = record x.sessions { streams = t.sessions.streams } }) first
+
+pub twice_alone : (s : Joint) (v w : SessionsState) → v ≡ record s.sessions { streams = v.streams } → w ≡ record v { streams = w.streams }
+    → record s { sessions = w } ≡ record s { sessions = record s.sessions { streams = w.streams } }
+twice_alone s v w first next = ap (λ (x : SessionsState). record s { sessions = x }) (next ∙ ap (λ (x : SessionsState). record x { streams = w.streams }) first)
+
+pub then_alone : (s t : Joint) (v : SessionsState) → v ≡ record s.sessions { streams = v.streams } → StreamsAlone (record s { sessions = v }) t → StreamsAlone s t
+then_alone s t v first next = alone_again s (record s { sessions = v }) t (ap (λ (x : SessionsState). record s { sessions = x }) first) next
 
 -- a stream that was entered is one of a session
 module _ (e f : EndpointState) (m t : Joint) (id session : ℕ) (inner answer : Pull) where
@@ -81,9 +89,9 @@ module _ (e f : EndpointState) (m t : Joint) (id session : ℕ) (inner answer : 
 begins_from : (b : Bool) (e f : EndpointState) (s m t : Joint) (id session : ℕ) (inner answer : Pull) (x : SessionStream) → stored_at s id ≡ None → Sets s.sessions.streams m.sessions.streams id x
     → BeginsAt b e f m t id session inner answer → Begins b e f s t id session inner answer
 begins_from true e f s m t id session inner answer x free first begins =
-    (begins.0, sets_again s.sessions.streams m.sessions.streams t.sessions.streams id x (entered session (is_request_stream id)) first begins.1.0, begins.1.1)
+    (begins.0, sets_again s.sessions.streams m.sessions.streams t.sessions.streams id x (entered session (is_request_stream id)) first begins.1, begins.2)
 begins_from false e f s m t id session inner answer x free first begins =
-    (begins.0, gone_again s.sessions.streams m.sessions.streams t.sessions.streams id x free first begins.1.0.0 begins.1.0.1.0, begins.1.1)
+    (begins.0, gone_again s.sessions.streams m.sessions.streams t.sessions.streams id x free first begins.1.0 begins.1.1, begins.2)
 
 -- the first pull tells no session,
 pub pulls_other : (e f : EndpointState) (s m t : Joint) (id : ℕ) (inner : Pull) (x : SessionStream) (session : Option ℕ) → may_begin s id ≡ true → Sets s.sessions.streams m.sessions.streams id x
@@ -141,6 +149,58 @@ half_is_plain : (s : SessionStream) (o : Option Receiver) → has_header (on_rec
 half_is_plain s None = refl
 half_is_plain s (Some r) = pulled_is_plain r s.session
 
-pub is_plain : (old new : Streams SessionStream) (id : ℕ) (answer : Pull) (there : Option SessionStream) → ActsOn pull.NoMessages pulls_raw old new id answer there → has_header answer ≡ false
+is_plain : (old new : Streams SessionStream) (id : ℕ) (answer : Pull) (there : Option SessionStream) → ActsOn pull.NoMessages pulls_raw old new id answer there → has_header answer ≡ false
 is_plain old new id answer None acts = ap has_header acts.0
 is_plain old new id answer (Some s) acts = ap has_header acts.0 ∙ half_is_plain s s.receiver
+
+-- a stream that is there, or not yet
+there_at : (s t : Joint) (id : ℕ) (told : Pull) (o : Option SessionStream) → is_some o ≡ true → ActsHere pull.NoMessages pulls_raw s t id told → PullsThere s t id told o
+there_at s t id told None none h = absurd (cc)
+there_at s t id told (Some x) some h = h
+
+pub pulls_there : (s t : Joint) (id : ℕ) (answer told : Pull) → is_some (stored_at s id) ≡ true → Acts pull.NoMessages pulls_raw s.sessions.streams t.sessions.streams id answer
+    → (has_header answer ≡ false → told ≡ answer) → StreamsAlone s t → PullsThere s t id told (stored_at s id)
+pulls_there s t id answer told is acts same alone =
+    let told_is : told ≡ answer = same (is_plain s.sessions.streams t.sessions.streams id answer (stored_at s id) acts) in
+    there_at s t id told (stored_at s id) is (subst (Acts pull.NoMessages pulls_raw s.sessions.streams t.sessions.streams id) (sym told_is) acts, alone)
+
+absent_at : (s : Joint) (id : ℕ) (told : Pull) (o : Option SessionStream) → is_some o ≡ false → told ≡ pull.Pending → PullsThere s s id told o
+absent_at s id told None none paused = (paused, refl)
+absent_at s id told (Some x) some paused = absurd (cc)
+
+pub pulls_absent : (s : Joint) (id : ℕ) (told : Pull) → is_some (stored_at s id) ≡ false → told ≡ pull.Pending → PullsThere s s id told (stored_at s id)
+pulls_absent s id told is paused = absent_at s id told (stored_at s id) is paused
+
+-- all of a pull
+pub pulls_faulty : (e : EndpointState) (s : Joint) (id code : ℕ) (answer : Pull) → may_begin s id ≡ false → is_read s id ≡ true → e.closed ≡ Some code → answer ≡ pull.Fault (Closing code)
+    → PullsOn e e s s id answer
+pulls_faulty e s id code answer begins read closed fault =
+    record {
+      first = λ is. absurd (let never : false ≡ true = sym begins ∙ is in cc);
+      own = λ is. (refl, subst (λ c. PullsRaw c s s id answer) (sym closed) (fault, refl));
+      other = λ not_begun is. absurd (let never : true ≡ false = sym read ∙ is in cc);
+    }
+
+pub pulls_own : (e : EndpointState) (s t : Joint) (id : ℕ) (answer : Pull) → may_begin s id ≡ false → is_read s id ≡ true → e.closed ≡ None → PullsThere s t id answer (stored_at s id) → PullsOn e e s t id answer
+pulls_own e s t id answer begins read closed there =
+    record {
+      first = λ is. absurd (let never : false ≡ true = sym begins ∙ is in cc);
+      own = λ is. (refl, subst (λ c. PullsRaw c s t id answer) (sym closed) there);
+      other = λ not_begun is. absurd (let never : true ≡ false = sym read ∙ is in cc);
+    }
+
+pub pulls_elsewhere : (e f : EndpointState) (s : Joint) (id : ℕ) (answer : Pull) → may_begin s id ≡ false → is_read s id ≡ false → PullsNext e f id answer → PullsOn e f s s id answer
+pulls_elsewhere e f s id answer begins read h =
+    record {
+      first = λ is. absurd (let never : false ≡ true = sym begins ∙ is in cc);
+      own = λ is. absurd (let never : false ≡ true = sym read ∙ is in cc);
+      other = λ not_begun is. (refl, h);
+    }
+
+pub pulls_begun : (e f : EndpointState) (s t : Joint) (id : ℕ) (answer : Pull) → may_begin s id ≡ true → PullsFirst e f s t id answer → StreamsAlone s t → PullsOn e f s t id answer
+pulls_begun e f s t id answer begins h alone =
+    record {
+      first = λ is. (h, alone);
+      own = λ is. absurd (let never : false ≡ true = not_read s id begins is in cc);
+      other = λ not_begun is. absurd (let never : true ≡ false = sym begins ∙ not_begun in cc);
+    }

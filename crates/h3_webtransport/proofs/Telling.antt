@@ -1,5 +1,5 @@
 -- Which session an answer tells.
-use Rattle.std.proofs.Common.{◌≡◌, ℕ, List, Option, Some, None, refl, sym, ap, ◌∙◌}
+use Rattle.std.proofs.Common.{◌≡◌, ℕ, List, Option, None, refl, sym, ap, ◌∙◌}
 use Rattle.h3_field.specs.Field.{Field}
 use Rattle.h3_incoming.specs.BlockPulls.{told_with}
 use Rattle.h3_incoming.specs.FieldsPulls.{listed_as, plain_answer, pull_of}

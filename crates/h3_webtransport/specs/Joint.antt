@@ -1,8 +1,7 @@
 -- The sessions of a connection, and what each stream is to them.
-use Rattle.std.specs.Prelude.{ℕ, ◌%◌, ◌==◌, Bool, true, false, not, ◌&&◌, ◌||◌, Option, is_some}
+use Rattle.std.specs.Prelude.{ℕ, ◌%◌, ◌==◌, Bool, false, not, ◌&&◌, ◌||◌, Option, is_some}
 use Rattle.h3_proto.specs.declared.stream.Side.{Side}
 use Rattle.h3_proto.specs.declared.stream.Side.TheVariants.{Client, Server}
-use Rattle.h3_connection.specs.Pulling.{is_client}
 use Rattle.h3_connection.specs.State.{kept_at}
 use Rattle.h3_webtransport_streams.specs.SessionStream.{SessionStream, receiver_of}
 use Rattle.h3_webtransport_streams.specs.Sessions.{SessionsState, no_streams}

@@ -1,6 +1,5 @@
 -- Opening streams of sessions.
-use Rattle.std.specs.Prelude.{◌≡◌, ◌≢◌, ◌+◌, ◌==◌, ◌&&◌, ◌||◌, ◌^◌, ℕ, Bool, true, false, not, is_some, nat_lt, List, Option, Some, None, Result, Ok, Err, if◌then◌else◌, unwrap_or}
-use Rattle.h3_proto.specs.Settings.{value_of}
+use Rattle.std.specs.Prelude.{◌≡◌, ◌+◌, ◌==◌, ◌&&◌, ◌||◌, ℕ, Bool, true, false, not, is_some, Option, Some, None, Result, Ok, Err, if◌then◌else◌, unwrap_or}
 use Rattle.h3_proto.specs.StreamIds.{is_request_stream}
 use Rattle.h3_connection.specs.Calls.{AllSame, Sets}
 use Rattle.h3_connection.specs.Endpoint.{EndpointHistory}

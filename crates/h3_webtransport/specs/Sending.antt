@@ -1,14 +1,13 @@
 -- What calls that send do, with sessions beside an endpoint.
-use Rattle.std.specs.Prelude.{◌≡◌, ◌≢◌, ◌+◌, ◌==◌, ◌&&◌, ◌++◌, ℕ, Bool, true, false, is_none, List, length, take, drop, min, Option, Some, None, Result, Ok, Err, unwrap_or, option_map, if◌then◌else◌}
-use Rattle.h3_connection.specs.Answers.{body_refused, call_refused}
+use Rattle.std.specs.Prelude.{◌≡◌, ◌+◌, ◌==◌, ◌&&◌, ◌++◌, ℕ, Bool, false, List, length, take, drop, min, Option, Some, None, Result, Ok, Err, unwrap_or}
+use Rattle.h3_connection.specs.Answers.{call_refused}
 use Rattle.h3_connection.specs.EndsWaiting.{TakesEnd}
-use Rattle.h3_connection.specs.SendingContracts.{Advances, Finishes, Resets}
+use Rattle.h3_connection.specs.SendingContracts.{Finishes, Resets}
 use Rattle.h3_connection.specs.State.{EndpointState}
 use Rattle.h3_connection.specs.declared.event.Refusal.{Refusal}
 use Rattle.h3_connection.specs.declared.event.Refusal.TheVariants.{Closed, NotOpen, OutOfMemory}
 use Rattle.h3_webtransport_streams.specs.Sender.{cut_off, end_told, finished, sent}
-use Rattle.h3_webtransport_streams.specs.SessionStream.{SessionStream, Acts, answer_at, passes, sender_of, sending, takes, waiting_of}
-use Rattle.h3_webtransport_streams.specs.Sessions.{turn_over}
+use Rattle.h3_webtransport_streams.specs.SessionStream.{SessionStream, answer_at, passes, sender_of, sending, waiting_of}
 use Rattle.h3_webtransport.specs.Joint.{Joint, has_stream, stored_at}
 use Rattle.h3_webtransport.specs.Parts.{Parts, ActsHere, StreamsAlone, UnlessClosed}
 

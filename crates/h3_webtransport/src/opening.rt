@@ -52,7 +52,6 @@ fn takes_sessions(endpoint: &Endpoint, side: Side) -> bool
 }
 
 // Whether bytes are refused on the request of a session, out of memory aside: no header section was sent there, or sending has ended.
-#[tactic(auto, using(crate::proofs::Opened::takes_bytes, crate::proofs::Opened::lacks_memory, crate::proofs::Opened::refuses_bytes))]
 fn refuses_bytes(endpoint: &Endpoint, session: StreamId) -> bool
     ensures { (e : EndpointHistory) → StandsFor endpoint.now e → result ≡ is_some (body_refusal e session 0) }
 {

@@ -1,5 +1,5 @@
 //! The sessions of a connection, beside its endpoint.
-ghost use Rattle.std.specs.Prelude.{◌≡◌, ◌&&◌, is_some};
+ghost use Rattle.std.specs.Prelude.{◌≡◌, ◌&&◌};
 ghost use Rattle.h3_connection.specs.State.{kept_at};
 ghost use Rattle.h3_connection.specs.NextWaiting.{IsLeast};
 ghost use Rattle.h3_webtransport.specs.Joint.{first_joint, has_stream, is_begun_by_peer, is_read, is_server_opened, may_begin};

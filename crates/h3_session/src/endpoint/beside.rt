@@ -17,7 +17,7 @@ impl Endpoint {
 
     /// Takes the id that `open_request` would give next, for a stream that is no request: nothing is opened, and no request gets that id.
     /// Refused as `open_request`. It takes no memory.
-    #[tactic(auto, using(crate::proofs::Beside::refuses_id, crate::proofs::Beside::takes_id, crate::proofs::Beside::takes_far))]
+    #[tactic(auto, using(crate::proofs::Beside::takes_far))]
     pub fn take_request_id(&mut self) -> Result<StreamId, Refusal>
         ensures { TakesId self.old self.new result }
     {

@@ -24,6 +24,7 @@ impl Sessions {
     }
 
     /// The first stream from this id on on which bytes wait to be sent, or an end.
+    #[tactic(auto, using(crate::proofs::Turning::lowest_off, crate::proofs::Turning::lowest_on))]
     pub fn next_to_send(&self, endpoint: &Endpoint, from: u64) -> Option<u64>
         ensures { SendsLowest endpoint.now self.now from result }
     {
@@ -36,6 +37,7 @@ impl Sessions {
 
     /// The stream that sends next. If a request's and one of a session send, they take turns: a stream of a session is next once bytes of a
     /// request's were taken, and the other way round.
+    #[tactic(auto, using(crate::proofs::Turning::turn_off, crate::proofs::Turning::turn_on))]
     pub fn next_by_priority(&self, endpoint: &mut Endpoint) -> Option<u64>
         ensures { SendsInTurn endpoint.old endpoint.new self.now result }
     {
@@ -47,7 +49,7 @@ impl Sessions {
     }
 
     /// QUIC has no credit for a stream, or has it again.
-    #[tactic(auto, using(crate::proofs::Parting::part_here, crate::proofs::Parting::part_elsewhere, crate::proofs::Parting::is_closed, crate::proofs::Parting::is_open))]
+    #[tactic(auto, using(crate::proofs::Parting::part_here, crate::proofs::Parting::part_elsewhere, crate::proofs::Parting::is_closed, crate::proofs::Parting::is_open, crate::proofs::Turning::holds_there, crate::proofs::Turning::holds_absent))]
     pub fn hold(
         &mut self,
         endpoint: &mut Endpoint,

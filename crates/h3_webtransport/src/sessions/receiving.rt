@@ -99,6 +99,7 @@ impl Sessions {
     }
 
     // The same of a stream that is read here, of a connection that is open.
+    #[tactic(auto, using(crate::proofs::Arriving::arrives_taken, crate::proofs::Arriving::arrives_no_front, crate::proofs::Arriving::arrives_no_session, crate::proofs::Arriving::arrives_refused))]
     fn deliver_here(
         &mut self,
         endpoint: &mut Endpoint,
@@ -176,7 +177,7 @@ impl Sessions {
 
     /// What comes next on a stream. A stream that the endpoint reads is one of a session from the answer on that tells the session; it is answered if it
     /// goes both ways. With sessions on, an id that no session has is a fault of the connection, H3_ID_ERROR.
-    #[tactic(auto, using(crate::proofs::Pulling::not_read))]
+    #[tactic(auto, using(crate::proofs::Pulling::pulls_begun, crate::proofs::Pulling::pulls_elsewhere, crate::proofs::Pulling::pulls_faulty, crate::proofs::Pulling::pulls_own))]
     pub fn pull_block(&mut self, endpoint: &mut Endpoint, id: StreamId, out: &mut BlockPull)
         ensures pulls { PullsOn endpoint.old endpoint.new self.old self.new id (pull_of out.new) }
         ensures list { is_read self.old id ≡ false → ListsNext endpoint.old id (list_of out.new) }
@@ -194,7 +195,7 @@ impl Sessions {
     }
 
     // The same of a stream that is read here, of a connection that is open.
-    #[tactic(auto, using(crate::proofs::Pulling::is_plain))]
+    #[tactic(auto, using(crate::proofs::Pulling::pulls_there, crate::proofs::Pulling::pulls_absent))]
     fn pull_here(&mut self, id: StreamId, out: &mut BlockPull)
         ensures { PullsThere self.old self.new id (pull_of out.new) (stored_at self.old id) }
     {
@@ -205,7 +206,7 @@ impl Sessions {
     }
 
     // The same of a stream that may turn out to be of a session: there is room for it before anything is pulled, so that nothing is lost.
-    #[tactic(auto, using(crate::proofs::Pulling::pulls_other, crate::proofs::Pulling::pulls_session, crate::proofs::Pulling::lists_none, crate::proofs::Pulling::lists_same, crate::proofs::Pulling::alone_again))]
+    #[tactic(auto, using(crate::proofs::Pulling::pulls_other, crate::proofs::Pulling::pulls_session, crate::proofs::Pulling::lists_none, crate::proofs::Pulling::lists_same, crate::proofs::Pulling::twice_alone, crate::proofs::Pulling::then_alone))]
     fn pull_first(&mut self, endpoint: &mut Endpoint, id: StreamId, out: &mut BlockPull)
         requires { may_begin self.old id ≡ true }
         ensures first { PullsFirst endpoint.old endpoint.new self.old self.new id (pull_of out.new) }

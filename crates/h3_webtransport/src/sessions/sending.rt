@@ -105,7 +105,7 @@ impl Sessions {
     }
 
     // Nothing is kept of a stream. Answers whether anything was still to be sent on it.
-    #[tactic(auto, using(crate::proofs::GivingUp::resets_here, crate::proofs::GivingUp::forgets_all, crate::proofs::Pulling::alone_again))]
+    #[tactic(auto, using(crate::proofs::GivingUp::resets_here, crate::proofs::GivingUp::forgets_all, crate::proofs::Pulling::twice_alone))]
     fn give_up(&mut self, id: StreamId) -> bool
         ensures is { result ≡ resets_raw self.old id }
         ensures forgets { Forgets self.old self.new id }
