@@ -1,5 +1,5 @@
 -- The index has the streams that send.
-use Rattle.std.proofs.Common.{◌≡◌, ◌≢◌, ◌⊎◌, ◌<◌, ◌≤◌, ℕ, Bool, true, false, List, [], Option, Some, None, Ok, Err, OnOk, OnErr, IfErr, Result, refl, sym, ap, subst, ◌∙◌, is_some}
+use Rattle.std.proofs.Common.{◌≡◌, ◌≢◌, ◌⊎◌, inl, inr, ℕ, Bool, true, false, List, [], Option, Some, None, Ok, Err, OnOk, OnErr, IfErr, Result, refl, sym, ap, subst, ◌∙◌, is_some}
 use Rattle.std.proofs.lemmas.Bool.{cases_eq}
 use Rattle.h3_connection.specs.Calls.{AllSame, Sets}
 use Rattle.h3_connection.specs.NextWaiting.{IsLeast}
@@ -51,7 +51,7 @@ none_indexed i waits turns = record { waits = λ is q. ap (λ l. is_some (kept_a
 -- the least id is that of the first stream
 least_by : (f g : ℕ → Bool) → ((q : ℕ) → f q ≡ g q) → (from : ℕ) (found : Option ℕ) → IsLeast f from found → IsLeast g from found
 least_by f g same from None h = λ q after. sym (same q) ∙ h q after
-least_by f g same from (Some id) h = (h.0, sym (same id) ∙ h.1.0, λ q after before. sym (same q) ∙ h.1.1 q after before)
+least_by f g same from (Some id) h = (h.0, sym (same id) ∙ h.1, λ q after before. sym (same q) ∙ h.2 q after before)
 
 module _ (i : Index) (from : ℕ) (found : Option ℕ) where
   pub least_of : i.is_whole ≡ true → IsLeast (λ id. is_some (kept_at i.waits.entries id)) from found → (streams : Streams SessionStream) → Indexed i streams
@@ -100,7 +100,7 @@ takes_others old new id bytes s (Some r) answer h = h.1.others
 
 leaves_others : (old new : Streams SessionStream) (id : ℕ) (bytes : List ℕ) (why : Option Refusal) (e : DeliverError) → LeavesBytes old new bytes why e → SameOthers old new id
 leaves_others old new id bytes why (deliver_error.Refused r) h = same_others old new id h.1
-leaves_others old new id bytes why (deliver_error.OutOfMemory back) h = same_others old new id h.1.1
+leaves_others old new id bytes why (deliver_error.OutOfMemory back) h = same_others old new id h.2
 leaves_others old new id bytes why deliver_error.Kept h = absurd h
 
 pub deliver_others : (old new : Streams SessionStream) (id : ℕ) (bytes : List ℕ) (result : Result Begun DeliverError) → Delivers old new id bytes result → SameOthers old new id
