@@ -94,19 +94,21 @@ begins_from false e f s m t id session inner answer x free first begins =
     (begins.0, gone_again s.sessions.streams m.sessions.streams t.sessions.streams id x free first begins.1.0 begins.1.1, begins.2)
 
 -- the first pull tells no session,
-pub pulls_other : (e f : EndpointState) (s m t : Joint) (id : ℕ) (inner : Pull) (x : SessionStream) (session : Option ℕ) → may_begin s id ≡ true → Sets s.sessions.streams m.sessions.streams id x
-    → PullsNext e f id inner → session ≡ session_of inner → session ≡ None → stored_at t id ≡ None → ((q : ℕ) → q ≢ id → stored_at t q ≡ stored_at m q) → PullsFirst e f s t id inner
-pulls_other e f s m t id inner x session begins first h told none gone others =
+pub pulls_other : (e f : EndpointState) (s : Joint) (mid : SessionsState) (t : Joint) (id : ℕ) (inner : Pull) (x : SessionStream) (session : Option ℕ) → may_begin s id ≡ true
+    → Sets s.sessions.streams mid.streams id x → PullsNext e f id inner → session ≡ session_of inner → session ≡ None → stored_at t id ≡ None
+    → ((q : ℕ) → q ≢ id → stored_at t q ≡ kept_at mid.streams q) → PullsFirst e f s t id inner
+pulls_other e f s mid t id inner x session begins first h told none gone others =
     pulls inner f h
-    (subst (λ o. BeginsIf o f f s t id inner inner) (sym none ∙ told) (refl, refl, gone_again s.sessions.streams m.sessions.streams t.sessions.streams id x (is_free s id begins) first gone others))
+    (subst (λ o. BeginsIf o f f s t id inner inner) (sym none ∙ told) (refl, refl, gone_again s.sessions.streams mid.streams t.sessions.streams id x (is_free s id begins) first gone others))
 
 -- or one
-pub pulls_session : (e next f : EndpointState) (s m t : Joint) (id session : ℕ) (inner answer : Pull) (x : SessionStream) (tells : Option ℕ) → may_begin s id ≡ true
-    → Sets s.sessions.streams m.sessions.streams id x → PullsNext e next id inner → tells ≡ session_of inner → tells ≡ Some session
-    → BeginsAt (is_request_stream session) next f m t id session inner answer → PullsFirst e f s t id answer
-pulls_session e next f s m t id session inner answer x tells begins first h told is at =
+pub pulls_session : (e next f : EndpointState) (s : Joint) (mid : SessionsState) (t : Joint) (id session : ℕ) (inner answer : Pull) (x : SessionStream) (tells : Option ℕ) → may_begin s id ≡ true
+    → Sets s.sessions.streams mid.streams id x → PullsNext e next id inner → tells ≡ session_of inner → tells ≡ Some session
+    → BeginsAt (is_request_stream session) next f (record s { sessions = mid }) t id session inner answer → PullsFirst e f s t id answer
+pulls_session e next f s mid t id session inner answer x tells begins first h told is at =
     pulls inner next h
-    (subst (λ o. BeginsIf o next f s t id inner answer) (sym is ∙ told) (begins_from (is_request_stream session) next f s m t id session inner answer x (is_free s id begins) first at))
+    (subst (λ o. BeginsIf o next f s t id inner answer) (sym is ∙ told)
+    (begins_from (is_request_stream session) next f s (record s { sessions = mid }) t id session inner answer x (is_free s id begins) first at))
 
 -- which list it has
 lists_no : (listed came : Option (List Field)) → listed ≡ None → Lists listed came
@@ -158,11 +160,12 @@ there_at : (s t : Joint) (id : ℕ) (told : Pull) (o : Option SessionStream) →
 there_at s t id told None none h = absurd (cc)
 there_at s t id told (Some x) some h = h
 
-pub pulls_there : (s t : Joint) (id : ℕ) (answer told : Pull) → is_some (stored_at s id) ≡ true → Acts pull.NoMessages pulls_raw s.sessions.streams t.sessions.streams id answer
-    → (has_header answer ≡ false → told ≡ answer) → StreamsAlone s t → PullsThere s t id told (stored_at s id)
-pulls_there s t id answer told is acts same alone =
-    let told_is : told ≡ answer = same (is_plain s.sessions.streams t.sessions.streams id answer (stored_at s id) acts) in
-    there_at s t id told (stored_at s id) is (subst (Acts pull.NoMessages pulls_raw s.sessions.streams t.sessions.streams id) (sym told_is) acts, alone)
+pub pulls_there : (s : Joint) (v : SessionsState) (id : ℕ) (answer told : Pull) → is_some (stored_at s id) ≡ true → Acts pull.NoMessages pulls_raw s.sessions.streams v.streams id answer
+    → (has_header answer ≡ false → told ≡ answer) → v ≡ record s.sessions { streams = v.streams } → PullsThere s (record s { sessions = v }) id told (stored_at s id)
+pulls_there s v id answer told is acts same rest =
+    let told_is : told ≡ answer = same (is_plain s.sessions.streams v.streams id answer (stored_at s id) acts) in
+    there_at s (record s { sessions = v }) id told (stored_at s id) is
+    (subst (Acts pull.NoMessages pulls_raw s.sessions.streams v.streams id) (sym told_is) acts, ap (λ (x : SessionsState). record s { sessions = x }) rest)
 
 absent_at : (s : Joint) (id : ℕ) (told : Pull) (o : Option SessionStream) → is_some o ≡ false → told ≡ pull.Pending → PullsThere s s id told o
 absent_at s id told None none paused = (paused, refl)

@@ -195,7 +195,7 @@ impl Sessions {
     }
 
     // The same of a stream that is read here, of a connection that is open.
-    #[tactic(auto, using(crate::proofs::Pulling::pulls_there, crate::proofs::Pulling::pulls_absent))]
+    #[tactic(auto, using(crate::proofs::Pulling::pulls_absent))]
     fn pull_here(&mut self, id: StreamId, out: &mut BlockPull)
         ensures { PullsThere self.old self.new id (pull_of out.new) (stored_at self.old id) }
     {
@@ -206,7 +206,7 @@ impl Sessions {
     }
 
     // The same of a stream that may turn out to be of a session: there is room for it before anything is pulled, so that nothing is lost.
-    #[tactic(auto, using(crate::proofs::Pulling::pulls_other, crate::proofs::Pulling::pulls_session, crate::proofs::Pulling::lists_none, crate::proofs::Pulling::lists_same, crate::proofs::Pulling::twice_alone, crate::proofs::Pulling::then_alone))]
+    #[tactic(auto, using(crate::proofs::Pulling::lists_none, crate::proofs::Pulling::lists_same, crate::proofs::Pulling::twice_alone, crate::proofs::Pulling::then_alone))]
     fn pull_first(&mut self, endpoint: &mut Endpoint, id: StreamId, out: &mut BlockPull)
         requires { may_begin self.old id ≡ true }
         ensures first { PullsFirst endpoint.old endpoint.new self.old self.new id (pull_of out.new) }
