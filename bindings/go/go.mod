@@ -1,3 +1,0 @@
-module beanwhile/h3
-
-go 1.19

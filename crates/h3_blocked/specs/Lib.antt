@@ -1,4 +1,0 @@
-pub mod Counting
-pub mod CountingLaws
-pub mod SumLaws
-pub mod Sums

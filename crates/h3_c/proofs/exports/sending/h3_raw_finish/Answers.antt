@@ -1,9 +1,0 @@
--- Where sessions are off.
-use Rattle.h3_c.specs.Does.CallOfC.{Finish}
-use Rattle.h3_c.proofs.Alone.{goes_alone}
-use Rattle.h3_c.proofs.exports.sending.h3_raw_finish.Goals as goal
-
-pub returns-clause-goes : goal.returns-clause-goes
-returns-clause-goes c =
-    goes_alone (Finish c.args.id c.finish-told.result) _ _ _ _ _ c.opened-connection.ensures c.deref_mut.ensures.value c.kept.ensures
-    c.finish-told.ensures

@@ -1,5 +1,0 @@
-pub mod Capsule
-pub mod Told
-pub mod Datagram
-pub mod Rows
-pub mod ReaderStates

@@ -1,7 +1,0 @@
-use Rattle.std.proofs.Common.{◌<◌, ◌^◌, length}
-use Rattle.h3_wire.specs.Streams.{left}
-use Rattle.h3_cases.specs.declared.feed.Feed.{Feed}
-use Rattle.h3_cases.proofs.memory.read_all.Given as goal
-
-abbrev pub invariant-loop : goal.invariant-loop
-invariant-loop l = length (left (λ (f : Feed). f.bytes.now) l.stream) < 2 ^ 62

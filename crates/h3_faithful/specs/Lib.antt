@@ -1,5 +1,0 @@
-pub mod Sends
-pub mod Faithful
-pub mod Steps
-pub mod WorkedFaithful
-pub mod WorkedMemory

@@ -1,4 +1,0 @@
-use Rattle.h3_field.proofs.stream.reply.StreamCancel.encode.Goals as goal
-
-pub returns-clause-ok : goal.returns-clause-ok
-returns-clause-ok c = search

@@ -1,7 +1,0 @@
-use Rattle.std.specs.Prelude.{◌≡◌, take}
-use Rattle.h3_header.specs.HeadTests.{is_plain_query_byte}
-use Rattle.h3_header.proofs.MarkLaws.{marked}
-use Rattle.h3_header.proofs.grammar.marks.are_plain_query_bytes.Given as goal
-
-abbrev pub invariant-bytes : goal.invariant-bytes
-invariant-bytes l = l.all ≡ marked is_plain_query_byte (take l.byte-index l.text)

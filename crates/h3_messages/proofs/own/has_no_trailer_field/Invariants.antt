@@ -1,6 +1,0 @@
-use Rattle.std.specs.Prelude.{◌≡◌, false, take}
-use Rattle.h3_messages.specs.OwnMessages.{has_no_trailer_field}
-use Rattle.h3_messages.proofs.own.has_no_trailer_field.Given as goal
-
-abbrev pub invariant-fields : goal.invariant-fields
-invariant-fields l = has_no_trailer_field (take l.field-index l.fields) ≡ false

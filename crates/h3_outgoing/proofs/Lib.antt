@@ -1,4 +1,0 @@
-mod Headers
-mod Queues
-mod Filling
-mod HeldFronts

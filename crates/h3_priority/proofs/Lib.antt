@@ -1,9 +1,0 @@
-pub mod Rounds
-pub mod Shorter
-pub mod Numbers
-pub mod ParameterLoop
-pub mod ListsShorter
-pub mod Members
-pub mod ListLoop
-pub mod ReadsBack
-pub mod RowsHold

@@ -1,6 +1,0 @@
-use Rattle.std.proofs.Common.{arith}
-use Rattle.std.proofs.lemmas.Grind.{common_steps}
-use Rattle.h3_qpack.proofs.writing.put_inserted.Goals as goal
-
-pub returns-clause-line : goal.returns-clause-line
-returns-clause-line c = grind (arith, common_steps)
