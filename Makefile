@@ -101,8 +101,8 @@ bench-long: ## print what a connection that lives long costs, EXCHANGES=1000000 
 	@rm -f bench/out/long && $(MAKE) --no-print-directory -s -C bench out/long FOLDER="$(abspath $(LIB))"
 	@bench/out/long $(EXCHANGES)
 
-interop: need-rt ## show that nghttp3 reads what we write and we what it writes, and that the examples talk with HTTP/3 peers over QUIC
-	@bash scripts/interop/interop.sh
+interop: need-rt ## show that nghttp3 reads what we write and we what it writes, and that the examples talk with HTTP/3 peers over QUIC, over what `make lib` leaves, or LIB=build/c-unproved; LANES=3: three scripts at a time
+	@LIB="$(if $(filter command% environment%,$(origin LIB)),$(LIB))" bash scripts/interop/interop.sh
 
 upstream-root: ## make in build/trixie, once and as root, a root of Debian 13 with the Rust crate h3 and further peers, for `make interop`
 	@bash scripts/interop/upstream.sh root

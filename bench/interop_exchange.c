@@ -94,7 +94,7 @@ void keep_field(field_list *to, const uint8_t *name, size_t name_len, const uint
 }
 
 static void free_list(field_list *list) {
-  for (size_t i = 0; i < list->count; i++) free(list->fields[i].name);
+  for (size_t i = 0; i < list->count; i++) free((void *)list->fields[i].name);
   free(list->fields);
 }
 

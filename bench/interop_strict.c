@@ -1,6 +1,7 @@
 /* One message at a time, given as bytes to a strict endpoint of build/c/libh3.a and to one of nghttp3. A line of standard input has the side that receives it
  * (s, c), whether extended CONNECT is announced (1, 0), the method that a client asked, whether the stream ends (1, 0) and the bytes in hexadecimal digits. A
- * line of output has what ours says of it, a tab, and what nghttp3 says: ok, refused CODE (the stream) or fault CODE (the connection). */
+ * line of output has what ours says of it, a tab, and what nghttp3 says: ok, refused CODE (the stream) or fault CODE (the connection). With the word
+ * `version` it prints that of nghttp3 alone. */
 #include <h3.h>
 #include <nghttp3/nghttp3.h>
 #include <stdio.h>
@@ -155,8 +156,9 @@ static void show(answer a, char behind) {
   else printf("%s%c", a.verdict, behind);
 }
 
-int main(void) {
+int main(int count, char **words) {
   static message m;
+  if (count == 2 && !strcmp(words[1], "version")) return puts(nghttp3_version(0)->version_str) < 0;
   while (read_message(&m)) {
     show(at_ours(&m), '\t');
     show(at_peer(&m), '\n');

@@ -81,7 +81,8 @@
  * call. A sum of bytes past 2^56 counts as out of memory too. After H3_KEPT the next delivery reads
  * what was taken, or the next pull of a stream that may still deliver something: not of one whose
  * pull returns H3_END or a fault of the stream again. If there is no such stream, pull
- * h3_control_id, which delivers nothing. h3_finish, h3_reset, h3_advance, h3_end_taken,
+ * h3_control_id, which delivers nothing. Until then h3_cancel and h3_close_stream of a stream of a
+ * session may be H3_MEMORY. h3_finish, h3_reset, h3_advance, h3_end_taken,
  * h3_outgoing, h3_next_to_send, h3_priority, h3_next_request_id, h3_next_unblocked, h3_next_event,
  * h3_first_unseen, h3_is_drained, the calls for datagrams and capsules, the states and h3_free take
  * no memory.
@@ -241,12 +242,17 @@
  * H3_END. A stream of the peer both ways is answered with h3_send_raw after its H3_SESSION. It may
  * come before the request of its session: keep it, or end it with
  * H3_CODE_WEBTRANSPORT_BUFFERED_STREAM_REJECTED.
- * When QUIC has closed a stream of a session call h3_close_stream: then nothing is kept of it, and
- * nothing more of it may be delivered. When a session ends, end all its streams:
+ * When QUIC has closed a stream of a session call h3_close_stream: what came on it and was not
+ * pulled is dropped, nothing is kept of it, and nothing more of it may be delivered. A client also
+ * calls it for each other stream both ways that its server opened (id % 4 is 1): no H3_SESSION came
+ * of one that ended before. A session is over once one side ends or resets its request's stream.
+ * Then end all its streams:
  *   for (uint64_t s = 0; !h3_next_of_session(&e, session, s, &s); s++)
  *     if (!h3_close_stream(&e, s, &stop_sending, &reset_stream, NULL)) .. send these frames with
  *       H3_CODE_WEBTRANSPORT_SESSION_GONE ..
  * An application resets a stream with a number of its own, which h3_webtransport_code makes a code.
+ * End sessions before h3_shutdown: after it a server rejects each stream both ways that its client
+ * opens, also of a session that goes on.
  *
  * WHAT IS PROVED, TESTED, TRUSTED: see crates/h3_c/README.md. You are trusted: pointers and lengths
  * are right, a handle is used as said above, malloc and realloc align to 16 bytes and belong to one
@@ -561,7 +567,12 @@ typedef struct {
   uint64_t sessions;                  /* whether streams of WebTransport sessions can be opened and
                                        * answered (1): see WEBTRANSPORT. It needs `webtransport`,
                                        * `extended_connect` and `datagram`: else H3_SETTING, with
-                                       * 0x2b603742. With 0 their bytes are only read */
+                                       * 0x2b603742, before any other refusal but H3_ARGUMENT. Then
+                                       * also without `strict_connection` 0x108 closes the
+                                       * connection if a session's id is that of no request stream.
+                                       * A client takes streams both ways of its server (RFC 9114,
+                                       * section 6.1), if they are of a session: any other closes it
+                                       * with 0x103. With 0 the bytes of sessions are only read */
 } h3_config;
 
 /* A client with limits for an untrusted peer: it takes field sections of at most 65,536 bytes, and
@@ -691,16 +702,20 @@ static inline uint32_t h3_finish(h3_endpoint *endpoint, uint64_t id, uint64_t *d
  * H3_NOT_OPEN, H3_ENDED (nothing is left to be sent: normal if both ends reset). */
 static inline uint32_t h3_reset(h3_endpoint *endpoint, uint64_t id, uint64_t *detail);
 
-/* You need nothing more of a request stream: what came on it is dropped; send STOP_SENDING. Every
- * later pull of it returns H3_FAULT_CANCELED. Refused, in this order: H3_ARGUMENT, H3_CLOSED,
- * H3_CRITICAL, H3_NOT_OPEN, H3_ENDED (its end was delivered, or it was canceled), H3_MEMORY. */
+/* You need nothing more of a request stream, or of the peer's half of a stream of a session: what
+ * came on it is dropped, and so is what still comes; send STOP_SENDING. Every later pull of it
+ * returns H3_FAULT_CANCELED. Refused, in this order: H3_ARGUMENT, H3_CLOSED, H3_CRITICAL,
+ * H3_NOT_OPEN (also a stream of a session on which only this side sends, or one of the peer that
+ * goes one way before its H3_SESSION), H3_ENDED (its end was pulled, its reset was delivered, or it
+ * was canceled), H3_MEMORY. */
 static inline uint32_t h3_cancel(h3_endpoint *endpoint, uint64_t id, uint64_t *detail);
 
 /* Ends a request stream both ways, as h3_cancel and then h3_reset do. A half that has ended stays
  * as it is, and is no refusal. *stop_sending is 1 if QUIC is to send STOP_SENDING, else 0, and
- * *reset_stream is 1 if it is to send RESET_STREAM, else 0: both with a code of your choice.
- * Refused, and neither is written, in this order: H3_ARGUMENT (id not below 2^62), H3_CLOSED,
- * H3_CRITICAL, H3_NOT_OPEN, H3_MEMORY. */
+ * *reset_stream is 1 if it is to send RESET_STREAM, else 0: both with a code of your choice. Of a
+ * stream of a session nothing is kept then: *reset_stream is 1 also if only its FIN waits, which it
+ * does until h3_end_taken. Refused, and neither is written, in this order: H3_ARGUMENT (id not
+ * below 2^62), H3_CLOSED, H3_CRITICAL, H3_NOT_OPEN, H3_MEMORY. */
 static inline uint32_t h3_close_stream(h3_endpoint *endpoint, uint64_t id, uint32_t *stop_sending,
                                        uint32_t *reset_stream, uint64_t *detail);
 
@@ -734,8 +749,8 @@ static inline uint32_t h3_first_unseen(h3_endpoint *endpoint, uint64_t *id);
  * the id of its last GOAWAY; at a client a GOAWAY came from its server); each request stream was
  * pulled to H3_END or a fault of the stream, was canceled, or its reset was delivered; each was
  * finished or reset; all that waited on it was taken, and h3_end_taken was called for its FIN;
- * nothing waits on the local control stream. A server that names an id above a request that never
- * comes stays at 0: so give shutting down a deadline.
+ * nothing waits on the local control stream, nor on a stream of a session. A server that names an
+ * id above a request that never comes stays at 0: so give shutting down a deadline.
  * If you never call h3_end_taken, it stays 0 once a message was finished. After a fault of the
  * connection it says nothing: close the connection. Takes no memory, and reads the streams that are
  * not over. */
@@ -1020,12 +1035,12 @@ static inline uint32_t h3_datagram_head(h3_endpoint *endpoint, uint64_t id, void
                                         size_t room, size_t *n, uint64_t *detail);
 
 /* An HTTP datagram came, as the payload of a QUIC DATAGRAM frame: *id is the stream of its request,
- * and its own payload is what follows the first *from bytes. Nothing is kept of it. Refused, in
- * this order: H3_CONNECTION (of an earlier fault), H3_NO_DATAGRAMS (a side announced none: drop
- * it), H3_CONNECTION (it is malformed: close the connection with `detail`), H3_AFTER_END (nothing
- * more is received on its stream: drop it), H3_NOT_OPEN (its stream is not there yet, or the peer's
- * settings have not come: drop it, or keep it for about a round trip and call again; *id is
- * written). */
+ * any that is open here, and its own payload is what follows the first *from bytes. Nothing is kept
+ * of it. Refused, in this order: H3_CONNECTION (of an earlier fault), H3_NO_DATAGRAMS (a side
+ * announced none: drop it), H3_CONNECTION (it is malformed: close the connection with `detail`),
+ * H3_AFTER_END (nothing more is received on its stream: drop it), H3_NOT_OPEN (its stream is not
+ * there yet, or the peer's settings have not come: drop it, or keep it for about a round trip and
+ * call again; *id is written). */
 static inline uint32_t h3_read_datagram(h3_endpoint *endpoint, const void *bytes, size_t len,
                                         uint64_t *id, size_t *from, uint64_t *detail);
 
@@ -1087,8 +1102,9 @@ static inline uint32_t h3_priority_read(const void *value, size_t len, uint32_t 
  * 19, .. of a server. QUIC opens the stream of this id. What it begins with waits on it.
  * Refused, in this order: H3_ARGUMENT (session not below 2^62; both_ways above 1), H3_CLOSED,
  * H3_NO_SESSIONS, H3_NOT_REQUEST_ID (session is no multiple of 4), H3_NOT_OPEN (on the session's
- * request no final header section was sent, or sending has ended), H3_GOING_AWAY (both ways, by a
- * client), H3_IDS_USED_UP, H3_MEMORY. */
+ * request no final header section was sent; or the session is over: sending on it has ended, or the
+ * peer's end or reset of it was delivered), H3_GOING_AWAY (both ways, by a client), H3_IDS_USED_UP,
+ * H3_MEMORY. */
 static inline uint32_t h3_open_session_stream(h3_endpoint *endpoint, uint64_t session,
                                               uint32_t both_ways, uint64_t *id, uint64_t *detail);
 
@@ -1099,8 +1115,9 @@ static inline uint32_t h3_send_raw(h3_endpoint *endpoint, uint64_t id, const voi
                                    size_t len, uint64_t *detail);
 
 /* The lowest id, `from` or above, of a stream of this session: each that was opened here, and each
- * of the peer's of which H3_SESSION was returned, until h3_close_stream. Refused, in this order:
- * H3_ARGUMENT (session not below 2^62), H3_NONE. Takes no memory. */
+ * of the peer's of which H3_SESSION was returned (at a client a stream both ways of its server once
+ * its first bytes came), until h3_close_stream. Refused, in this order: H3_ARGUMENT (session not
+ * below 2^62), H3_NONE. Takes no memory. */
 static inline uint32_t h3_next_of_session(h3_endpoint *endpoint, uint64_t session, uint64_t from,
                                           uint64_t *id);
 

@@ -181,7 +181,7 @@ func connect(trusted string, place *url.URL) (*Connection, error) {
 	}
 	session, err := dial(context.Background(), place.Host, config, settings)
 	if err != nil {
-		return nil, err
+		return nil, fmt.Errorf("no connection: %w", err)
 	}
 	return NewConnection(session, nil, 0)
 }

@@ -37,5 +37,6 @@ fuzz() { # NAME LONGEST FLAGS..
 
 bad=0
 fuzz calls 1200 -Wl,--wrap=malloc,--wrap=realloc
+fuzz sessions 1200 -Wl,--wrap=malloc,--wrap=realloc
 fuzz bytes 600
 exit "$bad"

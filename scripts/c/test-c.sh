@@ -8,7 +8,8 @@
 # (scripts/dist/test-packed.sh). One line 'ok NAME' or 'failed NAME'
 # for each; the last is the sum. With LIB=FOLDER the library in that folder is taken, as that of `make lib-unproved`, and none is built.
 # Beside these: lists between two endpoints with the defaults, frames above the limit, cancellations, early and in floods, what `detail`
-# says, what is done on ends that are drained, COUNT=60000 pairs of random programs (in C++), and a short run of the fuzzers (scripts/c/fuzz.sh).
+# says, what is done on ends that are drained, what streams of sessions cost that are over, COUNT=60000 pairs of random programs and a twentieth
+# of them with sessions (in C++), and a short run of the fuzzers (scripts/c/fuzz.sh).
 set -uo pipefail
 cd "$(dirname "$0")/../.."
 
@@ -73,14 +74,22 @@ by_valgrind() {
   done
 }
 
-# random programs of two endpoints, in C++; COUNT=60000 of them
-programs() {
-  if "$cxx" -std=c++17 -O1 -g -Wall -Wextra -Werror "${refusing[@]}" -o "$out/programs" tests/c/programs.cc "${libs[@]}"; then
-    run programs "$out/programs" 1 "${COUNT:-60000}"
+# so many random programs of two endpoints, in C++
+random_programs() { # NAME OUT COUNT FLAGS..
+  local name=$1 to=$2 count=$3
+  shift 3
+  if "$cxx" -std=c++17 -O1 -g -Wall -Wextra -Werror "${refusing[@]}" "$@" -o "$out/$to" "tests/c/$name.cc" "${libs[@]}"; then
+    run "$to" "$out/$to" 1 "$count"
   else
-    echo "failed programs: it was not compiled"
+    echo "failed $to: it was not compiled"
     bad=1
   fi
+}
+
+# COUNT=60000 of them, and fewer with sessions
+programs() {
+  random_programs programs programs "${COUNT:-60000}"
+  random_programs session_programs session_programs $((${COUNT:-60000} / 20))
 }
 
 # the frames of the WebSockets of examples/c, where the library wslay is there, once as they are and once with the sanitizers
@@ -178,6 +187,7 @@ checks() {
   compile streams streams "${refusing[@]}"
   compile drained drained "${refusing[@]}"
   compile over_streams over_streams "${wrapped[@]}"
+  compile over_sessions over_sessions "${wrapped[@]}"
   compile datagrams datagrams
   compile lists lists
   compile never_indexed never_indexed
@@ -215,6 +225,7 @@ checks() {
     run streams "$out/streams"
     run drained "$out/drained" 0 10000
     run "streams that are over" "$out/over_streams"
+    run "streams of sessions that are over" "$out/over_sessions"
     run datagrams "$out/datagrams"
     websocket_frames
     programs
@@ -268,6 +279,7 @@ checks() {
       run "sessions with sanitizers" "$out/sessions_checked"
       run "remembered settings with sanitizers" "$out/remembered_settings_checked"
       run "datagrams with sanitizers" "$out/datagrams_checked"
+      random_programs session_programs session_programs_checked 300 "${flags[@]}"
       printed "$out/in_memory_checked" tests/c/in_memory.stdout "in_memory with sanitizers"
     printed "$out/quickstart_checked" examples/quickstart.stdout "quickstart with sanitizers"
     fi

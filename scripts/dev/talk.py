@@ -4,6 +4,7 @@ wider language, and h3_cases is run (crates/h3_cases/README.md, "Scripts").
 
     talk.py [SCRIPT]             the answers to a script (standard input: none), a line each, as the program writes them; its status
     talk.py --expand [SCRIPT]    the script with numbers in the place of `all` in lines `deliver SIDE ID all`; nothing is run
+    talk.py --program NAME       the path of the program NAME, which is compiled first where none is there; nothing is run
     talk.py --help               this, and the language
 
 Standard output and the status are the program's to the byte: 0, 1 where a line is refused (`line N` is written), 2 where a read or write failed or
@@ -179,13 +180,17 @@ exit 1
     return kept
 
 
+def program_of(name):
+    """the program of this name: the proved one, else one that was compiled without its proofs"""
+    places = (f"{ROOT}/crates/{name}/out/{name}", f"{ROOT}/build/unproved/{name}")
+    return next((it for it in places if is_later(it)), None) or compiled(name)
+
+
 def run(script):
     """the status of the program, which has written its answers"""
     first = next((it for it in script.split(b"\n") if says(it)), b"")
     name = "h3_cases" if first.startswith(b"config ") and b"/" in first else "h3_talk"
-    places = (f"{ROOT}/crates/{name}/out/{name}", f"{ROOT}/build/unproved/{name}")
-    program = next((it for it in places if is_later(it)), None) or compiled(name)
-    ran = subprocess.run([program], input=script, stdout=subprocess.PIPE, check=False)
+    ran = subprocess.run([program_of(name)], input=script, stdout=subprocess.PIPE, check=False)
     sys.stdout.buffer.write(ran.stdout)
     sys.stdout.flush()
     refused = re.fullmatch(rb"line ([0-9]+)\n", ran.stdout)
@@ -198,6 +203,9 @@ def main():
     words = sys.argv[1:]
     if words and words[0] in ("--help", "-h"):
         print(__doc__)
+        return 0
+    if words[:1] == ["--program"] and len(words) == 2 and os.path.isdir(f"{ROOT}/crates/{words[1]}"):
+        print(program_of(words[1]))
         return 0
     is_expanding = words[:1] == ["--expand"]
     files = words[1:] if is_expanding else words

@@ -21,11 +21,12 @@ TOP = os.path.dirname(os.path.dirname(os.path.dirname(os.path.abspath(__file__))
 CRATES = f"{TOP}/crates"
 CONTRACT = f"{CRATES}/h3_session/src/run.rt"
 # The parts: their headings, and from which names each part goes on, a name with dots by its module. The last one takes what is left.
-OF_LISTS = "h3_world.specs.Lists"
+OF_LISTS = "h3_connection.specs.Lists"
+WORLD_LISTS = "h3_world.specs.Lists"
 PARTS = (
-    ("## How a list of fields is read", (f"{OF_LISTS}.as_flagged", f"{OF_LISTS}.pull_of")),
+    ("## How a list of fields is read", (f"{WORLD_LISTS}.as_flagged", f"{OF_LISTS}.pull_of")),
     ("## All that it rests on", ("Faithful", "AreSmall")),
-    ("## Which lists are malformed", (f"{OF_LISTS}.unreadable", f"{OF_LISTS}.list_of")),
+    ("## Which lists are malformed", (f"{WORLD_LISTS}.unreadable", f"{OF_LISTS}.list_of")),
     ("## What is answered", ("Run", "Happens", "empty_world", "ArePlain")),
     ("## The endpoints that are returned", ("RunsInWorld",)),
     ("## What each call leaves", ("RunsByCalls", "new_ends")),

@@ -30,7 +30,7 @@ import unproved  # noqa: E402
 
 BUILD = f"{ROOT}/build/witness"
 WHOLE = "witness"  # the program that is built: the crates that it calls, as in crates.txt
-CALLS = "h3_c h3_cases h3_talk h3_script h3_session h3_world h3_requests h3_blocked h3_incoming h3_connection h3_capsule h3_unidirectional h3_streams h3_qpack h3_header h3_field h3_huffman h3_coding h3_proto h3_wire h3_messages hex bytes"
+CALLS = "h3_c h3_cases h3_talk h3_script h3_session h3_world h3_requests h3_blocked h3_incoming h3_connection h3_capsule h3_unidirectional h3_streams h3_qpack h3_header h3_field h3_huffman h3_coding h3_proto h3_frames h3_wire h3_messages hex bytes"
 PROGRAMS = ("layers", "cases", "talk")  # by their numbers in it; the library for C is behind them
 SECONDS = 3600
 SWITCH = """//! Which wrong body runs, and at the top which program.

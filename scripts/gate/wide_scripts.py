@@ -86,7 +86,7 @@ def numbers(program):
         body = re.search(r"fn default\(\) -> Self \{\s*GivenConfig \{(.*?)\}", file.read(), re.S).group(1)
     theirs = {name: eval(value) for name, value in re.findall(r"(\w+): ([0-9< ]+),", body)}  # a number, or 1 << 16
     with open(f"{ROOT}/crates/h3_cases/src/choices.rt", encoding="utf8") as file:
-        words = re.search(r'const DEFAULT: &str =\s+"(.*?)";', file.read()).group(1).split()
+        words = re.search(r'const DEFAULT: &str =\s+"(.*?)";', file.read(), re.S).group(1).replace("\\\n", " ").split()
     ours = {name: int(value or 1) for name, _, value in (word.partition("=") for word in words)}
     return judged("`default` is what h3_config_default has", ours == {name: value for name, value in theirs.items() if value or name in ours})
 

@@ -203,6 +203,9 @@ aioquic_cases() { # which of aio_files.py, the server's name, PORT
 }
 page_is_seen() { "$1" "$2" / && saw "image 64 x 48" "small 100" "protocols h3 of .*"; } # COMMAND that has a browser see pages, PORT
 transfers_are_seen() { "$1" "$2" "/transfers.html?urgent=/20000000&others=/10000000" && saw "upload aborted"; }
+# of the page that was seen last, or of another try: on a busy machine the page may learn late which of five transfers of a second was whole first. A server that
+# knows no urgency has all four before it each time.
+urgent_is_seen() { saw "$3" || { transfers_are_seen "$1" "$2" && saw "$3"; }; } # COMMAND, PORT, LINE
 browser() { # its name, COMMAND, the server's name, PORT, and what else is to be seen of an urgent response
   local name="$1, $3"
   check "$name: a page with an image, and 100 requests at once" page_is_seen "$2" "$4"
@@ -214,7 +217,7 @@ browser() { # its name, COMMAND, the server's name, PORT, and what else is to be
   check "$name: HEAD, and no such file" saw "none 404" "head 200 10000000"
   check "$name: 500 requests in turn" saw "serial 500"
   check "$name: nothing by another version of HTTP" saw "then h3"
-  [ -z "${5:-}" ] || check "$name: an urgent response of 20 MB before most of four of 10 MB" saw "$5"
+  [ -z "${5:-}" ] || check "$name: an urgent response of 20 MB before most of four of 10 MB" urgent_is_seen "$2" "$4" "$5"
 }
 has_trailer() { # PORT: what our client says of a response with a trailer
   : > "$work/log"

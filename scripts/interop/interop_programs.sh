@@ -265,25 +265,32 @@ check "serve: SETTINGS come before the bodies, over 300 KB a second" settings_co
 
 # ---- what is urgent ----
 
-urgent_ms() { # PORT, ARGUMENTS..: the median of five, since the queue of the narrow way is longer at some times than at others
-  local _ times=() port=$1
-  shift
+URGENT_LIMIT=200000 # twice what the narrow way holds: a response that takes turns with the 20 has a million bytes of theirs before it
+urgent() { # NAME, PORT of a narrow way, ARGUMENTS..: the bytes of others that come before it, the median of five; the milliseconds are said, and judged by none
+  local name=$1 port=$2 _ bytes=() times=() of ms
+  shift 2
   for _ in 1 2 3 4 5; do
     works "$work/urgent" "$port" "$cert" "$@" || return 1
-    times+=("$(cat "$work/got")")
+    read -r of ms < "$work/got"
+    bytes+=("$of")
+    times+=("$ms")
   done
-  printf '%s\n' "${times[@]}" | sort -n | sed -n 3p
+  of=$(printf '%s\n' "${bytes[@]}" | sort -n | sed -n 3p)
+  ms=$(printf '%s\n' "${times[@]}" | sort -n | sed -n 3p)
+  echo "$name: an urgent response of 50 KB behind $of bytes of the others, after $ms ms" | tee -a "$work/log"
+  [ "$of" -le $URGENT_LIMIT ]
 }
-urgent_as_soon() { # PORT of ours, PORT of the other, over narrow ways
-  local ours theirs updated
-  theirs=$(urgent_ms "$2") && ours=$(urgent_ms "$1") && updated=$(urgent_ms "$1" updated) || return 1
-  echo "an urgent response of 50 KB after $ours ms, by PRIORITY_UPDATE after $updated ms, by gtlsserver after $theirs ms" | tee -a "$work/log"
-  [ $((10 * ours)) -le $((12 * theirs)) ] && [ $((10 * updated)) -le $((12 * theirs)) ]
+not_urgent() { # PORT of a narrow way: the same response, as the others, comes behind most of them
+  works "$work/urgent" "$1" "$cert" usual && cp "$work/got" "$work/log" && [ "$(cut -d' ' -f1 "$work/got")" -gt $((5 * URGENT_LIMIT)) ]
 }
 start "${ports[16]}" gtls.log gtlsserver -q -d "$folder" 127.0.0.1 "${ports[16]}" "$key" "$cert"
 start "${ports[17]}" slow_ours.log python3 scripts/interop/narrow.py "${ports[17]}" "${ports[4]}" 500000
 start "${ports[18]}" slow_gtls.log python3 scripts/interop/narrow.py "${ports[18]}" "${ports[16]}" 500000
-check "serve: an urgent response beside 20 downloads over 500 KB a second, by its field and by PRIORITY_UPDATE, as soon as by gtlsserver" urgent_as_soon "${ports[17]}" "${ports[18]}"
+beside="beside 20 downloads over 500 KB a second: at most 200,000 bytes of them come before it is whole"
+check "gtlsserver: an urgent response, by its field, $beside" urgent "gtlsserver, by its field" "${ports[18]}"
+check "serve: an urgent response, by its field, $beside" urgent "serve, by its field" "${ports[17]}"
+check "serve: an urgent response, by PRIORITY_UPDATE, $beside" urgent "serve, by PRIORITY_UPDATE" "${ports[17]}" updated
+check "serve: the same response, as urgent as they are: a million bytes of them come before it is whole" not_urgent "${ports[17]}"
 
 # ---- WebSockets ----
 

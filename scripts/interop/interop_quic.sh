@@ -133,18 +133,22 @@ second_signal() { # PORT, PROCESS of the server
 peak() { # its PROCESS, and not that of `timeout`, whose child it is
   sed -n 's/^VmHWM:[^0-9]*\([0-9]*\) kB/\1/p' "/proc/$1/status"
 }
-# 10,000 requests that are reset behind their heads: a bound for the processor time of the server, in hundredths of a second, and for the memory
-# that it grows by, in MiB. Go's heap grows by 7 to 20 MiB, from run to run, and by no more than 23 if there are four times as many resets.
-resets() { # PORT, PROCESS of the server, which is a child of `timeout`, MIB
-  local server before after
+# 40,000 requests that are reset behind their heads: a bound for the processor time of the server, in hundredths of a second, and for the memory that it
+# grows by, in MiB. Nothing is kept of them: what a server grows by has to be the same for any number. Go's heap grows to twice what is in use, in which
+# 100 requests at once have up to 9 MB, and a third bound is for what its collections leave, in MB: GODEBUG=gctrace=1 says it in LOG.
+resets() { # PORT, PROCESS of the server, which is a child of `timeout`, MIB, and for Go LOG
+  local server before after live=0
   read -r server < "/proc/$2/task/$2/children"
   used() { echo $(($(cut -d' ' -f14,15 "/proc/$server/stat" | tr ' ' '+'))); }
   works "$peer" resets "$cert" 1 "localhost:$1" || return 1
   before=($(used) $(peak "$server"))
-  works "$peer" resets "$cert" 10000 "localhost:$1" && grep -q "^10000 reset, then [1-9]" "$work/got" || return 1
+  works "$peer" resets "$cert" 40000 "localhost:$1" && grep -q "^40000 reset, then [1-9]" "$work/got" || return 1
   after=($(used) $(peak "$server"))
-  echo "$((after[0] - before[0])) hundredths of a second, $((after[1] - before[1])) KiB" | tee "$work/log" > "$work/measured"
-  [ $((after[0] - before[0])) -le 200 ] && [ $((after[1] - before[1])) -le $((1024 * $3)) ]
+  if [ -n "${4:-}" ]; then # the least of the last five: the others came while requests were under way
+    live=$(grep -aoE '[0-9]+->[0-9]+->[0-9]+ MB' "$work/$4" | tail -n 5 | sed -E 's/.*>([0-9]+) MB/\1/' | sort -n | head -n 1)
+  fi
+  echo "$((after[0] - before[0])) hundredths of a second, $((after[1] - before[1])) KiB${4:+, ${live:-no} MB in use}" | tee "$work/log"
+  [ $((after[0] - before[0])) -le 800 ] && [ $((after[1] - before[1])) -le $((1024 * $3)) ] && [ "${live:-99}" -le 8 ]
 }
 # Frames and instructions that never end, each on a connection of its own: the server grows by 16 MiB at most. Of none more than 1 MiB goes out, since there
 # is no credit for what is held, but of frames of an unknown type, which are thrown away as they come.
@@ -273,7 +277,7 @@ start "${ports[0]}" serve2.log "$serve" --requests 150 127.0.0.1 "${ports[0]}" "
 limits serve "${ports[0]}" "$last"
 check "serve: no leak and no error of memory behind its limits" is_silent serve2.log
 start "${ports[13]}" serve3.log "$work/plain/serve" 127.0.0.1 "${ports[13]}" "$cert" "$key" "$folder"
-check "serve: 10,000 resets within 2 s of processor and 16 MiB" resets "${ports[13]}" "$last" 16
+check "serve: 40,000 resets within 8 s of processor and 4 MiB" resets "${ports[13]}" "$last" 4
 check "serve: frames and instructions that never end, within 16 MiB" floods "${ports[13]}" "$last"
 check "serve: the second signal ends it at once" second_signal "${ports[13]}" "$last"
 
@@ -288,8 +292,8 @@ check "Go server: no panic" is_silent h3go.log
 start "${ports[1]}" h3go2.log "$work/h3go" serve -requests 150 "127.0.0.1:${ports[1]}" "$cert" "$key" "$folder"
 limits "Go server" "${ports[1]}" "$last"
 check "Go server: no panic behind its limits" is_silent h3go2.log
-start "${ports[14]}" h3go3.log "$work/h3go" serve "127.0.0.1:${ports[14]}" "$cert" "$key" "$folder"
-check "Go server: 10,000 resets within 2 s of processor and 32 MiB" resets "${ports[14]}" "$last" 32
+start "${ports[14]}" h3go3.log env GODEBUG=gctrace=1 "$work/h3go" serve "127.0.0.1:${ports[14]}" "$cert" "$key" "$folder"
+check "Go server: 40,000 resets within 8 s of processor and 32 MiB, of which 8 MB are in use behind them" resets "${ports[14]}" "$last" 32 h3go3.log
 check "Go server: frames and instructions that never end, within 16 MiB" floods "${ports[14]}" "$last"
 check "Go server: the second signal ends it at once" second_signal "${ports[14]}" "$last"
 

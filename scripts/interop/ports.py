@@ -1,21 +1,29 @@
-"""ports.py COUNT: so many ports of 127.0.0.1 that are free for UDP and TCP, a line each."""
+"""ports.py COUNT: so many ports of 127.0.0.1 that are free for UDP and TCP, a line each. They lie below those that Linux gives to clients, so that no client takes
+one before its server does: from the number in PORTS on, or by chance."""
+import itertools
+import os
+import random
 import socket
 import sys
 
+LOWEST, HIGHEST = 20000, 32767
 
-def free_port(held):
-    while True:
-        udp = socket.socket(socket.AF_INET, socket.SOCK_DGRAM)
-        udp.bind(("127.0.0.1", 0))
-        tcp = socket.socket(socket.AF_INET, socket.SOCK_STREAM)
-        held += [udp, tcp]
+
+def is_free(port):
+    with socket.socket(socket.AF_INET, socket.SOCK_DGRAM) as udp, socket.socket(socket.AF_INET, socket.SOCK_STREAM) as tcp:
         try:
-            tcp.bind(("127.0.0.1", udp.getsockname()[1]))
-            return udp.getsockname()[1]
+            udp.bind(("127.0.0.1", port))
+            tcp.bind(("127.0.0.1", port))
         except OSError:
-            continue
+            return False
+    return True
 
 
-sockets = []
-for _ in range(int(sys.argv[1])):
-    print(free_port(sockets))
+def main():
+    count = int(sys.argv[1])
+    first = int(os.environ.get("PORTS") or random.randrange(LOWEST, HIGHEST - 20 * count))
+    for port in itertools.islice(filter(is_free, range(first, HIGHEST)), count):
+        print(port)
+
+
+main()

@@ -67,16 +67,6 @@ compile_example() {
     --config 'source.crates-io.replace-with=\"debian\"' --config 'source.debian.directory=\"/usr/share/cargo/registry\"'" >&2
 }
 
-# our program: the proved one, or, where a source is newer, the same built without proof (rt try), some minutes
-ours() {
-  local program=crates/h3_cases/out/h3_cases
-  if [ -x "$program" ] && [ -z "$(find crates -name '*.rt' -newer "$program" -print -quit)" ]; then
-    echo "$program"
-  else
-    echo "sh -c 'cd crates/h3_cases && exec rt try'"
-  fi
-}
-
 case ${1:-} in
   root) make_root ;;
   there) has_crate ;;
@@ -86,6 +76,8 @@ case ${1:-} in
   example) compile_example "$2" ;;
   *)
     compile upstream
-    python3 scripts/interop/upstream.py "chroot $root /root/upstream/target/release/upstream" "${OURS:-$(ours)}"
+    ours=${OURS:-$(python3 scripts/dev/talk.py --program h3_cases)} # the proved program, or one that is compiled without its proofs
+    echo "ours: $ours"
+    python3 scripts/interop/upstream.py "chroot $root /root/upstream/target/release/upstream" "$ours"
     ;;
 esac

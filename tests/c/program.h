@@ -222,6 +222,10 @@ Program::Program(uint64_t seed)
     sides_[below(2)].config.webtransport = 1;
     sides_[below(2)].config.webtransport = 1;
   }
+  for (Side &side : sides_) { // with the choice of sessions all is as without it
+    h3_config &config = side.config;
+    config.sessions = config.webtransport && config.datagram && config.extended_connect && seed / 4 % 2;
+  }
   if (seed % 4 != 0) sides_[1].config.strict = sides_[0].config.strict;
   is_alike_ = sides_[0].config.strict == sides_[1].config.strict;
   for (Side &side : sides_)

@@ -357,6 +357,190 @@ static void of_ends(void) {
   drop();
 }
 
+static uint64_t unread(int side, uint64_t id) {
+  h3_stream_state state;
+  IS(h3_stream(&ends[side], id, &state), H3_OK);
+  return state.unread;
+}
+
+static void closes(int side, uint64_t id, uint32_t stop_is, uint32_t reset_is) {
+  uint32_t stop = 99, reset = 99;
+  IS(h3_close_stream(&ends[side], id, &stop, &reset, NULL), H3_OK);
+  HOLDS(stop == stop_is && reset == reset_is);
+  HOLDS(next_to_send(side, id) != id && unread(side, id) == 0);
+}
+
+/* a stream of the peer that was opened for session 0, and these bytes came on it */
+static uint64_t comes(int side, uint32_t both, const char *bytes, size_t len) {
+  uint64_t id = opened(!side, 0, both);
+  carry(!side, id);
+  tells(side, id, 0);
+  IS(h3_deliver(&ends[side], id, bytes, len, NULL), H3_OK);
+  HOLDS(unread(side, id) == len);
+  return id;
+}
+
+/* what came and was not pulled goes with its stream, also behind its end */
+static void of_dropped(void) {
+  for (int side = 0; side < 2; side++)
+    for (uint32_t both = 0; both < 2; both++)
+      for (int end = 0; end < 2; end++) {
+        make_both(1);
+        HOLDS(begin() == 0);
+        uint64_t id = comes(side, both, BYTES("all of this"));
+        if (end) IS(h3_deliver_end(&ends[side], id, NULL), H3_OK);
+        closes(side, id, !end, both);
+        HOLDS(pull(side, id).kind != H3_RAW && next_of_session(side, 0, 0) == 99);
+        if (side == SERVER || !both) IS(h3_deliver(&ends[side], id, "more", 4, NULL), H3_AFTER_END); /* so nothing waits for its end */
+        drop();
+      }
+}
+
+/* nothing is kept of a stream that was closed: where QUIC did not take its FIN it is to be reset */
+static void of_cut(void) {
+  make_both(1);
+  HOLDS(begin() == 0);
+  for (uint32_t both = 0; both < 2; both++) {
+    uint64_t id = opened(CLIENT, 0, both);
+    IS(h3_finish(&ends[CLIENT], id, NULL), H3_OK);
+    closes(CLIENT, id, both, 1); /* its front waits too */
+    id = opened(CLIENT, 0, both);
+    carry(CLIENT, id);
+    IS(h3_finish(&ends[CLIENT], id, NULL), H3_OK);
+    HOLDS(next_to_send(CLIENT, id) == id);
+    closes(CLIENT, id, both, 1);
+    id = opened(CLIENT, 0, both);
+    carry(CLIENT, id);
+    IS(h3_finish(&ends[CLIENT], id, NULL), H3_OK);
+    IS(h3_end_taken(&ends[CLIENT], id), H3_OK);
+    closes(CLIENT, id, both, 0);
+    id = opened(CLIENT, 0, both);
+    IS(h3_reset(&ends[CLIENT], id, NULL), H3_OK);
+    closes(CLIENT, id, both, 0);
+  }
+  drop();
+}
+
+/* a stream of the peer is canceled as a request is, whichever way it goes */
+static void of_canceled(void) {
+  for (int side = 0; side < 2; side++)
+    for (uint32_t both = 0; both < 2; both++) {
+      make_both(1);
+      HOLDS(begin() == 0);
+      uint64_t id = comes(side, both, BYTES("all of this"));
+      IS(h3_cancel(&ends[side], id, NULL), H3_OK);
+      HOLDS(unread(side, id) == 0 && next_of_session(side, 0, 0) == id);
+      IS(pull(side, id).kind, H3_FAULT_CANCELED);
+      IS(h3_cancel(&ends[side], id, NULL), H3_ENDED);
+      IS(h3_deliver(&ends[side], id, "more", 4, NULL), H3_OK);
+      HOLDS(unread(side, id) == 0);
+      IS(h3_deliver_end(&ends[side], id, NULL), H3_OK);
+      IS(h3_deliver(&ends[side], id, "more", 4, NULL), H3_AFTER_END);
+      IS(pull(side, id).kind, H3_FAULT_CANCELED);
+      IS(h3_cancel(&ends[side], id, NULL), H3_ENDED);
+      closes(side, id, 0, both);
+      /* its end came, and was not pulled */
+      id = comes(side, both, BYTES("all of this"));
+      IS(h3_deliver_end(&ends[side], id, NULL), H3_OK);
+      IS(h3_cancel(&ends[side], id, NULL), H3_OK);
+      HOLDS(unread(side, id) == 0);
+      IS(h3_deliver(&ends[side], id, "more", 4, NULL), H3_AFTER_END);
+      IS(pull(side, id).kind, H3_FAULT_CANCELED);
+      closes(side, id, 0, both);
+      /* it was pulled, or a reset came */
+      id = comes(side, both, "", 0);
+      IS(h3_deliver_end(&ends[side], id, NULL), H3_OK);
+      IS(pull(side, id).kind, H3_END);
+      IS(h3_cancel(&ends[side], id, NULL), H3_ENDED);
+      closes(side, id, 0, both);
+      id = comes(side, both, BYTES("all of this"));
+      IS(h3_deliver_reset(&ends[side], id, 7, NULL), H3_OK);
+      IS(h3_cancel(&ends[side], id, NULL), H3_ENDED);
+      closes(side, id, 0, both);
+      /* one of this side alone */
+      id = opened(side, 0, 0);
+      IS(h3_cancel(&ends[side], id, NULL), H3_NOT_OPEN);
+      IS(h3_cancel(&ends[side], id + 4, NULL), H3_NOT_OPEN);
+      drop();
+    }
+}
+
+static uint32_t drained(int side) {
+  uint32_t is = 99;
+  IS(h3_is_drained(&ends[side], &is), H3_OK);
+  return is;
+}
+
+/* what waits on a stream of a session keeps a connection from being drained */
+static void of_drained(void) {
+  uint64_t ids[2];
+  make_both(1);
+  HOLDS(begin() == 0);
+  for (int side = 0; side < 2; side++) ids[side] = opened(side, 0, 0);
+  for (int side = 0; side < 2; side++) {
+    IS(h3_finish(&ends[side], 0, NULL), H3_OK);
+    carry(side, 0);
+    IS(h3_end_taken(&ends[side], 0), H3_OK);
+    IS(pull(!side, 0).kind, H3_END);
+  }
+  IS(h3_shutdown(&ends[SERVER], NULL), H3_OK);
+  carry_own();
+  for (int side = 0; side < 2; side++) {
+    HOLDS(drained(side) == 0);
+    carry(side, ids[side]);
+    HOLDS(drained(side) == 1);
+    IS(h3_finish(&ends[side], ids[side], NULL), H3_OK);
+    HOLDS(drained(side) == 0);
+    IS(h3_end_taken(&ends[side], ids[side]), H3_OK);
+    HOLDS(drained(side) == 1);
+  }
+  drop();
+}
+
+/* behind a fault of the connection nothing counts as unread */
+static void of_unread(void) {
+  make_both(1);
+  HOLDS(begin() == 0);
+  uint64_t both = comes(CLIENT, 1, BYTES("raw")), one = comes(CLIENT, 0, BYTES("raw"));
+  IS(h3_deliver(&ends[CLIENT], both + 4, "\x00\x00", 2, NULL), H3_CONNECTION);
+  HOLDS(unread(CLIENT, both) == 0 && unread(CLIENT, one) == 0);
+  drop();
+}
+
+/* a session is over once either side ends or resets its request's stream: no stream is opened then */
+static void of_over(void) {
+  for (int side = 0; side < 2; side++)
+    for (int reset = 0; reset < 2; reset++)
+      for (int own = 0; own < 2; own++) {
+        uint64_t id = 99;
+        int ends_it = own ? side : !side;
+        make_both(1);
+        HOLDS(begin() == 0);
+        IS((reset ? h3_reset : h3_finish)(&ends[ends_it], 0, NULL), H3_OK);
+        if (!own) IS(reset ? h3_deliver_reset(&ends[side], 0, 7, NULL) : h3_deliver_end(&ends[side], 0, NULL), H3_OK);
+        for (uint32_t both = 0; both < 2; both++) IS(h3_open_session_stream(&ends[side], 0, both, &id, NULL), H3_NOT_OPEN);
+        HOLDS(id == 99);
+        drop();
+      }
+}
+
+/* a half that was reset before it is known to be a session's stays so */
+static void of_reset_before(void) {
+  h3_stream_state state;
+  make_both(1);
+  HOLDS(begin() == 0);
+  uint64_t id = opened(CLIENT, 0, 1);
+  carry(CLIENT, id);
+  IS(h3_reset(&ends[SERVER], id, NULL), H3_OK);
+  tells(SERVER, id, 0);
+  IS(h3_stream(&ends[SERVER], id, &state), H3_OK);
+  HOLDS(state.is_reset == 1 && state.has_outgoing == 1);
+  IS(h3_send_raw(&ends[SERVER], id, "x", 1, NULL), H3_OUT_OF_ORDER);
+  IS(h3_reset(&ends[SERVER], id, NULL), H3_ENDED);
+  closes(SERVER, id, 1, 0);
+  drop();
+}
+
 static uint64_t next_by_priority(int side) {
   uint64_t id = 99;
   uint32_t n = h3_next_by_priority(&ends[side], &id);
@@ -365,7 +549,7 @@ static uint64_t next_by_priority(int side) {
 }
 
 static void of_turns(void) {
-  static const uint64_t turns[] = {4, 8, 12, 8, 14, 8, 4, 8, 12, 8}; /* bytes of a request were taken before */
+  static const uint64_t turns[] = {14, 8, 12, 8, 4, 8, 14, 8, 12, 8}; /* bytes of a request were taken before */
   make_both(1);
   HOLDS(begin() == 0);
   uint64_t a = opened(CLIENT, 0, 1), request = 99, b, c = opened(CLIENT, 0, 0);
@@ -383,13 +567,22 @@ static void of_turns(void) {
     IS(h3_advance(&ends[CLIENT], id, 1), H3_OK);
   }
   IS(h3_hold(&ends[CLIENT], 8, 1, NULL), H3_OK);
-  HOLDS(next_by_priority(CLIENT) == 14);
-  IS(h3_hold(&ends[CLIENT], 14, 1, NULL), H3_OK);
   HOLDS(next_by_priority(CLIENT) == 4);
-  IS(h3_hold(&ends[CLIENT], 14, 0, NULL), H3_OK);
+  IS(h3_hold(&ends[CLIENT], 4, 1, NULL), H3_OK);
   HOLDS(next_by_priority(CLIENT) == 14);
+  IS(h3_hold(&ends[CLIENT], 4, 0, NULL), H3_OK);
+  HOLDS(next_by_priority(CLIENT) == 4);
   IS(h3_hold(&ends[CLIENT], 18, 1, NULL), H3_NOT_OPEN);
   IS(h3_advance(&ends[CLIENT], 14, 100), H3_ARGUMENT);
+  /* while new streams keep coming: of those that were there each has its turn again within four */
+  IS(h3_advance(&ends[CLIENT], 4, 1), H3_OK);
+  for (size_t i = 0; i < 4; i++) {
+    static const uint64_t round[] = {18, 14, 12, 4};
+    HOLDS(opened(CLIENT, 0, 0) == 18 + 4 * i);
+    uint64_t id = next_by_priority(CLIENT);
+    HOLDS(id == round[i]);
+    IS(h3_advance(&ends[CLIENT], id, 1), H3_OK);
+  }
   drop();
 }
 
@@ -411,8 +604,8 @@ static void of_codes(void) {
 
 /* each allocation that a call makes fails once: it says so, and then it is as if it had not been called */
 static void of_memory(void) {
-  for (int64_t fails = 0; fails < 6; fails++) {
-    uint64_t id = 99;
+  for (int64_t fails = 0; fails < 10; fails++) {
+    uint64_t id = 99, named = 99;
     make_both(1);
     HOLDS(begin() == 0);
     left = fails;
@@ -431,7 +624,19 @@ static void of_memory(void) {
       IS(h3_send_raw(&ends[CLIENT], 4, "raw", 3, NULL), H3_OK);
     }
     waits(CLIENT, 4, BYTES("\x40\x41\x00raw"));
+    IS(h3_next_to_send(&ends[CLIENT], 3, &named), H3_OK);
+    HOLDS(named == 4);
     carry(CLIENT, 4);
+    HOLDS(h3_next_to_send(&ends[CLIENT], 3, &named) == H3_NONE || named != 4);
+    HOLDS(opened(CLIENT, 0, 0) == 14 && opened(CLIENT, 0, 0) == 18);
+    IS(h3_next_to_send(&ends[CLIENT], 12, &named), H3_OK);
+    HOLDS(named == 14);
+    for (named = next_by_priority(CLIENT); named % 4 == 2 && named < 14; named = next_by_priority(CLIENT)) carry(CLIENT, named);
+    HOLDS(named == 18);
+    IS(h3_advance(&ends[CLIENT], 18, 1), H3_OK);
+    HOLDS(next_by_priority(CLIENT) == 14);
+    IS(h3_advance(&ends[CLIENT], 14, 1), H3_OK);
+    HOLDS(next_by_priority(CLIENT) == 18);
     left = fails;
     h3_item item = pull(SERVER, 4);
     left = -1;
@@ -501,6 +706,13 @@ int main(void) {
   of_pieces();
   of_faults();
   of_ends();
+  of_dropped();
+  of_cut();
+  of_canceled();
+  of_drained();
+  of_unread();
+  of_over();
+  of_reset_before();
   of_turns();
   of_codes();
   of_memory();

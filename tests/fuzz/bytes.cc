@@ -26,10 +26,12 @@ void need(bool holds, const char *what) {
   abort();
 }
 
-// the streams that a peer may send on: requests, its control, encoder and decoder stream, and one more
-uint64_t stream_of(uint8_t byte, bool is_server) {
+// The streams that a peer may send on: requests, its control, encoder and decoder stream, and one more. With sessions a server also opens
+// streams both ways.
+uint64_t stream_of(uint8_t byte, const h3_config &config) {
   static const uint64_t of_client[] = {0, 4, 2, 6, 10, 14, 8, 18}, of_server[] = {0, 4, 3, 7, 11, 15, 8, 19};
-  return is_server ? of_client[byte % 8] : of_server[byte % 8];
+  static const uint64_t with_sessions[] = {0, 1, 3, 7, 11, 15, 5, 19};
+  return config.server ? of_client[byte % 8] : config.sessions ? with_sessions[byte % 8] : of_server[byte % 8];
 }
 
 // what an endpoint delivered of a stream: a line for each item, and the bytes of content as they came
@@ -132,7 +134,7 @@ class Reader {
 
   // every stream: what waits on one goes on with an insertion on another
   void pull_all() {
-    static const uint64_t streams[] = {0, 4, 8, 14, 15, 18, 19};
+    static const uint64_t streams[] = {0, 1, 4, 5, 8, 14, 15, 18, 19};
     for (uint64_t id : streams)
       for (int i = 0; pull(id); i++) need(i < PULLS, "pulls do not end");
   }
@@ -196,6 +198,8 @@ h3_config config_of(uint8_t byte) {
   config.count_acknowledgments = byte >> 3 & 1;
   config.extended_connect = byte >> 4 & 1;
   config.max_field_section_size = byte & 32 ? 65536 : 200;
+  config.other_streams = byte >> 7;
+  if (byte & 64) config.sessions = config.webtransport = config.datagram = config.extended_connect = 1;
   return config;
 }
 
@@ -216,7 +220,7 @@ extern "C" int LLVMFuzzerTestOneInput(const uint8_t *data, size_t size) {
   h3_config config = config_of(*data);
   Reader whole(config, false), pieces(config, true);
   for (size_t at = 1; at < size;) {
-    uint64_t id = stream_of(data[at], config.server);
+    uint64_t id = stream_of(data[at], config);
     uint8_t what = data[at] >> 3 & 7;
     size_t count = at + 1 < size ? data[at + 1] : 0;
     if (count > size - at - 2 || at + 2 > size) count = at + 2 < size ? size - at - 2 : 0;

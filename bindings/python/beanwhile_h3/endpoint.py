@@ -225,7 +225,7 @@ class Endpoint:
     def cancel(self, id: int) -> None:
         """Nothing more is needed of a request stream: QUIC sends STOP_SENDING, and the next item is `Canceled`.
 
-        Raises `Answer.CLOSED`, `CRITICAL`, `NOT_OPEN`, `ENDED` (its end was delivered, or it was canceled), `MEMORY`."""
+        Raises `Answer.CLOSED`, `CRITICAL`, `NOT_OPEN`, `ENDED` (its end was pulled, its reset came, or it was canceled), `MEMORY`."""
         self._call("h3_raw_cancel", _number(id))
 
     def close_stream(self, id: int) -> ClosedStream:

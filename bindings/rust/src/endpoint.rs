@@ -253,7 +253,7 @@ impl Endpoint {
     ///
     /// # Errors
     ///
-    /// [`Error::Closed`], [`Error::Critical`], [`Error::NotOpen`], [`Error::Ended`] (its end was returned, or it was canceled),
+    /// [`Error::Closed`], [`Error::Critical`], [`Error::NotOpen`], [`Error::Ended`] (its end was pulled, its reset came, or it was canceled),
     /// [`Error::Argument`] (the id is 2^62 or more), [`Error::Memory`].
     pub fn cancel(&mut self, id: u64) -> Result<(), Error> {
         self.call(|handle, detail, out| unsafe { raw::h3_raw_cancel(handle, id, detail, out) })

@@ -114,7 +114,8 @@ fn decode_into(
     section: &[u8],
     block: &mut FieldBlock,
 ) -> Result<Option<bool>, Failure>
-    ensures decoded { IfOk result (λ told. IfSome told (λ dyn_ref. (count : ℕ) × (decode_section decoder.now section.now ≡ Fields block.new count) × (dyn_ref ≡ nat_lt 0 count))) }
+    ensures decoded { IfOk result (λ told. IfSome told (λ dyn_ref. (count : ℕ)
+        × (decode_section decoder.now section.now ≡ Fields block.new count) × (dyn_ref ≡ nat_lt 0 count))) }
     ensures waits { IfOk result (λ told. IfNone told ((count : ℕ) × (decode_section decoder.now section.now ≡ Missing count))) }
 {
     match decoder.decode_block(&mut SliceCursor::new(section), block) {

@@ -2,9 +2,9 @@
 
 use crate::report::{Failure, Report, answer};
 use bytes::{Buf, Bytes};
-use h3_wire::buf::BufList;
-use h3_wire::frame::FrameDecoder;
-use h3_wire::proto::frame::{Frame, PayloadLen};
+use h3_frames::buf::BufList;
+use h3_frames::frame::FrameDecoder;
+use h3_frames::proto::frame::{Frame, PayloadLen};
 use std::alloc::Global;
 use std::marker::Model;
 
@@ -19,8 +19,8 @@ struct Reader {
 impl Model for Reader {
     ghost use Rattle.std.specs.Prelude.{◌≡◌, ◌<◌, None};
     ghost use Rattle.std.specs.List.{concat};
-    ghost use Rattle.h3_wire.specs.Frames.{plain_frames};
-    ghost use Rattle.h3_wire.specs.Tries.{Decoding, Expects};
+    ghost use Rattle.h3_frames.specs.Frames.{plain_frames};
+    ghost use Rattle.h3_frames.specs.Tries.{Decoding, Expects};
 
     ghost Value = { Decoding };
 

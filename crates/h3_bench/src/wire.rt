@@ -3,8 +3,9 @@ ghost use Rattle.std.specs.Prelude.{◌<◌, ◌≤◌, ◌^◌, length};
 
 use crate::report::{Failure, Report, answer};
 use bytes::Buf;
-use h3_wire::proto::frame::Frame;
-use h3_wire::stream::{MessageBuf, WriteBuf};
+use h3_frames::proto::frame::Frame;
+use h3_frames::stream::MessageBuf;
+use h3_wire::stream::WriteBuf;
 
 /// Sends a DATA frame: its type and length, and then its payload, both as they are lent.
 fn send_data(body: &[u8], report: &mut Report) {

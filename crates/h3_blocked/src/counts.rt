@@ -1,6 +1,7 @@
 //! The counts that streams wait for.
 ghost use Rattle.std.specs.Prelude.{◌≡◌, ◌≢◌, ◌+◌, ◌<◌, ◌≤◌, ◌-◌, ◌^◌, ℕ, nat_lt, OnOk, OnErr};
-ghost use Rattle.h3_blocked.specs.Counting.{above, number_at, number_in, one_if, sum_above, HasCount, HasRoom, IsNextCount, IsOneNumber, IsSound, Replaces, SameCounts};
+ghost use Rattle.h3_blocked.specs.Counting.{above, number_at, number_in, one_if, sum_above, HasCount, HasRoom, IsNextCount, IsOneNumber};
+ghost use Rattle.h3_blocked.specs.Counting.{IsSound, Replaces, SameCounts};
 
 use std::alloc::{AllocError, Global};
 use std::collections::BTreeMap;

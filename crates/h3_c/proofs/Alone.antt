@@ -1,6 +1,6 @@
 -- Where sessions of WebTransport are off, each call that sessions answer does what it does without them.
 use Rattle.std.proofs.Common.{◌≡◌, ◌⊎◌, inl, inr, ℕ, ◌<◌, ◌≤◌, Bool, true, false, if◌then◌else◌, List, [], ◌∷◌, length, take, Option, Some, None, refl, sym, ap, subst, ◌∙◌}
-use Rattle.std.specs.Prelude.{◌&&◌, ◌||◌, ◌==◌, ◌^◌, not, is_some, unwrap_or, Ok, Err}
+use Rattle.std.specs.Prelude.{◌&&◌, ◌||◌, ◌==◌, ◌^◌, not, is_none, is_some, unwrap_or, Ok, Err}
 use Rattle.std.proofs.lemmas.Bool.{cases_lt}
 use Rattle.h3_proto.specs.StreamIds.{is_request_stream}
 use Rattle.h3_connection.specs.Endpoint.{EndpointHistory}
@@ -16,15 +16,16 @@ use Rattle.h3_connection.specs.declared.event.Refusal.TheVariants as refusal
 use Rattle.h3_incoming.specs.declared.body_place.BodyPlace.{BodyPlace}
 use Rattle.h3_session.specs.Closing.{ClosesStream}
 use Rattle.h3_webtransport.specs.Closing.{ClosesOn}
-use Rattle.h3_webtransport.specs.Joint.{Joint, has_stream, is_begun_by_peer, is_read, is_server_opened, may_begin, stored_at}
+use Rattle.h3_webtransport.specs.Joint.{Joint, has_stream, is_begun_by_peer, is_one_way, is_read, is_server_opened, may_begin, stored_at}
 use Rattle.h3_webtransport.specs.Ordering.{AdvancesOn, HoldsOn, SendsInTurn, SendsLowest, lower_of, other_taken, turn_of}
 use Rattle.h3_webtransport.specs.Receiving.{CancelsOn, DeliversOn as DeliversBeside, EndsOn}
 use Rattle.h3_webtransport.specs.Sending.{FinishesOn, ResetsOn}
 use Rattle.h3_webtransport_streams.specs.SessionStream.{receiver_of}
-use Rattle.h3_c.specs.Beside.{CopiesBeside, DoesBeside, Finds, IsStreamBeside, ShowsStreamBeside, TakesBeside, TakesEndBeside as TakesFinBeside}
+use Rattle.h3_c.specs.Beside.{CopiesBeside, DoesBeside, DrainsBeside, Finds, IsStreamBeside, ShowsStreamBeside, TakesBeside, TakesEndBeside as TakesFinBeside}
+use Rattle.h3_c.specs.Bits.{bit}
 use Rattle.h3_c.specs.Closing.{GivesFrames}
 use Rattle.h3_c.specs.Does.{CallOfC, Does}
-use Rattle.h3_c.specs.Does.CallOfC.{Advance, Cancel, CloseStream, Deliver, DeliverEnd, DeliverReset, EndTaken, Finish, Hold, NextByPriority, NextToSend, Outgoing, Pull, Read, Reset, Stream}
+use Rattle.h3_c.specs.Does.CallOfC.{Advance, Cancel, CloseStream, Deliver, DeliverEnd, DeliverReset, EndTaken, Finish, Hold, IsDrained, NextByPriority, NextToSend, Outgoing, Pull, Read, Reset, Stream}
 use Rattle.h3_c.specs.Ending.{TakesEndOf}
 use Rattle.h3_c.specs.Exported.{Calls, CopiesOut, OnStream, Pulls, StepsAlone, StepsBeside, Takes, UnlessRejected}
 use Rattle.h3_c.specs.Numbers.{argument, call_told, delivery_told, number, ok}
@@ -36,6 +37,7 @@ use Rattle.h3_c.specs.ReadsBeside.{EndsThereBeside, ReadsAtBeside, ReadsCopiedBe
 use Rattle.h3_c.specs.ReadsBeside.ReadsCopiedBeside.{pulled_beside, stopped_beside, unended_beside}
 use Rattle.h3_c.specs.Seen.{Seen}
 use Rattle.h3_c.specs.Showing.{IsStream}
+use Rattle.h3_c.specs.Shutdown.{ShowsIsDrained}
 use Rattle.h3_c.specs.declared.connection.reading.Stop.{Stop}
 use Rattle.h3_c.specs.declared.items.PulledItem.{PulledItem}
 use Rattle.h3_c.specs.declared.numbers.Told.{Told}
@@ -47,6 +49,9 @@ none_is_stored s id off = ap (λ on. on && is_some (stored_at s id)) off
 
 pub none_is_read : (s : Joint) (id : ℕ) → s.is_on ≡ false → is_read s id ≡ false
 none_is_read s id off = ap (λ on. on && (is_some (receiver_of (stored_at s id)) || (is_server_opened s.side id && not (is_some (stored_at s id))))) off
+
+none_one_way : (s : Joint) (id : ℕ) → s.is_on ≡ false → is_one_way s id ≡ false
+none_one_way s id off = ap (λ has. has && not (is_some (receiver_of (stored_at s id))) && not (is_request_stream id)) (none_is_stored s id off)
 
 pub none_begins : (s : Joint) (id : ℕ) → s.is_on ≡ false → may_begin s id ≡ false
 none_begins s id off = ap (λ on. on && not (is_some (stored_at s id)) && is_begun_by_peer s.side id) off
@@ -85,6 +90,10 @@ given None n v w A B f h = (h, stays v w h.1)
 lowest_alone : (e : EndpointState) (s : Joint) (from : ℕ) (found : Option ℕ) → s.is_on ≡ false → SendsLowest e s from found → ShowsNextToSend e from found
 lowest_alone e s from found off x = subst (ShowsNextToSend e from) (sym (x.is ∙ ap (λ on. if on then lower_of x.first x.raw else x.first) off)) x.first_is
 
+drains_alone : (v : Seen) (drained : ℕ) (n : Told) → v.sessions.is_on ≡ false → DrainsBeside v drained n → ShowsIsDrained v n drained
+drains_alone v drained n off x =
+    (x.done, λ e h. x.is ∙ ap bit (x.drains.is ∙ ap (λ on. if on then x.drains.first && is_none x.drains.raw else x.drains.first) off ∙ x.drains.first_is e h))
+
 turn_alone : (e f : EndpointState) (s : Joint) (found : Option ℕ) → s.is_on ≡ false → SendsInTurn e f s found → SendsNext e f found
 turn_alone e f s found off x = subst (SendsNext e f) (sym (x.is ∙ ap (λ on. if on then turn_of s.is_next x.first x.raw else x.first) off)) x.first_is
 
@@ -102,8 +111,8 @@ taken_alone v w id count n off (inl took) = (took.1.other (none_is_stored v.sess
 taken_alone v w id count n off (inr same) = stays v w same.1
 
 -- a stream's state
-stream_alone : (s : Joint) (e : EndpointHistory) (id : ℕ) (state : StreamState) → s.is_on ≡ false → IsStreamBeside s e id state → IsStream e id state
-stream_alone s e id state off x =
+stream_alone : (closed : Option ℕ) (s : Joint) (e : EndpointHistory) (id : ℕ) (state : StreamState) → s.is_on ≡ false → IsStreamBeside closed s e id state → IsStream e id state
+stream_alone closed s e id state off x =
     let sends = x.other (none_is_stored s id off) in
     record {
       waiting = sends.waiting;
@@ -195,13 +204,14 @@ does_alone (Reset id n) v w off h =
 does_alone (Cancel id n) v w off h =
     on_stream _ _ id n v w
     (calls call_told n v w (λ call. CancelsOn v.endpoint w.endpoint v.sessions w.sessions id call) (λ call. Cancels v.endpoint w.endpoint id call)
-    (λ call c. let d = c.other (none_is_read v.sessions id off) in (d.1, d.0))) h
+    (λ call c. let d = c.other (none_is_read v.sessions id off) (none_one_way v.sessions id off) in (d.1, d.0))) h
 does_alone (CloseStream id stop_before stop reset_before reset n) v w off h =
     let closes = on_stream _ _ id n v w
     (calls call_told n v w (λ call. ClosesOn v.endpoint w.endpoint v.sessions w.sessions id call × GivesFrames call stop_before stop reset_before reset)
     (λ call. ClosesStream v.endpoint w.endpoint id call × GivesFrames call stop_before stop reset_before reset)
     (λ call c. let d = c.0.other (none_is_stored v.sessions id off) in ((d.1, c.1), d.0))) h.0 in
     ((closes.0, h.1), closes.1)
+does_alone (IsDrained drained n) v w off h = ((h.0, drains_alone v drained n off h.1), stays v w h.0)
 does_alone (NextToSend from before id n) v w off h =
     ((h.0, finds (SendsLowest v.endpoint v.sessions from) (ShowsNextToSend v.endpoint from) n before id (λ found x. lowest_alone v.endpoint v.sessions from found off x) h.1), stays v w h.0)
 does_alone (NextByPriority before id n) v w off h =
@@ -241,7 +251,7 @@ does_alone (Pull id before item n) v w off h =
     let pulls = on_stream (PullsBeside id n v w item) (Pulls id n v w item) id n v w (pull_alone v w id off n item) h.0 in
     ((pulls.0, h.1), pulls.1)
 does_alone (Stream id before state n) v w off h =
-    let shows = on_stream ((n ≡ ok) × ShowsStreamBeside v id state) ((n ≡ ok) × ((e : EndpointHistory) → StandsFor v.endpoint e → IsStream e id state)) id n v w (λ s. ((s.0, λ e stands. stream_alone v.sessions e id state off (s.1 e stands)), stays v w h.0)) h.1 in
+    let shows = on_stream ((n ≡ ok) × ShowsStreamBeside v id state) ((n ≡ ok) × ((e : EndpointHistory) → StandsFor v.endpoint e → IsStream e id state)) id n v w (λ s. ((s.0, λ e stands. stream_alone v.endpoint.closed v.sessions e id state off (s.1 e stands)), stays v w h.0)) h.1 in
     ((h.0, shows.0, h.2), stays v w h.0)
 does_alone _ v w off h = h
 

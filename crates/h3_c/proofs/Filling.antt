@@ -6,7 +6,7 @@ use Rattle.std.specs.List.{AllByRecursion, list_all}
 use Rattle.std.proofs.lemmas.Bool.{lt-ltb}
 use Rattle.std.proofs.lemmas.Nat.{mod_below}
 use Rattle.h3_coding.specs.Encodings.{IsByte, encoding}
-use Rattle.h3_wire.specs.Encoded.{frame_encoding, head_encoding}
+use Rattle.h3_frames.specs.Encoded.{frame_encoding, head_encoding}
 use Rattle.h3_connection.specs.Outgoing.{OwnPart, is_interim_part, is_unsent, last_is_trailer, written_part}
 use Rattle.h3_connection.specs.Outgoing.OwnPart.{OwnInterim, OwnHead, OwnBody, OwnTrailer}
 use Rattle.h3_outgoing.specs.Held.{filled_with, held}

@@ -3,10 +3,10 @@ use Rattle.std.proofs.Common.{◌≡◌, ◌≤◌, ◌<◌, Option, Some, None,
 use Rattle.h3_proto.specs.declared.stream.Side.{Side}
 use Rattle.h3_connection.specs.SendingContracts.{Creates}
 use Rattle.h3_connection.specs.State.{EndpointState}
-use Rattle.h3_incoming.specs.declared.fields.FieldsPull.TheVariants.{Pending}
 use Rattle.h3_connection.specs.declared.setup.Announced.{Announced}
 use Rattle.h3_connection.specs.declared.setup.NewError.{NewError}
 use Rattle.h3_connection.specs.declared.setup.NewError.TheVariants.{OutOfMemory}
+use Rattle.h3_connection.specs.declared.lists.ListPull.TheVariants.{Pending}
 use Rattle.h3_session.specs.Events.{nothing_seen}
 use Rattle.h3_webtransport.specs.Joint.{Joint}
 use Rattle.h3_c.specs.declared.config.GivenConfig.{GivenConfig}

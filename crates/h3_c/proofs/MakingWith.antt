@@ -11,7 +11,7 @@ use Rattle.h3_connection.specs.State.{EndpointState}
 use Rattle.h3_connection.specs.declared.setup.Announced.{Announced}
 use Rattle.h3_connection.specs.declared.setup.NewError.{NewError}
 use Rattle.h3_connection.specs.declared.setup.NewError.TheVariants.{OutOfMemory}
-use Rattle.h3_incoming.specs.declared.fields.FieldsPull.TheVariants.{Pending}
+use Rattle.h3_connection.specs.declared.lists.ListPull.TheVariants.{Pending}
 use Rattle.h3_session.specs.Events.{nothing_seen}
 use Rattle.h3_c.specs.Configs.{announced_of, sessions_of, side_of}
 use Rattle.h3_c.specs.Further.{MakesGivenWith, MakesPaired, MakesWith, UnmakesWith, pairs_given}

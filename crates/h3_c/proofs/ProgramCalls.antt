@@ -12,16 +12,10 @@ use Rattle.h3_connection.specs.Endpoint.{EndpointHistory}
 use Rattle.h3_connection.specs.EndsWaiting.{end_taken}
 use Rattle.h3_connection.specs.OwnIds.{other}
 use Rattle.h3_connection.specs.Prioritizing.{UsesUpdates, set_initial_priority, use_updates}
-use Rattle.h3_connection.specs.ReceivingContracts.{PullsNext}
 use Rattle.h3_connection.specs.SendingContracts.{Cancels, DoesOrRefuses, Finishes, GoesAway, Opens, Resets}
 use Rattle.h3_connection.specs.State.{EndpointState, StandsFor}
 use Rattle.h3_connection.specs.declared.event.Refusal.{Refusal}
 use Rattle.h3_connection.specs.declared.event.Refusal.TheVariants as refusal
-use Rattle.h3_incoming.specs.FieldsPulls.{list_of as fields_of_pull, pull_of as pull_of_fields}
-use Rattle.h3_incoming.specs.declared.fields.FieldsItem.TheVariants as came
-use Rattle.h3_incoming.specs.declared.fields.FieldsPull.{FieldsPull}
-use Rattle.h3_incoming.specs.declared.fields.FieldsPull.TheVariants as pulled
-use Rattle.h3_world.specs.Lists.{list_of, pull_of}
 use Rattle.h3_world.specs.declared.event.Answer.{Answer}
 use Rattle.h3_world.specs.declared.event.Answer.TheVariants as answer
 use Rattle.h3_world.specs.declared.event.Event.{Event}
@@ -29,10 +23,9 @@ use Rattle.h3_world.specs.declared.event.Event.TheVariants as event
 use Rattle.h3_session.specs.Acting.{Acts, ByOne, PullsList, SendsShared}
 use Rattle.h3_session.specs.Acting.{Tells as TellsCall}
 use Rattle.h3_session.specs.Datagrams.{read_datagram}
-use Rattle.h3_session.specs.Listing.{ListsNext}
 use Rattle.h3_session.specs.Running.{body_answer, done_answer, opened_answer}
 use Rattle.h3_session.specs.SendingLists.{SendsFieldList, SendsTrailerList, order_refusal, place_refusal}
-use Rattle.h3_c.specs.Asked.{GivesBytes, Tells, TellsSent, is_left_out, pull_listed}
+use Rattle.h3_c.specs.Asked.{GivesBytes, Tells, TellsSent, is_left_out}
 use Rattle.h3_c.specs.Does.{CallOfC, Does}
 use Rattle.h3_c.specs.Does.{CallOfC as call}
 use Rattle.h3_c.specs.Exported.{Calls, CallsList, CallsOn, LacksList, OnStream, OpensRequest, Pulls, SendsCut}
@@ -110,41 +103,10 @@ sent_tells w cut fields n does v is c = subst (λ o. TellsSent w.endpoint.announ
     by (Ok done) tells = (tells, refl)
     by (Err r) tells = tells
 
--- what was pulled
-pulled_listed : (p : FieldsPull) → pull_of_fields p ≡ pull_of (pull_listed p)
-pulled_listed (pulled.Item (came.Interim fields)) = refl
-pulled_listed (pulled.Item (came.Head fields)) = refl
-pulled_listed (pulled.Item (came.Body bytes)) = refl
-pulled_listed (pulled.Item (came.Trailer fields)) = refl
-pulled_listed (pulled.Item (came.TooLarge size)) = refl
-pulled_listed (pulled.Item (came.Session session)) = refl
-pulled_listed (pulled.Item (came.Raw bytes)) = refl
-pulled_listed (pulled.Item came.End) = refl
-pulled_listed pulled.Pending = refl
-pulled_listed (pulled.Waiting count) = refl
-pulled_listed (pulled.Fault fault) = refl
-pulled_listed pulled.NoMessages = refl
-
-list_listed : (p : FieldsPull) → fields_of_pull p ≡ list_of (pull_listed p)
-list_listed (pulled.Item (came.Interim fields)) = refl
-list_listed (pulled.Item (came.Head fields)) = refl
-list_listed (pulled.Item (came.Body bytes)) = refl
-list_listed (pulled.Item (came.Trailer fields)) = refl
-list_listed (pulled.Item (came.TooLarge size)) = refl
-list_listed (pulled.Item (came.Session session)) = refl
-list_listed (pulled.Item (came.Raw bytes)) = refl
-list_listed (pulled.Item came.End) = refl
-list_listed pulled.Pending = refl
-list_listed (pulled.Waiting count) = refl
-list_listed (pulled.Fault fault) = refl
-list_listed pulled.NoMessages = refl
-
-pub listed_pulls : (id : ℕ) (n : Told) (v w : Seen) (item : PulledItem) → Pulls id n v w item → PullsList v.endpoint w.endpoint id (pull_listed w.last)
+-- a pull
+pub listed_pulls : (id : ℕ) (n : Told) (v w : Seen) (item : PulledItem) → Pulls id n v w item → PullsList v.endpoint w.endpoint id w.last
 listed_pulls id n v w item k =
-    record {
-      pulls = subst (λ p. PullsNext v.endpoint w.endpoint id p) (pulled_listed w.last) k.pulled;
-      list = subst (λ l. ListsNext v.endpoint id l) (list_listed w.last) k.list;
-    }
+    record { pulls = k.pulled; list = k.list }
 
 -- The calls whose events are told by what the endpoint stands for.
 pub data ByHistory : CallOfC → Type 0 where
@@ -275,10 +237,10 @@ module _ (side : Side) (h g : Handles) (there : handle_at g (other side) ≡ han
   pulls id before item n on = elim (below_or_not id (2 ^ 62)) [
     | inl below ↦ (let k = on.0.known below in
         let last = (handle_at g side).last in
-        let a = answer.Listed (pull_listed last) in
+        let a = answer.Listed last in
         let one = listed_pulls id n (handle_at h side) (handle_at g side) item k in
         made_event (Call side (call.Pull id before item n)) h g (event.PullFields side id) n a refl (k.done, k.given_so, refl) tt tt tt same
-        (by_side side (TellsCall answer.Listed (λ s t l. PullsList s t id l)) h g a (record { result = pull_listed last; given_is = refl; called = one }) there))
+        (by_side side (TellsCall answer.Listed (λ s t l. PullsList s t id l)) h g a (record { result = last; given_is = refl; called = one }) there))
     | inr above ↦ refused (call.Pull id before item n) (event.PullFields side id) n refl (on.0.unknown above)
   ]
 

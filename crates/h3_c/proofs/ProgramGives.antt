@@ -20,14 +20,14 @@ use Rattle.h3_connection.specs.declared.event.DeliverError.{DeliverError}
 use Rattle.h3_connection.specs.declared.event.Item.TheVariants as found
 use Rattle.h3_connection.specs.declared.event.Pull.{Pull}
 use Rattle.h3_connection.specs.declared.event.Pull.TheVariants as pull
+use Rattle.h3_connection.specs.declared.lists.ListItem.TheVariants as listed
+use Rattle.h3_connection.specs.declared.lists.ListPull.TheVariants as list
 use Rattle.h3_world.specs.Delivering.{reset_code}
 use Rattle.h3_world.specs.Ends.{Ends, delivery, end_at, was_listed, with_end}
 use Rattle.h3_world.specs.declared.event.Answer.{Answer}
 use Rattle.h3_world.specs.declared.event.Answer.TheVariants as answer
 use Rattle.h3_world.specs.declared.event.Event.{Event}
 use Rattle.h3_world.specs.declared.event.Event.TheVariants as event
-use Rattle.h3_world.specs.declared.lists.ListItem.TheVariants as listed
-use Rattle.h3_world.specs.declared.lists.ListPull.TheVariants as list
 use Rattle.h3_memory.specs.Refused.{EndsStep, handed_over}
 use Rattle.h3_outgoing.specs.Held.{filled_with, past_of}
 use Rattle.h3_session.specs.Running.{answer_of, is_stored}

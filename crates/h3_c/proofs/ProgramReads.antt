@@ -25,19 +25,19 @@ use Rattle.h3_connection.specs.declared.event.DeliverError.{DeliverError}
 use Rattle.h3_connection.specs.declared.event.DeliverError.TheVariants as deliver_error
 use Rattle.h3_connection.specs.declared.event.Refusal.{Refusal}
 use Rattle.h3_connection.specs.declared.event.Refusal.TheVariants as refusal
+use Rattle.h3_connection.specs.declared.lists.ListItem.TheVariants as listed
+use Rattle.h3_connection.specs.declared.lists.ListPull.{ListPull}
+use Rattle.h3_connection.specs.declared.lists.ListPull.TheVariants as list
 use Rattle.h3_incoming.specs.BodyPlaces.{front_to, piece_of}
 use Rattle.h3_incoming.specs.declared.body_place.BodyPlace.{BodyPlace}
 use Rattle.h3_world.specs.declared.event.Answer.{Answer}
 use Rattle.h3_world.specs.declared.event.Answer.TheVariants as answer
 use Rattle.h3_world.specs.declared.event.Event.{Event}
 use Rattle.h3_world.specs.declared.event.Event.TheVariants as event
-use Rattle.h3_world.specs.declared.lists.ListItem.TheVariants as listed
-use Rattle.h3_world.specs.declared.lists.ListPull.{ListPull}
-use Rattle.h3_world.specs.declared.lists.ListPull.TheVariants as list
 use Rattle.h3_session.specs.Acting.{PullsList}
 use Rattle.h3_session.specs.ReadingBodies.{place_behind, place_next, place_of_kind, place_unless_closed}
 use Rattle.h3_session.specs.Running.{answer_of, is_stored, told_answer}
-use Rattle.h3_c.specs.Asked.{Tells as TellsAnswer, pull_listed}
+use Rattle.h3_c.specs.Asked.{Tells as TellsAnswer}
 use Rattle.h3_c.specs.Exported.{Pulls as PullsSo}
 use Rattle.h3_c.specs.Numbers.{delivery_told}
 use Rattle.h3_c.specs.Programs.{ComesOfRead, Handles, InPlace, Pulls, PullsEnd, Rejects, Stops, StopsEnd, bytes_answers, bytes_events, carrying}
@@ -168,8 +168,8 @@ module _ (from : Side) (id : ℕ) (bytes : List ℕ) (fin used : ℕ) (item : Pu
   none_left ends = carrying_here c from id (drop used bytes ++ rest) ∙ (ended ends).0
 
   -- a pull
-  pulled_last : (ended_at : EndpointState) → PullsSo id n (with_endpoint r ended_at) s item → Moves (pair from v (with_endpoint r ended_at) left w) (pair from v s left w) (event.PullFields (other from) id ∷ []) (answer.Listed (pull_listed s.last) ∷ [])
-  pulled_last ended_at p = pull_moves from id v (with_endpoint r ended_at) s left w (pull_listed s.last) (listed_pulls id n (with_endpoint r ended_at) s item p)
+  pulled_last : (ended_at : EndpointState) → PullsSo id n (with_endpoint r ended_at) s item → Moves (pair from v (with_endpoint r ended_at) left w) (pair from v s left w) (event.PullFields (other from) id ∷ []) (answer.Listed s.last ∷ [])
+  pulled_last ended_at p = pull_moves from id v (with_endpoint r ended_at) s left w s.last (listed_pulls id n (with_endpoint r ended_at) s item p)
 
   -- where nothing changed before
   starts : (start : EndpointState) → IsSame r.endpoint start → Moves (pair from v r c w) (pair from v (with_endpoint r start) c w) [] []
@@ -183,20 +183,20 @@ module _ (from : Side) (id : ℕ) (bytes : List ℕ) (fin used : ℕ) (item : Pu
           let last : PullsSo id n (with_endpoint r mid) s item = subst (λ x. PullsSo id n (with_endpoint r x) s item) unchanged p in
           record {
             events = bytes_events from id used ++ event.PullFields (other from) id ∷ [];
-            answers = bytes_answers used ++ answer.Listed (pull_listed s.last) ∷ [];
+            answers = bytes_answers used ++ answer.Listed s.last ∷ [];
             comes = Pulls is p.done p.given_so;
             moves = ThenSo (starts start same) (ThenSo (bytes_part start mid few some takes) (pulled_last mid last));
           }
       by true is (inl delivers) = record {
         events = bytes_events from id used ++ event.DeliverEnd from id ∷ event.PullFields (other from) id ∷ [];
-        answers = bytes_answers used ++ answer.Done ∷ answer.Listed (pull_listed s.last) ∷ [];
+        answers = bytes_answers used ++ answer.Done ∷ answer.Listed s.last ∷ [];
         comes = PullsEnd answer.Done is (inl refl) p.done p.given_so;
         moves = ThenSo (starts start same) (ThenSo (bytes_part start mid few some takes) (ThenSo
             (end_moves from id v (with_endpoint r mid) (with_endpoint r ended_at) left w (Ok tt) (none_left is) (ended is).1 delivers) (pulled_last ended_at p)));
       }
       by true is (inr (alone, delivers)) = record {
         events = bytes_events from id used ++ event.DeliverEnd from id ∷ event.PullFields (other from) id ∷ [];
-        answers = bytes_answers used ++ answer.Refused refusal.AfterEnd ∷ answer.Listed (pull_listed s.last) ∷ [];
+        answers = bytes_answers used ++ answer.Refused refusal.AfterEnd ∷ answer.Listed s.last ∷ [];
         comes = PullsEnd (answer.Refused refusal.AfterEnd) is (inr refl) p.done p.given_so;
         moves = ThenSo (starts start same) (ThenSo (bytes_part start mid few some takes) (ThenSo
             (end_moves from id v (with_endpoint r mid) (with_endpoint r ended_at) left w (Err (deliver_error.Refused refusal.AfterEnd)) (none_left is) (ended is).1 delivers)

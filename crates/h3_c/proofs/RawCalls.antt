@@ -1,15 +1,17 @@
 -- What is told of streams of sessions, where there is no memory for C's bytes.
 use Rattle.std.proofs.Common.{arith, ◌≡◌, ℕ, ◌<◌, Bool, true, false, if◌then◌else◌, List, [], Option, Some, None, refl, ap, ◌∙◌}
-use Rattle.std.specs.Prelude.{◌^◌, Err, unwrap_or}
+use Rattle.std.specs.Prelude.{◌^◌, Ok, Err, unwrap_or}
 use Rattle.h3_connection.specs.declared.event.Refusal.{Refusal}
 use Rattle.h3_connection.specs.declared.event.Refusal.TheVariants as refusal
 use Rattle.h3_webtransport.specs.Joint.{stored_at}
+use Rattle.h3_webtransport.specs.Opening.{OpensOn}
 use Rattle.h3_webtransport.specs.Sending.{raw_refusal}
+use Rattle.h3_webtransport.specs.declared.opening.OpenError.{OpenError}
 use Rattle.h3_webtransport_streams.specs.Sender.{Sender, goes_on, sent}
 use Rattle.h3_webtransport_streams.specs.SessionStream.{SessionStream, on_sender}
-use Rattle.h3_c.specs.Numbers.{told_or_memory}
+use Rattle.h3_c.specs.Numbers.{ok, open_told, told_or_memory}
 use Rattle.h3_c.specs.Seen.{Seen}
-use Rattle.h3_c.specs.Sessions.{SendsRawOn}
+use Rattle.h3_c.specs.Sessions.{OpensStreamOf, SendsRawOn}
 use Rattle.h3_c.specs.declared.numbers.Told.{Told}
 use Rattle.h3_c.proofs.Uncut.{told_same}
 
@@ -42,3 +44,13 @@ raw_lacks v id stream bytes o n same below is told =
       };
       unknown = λ above. absurd (omega (arith, below, above));
     }
+
+-- a stream of a session is opened, or refused
+module _ (v w : Seen) (session : ℕ) (both : Bool) (n : Told) (before : ℕ) where
+  pub opens_it : (opened after : ℕ) → OpensOn v.endpoint w.endpoint v.sessions w.sessions session both (Ok opened) → n ≡ ok → after ≡ opened → w.last ≡ v.last → w.events ≡ v.events
+      → OpensStreamOf v w session both n before after
+  opens_it opened after opens is same last events = record { answer = Ok opened; opens = opens; gives = (is, same); last = last; events = events }
+
+  pub opens_not : (error : OpenError) → OpensOn v.endpoint w.endpoint v.sessions w.sessions session both (Err error) → n ≡ open_told error → w.last ≡ v.last → w.events ≡ v.events
+      → OpensStreamOf v w session both n before before
+  opens_not error opens is last events = record { answer = Err error; opens = opens; gives = (is, refl); last = last; events = events }

@@ -11,11 +11,11 @@ use Rattle.h3_connection.specs.StreamSets.{Streams}
 use Rattle.h3_connection.specs.declared.event.Pull.TheVariants as pull
 use Rattle.h3_connection.specs.declared.event.DeliverError.{DeliverError}
 use Rattle.h3_connection.specs.declared.event.Refusal.{Refusal}
-use Rattle.h3_incoming.specs.FieldsPulls.{list_of, pull_of}
+use Rattle.h3_connection.specs.Lists.{list_of, pull_of}
+use Rattle.h3_connection.specs.declared.lists.ListItem.TheVariants as listed
+use Rattle.h3_connection.specs.declared.lists.ListPull.{ListPull}
+use Rattle.h3_connection.specs.declared.lists.ListPull.TheVariants as answer
 use Rattle.h3_incoming.specs.declared.body_place.BodyPlace.{BodyPlace}
-use Rattle.h3_incoming.specs.declared.fields.FieldsItem.TheVariants as listed
-use Rattle.h3_incoming.specs.declared.fields.FieldsPull.{FieldsPull}
-use Rattle.h3_incoming.specs.declared.fields.FieldsPull.TheVariants as answer
 use Rattle.h3_session.specs.Listing.{ListsNext}
 use Rattle.h3_session.specs.Lacking.{delivery_error}
 use Rattle.h3_session.specs.ReadingBodies.{BeginsBody}
@@ -90,7 +90,7 @@ pub pulls_on : (id stream : ℕ) (n : Told) (u w : Seen) (given : PulledItem) �
 pulls_on id stream n u w given is below pulls = subst (λ i. PullsBeside i n u w given) is (pulls.known below)
 
 -- nothing is held but that nothing came
-pub is_pending : (x : FieldsPull) → pull_of x ≡ pull.Pending → x ≡ answer.Pending
+pub is_pending : (x : ListPull) → pull_of x ≡ pull.Pending → x ≡ answer.Pending
 is_pending answer.Pending h = refl
 is_pending (answer.Item (listed.Interim fields)) h = absurd (cc)
 is_pending (answer.Item (listed.Head fields)) h = absurd (cc)
@@ -243,8 +243,8 @@ begun_reads v w id bytes fin before given off sessions no_fin b last events is =
             (subst (TakesBytesBeside v mid id) (sym (take_whole bytes)) (delivers_off v b.middle id bytes off b.some b.delivers))
             (subst (λ n. TakesEndBeside (ends_with n bytes (length bytes)) (length bytes == 0) mid mid id) (sym no_fin) refl)
             (pulls_off mid w id given off sessions
-            (subst (λ (x : FieldsPull). PullsNext b.middle w.endpoint id (pull_of x)) (sym last) b.pulls)
-            (subst (λ (x : FieldsPull). ListsNext b.middle id (list_of x)) (sym last) (λ e h. tt))
+            (subst (λ (x : ListPull). PullsNext b.middle w.endpoint id (pull_of x)) (sym last) b.pulls)
+            (subst (λ (x : ListPull). ListsNext b.middle id (list_of x)) (sym last) (λ e h. tt))
             (is ∙ ap shown (sym last)) events),
       );
     }

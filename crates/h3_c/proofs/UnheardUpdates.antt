@@ -4,14 +4,14 @@ use Rattle.std.specs.Prelude.{◌||◌}
 use Rattle.h3_priority.specs.Priority.{PriorityParameters, priority_of}
 use Rattle.h3_proto.specs.declared.stream.Side.{Side}
 use Rattle.h3_proto.specs.declared.stream.Side.TheVariants.{Client, Server}
-use Rattle.h3_wire.specs.ExcessiveFrames.{is_excessive_by}
-use Rattle.h3_wire.specs.Frames.{Front, Whole, Unknown, Refused, Unfinished, frame_by}
-use Rattle.h3_wire.specs.Known.{known_by}
-use Rattle.h3_wire.specs.Update.{Update}
-use Rattle.h3_wire.specs.declared.frame.kinds.FrameKinds.{FrameKinds}
-use Rattle.h3_wire.specs.declared.proto.frame.PayloadLen.{PayloadLen}
-use Rattle.h3_wire.specs.declared.proto.frame.Frame.{Frame}
-use Rattle.h3_wire.specs.declared.proto.frame.Frame.TheVariants as frame
+use Rattle.h3_frames.specs.ExcessiveFrames.{is_excessive_by}
+use Rattle.h3_frames.specs.Frames.{Front, Whole, Unknown, Refused, Unfinished, frame_by}
+use Rattle.h3_frames.specs.Known.{known_by}
+use Rattle.h3_frames.specs.Update.{Update}
+use Rattle.h3_frames.specs.declared.frame.kinds.FrameKinds.{FrameKinds}
+use Rattle.h3_frames.specs.declared.proto.frame.PayloadLen.{PayloadLen}
+use Rattle.h3_frames.specs.declared.proto.frame.Frame.{Frame}
+use Rattle.h3_frames.specs.declared.proto.frame.Frame.TheVariants as frame
 use Rattle.h3_connection.specs.Codes.{excessive_load, id_error}
 use Rattle.h3_connection.specs.Lasts.{last_id}
 use Rattle.h3_connection.specs.PeerReading.{Peer, PeerFound, at_front, having_frame, is_above, is_below, is_no_element, is_no_goaway, read_frame, read_goaway, read_max_push, read_peer, read_priority, read_update, read_within, unless_excessive, unless_fault, with_unread}

@@ -11,9 +11,9 @@ use Rattle.h3_connection.specs.Keeping.{pulls}
 use Rattle.h3_connection.specs.Sending as sender
 use Rattle.h3_connection.specs.declared.event.Pull.{Pull}
 use Rattle.h3_connection.specs.declared.event.Refusal.{Refusal}
+use Rattle.h3_connection.specs.Lists.{listed_pull}
 use Rattle.h3_world.specs.EndLists.{send_fields, send_trailer_fields}
 use Rattle.h3_world.specs.Ends.{Ends, answered, done, end_at, was_listed, with_end}
-use Rattle.h3_world.specs.Lists.{listed_pull}
 use Rattle.h3_world.specs.declared.event.Answer.{Answer}
 use Rattle.h3_world.specs.declared.event.Answer.TheVariants as answer
 use Rattle.h3_world.specs.declared.event.Event.{Event}

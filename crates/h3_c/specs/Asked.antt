@@ -4,18 +4,10 @@ use Rattle.h3_field.specs.Field.{Field}
 use Rattle.h3_field.specs.ReadBack.{AreBytes}
 use Rattle.h3_proto.specs.declared.config.Choices.{Choices}
 use Rattle.h3_proto.specs.declared.stream.Side.{Side}
-use Rattle.h3_incoming.specs.declared.fields.FieldsItem.{FieldsItem}
-use Rattle.h3_incoming.specs.declared.fields.FieldsItem.TheVariants as came
-use Rattle.h3_incoming.specs.declared.fields.FieldsPull.{FieldsPull}
-use Rattle.h3_incoming.specs.declared.fields.FieldsPull.TheVariants as pulled
 use Rattle.h3_world.specs.declared.event.Answer.{Answer}
 use Rattle.h3_world.specs.declared.event.Answer.TheVariants as answer
 use Rattle.h3_world.specs.declared.event.Event.{Event}
 use Rattle.h3_world.specs.declared.event.Event.TheVariants as event
-use Rattle.h3_world.specs.declared.lists.ListItem.{ListItem}
-use Rattle.h3_world.specs.declared.lists.ListItem.TheVariants as listed
-use Rattle.h3_world.specs.declared.lists.ListPull.{ListPull}
-use Rattle.h3_world.specs.declared.lists.ListPull.TheVariants as list
 use Rattle.h3_c.specs.Does.{CallOfC}
 use Rattle.h3_c.specs.Does.CallOfC.{OpenRequest, SendHead, SendTrailer, SendBody, SendBodyOf, Finish, Reset, Cancel, Goaway, SendPriority, Advance, Read, Deliver, DeliverEnd, DeliverReset, Pull, ReadDatagram}
 use Rattle.h3_c.specs.Given.{fields_given}
@@ -69,24 +61,6 @@ TellsSent choices None n a = ⊥
 TellsSent choices (Some fields) n (answer.Refused r) = TellsList (Err r) choices fields n
 TellsSent choices (Some fields) n a = (n ≡ ok) × (a ≡ answer.Done)
 
--- what was pulled, as a schedule has it
-abbrev pub item_listed : FieldsItem → ListItem
-item_listed (came.Interim fields) = listed.Interim fields
-item_listed (came.Head fields) = listed.Head fields
-item_listed (came.Body bytes) = listed.Body bytes
-item_listed (came.Trailer fields) = listed.Trailer fields
-item_listed (came.TooLarge size) = listed.TooLarge size
-item_listed (came.Session session) = listed.Session session
-item_listed (came.Raw bytes) = listed.Raw bytes
-item_listed came.End = listed.End
-
-abbrev pub pull_listed : FieldsPull → ListPull
-pull_listed (pulled.Item item) = list.Item (item_listed item)
-pull_listed pulled.Pending = list.Pending
-pull_listed (pulled.Waiting count) = list.Waiting count
-pull_listed (pulled.Fault fault) = list.Fault fault
-pull_listed pulled.NoMessages = list.NoMessages
-
 -- The answer that C learns by the call, after which its handle owns w. Of a pull it is the item, whose fields and bytes the calls give that
 -- read what was pulled last (`ItemFields` and `ItemBytes` of `Does`).
 abbrev pub Learns : CallOfC → Seen → Answer → Type 0
@@ -98,5 +72,5 @@ Learns (Finish id n) w a = Tells answer.Done n a
 Learns (Reset id n) w a = Tells answer.Done n a
 Learns (Cancel id n) w a = Tells answer.Done n a
 Learns (Goaway id n) w a = Tells answer.Done n a
-Learns (Pull id before item n) w a = (n ≡ ok) × (item ≡ shown w.last) × (a ≡ answer.Listed (pull_listed w.last))
+Learns (Pull id before item n) w a = (n ≡ ok) × (item ≡ shown w.last) × (a ≡ answer.Listed w.last)
 Learns _ w a = ⊥

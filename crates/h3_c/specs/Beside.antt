@@ -1,21 +1,19 @@
 -- What calls do that sessions of WebTransport answer (`h3_webtransport`): on a stream of a session, or as the endpoint does on another.
 use Rattle.std.specs.Prelude.{◌++◌, ◌&&◌, ◌==◌, take, drop, min, ◌≡◌, ◌⊎◌, ◌≤◌, ◌<◌, ℕ, Bool, true, false, is_some, List, length, Option, Some, None}
-use Rattle.std.specs.List.{concat}
 use Rattle.h3_connection.specs.Endpoint.{EndpointHistory, bytes_waiting}
 use Rattle.h3_connection.specs.Shown.{has_outgoing, is_finished, is_reset, block_tries}
 use Rattle.h3_connection.specs.State.{StandsFor}
 use Rattle.h3_connection.specs.Unread.{unread, counted}
 use Rattle.h3_webtransport.specs.Closing.{ClosesOn}
 use Rattle.h3_webtransport.specs.Joint.{Joint, has_stream, is_read, stored_at}
-use Rattle.h3_webtransport.specs.Ordering.{AdvancesOn, HoldsOn, SendsInTurn, SendsLowest}
-use Rattle.h3_webtransport.specs.Receiving.{CancelsOn, DeliversOn as DeliversBeside, EndsOn}
+use Rattle.h3_webtransport.specs.Ordering.{AdvancesOn, DrainsOn, HoldsOn, SendsInTurn, SendsLowest}
+use Rattle.h3_webtransport.specs.Receiving.{CancelsOn, DeliversOn as DeliversBeside, EndsOn, raw_unread}
 use Rattle.h3_webtransport.specs.Sending.{FinishesOn, ResetsOn, TakesEndOn, raw_finished, raw_reset, raw_waiting}
-use Rattle.h3_webtransport_streams.specs.Begun.{stream_or_unseen}
-use Rattle.h3_webtransport_streams.specs.SessionStream.{sender_of, unread_of}
+use Rattle.h3_webtransport_streams.specs.SessionStream.{sender_of}
 use Rattle.h3_c.specs.Bits.{bit}
 use Rattle.h3_c.specs.Closing.{GivesFrames}
 use Rattle.h3_c.specs.Does.{CallOfC, Does}
-use Rattle.h3_c.specs.Does.CallOfC.{Advance, Cancel, CloseStream, Deliver, DeliverEnd, DeliverReset, EndTaken, Finish, Hold, NextByPriority, NextToSend, Outgoing, Pull, Read, Reset, Stream}
+use Rattle.h3_c.specs.Does.CallOfC.{Advance, Cancel, CloseStream, Deliver, DeliverEnd, DeliverReset, EndTaken, Finish, Hold, IsDrained, NextByPriority, NextToSend, Outgoing, Pull, Read, Reset, Stream}
 use Rattle.h3_c.specs.Ending.{end_told}
 use Rattle.h3_c.specs.Exported.{Calls, CallsOn, CopiesOut, DeliversOn, OnStream, Takes, Unwritten}
 use Rattle.h3_c.specs.Numbers.{argument, call_told, delivery_told, none, ok}
@@ -37,6 +35,13 @@ pub record TakesEndBeside (v w : Seen) (id : ℕ) (n : Told) : Type 0 where
   pub taken : TakesEndOn v.endpoint w.endpoint v.sessions w.sessions id waited
   pub last : w.last ≡ v.last
   pub events : w.events ≡ v.events
+
+-- `h3_is_drained`: 1 or 0
+pub record DrainsBeside (v : Seen) (drained : ℕ) (n : Told) : Type 0 where
+  pub answer : Bool
+  pub done : n ≡ ok
+  pub is : drained ≡ bit answer
+  pub drains : DrainsOn v.endpoint v.sessions answer
 
 -- `h3_outgoing`: the first bytes of a session's stream, as many as fit, at the front of C's buffer, and whether they are all of one that was finished
 pub record CopiesRawOut (s : Joint) (id : ℕ) (before after : List ℕ) (count past fin : ℕ) : Type 0 where
@@ -74,15 +79,15 @@ pub record SendsSo (e : EndpointHistory) (id : ℕ) (state : StreamState) : Type
   pub is_finished : state.is_finished ≡ bit (is_finished e id)
   pub is_reset : state.is_reset ≡ bit (is_reset e id)
 
-pub record IsStreamBeside (s : Joint) (e : EndpointHistory) (id : ℕ) (state : StreamState) : Type 0 where
+pub record IsStreamBeside (closed : Option ℕ) (s : Joint) (e : EndpointHistory) (id : ℕ) (state : StreamState) : Type 0 where
   pub own : has_stream s id ≡ true → SendsSoRaw s id state
   pub other : has_stream s id ≡ false → SendsSo e id state
-  pub own_unread : is_read s id ≡ true → state.unread ≡ length (concat (unread_of (stream_or_unseen s.sessions.streams id).receiver))
+  pub own_unread : is_read s id ≡ true → state.unread ≡ raw_unread closed s id
   pub other_unread : is_read s id ≡ false → state.unread ≡ counted (unread e id)
   pub tries : state.tries ≡ block_tries e id
 
 abbrev pub ShowsStreamBeside : Seen → ℕ → StreamState → Type 0
-ShowsStreamBeside v id state = (e : EndpointHistory) → StandsFor v.endpoint e → IsStreamBeside v.sessions e id state
+ShowsStreamBeside v id state = (e : EndpointHistory) → StandsFor v.endpoint e → IsStreamBeside v.endpoint.closed v.sessions e id state
 
 -- `h3_close_stream`
 abbrev pub ClosesBeside : Told → Seen → Seen → ℕ → ℕ → ℕ → ℕ → ℕ → Type 0
@@ -96,6 +101,7 @@ DoesBeside (Cancel id n) v w = CallsOn call_told id n v w (λ call. CancelsOn v.
 DoesBeside (CloseStream id stop_before stop reset_before reset n) v w =
     OnStream id n v w (ClosesBeside n v w id stop_before stop reset_before reset)
     × Unwritten id ((stop ≡ stop_before) × (reset ≡ reset_before))
+DoesBeside (IsDrained drained n) v w = (w ≡ v) × DrainsBeside v drained n
 DoesBeside (NextToSend from before id n) v w = (w ≡ v) × Finds (SendsLowest v.endpoint v.sessions from) n before id
 DoesBeside (NextByPriority before id n) v w = (w ≡ record v { endpoint = w.endpoint }) × Finds (SendsInTurn v.endpoint w.endpoint v.sessions) n before id
 DoesBeside (Hold id held n) v w =

@@ -7,11 +7,11 @@ use Rattle.h3_proto.specs.declared.stream.Side.TheVariants.{Client, Server}
 use Rattle.h3_connection.specs.Announcing.{announced_by}
 use Rattle.h3_connection.specs.SendingContracts.{Creates}
 use Rattle.h3_connection.specs.State.{EndpointState}
-use Rattle.h3_incoming.specs.declared.fields.FieldsPull.TheVariants.{Pending}
 use Rattle.h3_connection.specs.declared.setup.Announced.{Announced}
 use Rattle.h3_connection.specs.declared.setup.Limits.{Limits}
 use Rattle.h3_connection.specs.declared.setup.NewError.{NewError}
 use Rattle.h3_connection.specs.declared.setup.NewError.TheVariants as new_error
+use Rattle.h3_connection.specs.declared.lists.ListPull.TheVariants.{Pending}
 use Rattle.h3_proto.specs.declared.frame.SettingsError.TheVariants.{InvalidSettingValue}
 use Rattle.h3_webtransport.specs.Joint.{Joint, first_joint}
 use Rattle.h3_session.specs.Events.{nothing_seen}

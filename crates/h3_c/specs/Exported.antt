@@ -11,9 +11,9 @@ use Rattle.h3_connection.specs.declared.event.Refusal.{Refusal}
 use Rattle.h3_session.specs.Copied.{CopiesTo}
 use Rattle.h3_session.specs.NextRequest.{next_request}
 use Rattle.h3_connection.specs.Shutdown.{is_rejected_in}
+use Rattle.h3_connection.specs.Lists.{list_of, pull_of}
 use Rattle.h3_c.specs.declared.items.PulledItem.{PulledItem}
 use Rattle.h3_c.specs.declared.numbers.Told.{Told}
-use Rattle.h3_incoming.specs.FieldsPulls.{list_of, pull_of}
 use Rattle.h3_session.specs.Listing.{ListsNext}
 use Rattle.h3_c.specs.Items.{bytes_of, fields_of, shown}
 use Rattle.h3_c.specs.Rows.{fits, flags_of, row_of, sizes_of}

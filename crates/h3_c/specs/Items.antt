@@ -9,16 +9,16 @@ use Rattle.h3_connection.specs.declared.event.Pull.{Pull}
 use Rattle.h3_connection.specs.declared.event.Pull.TheVariants as pull
 use Rattle.h3_connection.specs.declared.event.StreamFault.{StreamFault}
 use Rattle.h3_connection.specs.declared.event.StreamFault.TheVariants as stream_fault
+use Rattle.h3_connection.specs.Lists.{list_of, pull_of}
+use Rattle.h3_connection.specs.declared.lists.ListItem.TheVariants as listed
+use Rattle.h3_connection.specs.declared.lists.ListPull.{ListPull}
+use Rattle.h3_connection.specs.declared.lists.ListPull.TheVariants as answer
 use Rattle.h3_header.specs.Reads.{head_of_fields}
-use Rattle.h3_incoming.specs.FieldsPulls.{list_of, pull_of}
-use Rattle.h3_incoming.specs.declared.fields.FieldsItem.TheVariants as listed
-use Rattle.h3_incoming.specs.declared.fields.FieldsPull.{FieldsPull}
-use Rattle.h3_incoming.specs.declared.fields.FieldsPull.TheVariants as answer
 use Rattle.h3_c.specs.Rows.{row_len}
 use Rattle.h3_c.specs.declared.items.PulledItem.{PulledItem}
 
 -- the fields of a header or trailer section, and none of anything else
-abbrev pub fields_of : FieldsPull → List Field
+abbrev pub fields_of : ListPull → List Field
 fields_of p = unwrap_or (list_of p) []
 
 -- the bytes of a body or of a session
@@ -27,7 +27,7 @@ bytes_in (pull.Item (item.Body bytes)) = bytes
 bytes_in (pull.Item (item.Raw bytes)) = bytes
 bytes_in _ = []
 
-abbrev pub bytes_of : FieldsPull → List ℕ
+abbrev pub bytes_of : ListPull → List ℕ
 bytes_of p = bytes_in (pull_of p)
 
 -- `h3_kind` alone, or with a number
@@ -72,7 +72,7 @@ abbrev pub list_shown : ℕ → List Field → PulledItem
 list_shown kind fields = record { kind = kind; status = unwrap_or (head_of_fields fields).status 0; number = 0; fields = length fields; len = row_len fields }
 
 -- `h3_item`
-abbrev pub shown : FieldsPull → PulledItem
+abbrev pub shown : ListPull → PulledItem
 shown (answer.Item (listed.Interim fields)) = list_shown 1 fields
 shown (answer.Item (listed.Head fields)) = list_shown 2 fields
 shown (answer.Item (listed.Body bytes)) = bytes_shown 3 bytes

@@ -8,6 +8,8 @@ use Rattle.h3_connection.specs.OwnIds.{other}
 use Rattle.h3_connection.specs.declared.event.Refusal.{Refusal}
 use Rattle.h3_connection.specs.declared.event.Refusal.TheVariants as refusal
 use Rattle.h3_connection.specs.declared.setup.Announced.{Announced}
+use Rattle.h3_connection.specs.declared.lists.ListItem.TheVariants as listed
+use Rattle.h3_connection.specs.declared.lists.ListPull.TheVariants as list
 use Rattle.h3_incoming.specs.BodyPlaces.{piece_of}
 use Rattle.h3_incoming.specs.declared.body_place.BodyPlace.{BodyPlace}
 use Rattle.h3_world.specs.Delivering.{reset_code}
@@ -16,12 +18,10 @@ use Rattle.h3_world.specs.declared.event.Answer.{Answer}
 use Rattle.h3_world.specs.declared.event.Answer.TheVariants as answer
 use Rattle.h3_world.specs.declared.event.Event.{Event}
 use Rattle.h3_world.specs.declared.event.Event.TheVariants as event
-use Rattle.h3_world.specs.declared.lists.ListItem.TheVariants as listed
-use Rattle.h3_world.specs.declared.lists.ListPull.TheVariants as list
 use Rattle.h3_headline.specs.Messages.{is_on}
 use Rattle.h3_session.specs.OpeningAt.{to_open}
 use Rattle.h3_session.specs.Running.{answer_of}
-use Rattle.h3_c.specs.Asked.{GivesBytes, Learns, Tells as TellsAnswer, asked, is_left_out, pull_listed}
+use Rattle.h3_c.specs.Asked.{GivesBytes, Learns, Tells as TellsAnswer, asked, is_left_out}
 use Rattle.h3_c.specs.Configs.{MakesGiven, announced_of, side_of}
 use Rattle.h3_c.specs.Does.{CallOfC, Does}
 use Rattle.h3_c.specs.Does.CallOfC.{Advance, CloseStream, Deliver, DeliverEnd, DeliverReset, OpenRequestAt, Outgoing, Read as ReadOfC, Reset as ResetOfC, SendBodyOf, Shutdown, ShutdownNotice, Stream}
@@ -236,11 +236,11 @@ pub data ComesOfRead (from : Side) (id : ℕ) (bytes : List ℕ) (fin used : ℕ
       (answer.Delivered used ∷ answer.Listed (list.Item (listed.Body (piece_of p bytes))) ∷ [])
   -- a delivery of what was used, where anything was, and a pull
   Pulls : ends_with fin bytes used ≡ false → n ≡ ok → item ≡ shown s.last
-      → ComesOfRead from id bytes fin used item n s (bytes_events from id used ++ event.PullFields (other from) id ∷ []) (bytes_answers used ++ answer.Listed (pull_listed s.last) ∷ [])
+      → ComesOfRead from id bytes fin used item n s (bytes_events from id used ++ event.PullFields (other from) id ∷ []) (bytes_answers used ++ answer.Listed s.last ∷ [])
   -- the same, with the end between the two. It may have come before
   PullsEnd : (a : Answer) → ends_with fin bytes used ≡ true → (a ≡ answer.Done) ⊎ (a ≡ answer.Refused refusal.AfterEnd) → n ≡ ok → item ≡ shown s.last
       → ComesOfRead from id bytes fin used item n s (bytes_events from id used ++ event.DeliverEnd from id ∷ event.PullFields (other from) id ∷ [])
-      (bytes_answers used ++ a ∷ answer.Listed (pull_listed s.last) ∷ [])
+      (bytes_answers used ++ a ∷ answer.Listed s.last ∷ [])
   -- a delivery alone, whose number C gets
   Stops : (a : Answer) (count : ℕ) → count ≤ length bytes → TellsAnswer (answer.Delivered count) n a → ComesOfRead from id bytes fin used item n s (event.Deliver from id count ∷ []) (a ∷ [])
   -- a delivery, where there were bytes, and that of the end, whose number C gets

@@ -1,6 +1,6 @@
 -- A pull with sessions of WebTransport beside an endpoint.
 use Rattle.std.specs.Prelude.{◌≡◌, ℕ, false}
-use Rattle.h3_incoming.specs.FieldsPulls.{list_of, pull_of}
+use Rattle.h3_connection.specs.Lists.{list_of, pull_of}
 use Rattle.h3_session.specs.Listing.{ListsNext}
 use Rattle.h3_webtransport.specs.Joint.{is_read}
 use Rattle.h3_webtransport.specs.Receiving.{PullsOn}

@@ -8,8 +8,8 @@ use Rattle.h3_connection.specs.State.{EndpointState, StandsFor}
 use Rattle.h3_connection.specs.declared.event.DeliverError.{DeliverError}
 use Rattle.h3_connection.specs.declared.event.DeliverError.TheVariants as deliver_error
 use Rattle.h3_connection.specs.declared.event.Refusal.TheVariants as refusal
+use Rattle.h3_connection.specs.declared.lists.ListPull.TheVariants as answer
 use Rattle.h3_incoming.specs.declared.body_place.BodyPlace.{BodyPlace}
-use Rattle.h3_incoming.specs.declared.fields.FieldsPull.TheVariants as answer
 use Rattle.h3_session.specs.ReadingBodies.{place_next, ReadsBody}
 use Rattle.h3_c.specs.Exported.{OnStream, Pulls, UnlessRejected, Unwritten}
 use Rattle.h3_c.specs.Numbers.{delivery_told, ok}

@@ -1,6 +1,6 @@
 -- What a contract sees behind a handle.
 use Rattle.h3_connection.specs.State.{EndpointState}
-use Rattle.h3_incoming.specs.declared.fields.FieldsPull.{FieldsPull}
+use Rattle.h3_connection.specs.declared.lists.ListPull.{ListPull}
 use Rattle.h3_webtransport.specs.Joint.{Joint}
 use Rattle.h3_session.specs.declared.endpoint.events.EventsSeen.{EventsSeen}
 
@@ -8,5 +8,5 @@ use Rattle.h3_session.specs.declared.endpoint.events.EventsSeen.{EventsSeen}
 pub record Seen : Type 0 where
   pub endpoint : EndpointState
   pub sessions : Joint
-  pub last : FieldsPull
+  pub last : ListPull
   pub events : EventsSeen

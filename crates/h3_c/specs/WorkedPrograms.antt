@@ -5,9 +5,9 @@ use Rattle.h3_field.specs.Field.{Field, plain_field}
 use Rattle.h3_header.specs.Head.{head_fields}
 use Rattle.h3_proto.specs.declared.stream.Side.TheVariants.{Client, Server}
 use Rattle.h3_connection.specs.Endpoint.{bytes_waiting}
-use Rattle.h3_incoming.specs.declared.fields.FieldsItem.TheVariants as came
-use Rattle.h3_incoming.specs.declared.fields.FieldsPull.{FieldsPull}
-use Rattle.h3_incoming.specs.declared.fields.FieldsPull.TheVariants as pulled
+use Rattle.h3_connection.specs.declared.lists.ListItem.TheVariants as listed
+use Rattle.h3_connection.specs.declared.lists.ListPull.{ListPull}
+use Rattle.h3_connection.specs.declared.lists.ListPull.TheVariants as list
 use Rattle.h3_world.specs.Ends.{ends_after, new_ends}
 use Rattle.h3_world.specs.WorkedHeads.{home, no_tables}
 use Rattle.h3_world.specs.declared.event.Answer.{Answer}
@@ -18,7 +18,6 @@ use Rattle.h3_headline.specs.Messages.{MessageContent}
 use Rattle.h3_headline.specs.Messages.MessageContent.{Byte, FieldSection}
 use Rattle.h3_headline.specs.Messages.SectionKind.{OfHead}
 use Rattle.h3_session.specs.OpeningAt.{to_open}
-use Rattle.h3_c.specs.Asked.{pull_listed}
 use Rattle.h3_c.specs.Does.CallOfC.{EndTaken, Finish, NextToSend, OpenRequest, Pull, SendHead}
 use Rattle.h3_c.specs.Items.{shown}
 use Rattle.h3_c.specs.Numbers.{ok}
@@ -51,18 +50,18 @@ abbrev pub request_bytes : List ℕ
 request_bytes = bytes_waiting (ends_after (new_ends no_tables) asking_events).client 0
 
 -- What is pulled, and shown to C.
-abbrev pub pulls : FieldsPull → Act
-pulls p = Call Server (Pull 0 (shown pulled.Pending) (shown p) ok)
+abbrev pub pulls : ListPull → Act
+pulls p = Call Server (Pull 0 (shown list.Pending) (shown p) ok)
 
-abbrev pub pulls_back : FieldsPull → Act
-pulls_back p = Call Client (Pull 0 (shown pulled.Pending) (shown p) ok)
+abbrev pub pulls_back : ListPull → Act
+pulls_back p = Call Client (Pull 0 (shown list.Pending) (shown p) ok)
 
 abbrev pub asking : List Act
 asking =
     Call Client (OpenRequest 0 0 ok) ∷ Call Client (SendHead 0 (sizes_of request) [] (row_of request) ok) ∷ Call Client (Finish 0 ok) ∷
     Call Client (NextToSend 0 0 0 ok) ∷ Take Client 0 request_bytes ∷ Call Client (EndTaken 0 ok) ∷
     Bytes Client 0 (take 10 request_bytes) ok ∷ Bytes Client 0 (drop 10 request_bytes) ok ∷ End Client 0 ok ∷
-    pulls (pulled.Item (came.Head request)) ∷ pulls (pulled.Item came.End) ∷ []
+    pulls (list.Item (listed.Head request)) ∷ pulls (list.Item listed.End) ∷ []
 
 -- the server answers: a frame of five bytes, which QUIC takes before the server sends one of four; and seven bytes come before the last two
 abbrev pub answering_events : List Event
@@ -77,7 +76,7 @@ answering =
     Call Server (SendHead 0 (sizes_of response) [] (row_of response) ok) ∷ Take Server 0 (take 5 response_bytes) ∷
     Announce Server 0 (codes "hi") ok ∷ Call Server (Finish 0 ok) ∷ Take Server 0 (drop 5 response_bytes) ∷ Call Server (EndTaken 0 ok) ∷
     Bytes Server 0 (take 7 response_bytes) ok ∷ Bytes Server 0 (drop 7 response_bytes) ok ∷ End Server 0 ok ∷
-    pulls_back (pulled.Item (came.Head response)) ∷ pulls_back (pulled.Item (came.Body (codes "hi"))) ∷ pulls_back (pulled.Item came.End) ∷ []
+    pulls_back (list.Item (listed.Head response)) ∷ pulls_back (list.Item (listed.Body (codes "hi"))) ∷ pulls_back (list.Item listed.End) ∷ []
 
 abbrev pub exchange : List Act
 exchange = asking ++ answering
@@ -89,14 +88,11 @@ exchange_events =
     event.PullFields Server 0 ∷ event.PullFields Server 0 ∷ event.Fields Server 0 response ∷ event.Body Server 0 (codes "hi") ∷ event.Finish Server 0 ∷
     event.Deliver Server 0 7 ∷ event.Deliver Server 0 2 ∷ event.DeliverEnd Server 0 ∷ event.PullFields Client 0 ∷ event.PullFields Client 0 ∷ event.PullFields Client 0 ∷ []
 
-abbrev pub listed_answer : FieldsPull → Answer
-listed_answer p = answer.Listed (pull_listed p)
-
 abbrev pub exchange_answers : List Answer
 exchange_answers =
     answer.Opened 0 ∷ answer.Done ∷ answer.Done ∷ answer.Delivered 10 ∷ answer.Delivered 11 ∷ answer.Done ∷
-    listed_answer (pulled.Item (came.Head request)) ∷ listed_answer (pulled.Item came.End) ∷ answer.Done ∷ answer.Done ∷ answer.Done ∷
-    answer.Delivered 7 ∷ answer.Delivered 2 ∷ answer.Done ∷ listed_answer (pulled.Item (came.Head response)) ∷ listed_answer (pulled.Item (came.Body (codes "hi"))) ∷ listed_answer (pulled.Item came.End) ∷ []
+    answer.Listed (list.Item (listed.Head request)) ∷ answer.Listed (list.Item listed.End) ∷ answer.Done ∷ answer.Done ∷ answer.Done ∷
+    answer.Delivered 7 ∷ answer.Delivered 2 ∷ answer.Done ∷ answer.Listed (list.Item (listed.Head response)) ∷ answer.Listed (list.Item (listed.Body (codes "hi"))) ∷ answer.Listed (list.Item listed.End) ∷ []
 
 -- `h3_open_request_at` of 8, where none is open yet: the ids 0, 4 and 8 (RFC 9000, section 2.1)
 abbrev pub opening : List Event

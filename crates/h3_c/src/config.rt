@@ -3,7 +3,8 @@ ghost use Rattle.std.specs.Prelude.{◌≡◌, ◌<◌, slice_get, unwrap_or};
 ghost use Rattle.h3_connection.specs.Remembering.{remembering};
 ghost use Rattle.h3_connection.specs.SendingContracts.{Creates, CreatesWith};
 ghost use Rattle.h3_proto.specs.declared.stream.Side.TheVariants.{Client};
-ghost use Rattle.h3_c.specs.Configs.{default_config, side_of, config_of, config_given, lacks_settings, least_for, limit_of_given, announced_of, numbers_of, without_settings};
+ghost use Rattle.h3_c.specs.Configs.{default_config, side_of, config_of, config_given, lacks_settings, least_for, limit_of_given};
+ghost use Rattle.h3_c.specs.Configs.{announced_of, numbers_of, without_settings};
 
 use h3_coding::varint::VarInt;
 use h3_connection::setup::{Limits, NewError};
@@ -81,8 +82,8 @@ impl Default for GivenConfig {
 }
 
 impl GivenConfig {
-    /// What these numbers ask for: a size first, as `h3_config` has it. A caller that was built when there were fewer has the defaults of those it does
-    /// not know. None: the size is not that of the numbers, or there are more than are known here.
+    /// What these numbers ask for: a size first, as `h3_config` has it. A caller that was built when there were fewer has the defaults of
+    /// those it does not know. None: the size is not that of the numbers, or there are more than are known here.
     pub(crate) fn of(numbers: &[u64]) -> Option<GivenConfig>
         ensures { result ≡ config_given numbers.now }
     {

@@ -1,11 +1,11 @@
 //! What a handle owns.
 ghost use Rattle.std.specs.Prelude.{◌≡◌, ◌<◌, ◌≤◌, IfOk, IfErr, Ok};
 ghost use Rattle.h3_connection.specs.SendingContracts.{Creates};
+ghost use Rattle.h3_connection.specs.declared.lists.ListPull.TheVariants as answer;
 ghost use Rattle.h3_c.specs.Configs.{side_of, announced_of, sessions_of, Unmakes};
 ghost use Rattle.h3_webtransport.specs.Joint.{first_joint};
 ghost use Rattle.h3_c.specs.Numbers.{argument};
 ghost use Rattle.h3_session.specs.Events.{nothing_seen};
-ghost use Rattle.h3_incoming.specs.declared.fields.FieldsPull.TheVariants as answer;
 
 use crate::config::{GivenConfig, endpoint_of, side_of};
 use crate::numbers::{ARGUMENT, MEMORY, Told, unmade};
@@ -72,7 +72,8 @@ impl Connection {
         side: Side,
         has_sessions: bool,
     ) -> Connection
-        ensures { result ≡ record { endpoint = endpoint; sessions = first_joint side has_sessions; last = answer.Pending; events = nothing_seen } }
+        ensures { result
+            ≡ record { endpoint = endpoint; sessions = first_joint side has_sessions; last = answer.Pending; events = nothing_seen } }
     {
         Connection {
             endpoint,

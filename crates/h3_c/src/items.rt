@@ -1,8 +1,9 @@
 //! The item that was pulled last, as C sees it: `h3_item` of the header.
 ghost use Rattle.std.specs.Prelude.{◌≡◌, unwrap_or, IfSome, IfNone, Some, None};
 ghost use Rattle.h3_header.specs.Reads.{head_of_fields};
-ghost use Rattle.h3_incoming.specs.FieldsPulls.{list_of, listed_as, plain_answer};
-ghost use Rattle.h3_incoming.specs.declared.fields.FieldsPull.TheVariants as answer;
+ghost use Rattle.h3_connection.specs.Lists.{list_of};
+ghost use Rattle.h3_connection.specs.declared.lists.ListPull.TheVariants as answer;
+ghost use Rattle.h3_incoming.specs.BlockPulls.{listed_as, plain_answer};
 ghost use Rattle.h3_c.specs.Items.{shown, plain, numbered, bytes_shown, fault_shown, malformation_number, bytes_of};
 
 use crate::rows::bytes_in;

@@ -11,7 +11,8 @@ ghost use Rattle.h3_c.specs.Programs.{Act, AreMade, Handles, Happen, StandFor};
 /// events and their answers. Of these `Faithful` holds: each side is given what the other one sent.
 pub fn each_program_gets_what_the_other_sent()
     ensures { (setup : Setup) (h g : Handles) (acts : List Act) → AreMade setup h → Happen h acts g →
-        (events : List Event) × (answers : List Answer) × StandFor h acts events answers g × (AreSmall events → Faithful setup events answers) }
+        (events : List Event) × (answers : List Answer) × StandFor h acts events answers g
+        × (AreSmall events → Faithful setup events answers) }
 {
     h3_faithful::laws::each_side_gets_what_the_other_sent();
     h3_session::laws::calls_are_steps_of_two_endpoints();

@@ -1,6 +1,7 @@
 //! The numbers that C sees: `enum h3_answer` of the header.
 ghost use Rattle.std.specs.Prelude.{◌≡◌, true, Some, is_some};
-ghost use Rattle.h3_c.specs.Numbers.{TellsField, TellsList, TellsMalformed, refusal_told, call_told, body_told, datagram_told, delivery_told, open_told, setting_of, new_told, told_or_memory};
+ghost use Rattle.h3_c.specs.Numbers.{TellsField, TellsList, TellsMalformed, refusal_told, call_told, body_told, datagram_told};
+ghost use Rattle.h3_c.specs.Numbers.{delivery_told, open_told, setting_of, new_told, told_or_memory};
 ghost use Rattle.h3_connection.specs.Answers.{call_refused};
 ghost use Rattle.h3_connection.specs.declared.event.Refusal.TheVariants as refusal;
 ghost use Rattle.h3_messages.specs.InvalidField.{invalid_field};
@@ -195,7 +196,9 @@ fn malformed(why: Malformation, endpoint: &Endpoint, fields: &[HeaderField]) -> 
 
 // A number, with the index of the field for which the list is refused beside.
 fn at_field(number: u32, endpoint: &Endpoint, fields: &[HeaderField]) -> Told
-    requires { is_some (invalid_field endpoint.now.announced.choices.extensions.any_protocol endpoint.now.announced.choices.strict_messages fields.now) ≡ true }
+    requires { is_some
+        (invalid_field endpoint.now.announced.choices.extensions.any_protocol endpoint.now.announced.choices.strict_messages fields.now)
+        ≡ true }
     ensures { TellsField number endpoint.now.announced.choices fields.now result }
 {
     match endpoint.invalid_field(fields) {

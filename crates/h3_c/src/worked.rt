@@ -6,7 +6,8 @@ ghost use Rattle.h3_world.specs.WorkedHeads.{no_tables};
 ghost use Rattle.h3_headline.specs.Messages.{pulled, sent};
 ghost use Rattle.h3_session.specs.OpeningAt.{to_open};
 ghost use Rattle.h3_c.specs.Programs.{opened_answers};
-ghost use Rattle.h3_c.specs.WorkedPrograms.{exchange, exchange_answers, exchange_events, all_carried, opening, opening_answers, request_sent, response_frames, response_sent, rest_carried, schedule_of};
+ghost use Rattle.h3_c.specs.WorkedPrograms.{exchange, exchange_answers, exchange_events, all_carried, opening, opening_answers};
+ghost use Rattle.h3_c.specs.WorkedPrograms.{request_sent, response_frames, response_sent, rest_carried, schedule_of};
 
 /// A request and its response by the calls of h3.h: which schedule they are, what two endpoints answer to it, what each side is given, and
 /// what QUIC carries.

@@ -37,7 +37,8 @@ pub fn a_capsule_is_told_as_it_is()
 /// So is one that is written.
 pub fn what_is_written_is_told()
     ensures { (kind : ℕ) (value more : List ℕ) → kind < 2 ^ 62 → length value < 2 ^ 62
-        → told (InHead []) (capsule_head kind (length value) ++ (value ++ more)) ≡ then_told (parts_of_capsule kind value) (told (InHead []) more) }
+        → told (InHead []) (capsule_head kind (length value) ++ (value ++ more)) ≡ then_told (parts_of_capsule kind value)
+        (told (InHead []) more) }
 {}
 
 /// What is written in front of a datagram's payload reads back as the id of its stream, and the rest is the payload.

@@ -11,7 +11,7 @@ use h3_field::HeaderField;
 use h3_header::Header;
 use h3_proto::config::Config;
 use h3_proto::stream::{Side, StreamId};
-use h3_session::FieldsPull;
+use h3_session::ListPull;
 use h3_session::endpoint::Endpoint;
 use h3_world::event::Answer;
 
@@ -156,9 +156,9 @@ fn pull(endpoint: &mut Endpoint, id: StreamId) -> Pull {
 }
 
 /// Pulls a list, a second time if an allocation failed.
-fn pull_fields(endpoint: &mut Endpoint, id: StreamId) -> FieldsPull {
+fn pull_fields(endpoint: &mut Endpoint, id: StreamId) -> ListPull {
     match endpoint.pull_fields(id) {
-        FieldsPull::Fault(Fault::Memory) => endpoint.pull_fields(id),
+        ListPull::Fault(Fault::Memory) => endpoint.pull_fields(id),
         told => told,
     }
 }

@@ -5,7 +5,9 @@ use h3_proto::config::Config;
 
 /// What `h3_config_default` has. `scripts/gate/wide_scripts.py` compares it with `h3_c`.
 const DEFAULT: &str =
-    "max_field_section_size=65536 table=4096 blocked=16 strict count_acknowledgments encoder_table=4096 economical_table unfinished_limit=0 kept_ids=1000 reject_requests any_protocol guard_secrets shortest_strings strict_connection priority_updates=100 other_settings=0 other_streams=0";
+    "max_field_section_size=65536 table=4096 blocked=16 strict count_acknowledgments encoder_table=4096 economical_table \
+     unfinished_limit=0 kept_ids=1000 reject_requests any_protocol guard_secrets shortest_strings strict_connection \
+     priority_updates=100 other_settings=0 other_streams=0";
 
 /// No limit on what is unfinished.
 const NONE: u64 = (1 << 62) - 1;

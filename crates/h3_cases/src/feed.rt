@@ -3,8 +3,9 @@ ghost use Rattle.std.specs.Prelude.{refl};
 ghost use Rattle.h3_wire.specs.Source.{Polls};
 
 use bytes::Bytes;
-use h3_wire::proto::stream::StreamId;
-use h3_wire::quic::{Poll, RecvStream, StreamErrorIncoming};
+use h3_frames::proto::stream::StreamId;
+use h3_frames::quic::StreamErrorIncoming;
+use h3_wire::quic::{Poll, RecvStream};
 use std::alloc::Global;
 
 /// Gives `first` bytes and then `later` bytes a call, at least one, and then what `last` says.

@@ -4,10 +4,10 @@ ghost use Rattle.std.specs.Prelude.{◌<◌};
 use crate::case::Told;
 use bytes::{Buf, Bytes, BytesMut};
 use h3_coding::varint::VarInt;
-use h3_wire::proto::config::Config;
-use h3_wire::proto::frame::{Frame, FrameError, FrameType, PayloadLen, Settings, SettingsError};
-use h3_wire::proto::push::PushId;
-use h3_wire::proto::webtransport::SessionId;
+use h3_frames::proto::config::Config;
+use h3_frames::proto::frame::{Frame, FrameError, FrameType, PayloadLen, Settings, SettingsError};
+use h3_frames::proto::push::PushId;
+use h3_frames::proto::webtransport::SessionId;
 use h3_wire::stream::WriteBuf;
 
 pub fn answer(told: &mut Told, command: &str, words: &[&str]) {

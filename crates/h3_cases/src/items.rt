@@ -4,7 +4,7 @@ use h3_connection::event::{Item, Pull};
 use h3_field::{Fields, HeaderField};
 use h3_header::Header;
 use h3_script::text::FaultText;
-use h3_session::{FieldsItem, FieldsPull};
+use h3_session::{ListItem, ListPull};
 
 /// The line of what a pull answers.
 pub fn pulled(told: &mut Told, pull: Pull) {
@@ -29,43 +29,43 @@ fn tell_pull(told: &mut Told, pull: &Pull) {
 }
 
 /// The line of what a pull of lists answers.
-pub fn pulled_list(told: &mut Told, pull: FieldsPull) {
+pub fn pulled_list(told: &mut Told, pull: ListPull) {
     tell_list_pull(told, &pull);
     drop(pull);
 }
 
-fn tell_list_pull(told: &mut Told, pull: &FieldsPull) {
+fn tell_list_pull(told: &mut Told, pull: &ListPull) {
     match pull {
-        FieldsPull::Item(item) => tell_list_item(told, item),
-        FieldsPull::Pending => told.say("pending"),
-        FieldsPull::Waiting(count) => {
+        ListPull::Item(item) => tell_list_item(told, item),
+        ListPull::Pending => told.say("pending"),
+        ListPull::Waiting(count) => {
             told.say("waiting");
             told.then_show(*count);
         }
-        FieldsPull::Fault(fault) => {
+        ListPull::Fault(fault) => {
             told.say("fault");
             told.then_show(FaultText(*fault));
         }
-        FieldsPull::NoMessages => told.say("no messages"),
+        ListPull::NoMessages => told.say("no messages"),
     }
 }
 
-fn tell_list_item(told: &mut Told, item: &FieldsItem) {
+fn tell_list_item(told: &mut Told, item: &ListItem) {
     match item {
-        FieldsItem::Interim(list) => tell_list(told, "interim", &list.fields()),
-        FieldsItem::Head(list) => tell_list(told, "head", &list.fields()),
-        FieldsItem::Body(bytes) => escaped(told, "body ", bytes.as_slice()),
-        FieldsItem::Trailer(list) => tell_list(told, "trailer", &list.fields()),
-        FieldsItem::TooLarge(size) => {
+        ListItem::Interim(list) => tell_list(told, "interim", &list.fields()),
+        ListItem::Head(list) => tell_list(told, "head", &list.fields()),
+        ListItem::Body(bytes) => escaped(told, "body ", bytes.as_slice()),
+        ListItem::Trailer(list) => tell_list(told, "trailer", &list.fields()),
+        ListItem::TooLarge(size) => {
             told.say("too large");
             told.then_show(*size);
         }
-        FieldsItem::Session(id) => {
+        ListItem::Session(id) => {
             told.say("session");
             told.then_show(id.into_inner());
         }
-        FieldsItem::Raw(bytes) => escaped(told, "raw ", bytes.as_slice()),
-        FieldsItem::End => told.say("end"),
+        ListItem::Raw(bytes) => escaped(told, "raw ", bytes.as_slice()),
+        ListItem::End => told.say("end"),
     }
 }
 

@@ -4,12 +4,13 @@ ghost use Rattle.std.specs.Prelude.{◌≤◌, length};
 use crate::case::Told;
 use bytes::{Buf, Bytes};
 use h3_coding::varint::VarInt;
-use h3_wire::buf::BufList;
-use h3_wire::proto::frame::{Frame, PushPromise};
-use h3_wire::proto::push::PushId;
-use h3_wire::proto::stream::StreamType;
-use h3_wire::proto::webtransport::SessionId;
-use h3_wire::stream::{BidiStreamHeader, MessageBuf, UniStreamHeader, WriteBuf};
+use h3_frames::buf::BufList;
+use h3_frames::proto::frame::{Frame, PushPromise};
+use h3_frames::proto::push::PushId;
+use h3_frames::proto::stream::StreamType;
+use h3_frames::proto::webtransport::SessionId;
+use h3_frames::stream::MessageBuf;
+use h3_wire::stream::{BidiStreamHeader, UniStreamHeader, WriteBuf};
 
 pub fn answer(told: &mut Told, command: &str, words: &[&str]) {
     match words {

@@ -1,10 +1,10 @@
 //! Settings (RFC 9114, section 7.2.4).
 use crate::case::Told;
 use bytes::{Bytes, BytesMut};
+use h3_frames::proto::frame::{Frame, PayloadLen};
 use h3_proto::config;
 use h3_proto::config::Config;
 use h3_proto::frame::{SettingId, Settings, SettingsError};
-use h3_wire::proto::frame::{Frame, PayloadLen};
 use std::io::Cursor;
 
 pub fn answer(told: &mut Told, command: &str, words: &[&str]) {

@@ -6,8 +6,9 @@ use crate::case::Told;
 use crate::feed::{Feed, Last};
 use crate::memory;
 use bytes::{Buf, Bytes};
-use h3_wire::frame::{FrameStream, FrameStreamError};
-use h3_wire::proto::frame::{Frame, PayloadLen};
+use h3_frames::frame::FrameStreamError;
+use h3_frames::proto::frame::{Frame, PayloadLen};
+use h3_wire::frame::FrameStream;
 use h3_wire::quic::{Poll, RecvStream};
 use h3_wire::stream::{AcceptRecvStream, AcceptedRecvStream, BufRecvStream};
 

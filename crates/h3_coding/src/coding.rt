@@ -1,6 +1,7 @@
 //! Reading and writing values at a buffer, with an error if bytes or room are missing. Each trait
 //! says in ghost members which bytes stand for a value, so that generic code knows them.
-ghost use Rattle.std.specs.Prelude.{◌≡◌, ℕ, ◌<◌, ◌^◌, List, [], ◌∷◌, ◌++◌, length, IfOk, IfErr, IfSome, IsNone, OnOk, OnErr, None, Some, ◌≤◌, take, drop, refl};
+ghost use Rattle.std.specs.Prelude.{◌≡◌, ℕ, ◌<◌, ◌^◌, List, [], ◌∷◌, ◌++◌, length, IfOk, IfErr, IfSome, IsNone, OnOk, OnErr, None, Some};
+ghost use Rattle.std.specs.Prelude.{◌≤◌, take, drop, refl};
 ghost use Rattle.h3_coding.specs.ByteLaws.{one_byte, byte_finished};
 ghost use Rattle.h3_coding.specs.Reading.{Takes};
 ghost use Rattle.h3_coding.specs.Encodings.{IsEncoding, IsUnfinished, encoding};

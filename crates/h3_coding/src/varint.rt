@@ -1,5 +1,6 @@
 //! Variable-length integers: numbers below 2^62 in one, two, four or eight bytes (RFC 9000, section 16).
-ghost use Rattle.std.specs.Prelude.{◌≡◌, ℕ, ◌+◌, ◌-◌, ◌*◌, ◌/◌, ◌^◌, ◌<◌, ◌≤◌, ◌∷◌, ◌++◌, length, take, drop, IfOk, IfErr, IfSome, IsNone, OnOk, OnErr, Some, None};
+ghost use Rattle.std.specs.Prelude.{◌≡◌, ℕ, ◌+◌, ◌-◌, ◌*◌, ◌/◌, ◌^◌, ◌<◌, ◌≤◌, ◌∷◌, ◌++◌, length, take, drop, IfOk, IfErr, IfSome, IsNone};
+ghost use Rattle.std.specs.Prelude.{OnOk, OnErr, Some, None};
 ghost use Rattle.std.specs.Result.{OkIff};
 ghost use Rattle.std.specs.Fmt.{decimal};
 ghost use Rattle.std.specs.List.{AllByRecursion};

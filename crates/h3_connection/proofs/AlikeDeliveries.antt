@@ -1,7 +1,7 @@
 -- However the bytes of a stream are cut into deliveries, endpoints that differ in cuts alone answer alike and are left so.
 use Rattle.std.proofs.Common.{Bool, ◌≡◌, ℕ, List, [], ◌++◌, refl, ap, sym, ◌∙◌, subst, append_assoc, Option, Some, None}
 use Rattle.std.specs.List.{concat}
-use Rattle.h3_wire.specs.Pieces.{with_piece}
+use Rattle.h3_frames.specs.Pieces.{with_piece}
 use Rattle.h3_field.specs.Instruction.{DecoderInstruction}
 use Rattle.h3_connection.specs.declared.event.Refusal.{Refusal}
 use Rattle.h3_connection.specs.CallCuts.{joined_increments, SessionsDifferInCuts, EachStream, with_streams, DifferInCutsAlone}

@@ -19,7 +19,7 @@ use Rattle.h3_connection.specs.Endpoint.Kind.{Request, ServerOpened, OwnUnidirec
 use Rattle.h3_connection.specs.Incoming.{Incoming}
 use Rattle.h3_connection.specs.PullCuts.{piece_in, HaveBytes, DifferInCuts, PullsAlike, Same, Bodies, Raws}
 use Rattle.h3_connection.specs.Pulling.{Pulled, body_of, raw_of, pull_stream}
-use Rattle.h3_wire.specs.Pieces.{chunk_of, first_of}
+use Rattle.h3_frames.specs.Pieces.{chunk_of, first_of}
 use Rattle.h3_connection.specs.Sending.{after_answer, if_too_many, within_limit, pulled, pull_request, pulled_unidirectional, pull_peer, pull_at, pull_unless, pull}
 use Rattle.h3_connection.specs.StreamSets.{Streams, stream_at, set_stream}
 use Rattle.h3_connection.specs.StreamSetLaws.{set-here, set-set, set-same}

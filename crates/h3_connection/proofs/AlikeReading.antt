@@ -2,7 +2,7 @@
 use Rattle.std.proofs.Common.{◌≡◌, ℕ, Bool, true, false, if◌then◌else◌, List, [], ◌++◌, refl, ap, sym, ◌∙◌, subst, Option, Some, None}
 use Rattle.std.specs.Prelude.{◌||◌, is_some}
 use Rattle.std.specs.List.{concat}
-use Rattle.h3_wire.specs.Pieces.{with_piece}
+use Rattle.h3_frames.specs.Pieces.{with_piece}
 use Rattle.h3_field.specs.Instruction.{DecoderInstruction}
 use Rattle.h3_connection.specs.declared.event.StreamFault.{StreamFault}
 use Rattle.h3_connection.specs.declared.event.StreamFault.TheVariants as stream_fault

@@ -3,8 +3,8 @@ use Rattle.std.proofs.Common.{◌≡◌, ℕ, Bool, true, false, ◌&&◌, if◌
 use Rattle.std.specs.Prelude.{is_none}
 use Rattle.std.proofs.lemmas.Bool.{and_parts, and_right}
 use Rattle.h3_proto.specs.declared.stream.Side.{Side}
-use Rattle.h3_wire.specs.declared.frame.kinds.FrameKinds.{FrameKinds}
-use Rattle.h3_wire.specs.FirstFrames.{begins_other}
+use Rattle.h3_frames.specs.declared.frame.kinds.FrameKinds.{FrameKinds}
+use Rattle.h3_frames.specs.FirstFrames.{begins_other}
 use Rattle.h3_connection.specs.Codes.{missing_settings, settings_error}
 use Rattle.h3_connection.specs.Control.{Found, are_refused, holding, lacks_settings, read_control, settings_alone, taken_peer, then_decoder, if_learned}
 use Rattle.h3_connection.specs.DeliveryCuts.{IsSame}

@@ -8,14 +8,14 @@ use Rattle.h3_proto.specs.Settings.{value_of}
 use Rattle.h3_proto.specs.StreamIds.{is_request_stream}
 use Rattle.h3_proto.specs.declared.stream.Side.{Side}
 use Rattle.h3_proto.specs.declared.stream.Side.TheVariants.{Client, Server}
-use Rattle.h3_wire.specs.ExcessiveFrames.{is_excessive_by}
-use Rattle.h3_wire.specs.Frames.{Front, Whole, Unknown, Refused, Unfinished, frame_by}
-use Rattle.h3_wire.specs.Known.{known_by}
+use Rattle.h3_frames.specs.ExcessiveFrames.{is_excessive_by}
+use Rattle.h3_frames.specs.Frames.{Front, Whole, Unknown, Refused, Unfinished, frame_by}
+use Rattle.h3_frames.specs.Known.{known_by}
 use Rattle.h3_priority.specs.Priority.{PriorityParameters, priority_of}
-use Rattle.h3_wire.specs.Update.{Update}
-use Rattle.h3_wire.specs.declared.proto.frame.PayloadLen.{PayloadLen}
-use Rattle.h3_wire.specs.declared.proto.frame.Frame.{Frame}
-use Rattle.h3_wire.specs.declared.proto.frame.Frame.TheVariants as frame
+use Rattle.h3_frames.specs.Update.{Update}
+use Rattle.h3_frames.specs.declared.proto.frame.PayloadLen.{PayloadLen}
+use Rattle.h3_frames.specs.declared.proto.frame.Frame.{Frame}
+use Rattle.h3_frames.specs.declared.proto.frame.Frame.TheVariants as frame
 use Rattle.h3_qpack.specs.DecoderState.{DecoderState}
 use Rattle.h3_connection.specs.declared.setup.Announced.{Announced}
 use Rattle.h3_connection.specs.declared.event.Item.TheVariants as item
@@ -57,7 +57,7 @@ use Rattle.h3_connection.proofs.Seen.{eq_refl}
 use Rattle.h3_connection.proofs.SameSetups.{same_setup}
 use Rattle.h3_connection.proofs.SentOff.{sent_in, stop_refused, body_refused, trailer_refused, finish_refused, reset_refused}
 use Rattle.h3_connection.proofs.LeavesDone.{Over, Leaves, Rests, start_and_updates, written, settled_in, itself, at_rest, rests, leaves_then, receives, does_leave, taken_leaves, open_leaves, head_leaves, set_leaves, body_does, advance_leaves, end_leaves, goaway_leaves}
-use Rattle.h3_wire.specs.declared.frame.kinds.FrameKinds.{FrameKinds}
+use Rattle.h3_frames.specs.declared.frame.kinds.FrameKinds.{FrameKinds}
 use Rattle.h3_connection.specs.StrictConnection.{known_streams, kinds_of}
 
 -- The peer's GOAWAY frames stay, whatever its control stream says.

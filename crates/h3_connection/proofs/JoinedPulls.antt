@@ -7,8 +7,8 @@ use Rattle.std.proofs.lemmas.List.{length-drop, length-take, take-append-le, nil
 use Rattle.std.proofs.Math.Seq.{take-append-add}
 use Rattle.h3_qpack.specs.DecoderState.{DecoderState}
 use Rattle.h3_proto.specs.declared.stream.Side.{Side}
-use Rattle.h3_wire.specs.Pieces.{chunk_of, without}
-use Rattle.h3_wire.specs.PieceLaws.{concat-without, without-none}
+use Rattle.h3_frames.specs.Pieces.{chunk_of, without}
+use Rattle.h3_frames.specs.PieceLaws.{concat-without, without-none}
 use Rattle.h3_connection.specs.declared.setup.Announced.{Announced}
 use Rattle.h3_connection.specs.declared.event.Item.TheVariants as item
 use Rattle.h3_connection.specs.declared.event.Malformation.TheVariants as malformation

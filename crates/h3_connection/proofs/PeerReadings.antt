@@ -7,25 +7,25 @@ use Rattle.h3_coding.specs.VarintLaws.{cases_number, reads_more}
 use Rattle.h3_proto.specs.Config.{is_limit}
 use Rattle.h3_proto.specs.declared.stream.Side.{Side}
 use Rattle.h3_proto.specs.declared.stream.Side.TheVariants.{Client, Server}
-use Rattle.h3_wire.specs.ExcessiveFrames.{is_excessive_by, is_kept_whole, is_long_update, is_too_long, says_long_update, says_too_much}
-use Rattle.h3_wire.specs.ExcessiveLaws.{excessive_more, said_of, stays_kept, stays_update}
-use Rattle.h3_wire.specs.Frames.{Front, Whole, Unknown, Refused, Unfinished, frame_by, is_update}
-use Rattle.h3_wire.specs.FrameLaws.{frame_by-more}
-use Rattle.h3_wire.specs.Fronts.{IsFinished, with_more, IsKnown}
-use Rattle.h3_wire.specs.Known.{known_by}
-use Rattle.h3_wire.specs.KnownLaws.{known-other, known-more, known_is}
+use Rattle.h3_frames.specs.ExcessiveFrames.{is_excessive_by, is_kept_whole, is_long_update, is_too_long, says_long_update, says_too_much}
+use Rattle.h3_frames.specs.ExcessiveLaws.{excessive_more, said_of, stays_kept, stays_update}
+use Rattle.h3_frames.specs.Frames.{Front, Whole, Unknown, Refused, Unfinished, frame_by, is_update}
+use Rattle.h3_frames.specs.FrameLaws.{frame_by-more}
+use Rattle.h3_frames.specs.Fronts.{IsFinished, with_more, IsKnown}
+use Rattle.h3_frames.specs.Known.{known_by}
+use Rattle.h3_frames.specs.KnownLaws.{known-other, known-more, known_is}
 use Rattle.h3_priority.specs.Priority.{PriorityParameters, priority_of}
-use Rattle.h3_wire.specs.Update.{Update}
-use Rattle.h3_wire.specs.declared.proto.frame.PayloadLen.{PayloadLen}
-use Rattle.h3_wire.specs.declared.proto.frame.Frame.{Frame}
-use Rattle.h3_wire.specs.declared.proto.frame.Frame.TheVariants as frame
+use Rattle.h3_frames.specs.Update.{Update}
+use Rattle.h3_frames.specs.declared.proto.frame.PayloadLen.{PayloadLen}
+use Rattle.h3_frames.specs.declared.proto.frame.Frame.{Frame}
+use Rattle.h3_frames.specs.declared.proto.frame.Frame.TheVariants as frame
 use Rattle.h3_connection.specs.PeerReading.{Peer, PeerFound, with_unread, having_frame, is_no_element, is_no_goaway, is_above, is_below, read_max_push, read_priority, read_update, read_frame, unless_fault, at_front, unless_excessive, read_peer}
 use Rattle.h3_connection.specs.OtherSettingsLaws.{others_more}
 use Rattle.h3_connection.specs.Lasts.{last_id}
 use Rattle.h3_connection.specs.SkippingLaws.{rest_shorter, skipped_step}
 use Rattle.h3_connection.specs.PeerReadingLaws.{no_length, peer_step, step_excessive, step_within}
 use Rattle.h3_connection.specs.Skipping.{skip_front, skipped}
-use Rattle.h3_wire.specs.declared.frame.kinds.FrameKinds.{FrameKinds}
+use Rattle.h3_frames.specs.declared.frame.kinds.FrameKinds.{FrameKinds}
 
 -- only what `known` leaves counts
 front_of : (kinds : FrameKinds) (limit : ℕ) (side : Side) (p : Peer) (other bytes : List ℕ) (x : Front) → at_front (read_peer kinds limit side) side p bytes x ≡ at_front (read_peer kinds limit side) side (with_unread p other) bytes x

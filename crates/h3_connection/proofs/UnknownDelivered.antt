@@ -2,7 +2,7 @@
 use Rattle.std.proofs.Common.{◌≡◌, ℕ, false, ◌&&◌, if◌then◌else◌, List, [], ◌++◌, refl, ap, sym, ◌∙◌, Option, Some, None}
 use Rattle.std.specs.Prelude.{nat_lt, not}
 use Rattle.std.specs.List.{concat}
-use Rattle.h3_wire.specs.Known.{known_by}
+use Rattle.h3_frames.specs.Known.{known_by}
 use Rattle.h3_proto.specs.declared.stream.Side.{Side}
 use Rattle.h3_connection.specs.Incoming.{Incoming}
 use Rattle.h3_connection.specs.StreamSets.{stream_at, set_stream}
@@ -12,7 +12,7 @@ use Rattle.h3_connection.specs.Endpoint.Kind.{Request}
 use Rattle.h3_connection.specs.PeerReading.{Peer, PeerFound, with_unread, read_peer}
 use Rattle.h3_connection.specs.PeerReadingLaws.{nothing_read_on}
 use Rattle.h3_connection.proofs.PeerReadings.{peer_known}
-use Rattle.h3_wire.specs.FirstFrames.{begins_other}
+use Rattle.h3_frames.specs.FirstFrames.{begins_other}
 use Rattle.h3_connection.specs.Codes.{missing_settings, settings_error}
 use Rattle.h3_connection.specs.Control.{Found, are_refused, awaits_settings, holding, settings_alone, if_learned, then_decoder, after_peer, read_control}
 use Rattle.h3_connection.specs.Unidirectional.{role_after}
@@ -24,7 +24,7 @@ use Rattle.h3_connection.specs.UnknownFrames.{BeginsUnknown, MayBeginFrame, Read
 use Rattle.h3_connection.proofs.Seen.{at_same, eq_refl}
 use Rattle.h3_connection.proofs.EndStays.{pull_is}
 use Rattle.h3_connection.proofs.UnknownFrames.{unknown_left_out, pull_unknown}
-use Rattle.h3_wire.specs.declared.frame.kinds.FrameKinds.{FrameKinds}
+use Rattle.h3_frames.specs.declared.frame.kinds.FrameKinds.{FrameKinds}
 use Rattle.h3_connection.specs.StrictConnection.{kinds_of, known_streams}
 
 -- what a pull of the stream leaves does not rest on what the stream was

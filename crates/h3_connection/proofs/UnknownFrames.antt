@@ -5,13 +5,13 @@ use Rattle.std.specs.List.{concat, AllByRecursion}
 use Rattle.std.proofs.lemmas.Bool.{le-ltb}
 use Rattle.std.proofs.lemmas.List.{drop_at, length-drop}
 use Rattle.h3_coding.specs.VarintLaws.{reads_encoding}
-use Rattle.h3_wire.specs.ExcessiveFrames.{is_excessive_by}
-use Rattle.h3_wire.specs.Frames.{Unknown, is_http2, frame_of, with_head, frame_by, is_session, is_update}
-use Rattle.h3_wire.specs.FrameLaws.{at_head}
-use Rattle.h3_wire.specs.Known.{known_by}
-use Rattle.h3_wire.specs.KnownLaws.{known-unknown}
-use Rattle.h3_wire.specs.Pieces.{without, ending}
-use Rattle.h3_wire.specs.PieceLaws.{concat-without, without-without}
+use Rattle.h3_frames.specs.ExcessiveFrames.{is_excessive_by}
+use Rattle.h3_frames.specs.Frames.{Unknown, is_http2, frame_of, with_head, frame_by, is_session, is_update}
+use Rattle.h3_frames.specs.FrameLaws.{at_head}
+use Rattle.h3_frames.specs.Known.{known_by}
+use Rattle.h3_frames.specs.KnownLaws.{known-unknown}
+use Rattle.h3_frames.specs.Pieces.{without, ending}
+use Rattle.h3_frames.specs.PieceLaws.{concat-without, without-without}
 use Rattle.h3_proto.specs.declared.stream.Side.{Side}
 use Rattle.h3_qpack.specs.DecoderState.{DecoderState}
 use Rattle.h3_connection.specs.declared.place.Place.{Place}
@@ -23,7 +23,7 @@ use Rattle.h3_connection.specs.SkippingLaws.{skipped-length}
 use Rattle.h3_connection.proofs.PeerReadings.{skipped_known}
 use Rattle.h3_connection.specs.Pulling.{left_with, at_payload, next_frame, between_frames, in_message, next_item, pull_stream, excess}
 use Rattle.h3_connection.specs.UnknownFrames.{has_meaning, IsUnknownFrame, BeginsUnknown, MayBeginFrame}
-use Rattle.h3_wire.specs.declared.frame.kinds.FrameKinds.{FrameKinds}
+use Rattle.h3_frames.specs.declared.frame.kinds.FrameKinds.{FrameKinds}
 use Rattle.h3_connection.specs.StrictConnection.{kinds_of}
 
 neither : (a b : Bool) → (a || b) ≡ false → (a ≡ false) × (b ≡ false)

@@ -7,7 +7,7 @@ use Rattle.h3_field.specs.Instruction.EncoderInstruction.{SetCapacity}
 use Rattle.h3_proto.specs.Settings.{value_of}
 use Rattle.h3_qpack.specs.EncoderHistory.{using_table}
 use Rattle.h3_qpack.specs.Hearing.{Listened}
-use Rattle.h3_wire.specs.FirstFrames.{begins_other}
+use Rattle.h3_frames.specs.FirstFrames.{begins_other}
 use Rattle.h3_connection.specs.Codes.{decoder_stream_error, encoder_stream_error, missing_settings, settings_error}
 use Rattle.h3_connection.specs.ExcessiveInstructions.{listen_up_to}
 use Rattle.h3_connection.specs.Listeners.{heard_more, hearing_fault, listening_fault, after_hearing, insertions_heard}

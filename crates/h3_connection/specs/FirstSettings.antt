@@ -2,12 +2,12 @@
 use Rattle.std.specs.Prelude.{◌≡◌, ℕ, false, List, Some, None}
 use Rattle.h3_coding.specs.Varint.{varint_at}
 use Rattle.h3_proto.specs.declared.stream.Side.{Side}
-use Rattle.h3_wire.specs.declared.frame.kinds.FrameKinds.{FrameKinds}
-use Rattle.h3_wire.specs.ExcessiveFrames.{is_excessive_by}
-use Rattle.h3_wire.specs.FirstFrames.{begins_other}
-use Rattle.h3_wire.specs.Frames.{Front, Whole, Refused, Unfinished, frame_by}
-use Rattle.h3_wire.specs.declared.proto.frame.Frame.TheVariants as frame
-use Rattle.h3_wire.specs.declared.proto.frame.FrameError.{FrameError}
+use Rattle.h3_frames.specs.declared.frame.kinds.FrameKinds.{FrameKinds}
+use Rattle.h3_frames.specs.ExcessiveFrames.{is_excessive_by}
+use Rattle.h3_frames.specs.FirstFrames.{begins_other}
+use Rattle.h3_frames.specs.Frames.{Front, Whole, Refused, Unfinished, frame_by}
+use Rattle.h3_frames.specs.declared.proto.frame.Frame.TheVariants as frame
+use Rattle.h3_frames.specs.declared.proto.frame.FrameError.{FrameError}
 use Rattle.h3_connection.specs.PeerReading.{Peer, read_peer}
 
 -- No frame's head is whole: nothing is known of it.

@@ -7,20 +7,20 @@ use Rattle.h3_coding.specs.VarintLaws.{cases_number, reads_more}
 use Rattle.h3_proto.specs.Settings.{settings_of}
 use Rattle.h3_proto.specs.declared.frame.SettingsError.{SettingsError}
 use Rattle.h3_proto.specs.declared.stream.Side.{Side}
-use Rattle.h3_wire.specs.ExcessiveFrames.{is_excessive_by, is_long_update, is_too_long, says_long_update, says_too_much}
-use Rattle.h3_wire.specs.FirstFrames.{begins_other, is_other}
-use Rattle.h3_wire.specs.FrameLaws.{at_head, at_no_kind, at_no_number}
-use Rattle.h3_wire.specs.Frames.{Front, Whole, Refused, Unfinished, frame_by, frame_known, frame_of, settings_frame, update_frame, with_head, plain_frames}
-use Rattle.h3_wire.specs.Fronts.{IsKnown}
-use Rattle.h3_wire.specs.Known.{known_by}
-use Rattle.h3_wire.specs.KnownLaws.{known-other}
-use Rattle.h3_wire.specs.declared.proto.frame.FrameError.{FrameError}
-use Rattle.h3_wire.specs.declared.proto.frame.Frame.TheVariants as frame
+use Rattle.h3_frames.specs.ExcessiveFrames.{is_excessive_by, is_long_update, is_too_long, says_long_update, says_too_much}
+use Rattle.h3_frames.specs.FirstFrames.{begins_other, is_other}
+use Rattle.h3_frames.specs.FrameLaws.{at_head, at_no_kind, at_no_number}
+use Rattle.h3_frames.specs.Frames.{Front, Whole, Refused, Unfinished, frame_by, frame_known, frame_of, settings_frame, update_frame, with_head, plain_frames}
+use Rattle.h3_frames.specs.Fronts.{IsKnown}
+use Rattle.h3_frames.specs.Known.{known_by}
+use Rattle.h3_frames.specs.KnownLaws.{known-other}
+use Rattle.h3_frames.specs.declared.proto.frame.FrameError.{FrameError}
+use Rattle.h3_frames.specs.declared.proto.frame.Frame.TheVariants as frame
 use Rattle.h3_connection.specs.FirstSettings.{FirstRead, Fails, HasHead, NoHead, Nothing, Settings, SettingsFront, Bad, Came, Waits}
 use Rattle.h3_connection.specs.PeerReading.{Peer, PeerFound, read_frame, refused_code, unless_fault, at_front, read_peer}
 use Rattle.h3_connection.specs.OtherSettings.{with_others, with_told}
 use Rattle.h3_connection.specs.PeerReadingLaws.{no_length, settings_stay, step_excessive, step_within}
-use Rattle.h3_wire.specs.declared.frame.kinds.FrameKinds.{FrameKinds}
+use Rattle.h3_frames.specs.declared.frame.kinds.FrameKinds.{FrameKinds}
 
 no_number : (kinds : FrameKinds) (bytes : List ℕ) (kind : ℕ) (mid : List ℕ) → varint_at bytes ≡ Some (kind, mid) → varint_at mid ≡ None → NoHead kinds bytes
 no_number kinds bytes kind mid is none =

@@ -1,7 +1,7 @@
 -- How many bytes are still to come of the payload of the frame that is under way on a stream (RFC 9114, section 7.1).
 use Rattle.std.specs.Prelude.{ℕ, ◌-◌, length, if◌then◌else◌, nat_lt, is_some}
 use Rattle.std.specs.List.{concat}
-use Rattle.h3_wire.specs.FrameLeft.{left_of_frame}
+use Rattle.h3_frames.specs.FrameLeft.{left_of_frame}
 use Rattle.h3_connection.specs.Delivering.{incoming_at}
 use Rattle.h3_connection.specs.Endpoint.{EndpointHistory, Kind, kind_of, is_read_as}
 use Rattle.h3_connection.specs.Endpoint.Kind.{Request, ServerOpened, OwnUnidirectional, PeerUnidirectional}

@@ -5,7 +5,7 @@ use Rattle.h3_messages.specs.declared.content.Content.TheVariants.{Unsaid}
 use Rattle.h3_connection.specs.declared.event.StreamFault.{StreamFault}
 use Rattle.h3_connection.specs.declared.place.Place.{Place}
 use Rattle.h3_connection.specs.declared.place.Place.TheVariants.{BeforeHead, InBody}
-use Rattle.h3_wire.specs.Pieces.{IsRest}
+use Rattle.h3_frames.specs.Pieces.{IsRest}
 use Rattle.h3_field.specs.Field.{Field}
 use Rattle.h3_messages.specs.Content.{answered_by, awaited_by}
 use Rattle.h3_proto.specs.declared.stream.Side.{Side}

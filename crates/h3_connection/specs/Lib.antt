@@ -39,6 +39,7 @@ pub mod KeptGoaways
 pub mod KeptGoawayLaws
 pub mod Incoming
 pub mod Pulling
+pub mod Lists
 pub mod StrictPulls
 pub mod Unidirectional
 pub mod Outgoing

@@ -1,10 +1,10 @@
 -- The peer's settings that have no meaning here (RFC 9114, section 7.2.4).
 use Rattle.std.specs.Prelude.{ℕ, ◌==◌, List, [], min, if◌then◌else◌, Option, Some, None}
 use Rattle.h3_proto.specs.Settings.{value_of}
-use Rattle.h3_wire.specs.OtherSettings.{others_at}
-use Rattle.h3_wire.specs.declared.proto.frame.Frame.{Frame}
-use Rattle.h3_wire.specs.declared.proto.frame.Frame.TheVariants as frame
-use Rattle.h3_wire.specs.declared.proto.frame.PayloadLen.{PayloadLen}
+use Rattle.h3_frames.specs.OtherSettings.{others_at}
+use Rattle.h3_frames.specs.declared.proto.frame.Frame.{Frame}
+use Rattle.h3_frames.specs.declared.proto.frame.Frame.TheVariants as frame
+use Rattle.h3_frames.specs.declared.proto.frame.PayloadLen.{PayloadLen}
 use Rattle.h3_connection.specs.declared.setup.Announced.{Announced}
 
 -- so many at most, in their order

@@ -2,14 +2,14 @@
 use Rattle.std.proofs.Common.{◌≡◌, ℕ, ◌==◌, List, [], ◌++◌, if◌then◌else◌, Option, Some, None, refl, ap, sym, ◌∙◌, subst}
 use Rattle.h3_proto.specs.OtherSettings.{others_of}
 use Rattle.h3_proto.specs.Settings.{value_of}
-use Rattle.h3_wire.specs.Frames.{Whole, frame_by}
-use Rattle.h3_wire.specs.Fronts.{IsFinished}
-use Rattle.h3_wire.specs.OtherSettings.{others_at}
-use Rattle.h3_wire.specs.OtherSettingsLaws.{settings_more}
-use Rattle.h3_wire.specs.declared.frame.kinds.FrameKinds.{FrameKinds}
-use Rattle.h3_wire.specs.declared.proto.frame.PayloadLen.{PayloadLen}
-use Rattle.h3_wire.specs.declared.proto.frame.Frame.{Frame}
-use Rattle.h3_wire.specs.declared.proto.frame.Frame.TheVariants as frame
+use Rattle.h3_frames.specs.Frames.{Whole, frame_by}
+use Rattle.h3_frames.specs.Fronts.{IsFinished}
+use Rattle.h3_frames.specs.OtherSettings.{others_at}
+use Rattle.h3_frames.specs.OtherSettingsLaws.{settings_more}
+use Rattle.h3_frames.specs.declared.frame.kinds.FrameKinds.{FrameKinds}
+use Rattle.h3_frames.specs.declared.proto.frame.PayloadLen.{PayloadLen}
+use Rattle.h3_frames.specs.declared.proto.frame.Frame.{Frame}
+use Rattle.h3_frames.specs.declared.proto.frame.Frame.TheVariants as frame
 use Rattle.h3_connection.specs.OtherSettings.{OtherSettings, setting_in, value_in, value_or, with_others, with_told}
 use Rattle.h3_connection.specs.PeerReading.{Peer, having_frame, with_unread}
 

@@ -2,8 +2,8 @@
 use Rattle.std.specs.Prelude.{ℕ, ◌+◌, ◌-◌, false, List, [], ◌∷◌, ◌++◌, drop, flat_map, take}
 use Rattle.h3_coding.specs.Encodings.{encoding}
 use Rattle.h3_priority.specs.Priority.{PriorityParameters, value_that_says}
-use Rattle.h3_wire.specs.Encoded.{frame_encoding, update_payload}
-use Rattle.h3_wire.specs.Update.{type_of_update}
+use Rattle.h3_frames.specs.Encoded.{frame_encoding, update_payload}
+use Rattle.h3_frames.specs.Update.{type_of_update}
 
 -- an update that was written, and how many GOAWAY frames stand before it
 pub record OwnUpdate : Type 0 where

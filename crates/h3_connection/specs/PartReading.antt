@@ -26,7 +26,7 @@ use Rattle.h3_connection.specs.StreamSets.{stream_at}
 use Rattle.h3_connection.specs.declared.event.Item.TheVariants as item
 use Rattle.h3_connection.specs.declared.event.Pull.{Pull}
 use Rattle.h3_connection.specs.declared.event.Pull.TheVariants as pull
-use Rattle.h3_wire.specs.declared.frame.kinds.FrameKinds.{FrameKinds}
+use Rattle.h3_frames.specs.declared.frame.kinds.FrameKinds.{FrameKinds}
 use Rattle.h3_connection.specs.StrictConnection.{kinds_of, known_streams}
 use Rattle.h3_connection.specs.Unidirectional.{Role, role_after, with_bytes}
 use Rattle.h3_connection.specs.Unidirectional.Role.{Control, Encoder, Decoder}

@@ -2,22 +2,22 @@
 use Rattle.std.specs.Prelude.{ℕ, zero, suc, ◌%◌, Bool, false, not, ◌||◌, List, [], ◌∷◌, ◌++◌, length, if◌then◌else◌, ◌==◌, nat_lt, Option, Some, None}
 use Rattle.h3_proto.specs.declared.stream.Side.{Side}
 use Rattle.h3_proto.specs.declared.stream.Side.TheVariants.{Client, Server}
-use Rattle.h3_wire.specs.ExcessiveFrames.{is_excessive_by}
-use Rattle.h3_wire.specs.Frames.{Front, Whole, Unknown, Refused, Unfinished, frame_by}
-use Rattle.h3_wire.specs.Known.{known_by}
-use Rattle.h3_wire.specs.declared.frame.kinds.FrameKinds.{FrameKinds}
-use Rattle.h3_wire.specs.declared.proto.frame.PayloadLen.{PayloadLen}
-use Rattle.h3_wire.specs.declared.proto.frame.Frame.{Frame}
-use Rattle.h3_wire.specs.declared.proto.frame.Frame.TheVariants as frame
-use Rattle.h3_wire.specs.declared.proto.frame.FrameError.{FrameError}
-use Rattle.h3_wire.specs.declared.proto.frame.FrameError.TheVariants as error
+use Rattle.h3_frames.specs.ExcessiveFrames.{is_excessive_by}
+use Rattle.h3_frames.specs.Frames.{Front, Whole, Unknown, Refused, Unfinished, frame_by}
+use Rattle.h3_frames.specs.Known.{known_by}
+use Rattle.h3_frames.specs.declared.frame.kinds.FrameKinds.{FrameKinds}
+use Rattle.h3_frames.specs.declared.proto.frame.PayloadLen.{PayloadLen}
+use Rattle.h3_frames.specs.declared.proto.frame.Frame.{Frame}
+use Rattle.h3_frames.specs.declared.proto.frame.Frame.TheVariants as frame
+use Rattle.h3_frames.specs.declared.proto.frame.FrameError.{FrameError}
+use Rattle.h3_frames.specs.declared.proto.frame.FrameError.TheVariants as error
 use Rattle.h3_connection.specs.Codes.{excessive_load, frame_unexpected, general_protocol_error, id_error, missing_settings, refusal_code, settings_code}
 use Rattle.h3_connection.specs.Lasts.{last_id}
 use Rattle.h3_connection.specs.OtherSettings.{OtherSettings, no_others, with_others}
 use Rattle.h3_connection.specs.Updates.{Updates, no_updates, with_update}
 use Rattle.h3_priority.specs.Priority.{PriorityParameters, priority_of}
 use Rattle.h3_proto.specs.StreamIds.{is_request_stream}
-use Rattle.h3_wire.specs.Update.{Update}
+use Rattle.h3_frames.specs.Update.{Update}
 
 pub record Peer : Type 0 where
   pub unread : List ℕ

@@ -7,21 +7,21 @@ use Rattle.std.proofs.lemmas.List.{nil_from_length}
 use Rattle.h3_coding.specs.VarintLaws.{none_at_end}
 use Rattle.h3_proto.specs.declared.stream.Side.{Side}
 use Rattle.h3_proto.specs.declared.stream.Side.TheVariants.{Client, Server}
-use Rattle.h3_wire.specs.ExcessiveFrames.{is_excessive_by, says_long_update, says_too_much}
-use Rattle.h3_wire.specs.ExcessiveLaws.{no_kind}
-use Rattle.h3_wire.specs.Frames.{Front, Whole, Unknown, Refused, Unfinished, frame_by}
-use Rattle.h3_wire.specs.FrameLaws.{frame_by-nil}
-use Rattle.h3_wire.specs.Known.{known_by}
+use Rattle.h3_frames.specs.ExcessiveFrames.{is_excessive_by, says_long_update, says_too_much}
+use Rattle.h3_frames.specs.ExcessiveLaws.{no_kind}
+use Rattle.h3_frames.specs.Frames.{Front, Whole, Unknown, Refused, Unfinished, frame_by}
+use Rattle.h3_frames.specs.FrameLaws.{frame_by-nil}
+use Rattle.h3_frames.specs.Known.{known_by}
 use Rattle.h3_priority.specs.Priority.{PriorityParameters, priority_of}
-use Rattle.h3_wire.specs.Update.{Update}
-use Rattle.h3_wire.specs.declared.proto.frame.PayloadLen.{PayloadLen}
-use Rattle.h3_wire.specs.declared.proto.frame.Frame.{Frame}
-use Rattle.h3_wire.specs.declared.proto.frame.Frame.TheVariants as frame
+use Rattle.h3_frames.specs.Update.{Update}
+use Rattle.h3_frames.specs.declared.proto.frame.PayloadLen.{PayloadLen}
+use Rattle.h3_frames.specs.declared.proto.frame.Frame.{Frame}
+use Rattle.h3_frames.specs.declared.proto.frame.Frame.TheVariants as frame
 use Rattle.h3_connection.specs.Codes.{excessive_load}
 use Rattle.h3_connection.specs.Lasts.{last_id}
 use Rattle.h3_connection.specs.PeerReading.{Peer, PeerFound, with_unread, having_frame, is_no_element, is_no_goaway, is_above, is_below, read_max_push, read_priority, read_update, read_frame, unless_fault, at_front, unless_excessive, read_within, read_peer}
 use Rattle.h3_connection.specs.SkippingLaws.{rest_shorter, known-nil}
-use Rattle.h3_wire.specs.declared.frame.kinds.FrameKinds.{FrameKinds}
+use Rattle.h3_frames.specs.declared.frame.kinds.FrameKinds.{FrameKinds}
 
 kept_if : (b : Bool) (x y : PeerFound) (bytes : List ℕ) → x.0.unread ≡ bytes → y.0.unread ≡ bytes → (if b then x else y).0.unread ≡ bytes
 kept_if true x y bytes e f = e

@@ -1,11 +1,11 @@
 -- Frames that give nothing are skipped: those of unknown types, and in a body those of DATA without a payload.
 use Rattle.std.specs.Prelude.{ℕ, zero, suc, Bool, false, ◌&&◌, List, length, if◌then◌else◌, ◌==◌, ◌≡◌}
-use Rattle.h3_wire.specs.Frames.{Front, Whole, Unknown, Refused, Unfinished, frame_by}
-use Rattle.h3_wire.specs.Known.{known_by}
-use Rattle.h3_wire.specs.declared.frame.kinds.FrameKinds.{FrameKinds}
-use Rattle.h3_wire.specs.declared.proto.frame.PayloadLen.{PayloadLen}
-use Rattle.h3_wire.specs.declared.proto.frame.Frame.{Frame}
-use Rattle.h3_wire.specs.declared.proto.frame.Frame.TheVariants as frame
+use Rattle.h3_frames.specs.Frames.{Front, Whole, Unknown, Refused, Unfinished, frame_by}
+use Rattle.h3_frames.specs.Known.{known_by}
+use Rattle.h3_frames.specs.declared.frame.kinds.FrameKinds.{FrameKinds}
+use Rattle.h3_frames.specs.declared.proto.frame.PayloadLen.{PayloadLen}
+use Rattle.h3_frames.specs.declared.proto.frame.Frame.{Frame}
+use Rattle.h3_frames.specs.declared.proto.frame.Frame.TheVariants as frame
 
 abbrev pub is_empty_data : Frame PayloadLen → Bool
 is_empty_data (frame.Data len) = len.0 == 0

@@ -16,7 +16,7 @@ use Rattle.h3_connection.specs.Listeners.{Decoding, Encoding}
 use Rattle.h3_connection.specs.Unidirectional.{Unidirectional, untold, is_critical}
 use Rattle.h3_connection.specs.Outgoing.{Outgoing, OwnPart, is_unsent, last_is_trailer, written_part}
 use Rattle.h3_connection.specs.WaitingPieces.{pieces_waiting}
-use Rattle.h3_wire.specs.Outgoing.{Outgoing as Piece}
+use Rattle.h3_frames.specs.Outgoing.{Outgoing as Piece}
 use Rattle.h3_connection.specs.OwnIds.{control_id, encoder_id, decoder_id}
 use Rattle.h3_connection.specs.PeerReading.{Peer}
 use Rattle.h3_connection.specs.Arrivals.{Arrival, stream_of}

@@ -5,7 +5,7 @@ use Rattle.h3_proto.specs.Settings.{value_of}
 use Rattle.h3_proto.specs.StreamIds.{is_request_stream}
 use Rattle.h3_proto.specs.declared.stream.Side.{Side}
 use Rattle.h3_proto.specs.declared.stream.Side.TheVariants.{Client, Server}
-use Rattle.h3_wire.specs.declared.frame.kinds.FrameKinds.{FrameKinds}
+use Rattle.h3_frames.specs.declared.frame.kinds.FrameKinds.{FrameKinds}
 use Rattle.h3_connection.specs.Codes.{id_error}
 use Rattle.h3_connection.specs.Unidirectional.{StreamKinds}
 use Rattle.h3_connection.specs.declared.setup.Announced.{Announced}

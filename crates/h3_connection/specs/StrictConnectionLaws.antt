@@ -7,7 +7,7 @@ use Rattle.h3_proto.specs.StreamIds.{is_request_stream}
 use Rattle.h3_proto.specs.declared.stream.Side.{Side}
 use Rattle.h3_proto.specs.declared.stream.Side.TheVariants.{Client, Server}
 use Rattle.h3_proto.specs.Config.{is_enabled}
-use Rattle.h3_wire.specs.FirstFrames.{begins_other, is_other}
+use Rattle.h3_frames.specs.FirstFrames.{begins_other, is_other}
 use Rattle.h3_connection.specs.Announcing.{unless_alone, unless_below}
 use Rattle.h3_connection.specs.Codes.{id_error, missing_settings, settings_error}
 use Rattle.h3_connection.specs.Control.{are_refused, after_peer, holding, if_learned, lacks_settings, read_control, read_held, settings_alone, taken_peer, then_decoder}

@@ -2,8 +2,8 @@
 use Rattle.std.specs.Prelude.{◌≡◌, ◌≢◌, ℕ, Bool, false, ◌==◌, ◌||◌, List, [], ◌∷◌, ◌++◌, length, Some, None}
 use Rattle.std.specs.List.{concat, AllByRecursion, list_any}
 use Rattle.h3_coding.specs.Encodings.{IsEncoding}
-use Rattle.h3_wire.specs.declared.frame.kinds.FrameKinds.{FrameKinds}
-use Rattle.h3_wire.specs.Frames.{is_http2, is_session, is_update}
+use Rattle.h3_frames.specs.declared.frame.kinds.FrameKinds.{FrameKinds}
+use Rattle.h3_frames.specs.Frames.{is_http2, is_session, is_update}
 use Rattle.h3_connection.specs.Control.{awaits_settings}
 use Rattle.h3_connection.specs.Delivering.{delivery_refusal, unidirectional_at}
 use Rattle.h3_connection.specs.Endpoint.{EndpointHistory, kind_of}

@@ -2,7 +2,7 @@
 -- comes (RFC 9114, section 9), and none of it is held. Flow control (RFC 9000, section 4.1) may grant credit for all others.
 use Rattle.std.specs.Prelude.{ℕ, ◌+◌, ◌-◌, ◌^◌, Bool, true, false, not, ◌&&◌, min, [], length, if◌then◌else◌, ◌==◌, Option, is_some, unwrap_or}
 use Rattle.std.specs.List.{concat, sum_by}
-use Rattle.h3_wire.specs.UnknownSize.{held_length}
+use Rattle.h3_frames.specs.UnknownSize.{held_length}
 use Rattle.h3_connection.specs.Arrivals.{Arrival, BytesCame, EndCame, ResetCame}
 use Rattle.h3_connection.specs.Delivering.{incoming_at, unidirectional_at}
 use Rattle.h3_connection.specs.Endpoint.{EndpointHistory, Kind, kind_of, is_read_as}

@@ -3,7 +3,7 @@ use Rattle.std.proofs.Common.{◌≡◌, ℕ, zero, suc, ◌+◌, ◌-◌, ◌<�
 use Rattle.std.proofs.lemmas.List.{drop-append-le, drop_all, drop-drop, length-drop}
 use Rattle.std.proofs.lemmas.Bool.{cases_lt, lt-ltb, le-ltb}
 use Rattle.std.proofs.Math.Seq.{drop-append-add}
-use Rattle.h3_wire.specs.Outgoing.{Outgoing as Piece, all_of}
+use Rattle.h3_frames.specs.Outgoing.{Outgoing as Piece, all_of}
 use Rattle.h3_connection.specs.WaitingPieces.{bytes_of, without_first, without_front}
 
 pub without-none : (pieces : List Piece) → without_front 0 pieces ≡ pieces

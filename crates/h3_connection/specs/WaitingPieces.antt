@@ -1,7 +1,7 @@
 -- What waits on a request stream, in pieces: one for each frame that was written and not wholly taken.
 use Rattle.std.specs.Prelude.{ℕ, zero, suc, ◌-◌, List, [], ◌∷◌, length, drop, flat_map, if◌then◌else◌, nat_lt, map}
-use Rattle.h3_wire.specs.Encoded.{head_encoding}
-use Rattle.h3_wire.specs.Outgoing.{Outgoing as Piece, all_of, first_part}
+use Rattle.h3_frames.specs.Encoded.{head_encoding}
+use Rattle.h3_frames.specs.Outgoing.{Outgoing as Piece, all_of, first_part}
 use Rattle.h3_connection.specs.Outgoing.{Outgoing, OwnPart, OwnInterim, OwnHead, OwnBody, OwnTrailer}
 
 -- a frame's type and length, and its payload (RFC 9114, section 7.1)

@@ -88,7 +88,8 @@ pub enum Malformation {
     Connect,
     /// `:method`, `:scheme` or `:path` is missing in a request, or `:status` in a response (RFC 9114, sections 4.3.1 and 4.3.2).
     MissingPseudo,
-    /// `:scheme` is empty, does not begin with a letter, or has another byte than letters, digits, `+`, `-` and `.` (RFC 3986, section 3.1).
+    /// `:scheme` is empty, does not begin with a letter, or has another byte than letters, digits, `+`, `-` and `.` (RFC 3986, section
+    /// 3.1).
     Scheme,
     /// The authority is missing, empty or has userinfo; `host` is no authority, comes twice, or is unlike `:authority` (RFC 9114, section
     /// 4.3.1; RFC 9110, section 7.2).

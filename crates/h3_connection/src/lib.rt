@@ -5,6 +5,7 @@
 pub mod arrival;
 pub mod event;
 pub mod laws;
+pub mod lists;
 pub mod order;
 pub mod place;
 pub mod setup;

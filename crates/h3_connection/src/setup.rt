@@ -3,12 +3,14 @@ ghost use Rattle.std.specs.Prelude.{◌≡◌, ◌<◌, ◌≤◌, ◌^◌, ◌&
 ghost use Rattle.h3_proto.specs.Config.{announced, is_enabled};
 ghost use Rattle.h3_proto.specs.OtherSettings.{is_reserved};
 ghost use Rattle.h3_connection.specs.Announcing.{announced_by, connects, is_below_announced, least_limit, section_of};
-ghost use Rattle.h3_connection.specs.StrictConnection.{announces_alone, have_bad_value, is_no_flag, is_no_session, judges_connect, kinds_of, knows_sessions, lacks_datagrams, refuses_settings};
+ghost use Rattle.h3_connection.specs.StrictConnection.{announces_alone, have_bad_value, is_no_flag, is_no_session, judges_connect};
+ghost use Rattle.h3_connection.specs.StrictConnection.{kinds_of, knows_sessions, lacks_datagrams, refuses_settings};
 ghost use Rattle.h3_connection.specs.OtherSettings.{most_others};
 ghost use Rattle.h3_connection.specs.Remembering.{settings_known};
 ghost use Rattle.h3_connection.specs.Updates.{most_updates};
 
 use h3_coding::varint::VarInt;
+use h3_frames::frame::FrameKinds;
 use h3_proto::config::{
     Choices, Config, MAX_BLOCKED_STREAMS, MAX_OTHER_SETTINGS, MAX_PRIORITY_UPDATES,
     MAX_TABLE_CAPACITY,
@@ -16,7 +18,6 @@ use h3_proto::config::{
 use h3_proto::frame::{SettingId, Settings, SettingsError};
 use h3_proto::other_settings::is_reserved;
 use h3_proto::stream::Side;
-use h3_wire::frame::FrameKinds;
 
 // Every SETTINGS frame of this library fits into so many bytes, and each instruction that rests on no announced size.
 const LEAST_LIMIT: u64 = 256;
@@ -120,7 +121,8 @@ impl Announced {
         self.choices.extensions.strict_connection && lacks_datagrams(&self.settings)
     }
 
-    /// Whether it asks for a strict connection, and does not take these settings of its peer (RFC 8441, section 3; RFC 9297, section 2.1.1).
+    /// Whether it asks for a strict connection, and does not take these settings of its peer (RFC 8441, section 3; RFC 9297, section
+    /// 2.1.1).
     pub fn refuses_settings(&self, side: Side, peer: &Settings) -> bool
         ensures { result ≡ refuses_settings side self.now peer.now }
     {
@@ -144,8 +146,8 @@ impl Announced {
         self.choices.extensions.strict_connection && id % 4 != 0
     }
 
-    /// Whether sessions of WebTransport are known to it: it announces them, or does not ask for a strict connection. Otherwise 0x41 is the type
-    /// of an unknown frame, and 0x54 that of an unknown stream (RFC 9114, section 9).
+    /// Whether sessions of WebTransport are known to it: it announces them, or does not ask for a strict connection. Otherwise 0x41 is the
+    /// type of an unknown frame, and 0x54 that of an unknown stream (RFC 9114, section 9).
     pub fn knows_sessions(&self) -> bool
         ensures { result ≡ knows_sessions self.now }
     {
@@ -153,8 +155,8 @@ impl Announced {
             || is_enabled(&self.settings, SettingId::ENABLE_WEBTRANSPORT)
     }
 
-    /// Whether a unidirectional stream of this type, which has no meaning, is delivered: the caller asks for it, and the type is not reserved
-    /// (RFC 9114, section 6.2.3).
+    /// Whether a unidirectional stream of this type, which has no meaning, is delivered: the caller asks for it, and the type is not
+    /// reserved (RFC 9114, section 6.2.3).
     pub fn hands_out(&self, kind: u64) -> bool
         ensures { result ≡ (self.now.choices.extensions.other_streams && not (is_reserved kind)) }
     {

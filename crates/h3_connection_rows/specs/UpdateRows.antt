@@ -3,7 +3,7 @@ use Rattle.std.specs.Prelude.{ℕ, Bool, true, false, List, [], ◌∷◌, ◌++
 use Rattle.h3_priority.specs.Priority.{PriorityParameters}
 use Rattle.h3_proto.specs.Config.{no_choices, no_extensions}
 use Rattle.h3_proto.specs.declared.stream.Side.TheVariants.{Client, Server}
-use Rattle.h3_wire.specs.StreamHeaders.{control_encoding}
+use Rattle.h3_frames.specs.ControlStreams.{control_encoding}
 use Rattle.h3_connection.specs.Delivering.{deliver}
 use Rattle.h3_connection.specs.Endpoint.{EndpointHistory, new_endpoint, own_waiting}
 use Rattle.h3_connection.specs.Prioritizing.{priority_at, send_priority, set_initial_priority, use_updates}

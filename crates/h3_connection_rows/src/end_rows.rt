@@ -10,9 +10,11 @@ ghost use Rattle.h3_connection_rows.specs.EndRows.{head_sent, after_calls};
 /// An end waits from `finish` on, is next once no bytes wait ahead of it, and is taken once; a reset leaves none.
 pub fn end_rows_compute()
     ensures before_the_end { answers head_sent (TakeEnd 0 ∷ []) ≡ Took false ∷ [] }
-    ensures behind_its_bytes { answers head_sent (Finish 0 ∷ TakeEnd 0 ∷ Advance 0 2 ∷ TakeEnd 0 ∷ Advance 0 1 ∷ TakeEnd 0 ∷ []) ≡ Done ∷ Took false ∷ Done ∷ Took false ∷ Done ∷ Took true ∷ [] }
+    ensures behind_its_bytes { answers head_sent (Finish 0 ∷ TakeEnd 0 ∷ Advance 0 2 ∷ TakeEnd 0 ∷ Advance 0 1 ∷ TakeEnd 0 ∷ []) ≡ Done
+        ∷ Took false ∷ Done ∷ Took false ∷ Done ∷ Took true ∷ [] }
     ensures once { answers head_sent (Advance 0 3 ∷ Finish 0 ∷ TakeEnd 0 ∷ TakeEnd 0 ∷ []) ≡ Done ∷ Done ∷ Took true ∷ Took false ∷ [] }
-    ensures no_reset_behind_it { answers head_sent (Advance 0 3 ∷ Finish 0 ∷ TakeEnd 0 ∷ Reset 0 ∷ []) ≡ Done ∷ Done ∷ Took true ∷ Refused Ended ∷ [] }
+    ensures no_reset_behind_it { answers head_sent (Advance 0 3 ∷ Finish 0 ∷ TakeEnd 0 ∷ Reset 0 ∷ []) ≡ Done ∷ Done ∷ Took true
+        ∷ Refused Ended ∷ [] }
     ensures other_streams { answers head_sent (TakeEnd 2 ∷ TakeEnd 3 ∷ TakeEnd 4 ∷ []) ≡ Took false ∷ Took false ∷ Took false ∷ [] }
     ensures bytes { has_to_send (after_calls []) 0 ≡ true }
     ensures no_bytes { has_to_send (after_calls (Advance 0 3 ∷ [])) 0 ≡ false }

@@ -11,7 +11,8 @@ ghost use Rattle.h3_connection.specs.Endpoint.{own_waiting};
 ghost use Rattle.h3_connection.specs.Keeping.{arrives, pulls, read_arrival};
 ghost use Rattle.h3_connection.specs.PartReading.{held};
 ghost use Rattle.h3_connection.specs.Shown.{has_outgoing};
-ghost use Rattle.h3_connection_rows.specs.KeptRows.{keeps_settings, keeps_a_fault, keeps_a_fault_behind_a_cancellation, keeps_a_reset, keeps_a_head, early, settings, sent_after};
+ghost use Rattle.h3_connection_rows.specs.KeptRows.{keeps_settings, keeps_a_fault, keeps_a_fault_behind_a_cancellation, keeps_a_reset};
+ghost use Rattle.h3_connection_rows.specs.KeptRows.{keeps_a_head, early, settings, sent_after};
 ghost use Rattle.h3_connection_rows.specs.Worked.{hex};
 
 /// What is kept is read first, and counts so.
@@ -23,7 +24,8 @@ pub fn kept_rows_compute()
     ensures fault_is_found_by_a_pull { (pulls keeps_a_fault 0).0 ≡ pulled.Fault (fault.Connection 266) }
     ensures fault_is_found_by_a_delivery { (arrives keeps_a_fault (BytesCame 0 [])).0 ≡ Some (refusal.Connection 266) }
     ensures fault_leaves_nothing_kept { (arrives keeps_a_fault (BytesCame 0 [])).1.kept ≡ [] }
-    ensures settled_answer_reads_nothing { (pulls keeps_a_fault_behind_a_cancellation 0).0 ≡ pulled.Fault (fault.Stream stream_fault.Canceled) }
+    ensures settled_answer_reads_nothing { (pulls keeps_a_fault_behind_a_cancellation 0).0 ≡ pulled.Fault
+        (fault.Stream stream_fault.Canceled) }
     ensures settled_answer_keeps { length (pulls keeps_a_fault_behind_a_cancellation 0).1.kept ≡ 1 }
     ensures kept_reset_opens { has_outgoing keeps_a_reset 0 ≡ true }
     ensures kept_reset_counts { (arrives keeps_a_reset (EndCame 0)).0 ≡ Some refusal.AfterEnd }

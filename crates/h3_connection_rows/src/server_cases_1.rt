@@ -3,7 +3,9 @@
 ghost use Rattle.std.specs.Prelude.{◌≡◌};
 ghost use Rattle.h3_connection.specs.CallLists.{answers};
 ghost use Rattle.h3_connection_rows.specs.Worked.{as_lists};
-ghost use Rattle.h3_connection_rows.specs.ServerCases1.{case_1_endpoint, case_1, case_1_answers, case_2_endpoint, case_2, case_2_answers, case_3_endpoint, case_3, case_3_answers, case_4_endpoint, case_4, case_4_answers, case_5_endpoint, case_5, case_5_answers};
+ghost use Rattle.h3_connection_rows.specs.ServerCases1.{case_1_endpoint, case_1, case_1_answers, case_2_endpoint, case_2, case_2_answers};
+ghost use Rattle.h3_connection_rows.specs.ServerCases1.{case_3_endpoint, case_3, case_3_answers, case_4_endpoint, case_4, case_4_answers};
+ghost use Rattle.h3_connection_rows.specs.ServerCases1.{case_5_endpoint, case_5, case_5_answers};
 
 /// They are answered as the model answers them.
 pub fn server_cases_1_compute()

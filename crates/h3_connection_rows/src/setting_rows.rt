@@ -22,13 +22,15 @@ pub fn setting_rows_compute()
     ensures of_another_frame { told 1 (codes "000701000403409907") ≡ Some (Connection 0x10a) }
     ensures malformed { told 1 (codes "00040440990740") ≡ Some (Connection 0x106) }
     ensures not_kept_of_malformed { shown 1 (codes "00040440990740") 0x99 ≡ None }
-    ensures further { begins ((0xc671706a, 16) ∷ []) ≡ hex (codes "00042106800100000800ab603742003300ab603743000150000710c0000000c671706a10") }
+    ensures further { begins ((0xc671706a, 16) ∷ []) ≡ hex
+        (codes "00042106800100000800ab603742003300ab603743000150000710c0000000c671706a10") }
     ensures no_further { begins [] ≡ hex (codes "00041806800100000800ab603742003300ab603743000150000710") }
     ensures of_http2 { beside ((0x99, 1) ∷ (2, 1) ∷ []) ≡ Err (InvalidSettingId 2) }
     ensures with_a_meaning { beside ((6, 1) ∷ []) ≡ Err (Repeated 6) }
     ensures twice { beside ((0x99, 1) ∷ (0x99, 1) ∷ []) ≡ Err (Repeated 0x99) }
     ensures wide { beside ((0x99, 2 ^ 62) ∷ []) ≡ Err (InvalidSettingValue 0x99 (2 ^ 62)) }
-    ensures ninth { beside ((0x90, 0) ∷ (0x91, 0) ∷ (0x92, 0) ∷ (0x93, 0) ∷ (0x94, 0) ∷ (0x95, 0) ∷ (0x96, 0) ∷ (0x97, 0) ∷ (0x98, 0) ∷ []) ≡ Err Exceeded }
+    ensures ninth { beside ((0x90, 0) ∷ (0x91, 0) ∷ (0x92, 0) ∷ (0x93, 0) ∷ (0x94, 0) ∷ (0x95, 0) ∷ (0x96, 0) ∷ (0x97, 0) ∷ (0x98, 0) ∷ [])
+        ≡ Err Exceeded }
     ensures keeps { keeps_to ((6, 1000) ∷ (8, 1) ∷ []) ((8, 1) ∷ (6, 1000) ∷ []) ≡ true }
     ensures allows_more { keeps_to ((6, 1000) ∷ (7, 2) ∷ []) ((6, 1001) ∷ (7, 3) ∷ (8, 1) ∷ []) ≡ true }
     ensures allows_less { keeps_to ((6, 1000) ∷ []) ((6, 999) ∷ []) ≡ false }

@@ -2,7 +2,8 @@
 ghost use Rattle.std.specs.Prelude.{◌≡◌, [], ◌∷◌, codes};
 ghost use Rattle.h3_connection.specs.CallLists.Call.{Deliver, DeliverReset, PullStream, Cancel};
 ghost use Rattle.h3_connection.specs.Unread.{unread};
-ghost use Rattle.h3_connection_rows.specs.UnreadRows.{held_after, a_head, front_of_a_body, a_waiting_head, front_of_an_unknown_frame, keeps_settings};
+ghost use Rattle.h3_connection_rows.specs.UnreadRows.{held_after, a_head, front_of_a_body, a_waiting_head, front_of_an_unknown_frame};
+ghost use Rattle.h3_connection_rows.specs.UnreadRows.{keeps_settings};
 ghost use Rattle.h3_connection_rows.specs.Worked.{hex};
 
 /// Of a request stream what was not pulled is held, and of a unidirectional one what was not read.
@@ -15,7 +16,8 @@ pub fn unread_rows_compute()
     ensures unpulled_body { held_after (Deliver 0 a_head ∷ PullStream 0 ∷ Deliver 0 front_of_a_body ∷ []) 0 ≡ 4 }
     ensures pulled_body { held_after (Deliver 0 a_head ∷ PullStream 0 ∷ Deliver 0 front_of_a_body ∷ PullStream 0 ∷ []) 0 ≡ 0 }
     ensures waiting_head { held_after (Deliver 0 a_waiting_head ∷ PullStream 0 ∷ []) 0 ≡ 6 }
-    ensures behind_a_waiting_head { held_after (Deliver 0 a_waiting_head ∷ PullStream 0 ∷ Deliver 0 front_of_a_body ∷ PullStream 0 ∷ []) 0 ≡ 10 }
+    ensures behind_a_waiting_head { held_after (Deliver 0 a_waiting_head ∷ PullStream 0 ∷ Deliver 0 front_of_a_body ∷ PullStream 0 ∷ []) 0
+        ≡ 10 }
     ensures other_stream { held_after (Deliver 0 a_waiting_head ∷ PullStream 0 ∷ []) 4 ≡ 0 }
     ensures unknown_frame { held_after (Deliver 0 front_of_an_unknown_frame ∷ PullStream 0 ∷ []) 0 ≡ 0 }
     ensures canceled { held_after (Deliver 0 a_waiting_head ∷ PullStream 0 ∷ Cancel 0 ∷ []) 0 ≡ 0 }

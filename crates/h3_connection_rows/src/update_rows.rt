@@ -2,7 +2,8 @@
 ghost use Rattle.std.specs.Prelude.{◌≡◌, [], codes, true, false, Some, None};
 ghost use Rattle.h3_connection.specs.Prioritizing.{priority_at, send_priority};
 ghost use Rattle.h3_connection.specs.declared.event.Refusal.TheVariants.{Connection, NotClient, NotOpen, NotRequestId};
-ghost use Rattle.h3_connection_rows.specs.UpdateRows.{asked, behind_settings, client, counts, of, opening, set, told, updated, used, written};
+ghost use Rattle.h3_connection_rows.specs.UpdateRows.{asked, behind_settings, client, counts, of, opening, set, told, updated, used};
+ghost use Rattle.h3_connection_rows.specs.UpdateRows.{written};
 ghost use Rattle.h3_connection_rows.specs.Worked.{hex};
 
 /// What each frame does, and which priority counts.

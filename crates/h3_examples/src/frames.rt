@@ -1,9 +1,9 @@
 //! Frames that come in pieces, read by a decoder that is called directly.
 use crate::log::words;
 use bytes::{Buf, Bytes};
-use h3_wire::buf::BufList;
-use h3_wire::frame::{FrameDecoder, FrameStreamError};
-use h3_wire::proto::frame::{Frame, PayloadLen};
+use h3_frames::buf::BufList;
+use h3_frames::frame::{FrameDecoder, FrameStreamError};
+use h3_frames::proto::frame::{Frame, PayloadLen};
 use std::alloc::{AllocError, Global};
 use std::marker::Model;
 
@@ -16,8 +16,8 @@ struct Offered {
 
 impl Model for Offered {
     ghost use Rattle.std.specs.List.{concat};
-    ghost use Rattle.h3_wire.specs.Frames.{plain_frames};
-    ghost use Rattle.h3_wire.specs.Tries.{Decoding, Expects};
+    ghost use Rattle.h3_frames.specs.Frames.{plain_frames};
+    ghost use Rattle.h3_frames.specs.Tries.{Decoding, Expects};
 
     ghost Value = { Decoding };
 

@@ -2,10 +2,11 @@
 use crate::endpoints::{Stop, carry, carry_own};
 use crate::log::{field, words};
 use h3_session::endpoint::Endpoint;
-use h3_session::{BlockPull, Fields, FieldsItem, FieldsPull, HeaderField, Plain, StreamId, Told};
+use h3_session::{BlockPull, Fields, HeaderField, ListItem, ListPull, Plain, StreamId, Told};
 use std::alloc::{AllocError, Global};
 
-/// A GET and its response. The server takes lists that it could keep; the client reads each list where it lies, in memory that serves again.
+/// A GET and its response. The server takes lists that it could keep; the client reads each list where it lies, in memory that serves
+/// again.
 pub(crate) fn exchange(
     alloc: Global,
     text: &mut String,
@@ -61,11 +62,11 @@ fn send_list(endpoint: &mut Endpoint, id: StreamId, list: Vec<HeaderField>) -> R
 fn pull_lists(text: &mut String, endpoint: &mut Endpoint, id: StreamId) -> Result<(), Stop> {
     for _ in 0..8u32 {
         match endpoint.pull_fields(id) {
-            FieldsPull::Item(FieldsItem::Head(list)) => {
+            ListPull::Item(ListItem::Head(list)) => {
                 words(text, "server: a head")?;
                 show(text, &list.fields())?;
             }
-            FieldsPull::Item(FieldsItem::End) => return Ok(words(text, "server: the end")?),
+            ListPull::Item(ListItem::End) => return Ok(words(text, "server: the end")?),
             _ => return Ok(words(text, "server: nothing more")?),
         }
     }

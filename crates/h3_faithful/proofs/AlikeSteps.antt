@@ -23,10 +23,11 @@ use Rattle.h3_connection.specs.declared.event.Pull.{Pull}
 use Rattle.h3_connection.specs.declared.event.Pull.TheVariants as pull
 use Rattle.h3_connection.specs.declared.event.Refusal.{Refusal}
 use Rattle.h3_connection.specs.declared.event.Refusal.TheVariants as refusal
+use Rattle.h3_connection.specs.Lists.{listed_pull}
+use Rattle.h3_connection.specs.declared.lists.ListPull.TheVariants as list
 use Rattle.h3_world.specs.Delivering.{reset_code}
 use Rattle.h3_world.specs.Ends.{Ends, answered, end_at, with_end}
 use Rattle.h3_world.specs.Headline.{is_connection_fault, is_out_of_memory}
-use Rattle.h3_world.specs.Lists.{listed_pull}
 use Rattle.h3_world.specs.Pulling.{settled}
 use Rattle.h3_world.specs.Refused.{with_insertions}
 use Rattle.h3_world.specs.Sendable.{IsSendableBy}
@@ -37,7 +38,6 @@ use Rattle.h3_world.specs.declared.event.Answer.{Answer}
 use Rattle.h3_world.specs.declared.event.Answer.TheVariants as answer
 use Rattle.h3_world.specs.declared.event.Event.{Event}
 use Rattle.h3_world.specs.declared.event.Event.TheVariants as event
-use Rattle.h3_world.specs.declared.lists.ListPull.TheVariants as list
 use Rattle.h3_headline.specs.Contents.{KeepsParts}
 use Rattle.h3_headline.specs.KeepsPartsLaws.{keeps_with_party}
 use Rattle.h3_memory.specs.Keeping.{StandsKeeping}

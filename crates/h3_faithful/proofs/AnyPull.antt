@@ -23,11 +23,15 @@ use Rattle.h3_connection.specs.declared.event.Pull.TheVariants as pull
 use Rattle.h3_connection.specs.declared.event.StreamFault.{StreamFault}
 use Rattle.h3_connection.specs.declared.event.StreamFault.TheVariants.{Malformed}
 use Rattle.h3_connection.specs.declared.setup.Announced.{Announced}
+use Rattle.h3_connection.specs.Lists.{list_of, listed_pull, pull_of}
+use Rattle.h3_connection.specs.declared.lists.ListItem.TheVariants as listed
+use Rattle.h3_connection.specs.declared.lists.ListPull.{ListPull}
+use Rattle.h3_connection.specs.declared.lists.ListPull.TheVariants as list
 use Rattle.h3_world.specs.Ends.{Ends, answered, end_at, was_listed, was_pulled, with_end}
 use Rattle.h3_world.specs.Flow.{Section}
 use Rattle.h3_world.specs.Headline.{is_connection_fault, is_out_of_memory}
 use Rattle.h3_world.specs.Items.{handed_out}
-use Rattle.h3_world.specs.Lists.{as_flagged, list_of, listed_pull, pull_of, unread_by, unreadable}
+use Rattle.h3_world.specs.Lists.{as_flagged, unread_by, unreadable}
 use Rattle.h3_world.specs.Order.{is_over, next_part, section_of_part}
 use Rattle.h3_world.specs.Pulling.{PausesExactly, PullsNext, list_next, settled}
 use Rattle.h3_world.specs.Sendable.{IsSendable, IsSendableBy}
@@ -39,9 +43,6 @@ use Rattle.h3_world.specs.World.{World}
 use Rattle.h3_world.specs.declared.event.Answer.{Answer}
 use Rattle.h3_world.specs.declared.event.Answer.TheVariants as answer
 use Rattle.h3_world.specs.declared.event.Event.{Event}
-use Rattle.h3_world.specs.declared.lists.ListItem.TheVariants as listed
-use Rattle.h3_world.specs.declared.lists.ListPull.{ListPull}
-use Rattle.h3_world.specs.declared.lists.ListPull.TheVariants as list
 use Rattle.h3_world.specs.declared.event.Event.TheVariants as event
 use Rattle.h3_headline.specs.GivenUp.{IsGone, giving_up}
 use Rattle.h3_headline.specs.SettledLaws.{settled_alive, settled_none}

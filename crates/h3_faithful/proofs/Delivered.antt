@@ -4,7 +4,7 @@ use Rattle.std.proofs.lemmas.Grind.{common_steps}
 use Rattle.std.specs.Prelude.{MatchOption, map, take, not, ◌&&◌, ◌||◌, ◌==◌, ◌%◌, is_none, is_some, nat_lt, slice_get, unwrap_or}
 use Rattle.std.specs.List.{AllByRecursion, flat_map}
 use Rattle.h3_coding.specs.Encodings.{encoding}
-use Rattle.h3_wire.specs.Encoded.{frame_encoding, head_encoding}
+use Rattle.h3_frames.specs.Encoded.{frame_encoding, head_encoding}
 use Rattle.h3_proto.specs.StreamIds.{index_of, is_request_stream}
 use Rattle.h3_proto.specs.declared.stream.Side.{Side}
 use Rattle.h3_proto.specs.declared.stream.Side.TheVariants.{Client, Server}
@@ -15,11 +15,12 @@ use Rattle.h3_connection.specs.declared.event.Pull.{Pull}
 use Rattle.h3_connection.specs.declared.event.Pull.TheVariants as pull
 use Rattle.h3_connection.specs.declared.event.Refusal.TheVariants as refusal
 use Rattle.h3_connection.specs.declared.event.StreamFault.{StreamFault}
+use Rattle.h3_connection.specs.Lists.{pull_of}
+use Rattle.h3_connection.specs.declared.lists.ListPull.{ListPull}
 use Rattle.h3_world.specs.Delivering.{delivered, delivery, is_closed}
 use Rattle.h3_world.specs.Flow.{Flow, Part, bytes_waiting, flow_bytes, part_bytes, unused}
 use Rattle.h3_world.specs.Flow.Part.{Interim, Head, Body, Trailer, End}
 use Rattle.h3_world.specs.Headline.{is_out_of_memory}
-use Rattle.h3_world.specs.Lists.{pull_of}
 use Rattle.h3_world.specs.Order.{is_end, is_over, next_part}
 use Rattle.h3_world.specs.OwnStreams.{control_stream, decoder_stream, encoder_stream}
 use Rattle.h3_world.specs.Pauses.{pause_of}
@@ -32,7 +33,6 @@ use Rattle.h3_world.specs.declared.event.Answer.{Answer}
 use Rattle.h3_world.specs.declared.event.Answer.TheVariants as answer
 use Rattle.h3_world.specs.declared.event.Event.{Event}
 use Rattle.h3_world.specs.declared.event.Event.TheVariants as event
-use Rattle.h3_world.specs.declared.lists.ListPull.{ListPull}
 use Rattle.h3_world.specs.Setup.{Setup}
 use Rattle.h3_headline.specs.ComingLaws.{sound_exchange, sound_flow}
 use Rattle.h3_headline.specs.Contents.{HasSameParts, contents, out, out_of, part_contents, piece_of}

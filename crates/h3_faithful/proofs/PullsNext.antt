@@ -9,8 +9,8 @@ use Rattle.h3_connection.specs.Keeping.{pulled_after, pulls, pulls_behind, read_
 use Rattle.h3_connection.specs.Sending.{pull_at, pull_unless}
 use Rattle.h3_connection.specs.declared.arrival.Arrival.{Arrival}
 use Rattle.h3_connection.specs.declared.event.Pull.{Pull}
+use Rattle.h3_connection.specs.Lists.{listed_pull}
 use Rattle.h3_world.specs.Ends.{Ends, answered, end_at, with_end}
-use Rattle.h3_world.specs.Lists.{listed_pull}
 use Rattle.h3_world.specs.declared.event.Answer.{Answer}
 use Rattle.h3_world.specs.declared.event.Answer.TheVariants as answer
 use Rattle.h3_world.specs.declared.event.Event.TheVariants as event

@@ -30,6 +30,7 @@ use Rattle.h3_connection.specs.declared.event.Pull.TheVariants as pull
 use Rattle.h3_connection.specs.declared.event.Refusal.{Refusal}
 use Rattle.h3_connection.specs.declared.event.Refusal.TheVariants as refusal
 use Rattle.h3_connection.specs.declared.setup.Announced.{Announced}
+use Rattle.h3_connection.specs.declared.lists.ListPull.TheVariants as list
 use Rattle.h3_world.specs.Delivering.{reset_code}
 use Rattle.h3_world.specs.EndLists.{fields_refusal, send_fields, send_trailer_fields, trailer_fields_refusal}
 use Rattle.h3_world.specs.Ends.{Ends, answered, done, end_at, new_ends, was_listed, was_offered, was_pulled, with_end}
@@ -38,7 +39,6 @@ use Rattle.h3_world.specs.declared.event.Answer.{Answer}
 use Rattle.h3_world.specs.declared.event.Answer.TheVariants as answer
 use Rattle.h3_world.specs.declared.event.Event.{Event}
 use Rattle.h3_world.specs.declared.event.Event.TheVariants as event
-use Rattle.h3_world.specs.declared.lists.ListPull.TheVariants as list
 use Rattle.h3_world.specs.Lists.{unreadable}
 use Rattle.h3_world.specs.Setup.{Setup, announced_at, takes_any}
 use Rattle.h3_memory.specs.Refused.{AnswerOf, CutsList, CutsOff, CutsSection, EndsStep, IsAsked, LacksMemory, LosesNothing, Stores, handed_over}

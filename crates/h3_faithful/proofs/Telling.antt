@@ -11,10 +11,10 @@ use Rattle.h3_connection.specs.declared.event.Pull.{Pull}
 use Rattle.h3_connection.specs.declared.event.Refusal.{Refusal}
 use Rattle.h3_connection.specs.declared.event.Refusal.TheVariants as refusal
 use Rattle.h3_connection.specs.declared.event.StreamFault.TheVariants.{Malformed}
+use Rattle.h3_connection.specs.Lists.{pull_of}
 use Rattle.h3_world.specs.Delivering.{delivered, delivered_message, delivered_own, delivery, is_closed}
 use Rattle.h3_world.specs.Flow.{Flow}
 use Rattle.h3_world.specs.Items.{handed_out}
-use Rattle.h3_world.specs.Lists.{pull_of}
 use Rattle.h3_world.specs.Refusals.{next_id, open_refusal}
 use Rattle.h3_world.specs.Run.{Run}
 use Rattle.h3_world.specs.Sendable.{IsSendableBy}

@@ -5,8 +5,8 @@ use Rattle.h3_proto.specs.declared.stream.Side.{Side}
 use Rattle.h3_connection.specs.OwnIds.{other, encoder_id}
 use Rattle.h3_connection.specs.declared.event.Pull.{Pull}
 use Rattle.h3_connection.specs.declared.event.Refusal.TheVariants as refusal
+use Rattle.h3_connection.specs.Lists.{pull_of}
 use Rattle.h3_world.specs.Headline.{is_connection_fault}
-use Rattle.h3_world.specs.Lists.{pull_of}
 use Rattle.h3_world.specs.Pauses.{pause_of}
 use Rattle.h3_world.specs.Setup.{Setup, announced_at}
 use Rattle.h3_world.specs.declared.event.Answer.{Answer}

@@ -11,10 +11,11 @@ use Rattle.h3_connection.specs.declared.event.Pull.TheVariants.{Fault}
 use Rattle.h3_connection.specs.declared.event.Refusal.TheVariants as refusal
 use Rattle.h3_connection.specs.declared.event.StreamFault.TheVariants.{Malformed}
 use Rattle.h3_connection.specs.declared.setup.Announced.{Announced}
+use Rattle.h3_connection.specs.Lists.{pull_of}
 use Rattle.h3_world.specs.Ends.{Ends}
 use Rattle.h3_world.specs.Flow.{Flow, Section}
 use Rattle.h3_world.specs.Headline.{is_connection_fault, is_out_of_memory}
-use Rattle.h3_world.specs.Lists.{pull_of, unreadable}
+use Rattle.h3_world.specs.Lists.{unreadable}
 use Rattle.h3_world.specs.Order.{next_part, section_of_part}
 use Rattle.h3_world.specs.Pulling.{settled}
 use Rattle.h3_world.specs.Run.{Run}

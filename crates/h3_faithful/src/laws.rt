@@ -16,11 +16,15 @@ ghost use Rattle.h3_faithful.specs.Steps.{RunsUntilFault, StandsAnywhere};
 /// to it are those of a run (`runs`), in whose last world both stand if there is none (`stands`). Between sides that both ask for strict
 /// messages, or both do not, there is no such fault (`faithful`), whatever they limit.
 pub fn each_side_gets_what_the_other_sent()
-    ensures until_fault { (setup : Setup) (events : List Event) (answers : List Answer) (ends : Ends) → IsMadeSetup setup → AllByRecursion (IsSendableBy true) events → EndsRun (new_ends setup) events answers ends → UntilFault setup events answers }
-    ensures runs { (setup : Setup) (events : List Event) (answers : List Answer) (ends : Ends) → IsMadeSetup setup → AllByRecursion (IsSendableBy true) events → EndsRun (new_ends setup) events answers ends → RunsUntilFault setup events answers }
-    ensures stands { (setup : Setup) (events : List Event) (answers : List Answer) (ends : Ends) → IsMadeSetup setup → AllByRecursion (IsSendableBy true) events → EndsRun (new_ends setup) events answers ends →
+    ensures until_fault { (setup : Setup) (events : List Event) (answers : List Answer) (ends : Ends) → IsMadeSetup setup
+        → AllByRecursion (IsSendableBy true) events → EndsRun (new_ends setup) events answers ends → UntilFault setup events answers }
+    ensures runs { (setup : Setup) (events : List Event) (answers : List Answer) (ends : Ends) → IsMadeSetup setup
+        → AllByRecursion (IsSendableBy true) events → EndsRun (new_ends setup) events answers ends → RunsUntilFault setup events answers }
+    ensures stands { (setup : Setup) (events : List Event) (answers : List Answer) (ends : Ends) → IsMadeSetup setup
+        → AllByRecursion (IsSendableBy true) events → EndsRun (new_ends setup) events answers ends →
         list_any is_connection_fault answers ≡ false → StandsAnywhere setup events answers ends }
-    ensures faithful { (setup : Setup) (events : List Event) (answers : List Answer) (ends : Ends) → IsMadeSetup setup → AllByRecursion (IsSendableBy true) events → EndsRun (new_ends setup) events answers ends → Faithful setup events answers }
+    ensures faithful { (setup : Setup) (events : List Event) (answers : List Answer) (ends : Ends) → IsMadeSetup setup
+        → AllByRecursion (IsSendableBy true) events → EndsRun (new_ends setup) events answers ends → Faithful setup events answers }
 {
     h3_connection::laws::tries_and_waiting_streams_are_bounded();
     h3_world::laws::with_all_delivered_pauses_are_at_the_end();

@@ -11,17 +11,24 @@ ghost use Rattle.h3_world.specs.WorkedLists.{listed_answers, listed_run, mixed_a
 ghost use Rattle.h3_world.specs.declared.event.Event.TheVariants as event;
 ghost use Rattle.h3_headline.specs.Exactly.{IsAllOf, IsExactly, reader_at};
 ghost use Rattle.h3_headline.specs.Messages.{IsFrontOf, has_finished, has_pulled_end, pulled, sent};
-ghost use Rattle.h3_strict.specs.WorkedStrict.{early_answers, early_run, refused_answers, refused_run, strict_setup, tunnel_answers, tunnel_run};
+ghost use Rattle.h3_strict.specs.WorkedStrict.{early_answers, early_run, refused_answers, refused_run, strict_setup, tunnel_answers};
+ghost use Rattle.h3_strict.specs.WorkedStrict.{tunnel_run};
 ghost use Rattle.h3_faithful.specs.Faithful.{PausesDelivered};
 ghost use Rattle.h3_faithful.specs.Sends.{begins_late, may_be_unread};
-ghost use Rattle.h3_faithful.specs.WorkedFaithful.{asked_answers, asked_run, careful_client, control_answers, control_run, curious_client, curious_server, delivered_answers, delivered_run, early_pulled, early_sent, late_answers, late_run, limited_answers, limited_client, limited_run, listed_sent, mixed_pulled, nexts, reset_answers, reset_run, status_pulled, status_sent, strict_pulled, strict_sent, unasked_answers, unasked_run, websocket};
-ghost use Rattle.h3_faithful.specs.WorkedMemory.{again_answers, again_run, again_sent, kept_answers, kept_run, later_answers, later_run, verdict_answers, verdict_run};
+ghost use Rattle.h3_faithful.specs.WorkedFaithful.{asked_answers, asked_run, careful_client, control_answers, control_run, curious_client};
+ghost use Rattle.h3_faithful.specs.WorkedFaithful.{curious_server, delivered_answers, delivered_run, early_pulled, early_sent};
+ghost use Rattle.h3_faithful.specs.WorkedFaithful.{late_answers, late_run, limited_answers, limited_client, limited_run, listed_sent};
+ghost use Rattle.h3_faithful.specs.WorkedFaithful.{mixed_pulled, nexts, reset_answers, reset_run, status_pulled, status_sent};
+ghost use Rattle.h3_faithful.specs.WorkedFaithful.{strict_pulled, strict_sent, unasked_answers, unasked_run, websocket};
+ghost use Rattle.h3_faithful.specs.WorkedMemory.{again_answers, again_run, again_sent, kept_answers, kept_run, later_answers, later_run};
+ghost use Rattle.h3_faithful.specs.WorkedMemory.{verdict_answers, verdict_run};
 
 /// A list that is sent and pulled as a list, with a body, a trailer and the end after it.
 pub fn lists_are_handed_out()
     ensures sent { sent Server 0 listed_run listed_answers ≡ listed_sent }
     ensures handed { pulled Client 0 listed_run listed_answers ≡ listed_sent }
-    ensures all { IsAllOf (IsExactly (reader_at no_tables Client)) (pulled Client 0 listed_run listed_answers) (sent Server 0 listed_run listed_answers) }
+    ensures all { IsAllOf (IsExactly (reader_at no_tables Client)) (pulled Client 0 listed_run listed_answers)
+        (sent Server 0 listed_run listed_answers) }
     ensures ended { has_pulled_end Client 0 listed_run listed_answers ≡ true }
     ensures finished { has_finished Server 0 listed_run listed_answers ≡ true }
 {}
@@ -29,12 +36,15 @@ pub fn lists_are_handed_out()
 /// A list that is pulled as the header that it reads as.
 pub fn lists_are_handed_out_as_headers()
     ensures handed { pulled Client 0 mixed_run mixed_answers ≡ mixed_pulled }
-    ensures front { IsFrontOf (IsExactly (reader_at no_tables Client)) (pulled Client 0 mixed_run mixed_answers) (sent Server 0 mixed_run mixed_answers) }
+    ensures front { IsFrontOf (IsExactly (reader_at no_tables Client)) (pulled Client 0 mixed_run mixed_answers)
+        (sent Server 0 mixed_run mixed_answers) }
 {}
 
-/// A strict client is refused a header section, a body and an end that break a rule, though each is next on its stream. What it sends comes out.
+/// A strict client is refused a header section, a body and an end that break a rule, though each is next on its stream. What it sends comes
+/// out.
 pub fn strict_refusals_send_nothing()
-    ensures nexts { nexts strict_setup Client 0 refused_run refused_answers ≡ false ∷ true ∷ true ∷ true ∷ true ∷ true ∷ true ∷ false ∷ false ∷ false ∷ false ∷ false ∷ [] }
+    ensures nexts { nexts strict_setup Client 0 refused_run refused_answers ≡ false ∷ true ∷ true ∷ true ∷ true ∷ true ∷ true ∷ false
+        ∷ false ∷ false ∷ false ∷ false ∷ [] }
     ensures sent { sent Client 0 refused_run refused_answers ≡ strict_sent }
     ensures handed { pulled Server 0 refused_run refused_answers ≡ strict_pulled }
     ensures ended { has_pulled_end Server 0 refused_run refused_answers ≡ true }
@@ -44,7 +54,8 @@ pub fn strict_refusals_send_nothing()
 pub fn messages_found_malformed_end_in_front()
     ensures sent { sent Server 0 early_run early_answers ≡ early_sent }
     ensures handed { pulled Client 0 early_run early_answers ≡ early_pulled }
-    ensures front { IsFrontOf (IsExactly (reader_at strict_setup Client)) (pulled Client 0 early_run early_answers) (sent Server 0 early_run early_answers) }
+    ensures front { IsFrontOf (IsExactly (reader_at strict_setup Client)) (pulled Client 0 early_run early_answers)
+        (sent Server 0 early_run early_answers) }
     ensures faultless { list_any is_connection_fault early_answers ≡ false }
 {}
 
@@ -68,11 +79,12 @@ pub fn with_all_delivered_all_comes_out()
     ensures answers { answers_of_ends (new_ends no_tables) delivered_run ≡ delivered_answers }
     ensures pauses { PausesDelivered Client 0 (drop 6 delivered_run) (drop 6 delivered_answers) }
     ensures not_before { PausesDelivered Client 0 (drop 5 delivered_run) (drop 5 delivered_answers) → ⊥ }
-    ensures all { IsAllOf (IsExactly (reader_at no_tables Client)) (pulled Client 0 (take 6 delivered_run) (take 6 delivered_answers)) (sent Server 0 (take 6 delivered_run) (take 6 delivered_answers)) }
+    ensures all { IsAllOf (IsExactly (reader_at no_tables Client)) (pulled Client 0 (take 6 delivered_run) (take 6 delivered_answers))
+        (sent Server 0 (take 6 delivered_run) (take 6 delivered_answers)) }
 {}
 
-/// Between a strict side and one that is not, a trailer in a tunnel is a fault of the connection. Before it all is as it was sent. (Those are the
-/// answers by `worked_tunnel` of h3_strict.)
+/// Between a strict side and one that is not, a trailer in a tunnel is a fault of the connection. Before it all is as it was sent. (Those
+/// are the answers by `worked_tunnel` of h3_strict.)
 pub fn trailers_in_tunnels_end_the_connection()
     ensures before { list_any is_connection_fault (take 8 tunnel_answers) ≡ false }
     ensures fault { list_any is_connection_fault tunnel_answers ≡ true }
@@ -116,12 +128,14 @@ pub fn what_is_kept_is_handed_out_later()
 /// Two strict sides with memory refused: a response is found malformed later, and another stream goes on.
 pub fn strict_verdicts_wait_for_memory()
     ensures handed { pulled Client 0 verdict_run verdict_answers ≡ early_pulled }
-    ensures front { IsFrontOf (IsExactly (reader_at strict_setup Client)) (pulled Client 0 verdict_run verdict_answers) (sent Server 0 verdict_run verdict_answers) }
+    ensures front { IsFrontOf (IsExactly (reader_at strict_setup Client)) (pulled Client 0 verdict_run verdict_answers)
+        (sent Server 0 verdict_run verdict_answers) }
     ensures other { pulled Client 4 verdict_run verdict_answers ≡ status_pulled }
     ensures faultless { list_any is_connection_fault verdict_answers ≡ false }
 {}
 
-/// A server that takes two protocols alone finds another malformed, and the next stream goes on. A client that takes those alone sends no other.
+/// A server that takes two protocols alone finds another malformed, and the next stream goes on. A client that takes those alone sends no
+/// other.
 pub fn other_protocols_are_malformed()
     ensures answers { answers_of_ends (new_ends curious_client) asked_run ≡ asked_answers }
     ensures faultless { list_any is_connection_fault asked_answers ≡ false }

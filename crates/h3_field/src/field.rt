@@ -1,5 +1,6 @@
 //! A field of two byte strings, static or owned, and the flag of one that no table keeps.
-ghost use Rattle.std.specs.Prelude.{◌≡◌, ◌++◌, ◌∷◌, codes, string_bytes, IfOk, OnErr, IfSome, IfNone, ◌⊎◌, Some, encode_utf8_all, nat_eq, min, ◌^◌, ◌-◌, ◌+◌, ◌<◌, ◌≤◌, length, take, drop};
+ghost use Rattle.std.specs.Prelude.{◌≡◌, ◌++◌, ◌∷◌, codes, string_bytes, IfOk, OnErr, IfSome, IfNone, ◌⊎◌, Some, encode_utf8_all, nat_eq};
+ghost use Rattle.std.specs.Prelude.{min, ◌^◌, ◌-◌, ◌+◌, ◌<◌, ◌≤◌, length, take, drop};
 ghost use Rattle.std.specs.Cow.{cow_slice_items};
 ghost use Rattle.std.specs.Vec.{vec_len, vec_capacity};
 ghost use Rattle.h3_field.specs.Field.{plain_field, field_size, section_size};

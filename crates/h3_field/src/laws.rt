@@ -1,5 +1,6 @@
 //! What holds of the encodings. These functions do nothing: their contracts are the laws.
-ghost use Rattle.std.specs.Prelude.{◌≡◌, ◌+◌, ◌<◌, ◌≤◌, ◌-◌, ◌^◌, ℕ, Bool, true, false, ◌&&◌, ◌||◌, List, [], ◌++◌, length, map, is_some, None, Some};
+ghost use Rattle.std.specs.Prelude.{◌≡◌, ◌+◌, ◌<◌, ◌≤◌, ◌-◌, ◌^◌, ℕ, Bool, true, false, ◌&&◌, ◌||◌, List, [], ◌++◌, length, map, is_some};
+ghost use Rattle.std.specs.Prelude.{None, Some};
 ghost use Rattle.h3_field.specs.Line.{FieldLine, line_bytes};
 ghost use Rattle.h3_field.specs.LineAnswer.{IsWritable, LineTakesMemory};
 ghost use Rattle.std.specs.List.{AllByRecursion};

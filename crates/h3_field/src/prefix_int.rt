@@ -1,5 +1,6 @@
 //! Prefixed integers (RFC 9204, section 4.1.1; RFC 7541, section 5.1).
-ghost use Rattle.std.specs.Prelude.{◌≡◌, ◌+◌, ◌-◌, ◌^◌, ◌<◌, ◌≤◌, ◌++◌, [], IfSome, OnOk, OnErr, IfOk, Result, length, MatchOption, ◌*◌, ◌∷◌, Some, vec_len, vec_capacity};
+ghost use Rattle.std.specs.Prelude.{◌≡◌, ◌+◌, ◌-◌, ◌^◌, ◌<◌, ◌≤◌, ◌++◌, [], IfSome, OnOk, OnErr, IfOk, Result, length, MatchOption, ◌*◌};
+ghost use Rattle.std.specs.Prelude.{◌∷◌, Some, vec_len, vec_capacity};
 ghost use Rattle.h3_field.specs.Ends.{IsEndOf};
 ghost use Rattle.h3_field.specs.ErrorTexts.{integer_text};
 ghost use Rattle.h3_field.specs.Integer.{prefixed, ones, groups};

@@ -1,5 +1,6 @@
 //! What lines and instructions are made of: an integer, an integer and a string, or two strings.
-ghost use Rattle.std.specs.Prelude.{◌≡◌, ◌<◌, ◌≤◌, ◌-◌, ◌^◌, ◌++◌, true, false, length, slice_index, is_some, if◌then◌else◌, MatchOption, IfSome, IfNone, IfOk, OnOk, OnErr};
+ghost use Rattle.std.specs.Prelude.{◌≡◌, ◌<◌, ◌≤◌, ◌-◌, ◌^◌, ◌++◌, true, false, length, slice_index, is_some, if◌then◌else◌, MatchOption};
+ghost use Rattle.std.specs.Prelude.{IfSome, IfNone, IfOk, OnOk, OnErr};
 ghost use Rattle.std.specs.Result.{IsOkUnless};
 ghost use Rattle.h3_field.specs.Ends.{IsEndOf};
 ghost use Rattle.h3_field.specs.Integer.{prefixed};
@@ -9,7 +10,8 @@ ghost use Rattle.h3_field.specs.StringLiteral.{string_literal, coded};
 ghost use Rattle.h3_field.specs.declared.prefix_string.Error.TheVariants as string_error;
 ghost use Rattle.h3_field.specs.Shapes.{begins, index_and_string, two_strings};
 ghost use Rattle.h3_field.specs.Values.{string_of};
-ghost use Rattle.h3_field.specs.ShapeAnswer.{behind, IsIndexAndString, AreTwoStrings, AnswersIndexAndString, AnswersBothStrings, AnswersTwoStrings};
+ghost use Rattle.h3_field.specs.ShapeAnswer.{behind, IsIndexAndString, AreTwoStrings, AnswersIndexAndString, AnswersBothStrings};
+ghost use Rattle.h3_field.specs.ShapeAnswer.{AnswersTwoStrings};
 ghost use Rattle.h3_field.specs.declared.parse_error.ParseError.TheVariants as parse_error;
 
 use crate::cursor::SliceCursor;
@@ -113,8 +115,8 @@ pub(crate) fn take_index_and_short(
     Some(FlaggedIndex { flags, index })
 }
 
-/// Takes two strings from the front, as a field that takes no memory. It has the flag if the lowest flag is 1. None: the field may be long, its value is empty, or the read is
-/// refused. Then nothing is taken.
+/// Takes two strings from the front, as a field that takes no memory. It has the flag if the lowest flag is 1. None: the field may be long,
+/// its value is empty, or the read is refused. Then nothing is taken.
 pub(crate) fn take_short_field(size: u8, buf: &mut SliceCursor<'_>) -> Option<HeaderField>
     requires least { 2 ≤ size }
     requires most { size ≤ 8 }

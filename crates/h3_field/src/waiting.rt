@@ -1,6 +1,7 @@
 //! What an instruction that is not whole waits for, so that bytes which leave it unfinished need not be read again.
 ghost use Rattle.std.specs.Prelude.{◌≡◌, ◌≤◌, ℕ, List, ◌++◌, OnOk, IfOk, IfErr};
-ghost use Rattle.h3_field.specs.Waiting.{goes_on, are_empty_groups, behind, integer_wait, string_wait, number_wait, name_reference_wait, literal_name_wait, encoder_wait, decoder_wait};
+ghost use Rattle.h3_field.specs.Waiting.{goes_on, are_empty_groups, behind, integer_wait, string_wait, number_wait, name_reference_wait};
+ghost use Rattle.h3_field.specs.Waiting.{literal_name_wait, encoder_wait, decoder_wait};
 
 use crate::cursor::SliceCursor;
 use crate::prefix_int::{Error, decode};

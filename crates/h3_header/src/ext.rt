@@ -117,6 +117,7 @@ impl FromStr for Protocol {
     }
 }
 
-/// The text is no protocol that is taken: for `from_str` it names neither constant, and for `from_token` it is no token of at most 31 bytes.
+/// The text is no protocol that is taken: for `from_str` it names neither constant, and for `from_token` it is no token of at most 31
+/// bytes.
 #[derive(Clone, Copy, Debug, PartialEq, Eq)]
 pub struct InvalidProtocol;

@@ -2,9 +2,11 @@
 ghost use Rattle.std.specs.Prelude.{◌≡◌, ◌≤◌, ◌==◌, ◌||◌, MatchBool, IsUtf8, bytes_eq, codes, length, slice_index};
 ghost use Rattle.std.specs.List.{list_all};
 ghost use Rattle.http_header.specs.Token.{is_token_byte};
-ghost use Rattle.http_uri.specs.ByteClasses.{is_scheme_byte, is_authority_byte, is_path_byte, is_query_byte, is_delimiter, split_once_front, split_once_back, index_of, question_mark, slash};
+ghost use Rattle.http_uri.specs.ByteClasses.{is_scheme_byte, is_authority_byte, is_path_byte, is_query_byte, is_delimiter};
+ghost use Rattle.http_uri.specs.ByteClasses.{split_once_front, split_once_back, index_of, question_mark, slash};
 ghost use Rattle.http_uri.specs.Grammar.{IsAuthority};
-ghost use Rattle.h3_header.specs.HeadTests.{is_token, is_header_name, is_host, is_scheme, is_authority, is_path, is_path_input, is_plain_path, are_plain_parts, are_query, is_field_value};
+ghost use Rattle.h3_header.specs.HeadTests.{is_token, is_header_name, is_host, is_scheme, is_authority, is_path, is_path_input};
+ghost use Rattle.h3_header.specs.HeadTests.{is_plain_path, are_plain_parts, are_query, is_field_value};
 
 mod marks;
 mod names;

@@ -1,5 +1,6 @@
 //! Laws on headers and their field lists, each the contract of a function.
-ghost use Rattle.std.specs.Prelude.{◌≡◌, ◌<◌, ◌≤◌, ℕ, Bool, true, false, codes, ◌∷◌, IfOk, IfErr, List, [], All, length, map, take, get_or, Some, None};
+ghost use Rattle.std.specs.Prelude.{◌≡◌, ◌<◌, ◌≤◌, ℕ, Bool, true, false, codes, ◌∷◌, IfOk, IfErr, List, [], All, length, map, take, get_or};
+ghost use Rattle.std.specs.Prelude.{Some, None};
 ghost use Rattle.std.specs.List.{AllByRecursion};
 ghost use Rattle.h3_field.specs.Field.{Field, plain_field, unflagged, with_flags};
 ghost use Rattle.h3_field.specs.ReadBack.{IsFieldOfBytes};
@@ -23,8 +24,8 @@ use crate::headers::{Header, HeaderError};
 use std::alloc::Global;
 
 /// The field list of every header, however it was made, is accepted by who takes its protocol, and it makes a header with
-/// this very list. Any short token is taken, or the two names alone: then the list of a header with another one is malformed. It is the same header but for an empty path, which is `/`, and for the marks of
-/// sensitive values. Each item of its names and values is below 256.
+/// this very list. Any short token is taken, or the two names alone: then the list of a header with another one is malformed. It is the
+/// same header but for an empty path, which is `/`, and for the marks of sensitive values. Each item of its names and values is below 256.
 pub fn every_header_reads_back(header: &Header)
     ensures reads_back { (any : Bool) → takes_protocol any header.now.protocol ≡ true → ReadsBackBy any (head_fields header.now) }
     ensures token { takes_protocol true header.now.protocol ≡ true }

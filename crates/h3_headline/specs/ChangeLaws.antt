@@ -36,14 +36,14 @@ use Rattle.h3_connection.specs.Pulling.{is_for, is_interim}
 use Rattle.h3_world.specs.declared.event.Event.TheVariants as event
 use Rattle.h3_world.specs.Came.{settings_known}
 use Rattle.h3_world.specs.Refusals.{none_after, head_refusal, body_refusal, trailer_refusal, finish_refusal, is_critical, reset_refusal, cancel_refusal, next_id, open_refusal, goaway_refusal, fields_refusal, trailer_fields_refusal}
-use Rattle.h3_wire.specs.Encoded.{frame_encoding}
+use Rattle.h3_frames.specs.Encoded.{frame_encoding}
 use Rattle.h3_connection.specs.declared.event.StreamFault.TheVariants.{Canceled}
 use Rattle.h3_connection.specs.declared.event.Item.{Item}
 use Rattle.h3_connection.specs.declared.event.Item.TheVariants as item
 use Rattle.h3_connection.specs.declared.event.Pull.TheVariants as pull
 use Rattle.h3_world.specs.Items.{handed_out, acknowledgment_of, after_item, after_piece}
 use Rattle.h3_world.specs.Setup.{announced_at, takes_any}
-use Rattle.h3_world.specs.Lists.{pull_of, unreadable}
+use Rattle.h3_world.specs.Lists.{unreadable}
 use Rattle.h3_connection.specs.declared.event.Pull.{Pull}
 use Rattle.h3_world.specs.Pulling.{settled, PullsNext, Pulls}
 use Rattle.h3_world.specs.Delivering.{delivery, end_delivery, reset_delivery}
@@ -59,6 +59,7 @@ use Rattle.h3_field.specs.Instruction.DecoderInstruction.{CancelStream}
 use Rattle.h3_connection.specs.OwnIds.{is_own}
 use Rattle.h3_connection.specs.declared.event.StreamFault.{StreamFault}
 use Rattle.h3_connection.specs.declared.event.StreamFault.TheVariants as stream_fault
+use Rattle.h3_connection.specs.Lists.{pull_of}
 use Rattle.h3_world.specs.Delivering.{delivered_end, delivered_message, delivered_own, delivered_reset, further, having_listened, is_closed, may_end, reset_code}
 use Rattle.h3_headline.specs.KeepsPartsLaws.{neither, not_is, request_there, there_with_flow}
 use Rattle.h3_headline.specs.MovedLaws.{not_critical, not_refused, world_is}

@@ -3,7 +3,7 @@ use Rattle.std.proofs.Common.{◌≡◌, [], ◌∷◌, refl, ◌+◌, ◌-◌, 
 use Rattle.h3_coding.specs.Encodings.{encoding}
 use Rattle.h3_coding.specs.Varint.{varint_at}
 use Rattle.h3_coding.specs.VarintLaws.{none_at_end, reads_shortest}
-use Rattle.h3_wire.specs.FirstFrames.{begins_other, is_other}
+use Rattle.h3_frames.specs.FirstFrames.{begins_other, is_other}
 use Rattle.h3_proto.specs.Pairs.{payload_of}
 use Rattle.h3_connection.specs.declared.setup.Announced.{Announced}
 use Rattle.h3_world.specs.OwnStreams.{settings_bytes}
@@ -21,7 +21,7 @@ use Rattle.h3_headline.specs.PeerStreams.{Announces, Reads, behind_type, new_byt
 use Rattle.h3_headline.specs.Standing.{AreGoaways, with_meaning}
 use Rattle.h3_headline.specs.UnitLaws.{drop_past, front_is, goes_on, none_whole, take_both, take_past}
 use Rattle.h3_headline.specs.WritesMoreLaws.{goaways_some, type_of_control}
-use Rattle.h3_wire.specs.declared.frame.kinds.FrameKinds.{FrameKinds}
+use Rattle.h3_frames.specs.declared.frame.kinds.FrameKinds.{FrameKinds}
 
 type_of_settings : encoding 4 ≡ 4 ∷ []
 unfolding encoding

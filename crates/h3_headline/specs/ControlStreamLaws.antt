@@ -1,22 +1,22 @@
 -- What came of a control stream is read as its settings and its GOAWAY frames.
 use Rattle.std.proofs.Common.{◌≡◌, ℕ, ◌-◌, List, sym, subst, zero, suc, refl, ap, ◌∙◌, ◌++◌, Some, None, ◌<◌, lit<, length, take, ◌^◌, false, ◌||◌, if◌then◌else◌, [], ◌∷◌, length-append, arith, ◌≤◌, flat_map, append-nil, append_assoc, nat_le, Bool, true, Option, drop}
 use Rattle.h3_proto.specs.Config.{is_limit}
-use Rattle.h3_wire.specs.ExcessiveLaws.{none_excessive_by}
-use Rattle.h3_wire.specs.Known.{known_by}
-use Rattle.h3_wire.specs.KnownLaws.{known-other}
-use Rattle.h3_wire.specs.Fronts.{IsKnown, IsUnfinishedFront}
-use Rattle.h3_wire.specs.UnfinishedLaws.{front_of_frame}
-use Rattle.h3_wire.specs.declared.proto.frame.Frame.TheVariants as frame
+use Rattle.h3_frames.specs.ExcessiveLaws.{none_excessive_by}
+use Rattle.h3_frames.specs.Known.{known_by}
+use Rattle.h3_frames.specs.KnownLaws.{known-other}
+use Rattle.h3_frames.specs.Fronts.{IsKnown, IsUnfinishedFront}
+use Rattle.h3_frames.specs.UnfinishedLaws.{front_of_frame}
+use Rattle.h3_frames.specs.declared.proto.frame.Frame.TheVariants as frame
 use Rattle.h3_proto.specs.declared.stream.Side.{Side}
-use Rattle.h3_wire.specs.Frames.{Front, frame_by, Whole, Unknown, Refused, Unfinished, settings_frame}
+use Rattle.h3_frames.specs.Frames.{Front, frame_by, Whole, Unknown, Refused, Unfinished, settings_frame}
 use Rattle.h3_connection.specs.OtherSettings.{with_others, with_told}
 use Rattle.h3_connection.specs.OtherSettingsLaws.{others_more}
 use Rattle.h3_connection.specs.PeerReading.{Peer, having_frame, with_unread, at_front, read_within, read_peer, read_frame, unless_fault, PeerFound, is_above, is_no_goaway}
-use Rattle.h3_wire.specs.declared.proto.frame.Frame.{Frame}
-use Rattle.h3_wire.specs.declared.proto.frame.PayloadLen.{PayloadLen}
+use Rattle.h3_frames.specs.declared.proto.frame.Frame.{Frame}
+use Rattle.h3_frames.specs.declared.proto.frame.PayloadLen.{PayloadLen}
 use Rattle.h3_proto.specs.Pairs.{payload_of}
-use Rattle.h3_wire.specs.Encoded.{frame_encoding}
-use Rattle.h3_wire.specs.EncodedLaws.{written_settings, written_goaway, length-encoding}
+use Rattle.h3_frames.specs.Encoded.{frame_encoding}
+use Rattle.h3_frames.specs.EncodedLaws.{written_settings, written_goaway, length-encoding}
 use Rattle.h3_connection.specs.declared.setup.Announced.{Announced}
 use Rattle.h3_connection.specs.Codes.{excessive_load, id_error}
 use Rattle.h3_connection.specs.Endpoint.{goaway_encoding}
@@ -26,10 +26,10 @@ use Rattle.std.specs.Prelude.{slice_get}
 use Rattle.h3_coding.specs.Encodings.{encoding}
 use Rattle.std.proofs.lemmas.Grind.{common_steps}
 use Rattle.h3_qpack.specs.WholeInstructions.{rest_in}
-use Rattle.h3_wire.specs.FrameLaws.{frame_by-nil}
+use Rattle.h3_frames.specs.FrameLaws.{frame_by-nil}
 use Rattle.h3_headline.specs.PeerStreams.{Announces, having_read, last_of, no_fault, no_limit}
 use Rattle.h3_headline.specs.Standing.{AreGoaways, with_meaning}
-use Rattle.h3_wire.specs.declared.frame.kinds.FrameKinds.{FrameKinds}
+use Rattle.h3_frames.specs.declared.frame.kinds.FrameKinds.{FrameKinds}
 
 -- Without a limit all read alike.
 front_alike : (go both : Peer → PeerFound) (side : Side) (p : Peer) (bytes : List ℕ) (x : Front) → ((q : Peer) → go q ≡ both q) → at_front go side p bytes x ≡ at_front both side p bytes x

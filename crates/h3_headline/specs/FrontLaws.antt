@@ -1,27 +1,27 @@
 -- What a receiver finds at the front of what it has not read.
 use Rattle.std.proofs.Common.{◌≡◌, ℕ, ◌+◌, ◌-◌, ◌≤◌, List, ◌++◌, length, take, refl, sym, ap, ◌∙◌, drop, take-append-drop, arith, length-append, Bool, subst, true, false, [], ◌∷◌, if◌then◌else◌, zero, suc, ◌<◌, nat_lt, ◌^◌, lit<}
 use Rattle.std.proofs.lemmas.List.{take_at, take-append-le, drop_at, drop-append-le, length-drop}
-use Rattle.h3_wire.specs.Frames.{Front, frame_by, Whole, Unfinished}
-use Rattle.h3_wire.specs.Known.{known_by}
-use Rattle.h3_wire.specs.KnownLaws.{known-other}
-use Rattle.h3_wire.specs.Fronts.{IsKnown, IsUnfinishedFront}
-use Rattle.h3_wire.specs.declared.proto.frame.Frame.TheVariants as frame
+use Rattle.h3_frames.specs.Frames.{Front, frame_by, Whole, Unfinished}
+use Rattle.h3_frames.specs.Known.{known_by}
+use Rattle.h3_frames.specs.KnownLaws.{known-other}
+use Rattle.h3_frames.specs.Fronts.{IsKnown, IsUnfinishedFront}
+use Rattle.h3_frames.specs.declared.proto.frame.Frame.TheVariants as frame
 use Rattle.h3_connection.specs.Skipping.{skip_front, skipped, is_empty_data, skipped_within}
 use Rattle.std.specs.Prelude.{◌&&◌}
-use Rattle.h3_wire.specs.declared.proto.frame.PayloadLen.{PayloadLen}
-use Rattle.h3_wire.specs.declared.proto.frame.Frame.{Frame}
+use Rattle.h3_frames.specs.declared.proto.frame.PayloadLen.{PayloadLen}
+use Rattle.h3_frames.specs.declared.proto.frame.Frame.{Frame}
 use Rattle.std.specs.List.{concat, AllByRecursion}
-use Rattle.h3_wire.specs.Pieces.{without}
-use Rattle.h3_wire.specs.PieceLaws.{without-none, concat-without}
+use Rattle.h3_frames.specs.Pieces.{without}
+use Rattle.h3_frames.specs.PieceLaws.{without-none, concat-without}
 use Rattle.h3_connection.specs.Incoming.{Incoming}
 use Rattle.h3_connection.specs.Pulling.{left_with}
 use Rattle.std.proofs.lemmas.Grind.{common_steps}
-use Rattle.h3_wire.specs.Encoded.{frame_encoding, head_encoding}
-use Rattle.h3_wire.specs.UnfinishedLaws.{front_of_frame, front_of_head}
-use Rattle.h3_wire.specs.EncodedLaws.{written_head}
+use Rattle.h3_frames.specs.Encoded.{frame_encoding, head_encoding}
+use Rattle.h3_frames.specs.UnfinishedLaws.{front_of_frame, front_of_head}
+use Rattle.h3_frames.specs.EncodedLaws.{written_head}
 use Rattle.h3_headline.specs.Pulling.{IsLonger, with_unread}
 use Rattle.h3_headline.specs.Standing.{HasBytes}
-use Rattle.h3_wire.specs.declared.frame.kinds.FrameKinds.{FrameKinds}
+use Rattle.h3_frames.specs.declared.frame.kinds.FrameKinds.{FrameKinds}
 
 -- Of two lists that are equal with what follows them the shorter is the front of the longer.
 pub short_front : (some more front rest : List ℕ) → some ++ more ≡ front ++ rest → length some ≤ length front → some ≡ take (length some) front

@@ -3,15 +3,16 @@ use Rattle.std.proofs.Common.{◌≡◌, ℕ, zero, suc, ◌+◌, ◌-◌, List,
 use Rattle.std.specs.Prelude.{IfSome, option_map, take, slice_get, unwrap_or, ◌||◌, ◌&&◌, nat_lt, if◌then◌else◌, drop, ◌==◌, map}
 use Rattle.h3_world.specs.Flow.{Part, Flow, Section}
 use Rattle.std.proofs.lemmas.Grind.{common_steps, flat_map-append}
-use Rattle.h3_world.specs.Lists.{as_flagged, item_of, list_in}
+use Rattle.h3_world.specs.Lists.{as_flagged}
 use Rattle.h3_world.specs.Order.{next_part, is_end, is_over, section_of_part}
-use Rattle.h3_world.specs.declared.lists.ListItem.{ListItem}
-use Rattle.h3_world.specs.declared.lists.ListItem.TheVariants as listed
 use Rattle.h3_field.specs.Field.{Field, section_size}
 use Rattle.h3_header.specs.Head.{Head as Fields, head_fields}
 use Rattle.h3_header.specs.Reads.{head_of_fields}
 use Rattle.h3_connection.specs.declared.event.Item.{Item}
 use Rattle.h3_connection.specs.declared.event.Item.TheVariants as item
+use Rattle.h3_connection.specs.Lists.{item_of, list_in}
+use Rattle.h3_connection.specs.declared.lists.ListItem.{ListItem}
+use Rattle.h3_connection.specs.declared.lists.ListItem.TheVariants as listed
 use Rattle.h3_world.specs.Flow.Part.{Interim, Head, Body, Trailer, End}
 use Rattle.h3_world.specs.Items.{IsSectionItem, after_piece, HasCome, after_item}
 use Rattle.std.proofs.lemmas.List.{map-append}

@@ -22,7 +22,7 @@ use Rattle.h3_qpack.specs.Hearing.{listened, listen}
 use Rattle.h3_proto.specs.declared.stream.Side.{Side}
 use Rattle.h3_connection.specs.OwnIds.{other, control_id}
 use Rattle.std.proofs.lemmas.Bool.{and_right}
-use Rattle.h3_wire.specs.FirstFrames.{begins_other}
+use Rattle.h3_frames.specs.FirstFrames.{begins_other}
 use Rattle.h3_connection.specs.StrictConnection.{is_strict, settings_refused, kinds_of}
 use Rattle.h3_connection.specs.StrictConnectionLaws.{held_taken, known_missed}
 use Rattle.h3_connection.specs.PeerReading.{Peer, PeerFound, with_unread, read_peer}

@@ -5,10 +5,10 @@ use Rattle.std.specs.Prelude.{nat_le}
 use Rattle.std.proofs.lemmas.Grind.{common_steps}
 use Rattle.h3_qpack.specs.DecodedSection.{Fields, Missing, decode_section}
 use Rattle.h3_qpack.specs.DecoderState.{DecoderState}
-use Rattle.h3_wire.specs.Encoded.{frame_encoding}
-use Rattle.h3_wire.specs.EncodedLaws.{written_headers}
-use Rattle.h3_wire.specs.Frames.{Whole, frame_by}
-use Rattle.h3_wire.specs.declared.proto.frame.Frame.TheVariants as frame
+use Rattle.h3_frames.specs.Encoded.{frame_encoding}
+use Rattle.h3_frames.specs.EncodedLaws.{written_headers}
+use Rattle.h3_frames.specs.Frames.{Whole, frame_by}
+use Rattle.h3_frames.specs.declared.proto.frame.Frame.TheVariants as frame
 use Rattle.h3_proto.specs.declared.stream.Side.{Side}
 use Rattle.h3_connection.specs.Endpoint.{EndpointHistory, kind_of}
 use Rattle.h3_connection.specs.Incoming.{Incoming, is_body}

@@ -25,11 +25,12 @@ use Rattle.h3_world.specs.Flow.Part.{Interim, Head, Body, Trailer, End}
 use Rattle.h3_world.specs.Headline.{Happens}
 use Rattle.h3_world.specs.Items.{HasCome}
 use Rattle.h3_world.specs.ListLaws.{listed_happens}
-use Rattle.h3_world.specs.Lists.{as_flagged, listed_pull}
+use Rattle.h3_world.specs.Lists.{as_flagged}
 use Rattle.h3_world.specs.Order.{is_over, next_part, section_of_part}
 use Rattle.h3_world.specs.Pauses.{pause_before, pause_of}
 use Rattle.h3_world.specs.Pulling.{PausesExactly, Pulls, PullsNext, fault_or, list_next, own_delivered, settled}
 use Rattle.h3_connection.specs.Coming.{HasNoHeader}
+use Rattle.h3_connection.specs.Lists.{listed_pull}
 use Rattle.h3_world.specs.Setup.{IsMadeSetup, JudgesPlainly, Setup, announced_at, flags_secrets}
 use Rattle.h3_world.specs.Sound.{IsSoundWorld}
 use Rattle.h3_world.specs.Streams.{flow, is_open}

@@ -26,7 +26,7 @@ use Rattle.h3_connection.specs.Pulling.{is_for, is_interim}
 use Rattle.h3_world.specs.declared.event.Event.TheVariants as event
 use Rattle.h3_world.specs.Came.{settings_known}
 use Rattle.h3_world.specs.Refusals.{none_after, head_refusal, body_refusal, trailer_refusal, finish_refusal, is_critical, reset_refusal, cancel_refusal, next_id, open_refusal, goaway_refusal, fields_refusal, trailer_fields_refusal}
-use Rattle.h3_wire.specs.Encoded.{frame_encoding}
+use Rattle.h3_frames.specs.Encoded.{frame_encoding}
 use Rattle.h3_connection.specs.declared.event.StreamFault.TheVariants.{Canceled}
 use Rattle.h3_proto.specs.declared.stream.Side.TheVariants.{Client, Server}
 use Rattle.h3_connection.specs.Announcing.{section_of}
@@ -35,12 +35,13 @@ use Rattle.h3_connection.specs.declared.event.Item.TheVariants as item
 use Rattle.h3_connection.specs.declared.event.Pull.TheVariants as pull
 use Rattle.h3_world.specs.Items.{HasCome, handed_out, acknowledgment_of, after_item}
 use Rattle.h3_world.specs.Setup.{Setup, announced_at, takes_any}
-use Rattle.h3_world.specs.Lists.{as_flagged, item_of, list_of, pull_of, unreadable}
-use Rattle.h3_world.specs.declared.lists.ListItem.{ListItem}
-use Rattle.h3_world.specs.declared.lists.ListItem.TheVariants as listed
-use Rattle.h3_world.specs.declared.lists.ListPull.{ListPull}
-use Rattle.h3_world.specs.declared.lists.ListPull.TheVariants as list
+use Rattle.h3_world.specs.Lists.{as_flagged, unreadable}
 use Rattle.h3_connection.specs.declared.event.Pull.{Pull}
+use Rattle.h3_connection.specs.Lists.{item_of, list_of, pull_of}
+use Rattle.h3_connection.specs.declared.lists.ListItem.{ListItem}
+use Rattle.h3_connection.specs.declared.lists.ListItem.TheVariants as listed
+use Rattle.h3_connection.specs.declared.lists.ListPull.{ListPull}
+use Rattle.h3_connection.specs.declared.lists.ListPull.TheVariants as list
 use Rattle.h3_world.specs.Pauses.{paused}
 use Rattle.h3_world.specs.Pulling.{settled, PullsNext, Pulls}
 use Rattle.h3_world.specs.Delivering.{delivery, end_delivery, reset_delivery}

@@ -11,7 +11,7 @@ use Rattle.h3_proto.specs.Settings.{value_of, settings_of}
 use Rattle.h3_world.specs.Following.{opening}
 use Rattle.h3_connection.specs.Unidirectional.{StreamKinds, Role, Unidirectional, role_after, with_bytes, untold}
 use Rattle.h3_connection.specs.Unidirectional.Role.{Untold}
-use Rattle.h3_wire.specs.Encoded.{frame_encoding}
+use Rattle.h3_frames.specs.Encoded.{frame_encoding}
 use Rattle.h3_qpack.specs.WholeInstructions.{whole_in, rest_in, decoder_instructions_in}
 use Rattle.h3_connection.specs.Endpoint.{goaway_encoding, EndpointHistory, Own}
 use Rattle.h3_connection.specs.PeerReading.{Peer, PeerFound, with_unread, read_peer}
@@ -34,7 +34,7 @@ use Rattle.std.specs.List.{AllByRecursion}
 use Rattle.h3_field.specs.InstructionAnswer.{IsReply}
 use Rattle.h3_qpack.specs.Instructions.{AreAccepted}
 use Rattle.h3_headline.specs.Standing.{AreGoaways, others_once, replies_unread, with_meaning}
-use Rattle.h3_wire.specs.declared.frame.kinds.FrameKinds.{FrameKinds}
+use Rattle.h3_frames.specs.declared.frame.kinds.FrameKinds.{FrameKinds}
 
 -- the parts of what is announced
 pub record Parts (a : Announced) : Type 0 where

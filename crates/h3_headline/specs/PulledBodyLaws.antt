@@ -5,7 +5,7 @@ use Rattle.std.specs.List.{concat, flat_map, AllByRecursion}
 use Rattle.std.specs.Prelude.{◌&&◌, ◌==◌, slice_get, nat_le}
 use Rattle.h3_connection.specs.Incoming.{Incoming}
 use Rattle.h3_world.specs.Flow.{Flow, part_bytes, Part, Section, flow_bytes}
-use Rattle.h3_wire.specs.Pieces.{chunk_of}
+use Rattle.h3_frames.specs.Pieces.{chunk_of}
 use Rattle.h3_connection.specs.Pulling.{malformed, in_payload, at_payload, body_of, connection_fault, just}
 use Rattle.h3_connection.specs.Codes.{frame_error}
 use Rattle.h3_messages.specs.Content.{is_exceeded}

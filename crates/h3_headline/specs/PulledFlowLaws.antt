@@ -11,17 +11,17 @@ use Rattle.h3_connection.specs.Pulling.{just, left_with, at_end, at_frame, frame
 use Rattle.h3_connection.specs.declared.event.Pull.TheVariants as pull
 use Rattle.h3_world.specs.Pauses.{pause_before}
 use Rattle.h3_qpack.specs.DecoderState.{DecoderState}
-use Rattle.h3_wire.specs.ExcessiveLaws.{none_excessive_by}
-use Rattle.h3_wire.specs.Frames.{Whole, Unfinished, frame_by}
-use Rattle.h3_wire.specs.Fronts.{IsUnfinishedFront}
-use Rattle.h3_wire.specs.declared.proto.frame.PayloadLen.{PayloadLen}
-use Rattle.h3_wire.specs.declared.proto.frame.Frame.{Frame}
+use Rattle.h3_frames.specs.ExcessiveLaws.{none_excessive_by}
+use Rattle.h3_frames.specs.Frames.{Whole, Unfinished, frame_by}
+use Rattle.h3_frames.specs.Fronts.{IsUnfinishedFront}
+use Rattle.h3_frames.specs.declared.proto.frame.PayloadLen.{PayloadLen}
+use Rattle.h3_frames.specs.declared.proto.frame.Frame.{Frame}
 use Rattle.h3_proto.specs.declared.stream.Side.{Side}
 use Rattle.h3_connection.specs.Codes.{frame_error}
 use Rattle.h3_connection.specs.Skipping.{is_empty_data, skipped}
 use Rattle.h3_connection.specs.declared.setup.Announced.{Announced}
 use Rattle.h3_header.specs.Head as header
-use Rattle.h3_wire.specs.Encoded.{frame_encoding}
+use Rattle.h3_frames.specs.Encoded.{frame_encoding}
 use Rattle.h3_connection.specs.declared.event.Item.{Item}
 use Rattle.h3_world.specs.Order.{next_part}
 use Rattle.h3_headline.specs.FrontLaws.{came_so_far, left_all, left_behind, long_front, skipped_none, skipped_unfinished, skipped_whole, without_pieces}

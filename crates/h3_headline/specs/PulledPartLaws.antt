@@ -13,10 +13,10 @@ use Rattle.h3_qpack.specs.DecodedSection.{decode_section}
 use Rattle.h3_qpack.specs.DecoderState.{DecoderState}
 use Rattle.h3_header.specs.Head as header
 use Rattle.h3_coding.specs.Encodings.{encoding}
-use Rattle.h3_wire.specs.Encoded.{head_encoding, frame_encoding}
-use Rattle.h3_wire.specs.EncodedLaws.{written_headers}
-use Rattle.h3_wire.specs.Frames.{frame_by}
-use Rattle.h3_wire.specs.declared.proto.frame.Frame.TheVariants as frame
+use Rattle.h3_frames.specs.Encoded.{head_encoding, frame_encoding}
+use Rattle.h3_frames.specs.EncodedLaws.{written_headers}
+use Rattle.h3_frames.specs.Frames.{frame_by}
+use Rattle.h3_frames.specs.declared.proto.frame.Frame.TheVariants as frame
 use Rattle.h3_proto.specs.declared.stream.Side.{Side}
 use Rattle.h3_proto.specs.declared.stream.Side.TheVariants.{Client, Server}
 use Rattle.h3_connection.specs.Announcing.{section_of}

@@ -36,7 +36,7 @@ use Rattle.h3_connection.specs.declared.setup.Announced.{Announced}
 use Rattle.h3_world.specs.Items.{IsSectionItem}
 use Rattle.h3_world.specs.Setup.{IsPlain, takes_any}
 use Rattle.h3_qpack.specs.DecodedSection.{DecodedSection, Fields, Missing, decode_section}
-use Rattle.h3_wire.specs.Encoded.{frame_encoding}
+use Rattle.h3_frames.specs.Encoded.{frame_encoding}
 use Rattle.h3_headline.specs.Cited.{ListsAreTheirValue}
 use Rattle.h3_headline.specs.PulledLaws.{receives_on, stands_at}
 use Rattle.h3_headline.specs.Pulling.{ComesTo, HandsOut, IsAtSection, IsReadAs, IsSectionPart, IsTriedAs, Pauses, behind_section, placed}

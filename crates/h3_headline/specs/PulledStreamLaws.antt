@@ -9,7 +9,7 @@ use Rattle.std.proofs.lemmas.List.{drop_at, length-drop}
 use Rattle.h3_qpack.specs.DecodedSection.{decode_section}
 use Rattle.h3_qpack.specs.DecoderState.{DecoderState}
 use Rattle.h3_header.specs.Head as header
-use Rattle.h3_wire.specs.Encoded.{head_encoding, frame_encoding}
+use Rattle.h3_frames.specs.Encoded.{head_encoding, frame_encoding}
 use Rattle.h3_proto.specs.declared.stream.Side.{Side}
 use Rattle.h3_connection.specs.Announcing.{section_of}
 use Rattle.h3_connection.specs.Incoming.{Incoming}

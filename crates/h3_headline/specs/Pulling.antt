@@ -18,7 +18,7 @@ use Rattle.h3_world.specs.Flow.Part.{Body, Head, Interim, Trailer}
 use Rattle.h3_world.specs.Setup.{takes_any}
 use Rattle.h3_header.specs.Head as header
 use Rattle.h3_field.specs.Field.{section_size}
-use Rattle.h3_wire.specs.Encoded.{frame_encoding}
+use Rattle.h3_frames.specs.Encoded.{frame_encoding}
 use Rattle.h3_connection.specs.declared.place.Place.{Place}
 use Rattle.h3_field.specs.Instruction.{DecoderInstruction}
 use Rattle.h3_qpack.specs.DecoderState.{DecoderState}

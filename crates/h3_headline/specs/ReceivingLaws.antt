@@ -2,7 +2,7 @@
 use Rattle.std.proofs.Common.{ℕ, ◌<◌, List, length, arith, ◌-◌, ◌^◌, length-append, ◌≡◌, ◌+◌, lit<, ◌⊎◌, inl, inr, refl, Option, Some, None, true, false, take, drop, sym, ap, ◌∙◌, nat_lt, [], ◌∷◌, ◌++◌, append-nil, append_assoc, take-append-drop, zero, suc, subst, if◌then◌else◌}
 use Rattle.h3_coding.specs.Encodings.{IsEncoding, one, two, four, eight, encoding}
 use Rattle.h3_coding.specs.EncodingLaws.{encoding_is_valid}
-use Rattle.h3_wire.specs.Encoded.{head_encoding, frame_encoding}
+use Rattle.h3_frames.specs.Encoded.{head_encoding, frame_encoding}
 use Rattle.h3_world.specs.Flow.{Flow, Section, Part, part_bytes, flow_bytes}
 use Rattle.h3_world.specs.Sound.{WaitsBefore, IsSoundFlow, WaitsForNext, OutOfNext}
 use Rattle.h3_world.specs.Flow.Part.{Interim, Head, Body, Trailer, End}
@@ -14,7 +14,7 @@ use Rattle.std.proofs.lemmas.Grind.{common_steps}
 use Rattle.h3_connection.specs.Incoming.{nothing_came, given_up, Incoming}
 use Rattle.h3_connection.specs.Delivering.{kept, with_end, given_up_by, given_up_once}
 use Rattle.std.proofs.lemmas.List.Folds.{concat-append}
-use Rattle.h3_wire.specs.Pieces.{with_piece}
+use Rattle.h3_frames.specs.Pieces.{with_piece}
 use Rattle.std.proofs.lemmas.List.{drop-drop}
 use Rattle.h3_connection.specs.declared.event.StreamFault.{StreamFault}
 use Rattle.h3_headline.specs.Arriving.{come, ended_flow, flow_given_up, reset_flow}

@@ -27,7 +27,7 @@ use Rattle.h3_world.specs.Order.{outgoing_of}
 use Rattle.h3_world.specs.Refusals.{finish_refusal, body_refusal, is_critical, reset_refusal}
 use Rattle.h3_world.specs.Sending.{appended, finished, sent_body, cut_off}
 use Rattle.h3_world.specs.Streams.{flow, is_open}
-use Rattle.h3_wire.specs.Encoded.{frame_encoding}
+use Rattle.h3_frames.specs.Encoded.{frame_encoding}
 use Rattle.h3_world.specs.Flow.{flow_bytes, Flow}
 use Rattle.std.proofs.lemmas.Grind.{common_steps}
 use Rattle.h3_world.specs.Order as order

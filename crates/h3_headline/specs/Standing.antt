@@ -4,7 +4,7 @@ use Rattle.h3_connection.specs.declared.place.Place.{Place}
 use Rattle.h3_connection.specs.declared.place.Place.TheVariants.{InBody, AfterTrailer, BeforeHead}
 use Rattle.h3_world.specs.Flow.{Part, Flow, part_bytes, Section, flow_bytes}
 use Rattle.h3_world.specs.Flow.Part.{Interim, Head, Body, Trailer, End}
-use Rattle.h3_wire.specs.Encoded.{frame_encoding}
+use Rattle.h3_frames.specs.Encoded.{frame_encoding}
 use Rattle.h3_connection.specs.Incoming.{Incoming}
 use Rattle.std.specs.List.{AllByRecursion, concat}
 use Rattle.h3_messages.specs.declared.content.Content.TheVariants.{Unsaid}

@@ -39,10 +39,13 @@ pub fn what_is_cited_holds()
 /// a stream what was sent, if the stream was not given up. That is its fields once its insertions came, with the secrets among them flagged
 /// if their sender guards these, and until then how many it needs (RFC 9204, section 2.2.1).
 pub fn endpoints_decode_what_was_sent()
-    ensures insertions { (setup : Setup) (w : World) (side : Side) (e : EndpointHistory) → StandsAt setup w side e → e.decoding.decoder.table.inserted ≡ insertions_came (party w (other side)) }
-    ensures sections { (lists : ListsAreTheirValue) (setup : Setup) (w : World) (side : Side) (id : ℕ) (e : EndpointHistory) → IsMadeSetup setup → StandsAt setup w side e → IsSoundWorld setup w →
+    ensures insertions { (setup : Setup) (w : World) (side : Side) (e : EndpointHistory) → StandsAt setup w side e
+        → e.decoding.decoder.table.inserted ≡ insertions_came (party w (other side)) }
+    ensures sections { (lists : ListsAreTheirValue) (setup : Setup) (w : World) (side : Side) (id : ℕ) (e : EndpointHistory)
+        → IsMadeSetup setup → StandsAt setup w side e → IsSoundWorld setup w →
         is_open w side id ≡ true → (flow w (other side) id).fault ≡ None →
-        DecodesNextAs lists side (announced_at setup side) id e.decoding.decoder (insertions_came (party w (other side))) (flags_secrets (announced_at setup (other side))) (next_part (flow w (other side) id)) }
+        DecodesNextAs lists side (announced_at setup side) id e.decoding.decoder (insertions_came (party w (other side)))
+        (flags_secrets (announced_at setup (other side))) (next_part (flow w (other side) id)) }
 {
     what_is_cited_holds();
 }
@@ -52,7 +55,8 @@ pub fn endpoints_decode_what_was_sent()
 /// end asks for strict messages.
 pub fn two_endpoints_run_in_a_world()
     ensures { (setup : Setup) (events : List Event) → IsMadeSetup setup → JudgesPlainly setup → AllByRecursion (IsSendable setup) events →
-        (w : World) × Run (Happens setup) (empty_world setup) events (answers_of_ends (new_ends setup) events) w × Stands setup w (ends_after (new_ends setup) events) }
+        (w : World) × Run (Happens setup) (empty_world setup) events (answers_of_ends (new_ends setup) events) w
+        × Stands setup w (ends_after (new_ends setup) events) }
 {
     what_is_cited_holds();
 }

@@ -1,21 +1,73 @@
 //! Reads Huffman payloads.
-ghost use Rattle.std.specs.Prelude.{◌≡◌, ◌↔◌, IsTrue, ◌+◌, ◌-◌, ◌*◌, ◌%◌, ◌^◌, ◌<◌, ◌≤◌, ◌++◌, length, take, drop, replicate, flat_map, is_some, MatchOption};
+ghost use Rattle.std.specs.Prelude.{◌≡◌, ◌↔◌, IsTrue, ◌+◌, ◌-◌, ◌*◌, ◌%◌, ◌^◌, ◌<◌, ◌≤◌, ◌++◌, length, take, drop, replicate, flat_map};
+ghost use Rattle.std.specs.Prelude.{is_some, MatchOption};
 ghost use Rattle.std.specs.List.{AllByRecursion};
 ghost use Rattle.h3_huffman.specs.Huffman.{huffman, bits, code_word};
 ghost use Rattle.h3_huffman.specs.Payload.{IsByte, IsNoPayload};
 ghost use Rattle.h3_huffman.specs.Unhuffman.{unhuffman};
-ghost use Rattle.h3_huffman.specs.Tables.{entry_symbols, entry_count, IsEntry};
+ghost use Rattle.h3_huffman.specs.Tables.{entry_symbols, entry_count, entry_first, entry_first_length, entry_length, IsEntry};
 
 use crate::tables::{ENTRIES, LENGTHS, LIMITS, OFFSETS, SYMBOLS};
 
 /// The entries from this one on belong to words longer than the index.
 const LONG: u64 = 4092;
 
+/// The symbol of the end of a string, which no payload has (RFC 7541, section 5.2).
+const END: u16 = 256;
+
 /// The word of a symbol: its length in bits.
 #[derive(Copy, Clone)]
 struct Word {
     symbol: u16,
     length: u64,
+}
+
+/// An entry of the table: one or two symbols, and the lengths of their words, in the bits that the table's comment names.
+#[derive(Copy, Clone)]
+struct Entry {
+    packed: u32,
+}
+
+impl Entry {
+    /// The symbols, the first one low. If there is one alone, the other means nothing.
+    #[inline(always)]
+    fn symbols(self) -> u16
+        ensures { result ≡ self.packed % 65536 }
+    {
+        (self.packed % 65536) as u16
+    }
+
+    /// The first symbol, which is a byte.
+    #[inline(always)]
+    fn first(self) -> u8
+        ensures { result ≡ entry_first self.packed }
+    {
+        (self.packed % 256) as u8
+    }
+
+    /// The length of all words, in bits.
+    #[inline(always)]
+    fn length(self) -> u64
+        ensures { result ≡ entry_length self.packed }
+    {
+        u64::from((self.packed >> 16) % 16)
+    }
+
+    /// The length of the first symbol's word.
+    #[inline(always)]
+    fn first_length(self) -> u64
+        ensures { result ≡ entry_first_length self.packed }
+    {
+        u64::from((self.packed >> 20) % 16)
+    }
+
+    /// The number of symbols.
+    #[inline(always)]
+    fn count(self) -> usize
+        ensures { result ≡ entry_count self.packed }
+    {
+        (self.packed >> 24) as usize
+    }
 }
 
 /// The word at the front of a window of thirty bits that begin with ten ones.
@@ -42,11 +94,13 @@ fn long_word(window: u32) -> Word
 }
 
 /// The entry of twelve bits.
-fn entry_at(index: u64) -> u32
+fn entry_at(index: u64) -> Entry
     requires { index < 4092 }
-    ensures { IsEntry index result }
+    ensures { IsEntry index result.packed }
 {
-    ENTRIES[index as usize]
+    Entry {
+        packed: ENTRIES[index as usize],
+    }
 }
 
 /// The next four bytes, the first one high.
@@ -63,16 +117,15 @@ fn word_at(payload: &[u8], place: usize) -> u32
 }
 
 /// Writes the entry's symbols, and returns the place of the next ones.
-fn put_symbols(out: &mut [u8], place: usize, entry: u32) -> usize
+fn put_symbols(out: &mut [u8], place: usize, entry: Entry) -> usize
     requires room { place + 2 ≤ length out.old }
-    requires few { entry_count entry ≤ 2 }
-    ensures place { result ≡ place + entry_count entry }
-    ensures symbols { take result out.new ≡ take place out.old ++ entry_symbols entry }
+    requires few { entry_count entry.packed ≤ 2 }
+    ensures place { result ≡ place + entry_count entry.packed }
+    ensures symbols { take result out.new ≡ take place out.old ++ entry_symbols entry.packed }
 {
     // (both at once, whether there is a second one or not)
-    let symbols = (entry % 65536) as u16;
-    out[place..place + 2].copy_from_slice(&symbols.to_le_bytes());
-    place + (entry >> 24) as usize
+    out[place..place + 2].copy_from_slice(&entry.symbols().to_le_bytes());
+    place + entry.count()
 }
 
 // RFC 7541 5.2: Huffman padding
@@ -99,8 +152,8 @@ fn first_word(window: u32) -> Word
     }
     let entry = entry_at(index);
     Word {
-        symbol: (entry % 256) as u16,
-        length: u64::from((entry >> 20) % 16),
+        symbol: u16::from(entry.first()),
+        length: entry.first_length(),
     }
 }
 
@@ -120,7 +173,7 @@ pub fn is_encoding(payload: &[u8]) -> bool
         // (the label names the loop in its proof)
         'symbols: while count >= 30 {
             let first = first_word(((acc >> (count - 30)) % (1 << 30)) as u32);
-            if first.symbol == 256 {
+            if first.symbol == END {
                 return false;
             }
             count -= first.length;
@@ -130,7 +183,7 @@ pub fn is_encoding(payload: &[u8]) -> bool
     // (the label names the loop in its proof)
     'ending: while !is_padding(acc, count) {
         let first = first_word(((wide >> (count + 2)) % (1 << 30)) as u32);
-        if first.symbol == 256 || first.length > count {
+        if first.symbol == END || first.length > count {
             return false;
         }
         count -= first.length;
@@ -165,10 +218,10 @@ pub fn decode_into(payload: &[u8], out: &mut [u8]) -> Option<usize>
             if index < LONG {
                 let entry = entry_at(index);
                 written = put_symbols(out, written, entry);
-                count -= u64::from((entry >> 16) % 16);
+                count -= entry.length();
             } else {
                 let word = long_word(((acc >> (count - 30)) % (1 << 30)) as u32);
-                if word.symbol == 256 {
+                if word.symbol == END {
                     return None;
                 }
                 out[written] = word.symbol as u8;
@@ -183,13 +236,13 @@ pub fn decode_into(payload: &[u8], out: &mut [u8]) -> Option<usize>
         let index = (wide >> (count + 20)) % 4096;
         if index < LONG {
             let entry = entry_at(index);
-            let length = u64::from((entry >> 16) % 16);
-            let first_length = u64::from((entry >> 20) % 16);
+            let length = entry.length();
+            let first_length = entry.first_length();
             if length <= count {
                 written = put_symbols(out, written, entry);
                 count -= length;
             } else if first_length <= count {
-                out[written] = (entry % 256) as u8;
+                out[written] = entry.first();
                 written += 1;
                 count -= first_length;
             } else {
@@ -197,7 +250,7 @@ pub fn decode_into(payload: &[u8], out: &mut [u8]) -> Option<usize>
             }
         } else {
             let word = long_word(((wide >> (count + 2)) % (1 << 30)) as u32);
-            if word.symbol == 256 || word.length > count {
+            if word.symbol == END || word.length > count {
                 return None;
             }
             out[written] = word.symbol as u8;

@@ -1,11 +1,19 @@
 -- What is told with the fields in a block.
-use Rattle.std.proofs.Common.{◌≡◌, ℕ, List, Some, refl, ap, sym, ◌∙◌}
+use Rattle.std.proofs.Common.{◌≡◌, ℕ, Bool, List, Some, refl, ap, sym, ◌∙◌}
 use Rattle.std.specs.Prelude.{Option, None, IfSome}
 use Rattle.h3_field.specs.Field.{Field}
+use Rattle.h3_header.specs.Head.{Head}
+use Rattle.h3_header.specs.HeadRead.{IsHead, head_by}
+use Rattle.h3_header.specs.Reads.{IsHeadOf, head_of_fields}
+use Rattle.h3_messages.specs.Outline.{IsOutlined}
+use Rattle.h3_messages.specs.OutlineLaws.{outlined_head}
+use Rattle.h3_messages.specs.declared.outline.Outline.{Outline}
+use Rattle.h3_connection.specs.Lists.{list_of, pull_of}
 use Rattle.h3_connection.specs.declared.event.Fault.{Fault}
-use Rattle.h3_incoming.specs.Answering.{fault_told, plain_pull}
-use Rattle.h3_incoming.specs.BlockPulls.{fields_kept, told_with, HasStatus}
-use Rattle.h3_incoming.specs.FieldsPulls.{list_of, plain_answer, pull_of}
+use Rattle.h3_connection.specs.declared.event.Pull.TheVariants as pull
+use Rattle.h3_connection.specs.declared.lists.ListPull.TheVariants as answer
+use Rattle.h3_incoming.specs.Answering.{fault_told, item_of, plain_pull}
+use Rattle.h3_incoming.specs.BlockPulls.{fields_kept, listed_as, plain_answer, told_with, HasStatus}
 use Rattle.h3_incoming.specs.declared.answer.MessageKind.{MessageKind}
 use Rattle.h3_incoming.specs.declared.answer.MessageKind.TheVariants as kind
 use Rattle.h3_incoming.specs.declared.answer.Plain.{Plain}
@@ -13,6 +21,27 @@ use Rattle.h3_incoming.specs.declared.answer.Plain.TheVariants as plain
 use Rattle.h3_incoming.specs.declared.block.Told.{Told}
 use Rattle.h3_incoming.specs.declared.block.Told.TheVariants as told
 
+-- what is told of a head or trailer that is kept as its list
+pub told_of : (k : MessageKind) (fields : List Field) → pull_of (answer.Item (listed_as k fields)) ≡ pull.Item (item_of k (head_of_fields fields))
+told_of kind.Interim fields = refl
+told_of kind.Head fields = refl
+told_of kind.Trailer fields = refl
+
+pub listed_of : (k : MessageKind) (fields : List Field) → list_of (answer.Item (listed_as k fields)) ≡ Some fields
+listed_of kind.Interim fields = refl
+listed_of kind.Head fields = refl
+listed_of kind.Trailer fields = refl
+
+pub is_this : (listed : Option (List Field)) (fields : List Field) → listed ≡ Some fields → IfSome listed (λ l. l ≡ fields)
+is_this (Some l) fields is = cc
+is_this None fields is = absurd (cc)
+
+-- the status of a list that reads as a head of this outline
+pub status_is : (any : Bool) (fields : List Field) (o : Outline) → ((fs : List Field) (h : Head) → head_by any fs ≡ IsHead h → IsHeadOf any fs h) → IsOutlined (head_by any fields) o → o.status ≡ (head_of_fields fields).status
+status_is any fields o law is =
+    outlined_head (head_by any fields) o is _ (λ h head same. ap (λ (p : Outline). p.status) same ∙ ap (λ (q : Head). q.status) (law fields h head).1)
+
+-- and of what has none
 pub plain_told : (p : Plain) → pull_of (plain_answer p) ≡ plain_pull p
 plain_told (plain.Body bytes) = refl
 plain_told (plain.Raw bytes) = refl

@@ -7,16 +7,16 @@ use Rattle.std.proofs.lemmas.List.{length-take-le, drop_all, drop-take, take-app
 use Rattle.h3_coding.specs.Begins.{Begins}
 use Rattle.h3_coding.specs.Varint.{varint_at}
 use Rattle.h3_coding.specs.VarintLaws.{begins, of_front}
-use Rattle.h3_wire.specs.ExcessiveFrames.{is_excessive_by}
-use Rattle.h3_wire.specs.ExcessiveLaws.{no_data}
-use Rattle.h3_wire.specs.FrameLaws.{at_head}
-use Rattle.h3_wire.specs.Frames.{Whole, frame_by}
-use Rattle.h3_wire.specs.Fronts.{IsKnown}
-use Rattle.h3_wire.specs.Known.{known_by}
-use Rattle.h3_wire.specs.KnownLaws.{known-other}
-use Rattle.h3_wire.specs.PieceLaws.{without-past, without-within}
-use Rattle.h3_wire.specs.Pieces.{chunk_of, with_piece, without}
-use Rattle.h3_wire.specs.declared.proto.frame.Frame.TheVariants as frame
+use Rattle.h3_frames.specs.ExcessiveFrames.{is_excessive_by}
+use Rattle.h3_frames.specs.ExcessiveLaws.{no_data}
+use Rattle.h3_frames.specs.FrameLaws.{at_head}
+use Rattle.h3_frames.specs.Frames.{Whole, frame_by}
+use Rattle.h3_frames.specs.Fronts.{IsKnown}
+use Rattle.h3_frames.specs.Known.{known_by}
+use Rattle.h3_frames.specs.KnownLaws.{known-other}
+use Rattle.h3_frames.specs.PieceLaws.{without-past, without-within}
+use Rattle.h3_frames.specs.Pieces.{chunk_of, with_piece, without}
+use Rattle.h3_frames.specs.declared.proto.frame.Frame.TheVariants as frame
 use Rattle.h3_messages.specs.Content.{left_behind, is_exceeded}
 use Rattle.h3_proto.specs.declared.stream.Side.{Side}
 use Rattle.h3_qpack.specs.DecoderState.{DecoderState}
@@ -38,7 +38,7 @@ use Rattle.h3_incoming.specs.declared.body_place.BodyPlace.{BodyPlace}
 use Rattle.h3_incoming.proofs.FrontLaws.{finds_frame, found_now, within_frame, within_now}
 use Rattle.h3_incoming.proofs.PullLaws.{none_there, some_left, pull_of_payload, pull_of_frame, between_frame}
 use Rattle.h3_connection.specs.StrictConnection.{kinds_of}
-use Rattle.h3_wire.specs.declared.frame.kinds.FrameKinds.{FrameKinds}
+use Rattle.h3_frames.specs.declared.frame.kinds.FrameKinds.{FrameKinds}
 
 -- No byte stands behind all of them.
 pub nothing_behind : (bytes : List ℕ) (size count : ℕ) → data_at bytes ≡ Some (size, drop count bytes) → length bytes ≤ count → data_at bytes ≡ Some (size, [])

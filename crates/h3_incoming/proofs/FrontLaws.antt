@@ -2,20 +2,20 @@
 use Rattle.std.proofs.Common.{◌≡◌, ℕ, Bool, true, false, ◌&&◌, if◌then◌else◌, List, [], ◌++◌, refl, ap, sym, ◌∙◌, subst, append-nil}
 use Rattle.std.specs.Prelude.{Err}
 use Rattle.std.specs.List.{concat}
-use Rattle.h3_wire.specs.ExcessiveFrames.{begins_section, is_excessive_by}
-use Rattle.h3_wire.specs.ExcessiveLaws.{excessive_more, no_data}
-use Rattle.h3_wire.specs.Frames.{Front, Whole, Unknown, Refused, Unfinished, frame_by}
-use Rattle.h3_wire.specs.FrameLaws.{frame_by-more}
-use Rattle.h3_wire.specs.Fronts.{IsFinished, with_more, IsKnown}
-use Rattle.h3_wire.specs.Known.{known_by, refusal, IsWaiting, Gives}
-use Rattle.h3_wire.specs.KnownLaws.{known-other, known-more}
-use Rattle.h3_wire.specs.Pieces.{IsRest}
-use Rattle.h3_wire.specs.declared.frame.errors.FrameProtocolError.{FrameProtocolError}
-use Rattle.h3_wire.specs.declared.frame.errors.FrameStreamError.{FrameStreamError}
-use Rattle.h3_wire.specs.declared.frame.errors.FrameStreamError.TheVariants as stream
-use Rattle.h3_wire.specs.declared.proto.frame.PayloadLen.{PayloadLen}
-use Rattle.h3_wire.specs.declared.proto.frame.Frame.{Frame}
-use Rattle.h3_wire.specs.declared.proto.frame.Frame.TheVariants as frame
+use Rattle.h3_frames.specs.ExcessiveFrames.{begins_section, is_excessive_by}
+use Rattle.h3_frames.specs.ExcessiveLaws.{excessive_more, no_data}
+use Rattle.h3_frames.specs.Frames.{Front, Whole, Unknown, Refused, Unfinished, frame_by}
+use Rattle.h3_frames.specs.FrameLaws.{frame_by-more}
+use Rattle.h3_frames.specs.Fronts.{IsFinished, with_more, IsKnown}
+use Rattle.h3_frames.specs.Known.{known_by, refusal, IsWaiting, Gives}
+use Rattle.h3_frames.specs.KnownLaws.{known-other, known-more}
+use Rattle.h3_frames.specs.Pieces.{IsRest}
+use Rattle.h3_frames.specs.declared.frame.errors.FrameProtocolError.{FrameProtocolError}
+use Rattle.h3_frames.specs.declared.frame.errors.FrameStreamError.{FrameStreamError}
+use Rattle.h3_frames.specs.declared.frame.errors.FrameStreamError.TheVariants as stream
+use Rattle.h3_frames.specs.declared.proto.frame.PayloadLen.{PayloadLen}
+use Rattle.h3_frames.specs.declared.proto.frame.Frame.{Frame}
+use Rattle.h3_frames.specs.declared.proto.frame.Frame.TheVariants as frame
 use Rattle.h3_proto.specs.declared.stream.Side.{Side}
 use Rattle.h3_connection.specs.declared.place.Place.{Place}
 use Rattle.h3_connection.specs.Incoming.{Incoming, Passes, is_body}
@@ -25,7 +25,7 @@ use Rattle.h3_messages.specs.declared.content.Content.{Content}
 use Rattle.h3_incoming.specs.Finding.{Finds, GivesBegun, FindsFrame, FindsLess, FindsRefused, IsWithin, KeepsWithin, PassesFrames, IsTooLong}
 use Rattle.h3_incoming.specs.declared.stream.front.Found.{Found}
 use Rattle.h3_incoming.specs.declared.stream.front.Found.TheVariants as found
-use Rattle.h3_wire.specs.declared.frame.kinds.FrameKinds.{FrameKinds}
+use Rattle.h3_frames.specs.declared.frame.kinds.FrameKinds.{FrameKinds}
 
 -- a frame stays as it is when more follows
 known_frame-more : (kinds : FrameKinds) (bytes rest more : List ℕ) (f : Frame PayloadLen) → frame_by kinds (known_by kinds bytes) ≡ Whole f rest → frame_by kinds (known_by kinds (bytes ++ more)) ≡ Whole f (rest ++ more)

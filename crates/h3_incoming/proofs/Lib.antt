@@ -5,7 +5,6 @@ pub mod ResumeLaws
 pub mod JudgeLaws
 pub mod ListLaws
 pub mod NextFrame
-pub mod FieldsPullLaws
 pub mod BlockPullLaws
 pub mod SomePieces
 pub mod BodyPieces

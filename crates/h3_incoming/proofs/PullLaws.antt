@@ -4,16 +4,16 @@ use Rattle.std.specs.Prelude.{Option, Some, None, IfSome, is_some}
 use Rattle.std.specs.List.{concat}
 use Rattle.std.proofs.lemmas.Bool.{lt-ltb}
 use Rattle.std.proofs.lemmas.List.{length-drop}
-use Rattle.h3_wire.specs.ExcessiveFrames.{is_excessive_by}
-use Rattle.h3_wire.specs.Frames.{Front, Whole, Refused, Unfinished, frame_by}
-use Rattle.h3_wire.specs.FrameLaws.{frame_by-nil, frame_by-shorter}
-use Rattle.h3_wire.specs.Fronts.{IsFinished, IsShorter}
-use Rattle.h3_wire.specs.Known.{refusal}
-use Rattle.h3_wire.specs.Pieces.{without, ending}
-use Rattle.h3_wire.specs.PieceLaws.{rest_is, concat-without, without-without}
-use Rattle.h3_wire.specs.declared.frame.errors.FrameProtocolError.{FrameProtocolError}
-use Rattle.h3_wire.specs.declared.proto.frame.PayloadLen.{PayloadLen}
-use Rattle.h3_wire.specs.declared.proto.frame.Frame.{Frame}
+use Rattle.h3_frames.specs.ExcessiveFrames.{is_excessive_by}
+use Rattle.h3_frames.specs.Frames.{Front, Whole, Refused, Unfinished, frame_by}
+use Rattle.h3_frames.specs.FrameLaws.{frame_by-nil, frame_by-shorter}
+use Rattle.h3_frames.specs.Fronts.{IsFinished, IsShorter}
+use Rattle.h3_frames.specs.Known.{refusal}
+use Rattle.h3_frames.specs.Pieces.{without, ending}
+use Rattle.h3_frames.specs.PieceLaws.{rest_is, concat-without, without-without}
+use Rattle.h3_frames.specs.declared.frame.errors.FrameProtocolError.{FrameProtocolError}
+use Rattle.h3_frames.specs.declared.proto.frame.PayloadLen.{PayloadLen}
+use Rattle.h3_frames.specs.declared.proto.frame.Frame.{Frame}
 use Rattle.h3_proto.specs.declared.stream.Side.{Side}
 use Rattle.h3_qpack.specs.DecoderState.{DecoderState}
 use Rattle.h3_connection.specs.declared.event.Fault.TheVariants.{Stream}

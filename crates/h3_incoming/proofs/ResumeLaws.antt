@@ -4,15 +4,15 @@ use Rattle.std.specs.Prelude.{None, Some, Option, nat_lt, ◌-◌}
 use Rattle.std.specs.List.{concat}
 use Rattle.std.proofs.lemmas.List.{length-drop}
 use Rattle.std.proofs.lemmas.List.Folds.{concat-append}
-use Rattle.h3_wire.specs.ExcessiveFrames.{is_excessive_by}
-use Rattle.h3_wire.specs.ExcessiveLaws.{none_excessive_by}
-use Rattle.h3_wire.specs.Frames.{Whole, frame_by}
-use Rattle.h3_wire.specs.Pieces.{IsRest, chunk_of}
-use Rattle.h3_wire.specs.PieceLaws.{rest_behind, concat-without}
-use Rattle.h3_wire.specs.declared.frame.kinds.FrameKinds.{FrameKinds}
-use Rattle.h3_wire.specs.declared.proto.frame.PayloadLen.{PayloadLen}
-use Rattle.h3_wire.specs.declared.proto.frame.Frame.{Frame}
-use Rattle.h3_wire.specs.declared.proto.frame.Frame.TheVariants as frame
+use Rattle.h3_frames.specs.ExcessiveFrames.{is_excessive_by}
+use Rattle.h3_frames.specs.ExcessiveLaws.{none_excessive_by}
+use Rattle.h3_frames.specs.Frames.{Whole, frame_by}
+use Rattle.h3_frames.specs.Pieces.{IsRest, chunk_of}
+use Rattle.h3_frames.specs.PieceLaws.{rest_behind, concat-without}
+use Rattle.h3_frames.specs.declared.frame.kinds.FrameKinds.{FrameKinds}
+use Rattle.h3_frames.specs.declared.proto.frame.PayloadLen.{PayloadLen}
+use Rattle.h3_frames.specs.declared.proto.frame.Frame.{Frame}
+use Rattle.h3_frames.specs.declared.proto.frame.Frame.TheVariants as frame
 use Rattle.h3_proto.specs.declared.stream.Side.{Side}
 use Rattle.h3_qpack.specs.DecoderState.{DecoderState}
 use Rattle.h3_connection.specs.declared.event.StreamFault.{StreamFault}

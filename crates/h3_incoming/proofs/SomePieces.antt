@@ -3,8 +3,8 @@ use Rattle.std.proofs.Common.{◌≡◌, ℕ, zero, suc, ◌-◌, List, [], ◌�
 use Rattle.std.specs.List.{concat}
 use Rattle.std.proofs.lemmas.Bool.{cases_lt}
 use Rattle.std.proofs.lemmas.List.{length-drop}
-use Rattle.h3_wire.specs.Pieces.{with_piece, without, IsRest}
-use Rattle.h3_wire.specs.PieceLaws.{without-within, without-past}
+use Rattle.h3_frames.specs.Pieces.{with_piece, without, IsRest}
+use Rattle.h3_frames.specs.PieceLaws.{without-within, without-past}
 use Rattle.h3_incoming.specs.SomePieces.{AreSome}
 
 some_append : (pieces : List (List ℕ)) (byte : ℕ) (bytes : List ℕ) → AreSome pieces → AreSome (pieces ++ (byte ∷ bytes) ∷ [])

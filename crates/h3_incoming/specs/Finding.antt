@@ -1,16 +1,16 @@
 -- What a reader of frames finds behind those that give nothing, and what it leaves.
 use Rattle.std.specs.Prelude.{◌≡◌, ℕ, Bool, true, false, List, ◌++◌, Result, Ok, Err, Option, Some, None}
 use Rattle.h3_proto.specs.declared.stream.Side.{Side}
-use Rattle.h3_wire.specs.declared.frame.errors.FrameProtocolError.{FrameProtocolError}
-use Rattle.h3_wire.specs.declared.frame.errors.FrameStreamError.{FrameStreamError}
-use Rattle.h3_wire.specs.declared.frame.errors.FrameStreamError.TheVariants as stream
-use Rattle.h3_wire.specs.declared.frame.kinds.FrameKinds.{FrameKinds}
-use Rattle.h3_wire.specs.declared.proto.frame.PayloadLen.{PayloadLen}
-use Rattle.h3_wire.specs.declared.proto.frame.Frame.{Frame}
-use Rattle.h3_wire.specs.ExcessiveFrames.{begins_section, is_excessive_by}
-use Rattle.h3_wire.specs.Frames.{Whole, Refused, frame_by}
-use Rattle.h3_wire.specs.Known.{Gives, known_by, refusal, IsWaiting}
-use Rattle.h3_wire.specs.UnreadFrames.{UnreadFrames, AreBetween}
+use Rattle.h3_frames.specs.declared.frame.errors.FrameProtocolError.{FrameProtocolError}
+use Rattle.h3_frames.specs.declared.frame.errors.FrameStreamError.{FrameStreamError}
+use Rattle.h3_frames.specs.declared.frame.errors.FrameStreamError.TheVariants as stream
+use Rattle.h3_frames.specs.declared.frame.kinds.FrameKinds.{FrameKinds}
+use Rattle.h3_frames.specs.declared.proto.frame.PayloadLen.{PayloadLen}
+use Rattle.h3_frames.specs.declared.proto.frame.Frame.{Frame}
+use Rattle.h3_frames.specs.ExcessiveFrames.{begins_section, is_excessive_by}
+use Rattle.h3_frames.specs.Frames.{Whole, Refused, frame_by}
+use Rattle.h3_frames.specs.Known.{Gives, known_by, refusal, IsWaiting}
+use Rattle.h3_frames.specs.UnreadFrames.{UnreadFrames, AreBetween}
 use Rattle.h3_connection.specs.declared.place.Place.{Place}
 use Rattle.h3_connection.specs.Incoming.{is_body}
 use Rattle.h3_connection.specs.Skipping.{skipped}

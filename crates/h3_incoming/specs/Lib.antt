@@ -8,7 +8,6 @@ pub mod Gives
 pub mod Resuming
 pub mod Beginning
 pub mod Answering
-pub mod FieldsPulls
 pub mod BlockPulls
 pub mod BodyPlaces
 pub mod SomePieces

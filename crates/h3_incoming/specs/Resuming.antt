@@ -11,9 +11,9 @@ use Rattle.h3_connection.specs.Coming.{fields_next}
 use Rattle.h3_connection.specs.Incoming.{Incoming, given_up, is_body}
 use Rattle.h3_messages.specs.Content.{takes_trailer}
 use Rattle.h3_messages.specs.declared.content.Content.{Content}
-use Rattle.h3_wire.specs.declared.proto.frame.PayloadLen.{PayloadLen}
-use Rattle.h3_wire.specs.declared.proto.frame.Frame.{Frame}
-use Rattle.h3_wire.specs.declared.proto.frame.Frame.TheVariants as frame
+use Rattle.h3_frames.specs.declared.proto.frame.PayloadLen.{PayloadLen}
+use Rattle.h3_frames.specs.declared.proto.frame.Frame.{Frame}
+use Rattle.h3_frames.specs.declared.proto.frame.Frame.TheVariants as frame
 use Rattle.h3_connection.specs.PartReading.{CountsOn, HasNoSection, StandsNext, unsaid}
 use Rattle.h3_connection.specs.Pulling.{pull_stream, begun_section, begun_payload}
 use Rattle.h3_connection.specs.StrictConnection.{kinds_of}

@@ -1,14 +1,14 @@
 //! The answer of a pull whose header and trailer sections are the lists of fields that came, in a block of memory that serves again.
 ghost use Rattle.std.specs.Prelude.{◌≡◌, List, Option, IfSome};
 ghost use Rattle.h3_field.specs.Field.{Field};
+ghost use Rattle.h3_connection.specs.Lists.{list_of, pull_of};
+ghost use Rattle.h3_connection.specs.declared.lists.ListPull.TheVariants as answer;
 ghost use Rattle.h3_incoming.specs.Answering.{fault_told, plain_pull};
-ghost use Rattle.h3_incoming.specs.BlockPulls.{fields_kept, told_with, HasStatus};
-ghost use Rattle.h3_incoming.specs.FieldsPulls.{list_of, listed_as, plain_answer, pull_of};
-ghost use Rattle.h3_incoming.specs.declared.fields.FieldsPull.TheVariants as answer;
+ghost use Rattle.h3_incoming.specs.BlockPulls.{fields_kept, listed_as, plain_answer, told_with, HasStatus};
 
 use crate::answer::{Answer, MessageKind, Plain};
-use crate::fields::{FieldsItem, FieldsPull};
 use h3_connection::event::Fault;
+use h3_connection::lists::{ListItem, ListPull};
 use h3_field::{FieldBlock, Fields};
 use h3_messages::Outline;
 use http::StatusCode;
@@ -25,8 +25,8 @@ pub enum Told {
     Plain(Plain),
 }
 
-/// An answer as `FieldsPull` has it, whose fields lie in a block. The next header or trailer section is written in the place of the last
-/// one, and takes memory only if it is longer. A contract sees the `FieldsPull` that it stands for.
+/// An answer as `ListPull` has it, whose fields lie in a block. The next header or trailer section is written in the place of the last
+/// one, and takes memory only if it is longer. A contract sees the `ListPull` that it stands for.
 #[derive(Drop)]
 pub struct BlockPull {
     told: Told,
@@ -34,10 +34,10 @@ pub struct BlockPull {
 }
 
 impl Model for BlockPull {
+    ghost use Rattle.h3_connection.specs.declared.lists.ListPull.{ListPull};
     ghost use Rattle.h3_incoming.specs.BlockPulls.{told_with, HasStatus};
-    ghost use Rattle.h3_incoming.specs.declared.fields.FieldsPull.{FieldsPull};
 
-    ghost Value = { FieldsPull };
+    ghost Value = { ListPull };
 
     ghost view = { λ p. told_with p.told p.block };
 
@@ -78,12 +78,12 @@ impl BlockPull {
     }
 
     /// The answer, with its block as the list of a header or trailer section. Nothing is copied.
-    pub fn into_pull(self) -> FieldsPull
+    pub fn into_pull(self) -> ListPull
         ensures { result ≡ self }
     {
         let BlockPull { told, block } = self;
         match told {
-            Told::Message(kind, _) => FieldsPull::Item(listed(kind, block)),
+            Told::Message(kind, _) => ListPull::Item(listed(kind, block)),
             Told::Plain(plain) => of_plain(plain),
         }
     }
@@ -132,29 +132,29 @@ impl Answer for BlockPull {
     }
 }
 
-fn listed(kind: MessageKind, fields: FieldBlock) -> FieldsItem
+fn listed(kind: MessageKind, fields: FieldBlock) -> ListItem
     ensures { result ≡ listed_as kind fields }
 {
     match kind {
-        MessageKind::Interim => FieldsItem::Interim(fields),
-        MessageKind::Head => FieldsItem::Head(fields),
-        MessageKind::Trailer => FieldsItem::Trailer(fields),
+        MessageKind::Interim => ListItem::Interim(fields),
+        MessageKind::Head => ListItem::Head(fields),
+        MessageKind::Trailer => ListItem::Trailer(fields),
     }
 }
 
-fn of_plain(answer: Plain) -> FieldsPull
+fn of_plain(answer: Plain) -> ListPull
     ensures { result ≡ plain_answer answer }
 {
     match answer {
-        Plain::Body(bytes) => FieldsPull::Item(FieldsItem::Body(bytes)),
-        Plain::Raw(bytes) => FieldsPull::Item(FieldsItem::Raw(bytes)),
-        Plain::Session(session) => FieldsPull::Item(FieldsItem::Session(session)),
-        Plain::TooLarge(size) => FieldsPull::Item(FieldsItem::TooLarge(size)),
-        Plain::End => FieldsPull::Item(FieldsItem::End),
-        Plain::Pending => FieldsPull::Pending,
-        Plain::Waiting(count) => FieldsPull::Waiting(count),
-        Plain::Fault(fault) => FieldsPull::Fault(fault),
-        Plain::NoMessages => FieldsPull::NoMessages,
+        Plain::Body(bytes) => ListPull::Item(ListItem::Body(bytes)),
+        Plain::Raw(bytes) => ListPull::Item(ListItem::Raw(bytes)),
+        Plain::Session(session) => ListPull::Item(ListItem::Session(session)),
+        Plain::TooLarge(size) => ListPull::Item(ListItem::TooLarge(size)),
+        Plain::End => ListPull::Item(ListItem::End),
+        Plain::Pending => ListPull::Pending,
+        Plain::Waiting(count) => ListPull::Waiting(count),
+        Plain::Fault(fault) => ListPull::Fault(fault),
+        Plain::NoMessages => ListPull::NoMessages,
     }
 }
 

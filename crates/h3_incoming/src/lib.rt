@@ -5,7 +5,6 @@
 pub mod answer;
 pub mod block;
 pub mod body_place;
-pub mod fields;
 mod judge;
 pub mod malformed;
 mod replies;
@@ -16,5 +15,4 @@ mod strict;
 pub use answer::Answer;
 pub use block::{BlockPull, Told};
 pub use body_place::BodyPlace;
-pub use fields::{FieldsItem, FieldsPull};
 pub use stream::IncomingStream;

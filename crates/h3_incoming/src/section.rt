@@ -41,7 +41,8 @@ pub(crate) fn try_section(
 
 // What a refusal is.
 fn refused(error: DecoderError) -> Tried
-    ensures { (limit : ℕ) (r : DecoderState) (bytes : List ℕ) (block : List Field) → IsRefusalOf (decode_section r bytes) error → (error ≡ OutOfMemory → MayAskMemory r bytes)
+    ensures { (limit : ℕ) (r : DecoderState) (bytes : List ℕ) (block : List Field) → IsRefusalOf (decode_section r bytes) error
+        → (error ≡ OutOfMemory → MayAskMemory r bytes)
         → IsTry (MayAskMemory r bytes) limit (decode_section r bytes) result block }
 {
     match error {

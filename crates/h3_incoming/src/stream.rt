@@ -14,9 +14,9 @@ use bytes::Bytes;
 use h3_connection::event::StreamFault;
 use h3_connection::place::Place;
 use h3_connection::setup::Announced;
+use h3_frames::frame::FrameBuffer;
 use h3_messages::{Content, ResponseSaid};
 use h3_proto::stream::StreamId;
-use h3_wire::frame::FrameBuffer;
 use std::alloc::{AllocError, Global};
 use std::marker::Model;
 
@@ -78,7 +78,7 @@ impl Model for IncomingStream {
 
     ghost use Rattle.std.specs.Prelude.{◌≡◌, ◌<◌, ◌≤◌, true, false, [], None};
     ghost use Rattle.std.specs.Option.{is_some};
-    ghost use Rattle.h3_wire.specs.UnreadFrames.{AreBetween};
+    ghost use Rattle.h3_frames.specs.UnreadFrames.{AreBetween};
     ghost use Rattle.h3_incoming.specs.SomePieces.{AreSome};
 
     ghost invariant = { λ s. (0 < s.body_left → AreBetween s.unread)

@@ -9,15 +9,15 @@ use Rattle.h3_proto.specs.declared.stream.Side.TheVariants.{Client, Server}
 use Rattle.h3_connection.specs.OwnIds.{other}
 use Rattle.h3_connection.specs.declared.event.Pull.{Pull}
 use Rattle.h3_connection.specs.declared.event.Refusal.TheVariants as refusal
+use Rattle.h3_connection.specs.declared.lists.ListPull.{ListPull}
+use Rattle.h3_connection.specs.Lists.{pull_of}
 use Rattle.h3_world.specs.Setup.{Setup}
 use Rattle.h3_world.specs.declared.event.Event.{Event}
 use Rattle.h3_world.specs.declared.event.Event.TheVariants as event
 use Rattle.h3_world.specs.declared.event.Answer.{Answer}
 use Rattle.h3_world.specs.declared.event.Answer.TheVariants as answer
-use Rattle.h3_world.specs.declared.lists.ListPull.{ListPull}
 use Rattle.h3_world.specs.Delivering.{delivery, end_delivery, reset_delivery}
 use Rattle.h3_world.specs.Headline.{ComesOut, IsDelivered, PullComesOut, is_out_of_memory}
-use Rattle.h3_world.specs.Lists.{pull_of}
 use Rattle.h3_world.specs.Order.{next_part}
 use Rattle.h3_world.specs.Pauses.{pause_of}
 use Rattle.h3_world.specs.Pulling.{settled}

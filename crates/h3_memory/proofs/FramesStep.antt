@@ -3,10 +3,10 @@ use Rattle.std.proofs.Common.{◌≡◌, ℕ, Bool, true, false, List, [], ◌�
 use Rattle.std.specs.Prelude.{◌&&◌, ◌==◌, is_none, unwrap_or}
 use Rattle.h3_proto.specs.Settings.{value_of}
 use Rattle.h3_proto.specs.declared.stream.Side.{Side}
-use Rattle.h3_wire.specs.Fronts.{IsUnfinishedFront}
+use Rattle.h3_frames.specs.Fronts.{IsUnfinishedFront}
 use Rattle.h3_connection.specs.declared.arrival.Arrival.{Arrival}
 use Rattle.h3_connection.specs.declared.arrival.Arrival.TheVariants.{BytesCame}
-use Rattle.h3_wire.specs.FirstFrames.{begins_other}
+use Rattle.h3_frames.specs.FirstFrames.{begins_other}
 use Rattle.h3_connection.specs.Control.{Found, are_refused, holding, if_learned, is_table_usable, lacks_settings, learned, taken_peer, then_decoder, with_table}
 use Rattle.h3_connection.specs.Endpoint.{EndpointHistory, limit_of}
 use Rattle.h3_connection.specs.Keeping.{read_arrival}
@@ -45,7 +45,7 @@ use Rattle.h3_memory.proofs.PartsRead.{Splits, Beyond, Within, splits}
 use Rattle.h3_memory.proofs.ReadingState.{Reading}
 use Rattle.h3_memory.proofs.TellsRole.{IsReadAs, came_on_is, control_reads, no_bytes_listened, told_stream}
 use Rattle.h3_memory.proofs.Unfinished.{control_unfinished}
-use Rattle.h3_wire.specs.declared.frame.kinds.FrameKinds.{FrameKinds}
+use Rattle.h3_frames.specs.declared.frame.kinds.FrameKinds.{FrameKinds}
 
 abbrev no_code : Peer → PeerFound
 no_code p = (p, None)

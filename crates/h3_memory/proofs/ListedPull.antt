@@ -8,13 +8,13 @@ use Rattle.h3_connection.specs.Keeping.{pulls}
 use Rattle.h3_world.specs.Setup.{Setup}
 use Rattle.h3_world.specs.declared.event.Event.TheVariants as event
 use Rattle.h3_world.specs.declared.event.Answer.TheVariants as answer
-use Rattle.h3_world.specs.declared.lists.ListPull.{ListPull}
 use Rattle.h3_connection.specs.Coming.{fields_behind}
 use Rattle.h3_world.specs.Ends.{Ends, end_at}
 use Rattle.h3_world.specs.ListLaws.{pulls_listed}
-use Rattle.h3_world.specs.Lists.{listed_pull, pull_of}
 use Rattle.h3_world.specs.Pulling.{PausesExactly, Pulls, PullsNext, list_next, settled}
 use Rattle.h3_connection.specs.Coming.{HasNoHeader}
+use Rattle.h3_connection.specs.declared.lists.ListPull.{ListPull}
+use Rattle.h3_connection.specs.Lists.{listed_pull, pull_of}
 use Rattle.h3_world.specs.Step.{Step}
 use Rattle.h3_world.specs.World.{World}
 use Rattle.h3_headline.specs.ListEventLaws.{any_list, settled_plain}

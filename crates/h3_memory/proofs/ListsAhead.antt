@@ -15,8 +15,8 @@ use Rattle.h3_connection.specs.Pulling.{Pulled, pull_stream}
 use Rattle.h3_connection.specs.Sending.{after_answer, if_too_many, pull_at, pull_request, within_limit}
 use Rattle.h3_connection.specs.StreamSets.{Streams, set_stream, stream_at}
 use Rattle.h3_connection.specs.Coming.{fields_next, fields_of_kind, fields_there}
-use Rattle.h3_world.specs.Lists.{listed_pull}
 use Rattle.h3_connection.specs.Coming.{HasNoHeader}
+use Rattle.h3_connection.specs.Lists.{listed_pull}
 use Rattle.h3_headline.specs.ListEventLaws.{any_list}
 use Rattle.h3_memory.specs.Kept.{Delivery}
 use Rattle.h3_memory.specs.Keeping.{EachResumes, Held, ahead}

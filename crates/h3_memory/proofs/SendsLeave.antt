@@ -6,7 +6,7 @@ use Rattle.h3_field.specs.Field.{Field, section_size}
 use Rattle.h3_field.specs.Instruction.DecoderInstruction.{CancelStream}
 use Rattle.h3_header.specs.Head.{Head as Fields, head_fields, has_pseudo}
 use Rattle.h3_header.specs.Reads.{head_of_fields}
-use Rattle.h3_wire.specs.Encoded.{frame_encoding}
+use Rattle.h3_frames.specs.Encoded.{frame_encoding}
 use Rattle.h3_proto.specs.declared.stream.Side.{Side}
 use Rattle.h3_proto.specs.declared.stream.Side.TheVariants.{Client, Server}
 use Rattle.h3_connection.specs.Outgoing.{takes_head, takes_body, takes_end, is_unsent, last_is_trailer}

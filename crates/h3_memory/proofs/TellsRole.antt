@@ -22,7 +22,7 @@ use Rattle.h3_connection.specs.Unidirectional.{Unidirectional, Role, untold, rol
 use Rattle.h3_connection.specs.Unidirectional.Role.{Untold, Control, Encoder, Decoder}
 use Rattle.h3_headline.specs.PeerStreams.{with_role}
 use Rattle.h3_headline.specs.Standing.{IsPeerStream, came_on}
-use Rattle.h3_wire.specs.declared.frame.kinds.FrameKinds.{FrameKinds}
+use Rattle.h3_frames.specs.declared.frame.kinds.FrameKinds.{FrameKinds}
 
 -- A stream that told its role, at the endpoint that reads it.
 pub record IsReadAs (e : EndpointHistory) (id : ℕ) (role : Role) (on : Option ℕ) : Type 0 where

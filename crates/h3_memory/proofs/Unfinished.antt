@@ -15,7 +15,7 @@ use Rattle.h3_qpack.specs.Encodings.{IsWrittenInstruction}
 use Rattle.h3_qpack.specs.Hearing.{heard, hear, listened, listen}
 use Rattle.h3_qpack.specs.Instructions.{AreAccepted}
 use Rattle.h3_qpack.specs.WholeInstructions.{whole_in, rest_in, decoder_instructions_in}
-use Rattle.h3_wire.specs.Fronts.{IsUnfinishedFront}
+use Rattle.h3_frames.specs.Fronts.{IsUnfinishedFront}
 use Rattle.h3_connection.specs.Endpoint.{goaway_encoding}
 use Rattle.h3_connection.specs.declared.setup.Announced.{Announced}
 use Rattle.h3_world.specs.OwnStreams.{settings_bytes}
@@ -26,7 +26,7 @@ use Rattle.h3_headline.specs.ControlStreamLaws.{less_of, rest_unfinished, settin
 use Rattle.h3_headline.specs.PeerStreams.{Announces, settings_frame_of}
 use Rattle.h3_headline.specs.Standing.{AreGoaways, are_settings_there, control_left}
 use Rattle.h3_headline.specs.WritesMoreLaws.{type_of_control}
-use Rattle.h3_wire.specs.declared.frame.kinds.FrameKinds.{FrameKinds}
+use Rattle.h3_frames.specs.declared.frame.kinds.FrameKinds.{FrameKinds}
 
 -- a front of a front
 pub front_again : (n : ℕ) (all front left : List ℕ) → n ≤ length all → take n all ≡ front ++ left → (front ≡ take (length front) all) × (length front ≤ n)

@@ -13,7 +13,7 @@ use Rattle.h3_connection.specs.StreamSets.{HaveDistinctIds}
 use Rattle.h3_world.specs.declared.event.Event.TheVariants as event
 use Rattle.h3_world.specs.declared.event.Answer.TheVariants as answer
 use Rattle.h3_connection.specs.Coming.{fields_behind, fields_item, fields_of_kind}
-use Rattle.h3_world.specs.Lists.{listed_pull}
+use Rattle.h3_connection.specs.Lists.{listed_pull}
 use Rattle.h3_world.specs.Pulling.{list_next}
 use Rattle.h3_world.specs.Ends.{Ends, end_at, with_end, answered}
 use Rattle.h3_world.specs.Setup.{IsMadeSetup, JudgesPlainly, Setup}

@@ -27,13 +27,13 @@ use Rattle.h3_world.specs.declared.event.Event.{Event}
 use Rattle.h3_world.specs.declared.event.Event.TheVariants as event
 use Rattle.h3_world.specs.declared.event.Answer.{Answer}
 use Rattle.h3_world.specs.declared.event.Answer.TheVariants as answer
-use Rattle.h3_world.specs.declared.lists.ListPull.TheVariants as list
 use Rattle.h3_world.specs.EndLists.{send_fields, send_trailer_fields}
 use Rattle.h3_world.specs.Run.{Run}
 use Rattle.h3_world.specs.Delivering.{reset_code}
 use Rattle.h3_world.specs.Ends.{Ends, end_at, with_end, answered}
 use Rattle.h3_world.specs.Headline.{is_out_of_memory}
 use Rattle.h3_connection.specs.Shown.{waiting, has_outgoing, is_finished, is_reset}
+use Rattle.h3_connection.specs.declared.lists.ListPull.TheVariants as list
 
 -- Nothing was sent, but the insertions for a front of the fields were made.
 pub record CutsOff (ends : Ends) (side : Side) (id : ℕ) (fields : List Field) (new : Ends) : Type 0 where

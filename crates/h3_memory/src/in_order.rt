@@ -20,16 +20,22 @@ ghost use Rattle.h3_memory.specs.QuietEvents.{is_quiet};
 ghost use Rattle.h3_memory.specs.ReadsNext.{ReadsNext};
 ghost use Rattle.h3_memory.specs.SoundKeeping.{IsSoundKeeping};
 
-/// Of two endpoints that stand in a world with what they keep, one reads the first of that without a fault, and both stand in a world with the
-/// rest (`first`). With nothing kept a side has caught up (`none`), and what waits for it at the other one stands in the other one's texts, after
-/// what came (`waits`). A pull's answer is settled if it is so in the world, whatever is kept (`settles`).
+/// Of two endpoints that stand in a world with what they keep, one reads the first of that without a fault, and both stand in a world with
+/// the rest (`first`). With nothing kept a side has caught up (`none`), and what waits for it at the other one stands in the other one's
+/// texts, after what came (`waits`). A pull's answer is settled if it is so in the world, whatever is kept (`settles`).
 pub fn what_is_kept_is_read_in_order()
-    ensures first { (setup : Setup) (k : KeepingWorld) (ends : Ends) (side : Side) (a : Arrival) (arrivals : List Arrival) → IsMadeSetup setup → StandsKeeping setup k ends → (end_at ends side).kept ≡ a ∷ arrivals → ReadsNext setup k ends side a arrivals }
-    ensures none { (setup : Setup) (k : KeepingWorld) (ends : Ends) (side : Side) → StandsKeeping setup k ends → (end_at ends side).kept ≡ [] → caught_up setup k side ≡ k.world }
-    ensures waits { (setup : Setup) (k : KeepingWorld) (ends : Ends) (side : Side) (id count : ℕ) → StandsKeeping setup k ends → (end_at ends side).kept ≡ [] →
+    ensures first { (setup : Setup) (k : KeepingWorld) (ends : Ends) (side : Side) (a : Arrival) (arrivals : List Arrival)
+        → IsMadeSetup setup → StandsKeeping setup k ends → (end_at ends side).kept ≡ a ∷ arrivals → ReadsNext setup k ends side a arrivals }
+    ensures none { (setup : Setup) (k : KeepingWorld) (ends : Ends) (side : Side) → StandsKeeping setup k ends
+        → (end_at ends side).kept ≡ [] → caught_up setup k side ≡ k.world }
+    ensures waits { (setup : Setup) (k : KeepingWorld) (ends : Ends) (side : Side) (id count : ℕ) → StandsKeeping setup k ends
+        → (end_at ends side).kept ≡ [] →
         shown.has_outgoing (end_at ends (other side)) id ≡ true → count ≤ shown.waiting (end_at ends (other side)) id →
-        (has_outgoing k.world (other side) id ≡ true) × (take count (bytes_waiting (end_at ends (other side)) id) ≡ take count (drop (came_of k.world (other side) id) (text_of setup k.world (other side) id))) }
-    ensures settles { (setup : Setup) (k : KeepingWorld) (ends : Ends) (side : Side) (id : ℕ) → StandsKeeping setup k ends → settles (end_at ends side) id ≡ is_settled k.world side id }
+        (has_outgoing k.world (other side) id ≡ true)
+        × (take count (bytes_waiting (end_at ends (other side)) id) ≡ take count
+        (drop (came_of k.world (other side) id) (text_of setup k.world (other side) id))) }
+    ensures settles { (setup : Setup) (k : KeepingWorld) (ends : Ends) (side : Side) (id : ℕ) → StandsKeeping setup k ends
+        → settles (end_at ends side) id ≡ is_settled k.world side id }
 {
     h3_world::laws::what_refused_memory_leaves_is_sound();
     h3_headline::laws::what_is_cited_holds();
@@ -37,8 +43,10 @@ pub fn what_is_kept_is_read_in_order()
 
 /// No part of a message is sent or pulled if an allocation fails (`lacks`), nor by an event that neither sends nor pulls (`quiet`).
 pub fn quiet_events_move_no_part()
-    ensures lacks { (setup : Setup) (k new : KeepingWorld) (e : Event) (a : Answer) → IsSoundKeeping setup k → is_out_of_memory a ≡ true → StepWithMemory setup k e a new → KeepsParts k.world new.world }
-    ensures quiet { (setup : Setup) (k new : KeepingWorld) (e : Event) (a : Answer) → IsSoundKeeping setup k → is_quiet e ≡ true → StepWithMemory setup k e a new → KeepsParts k.world new.world }
+    ensures lacks { (setup : Setup) (k new : KeepingWorld) (e : Event) (a : Answer) → IsSoundKeeping setup k → is_out_of_memory a ≡ true
+        → StepWithMemory setup k e a new → KeepsParts k.world new.world }
+    ensures quiet { (setup : Setup) (k new : KeepingWorld) (e : Event) (a : Answer) → IsSoundKeeping setup k → is_quiet e ≡ true
+        → StepWithMemory setup k e a new → KeepsParts k.world new.world }
 {
     h3_world::laws::what_refused_memory_leaves_is_sound();
     h3_headline::laws::what_is_cited_holds();

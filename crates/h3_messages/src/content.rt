@@ -1,6 +1,8 @@
 //! How much content a message has, and what comes of it (RFC 9114, 4.1.2; RFC 9110, 6.4.1, 8.6 and 9.3.6).
 ghost use Rattle.std.specs.Prelude.{◌≡◌, []};
-ghost use Rattle.h3_messages.specs.Content.{asked_by, asked_for, awaited, said, is_interim_status, is_without_content, content_of_status, content_expected, content_behind_status, until_answered, left_behind, is_exceeded, may_end, takes_trailer};
+ghost use Rattle.h3_messages.specs.Content.{asked_by, asked_for, awaited, said, is_interim_status, is_without_content, content_of_status};
+ghost use Rattle.h3_messages.specs.Content.{content_expected, content_behind_status, until_answered, left_behind, is_exceeded, may_end};
+ghost use Rattle.h3_messages.specs.Content.{takes_trailer};
 ghost use Rattle.h3_messages.specs.OwnMessages.{or_nothing};
 
 use crate::text::{byte_at, is_same, length_of};

@@ -8,7 +8,8 @@ ghost use Rattle.h3_header.specs.declared.headers.judge.BadPart.{BadPart};
 ghost use Rattle.h3_messages.specs.Content.{answered_by, content_of_request, content_behind_response, awaited_by};
 ghost use Rattle.h3_messages.specs.InvalidField.{HasInvalidPart, HasSpacedValue, invalid_field};
 ghost use Rattle.h3_messages.specs.Messages.{violation_of_request, violation_of_response, violation_of_trailer};
-ghost use Rattle.h3_messages.specs.OwnMessages.{content_of_own_request, content_of_own_response, violation_of_own_answer, violation_of_own_request, violation_of_own_trailer};
+ghost use Rattle.h3_messages.specs.OwnMessages.{content_of_own_request, content_of_own_response, violation_of_own_answer};
+ghost use Rattle.h3_messages.specs.OwnMessages.{violation_of_own_request, violation_of_own_trailer};
 ghost use Rattle.h3_messages.specs.declared.content.Content.{Content};
 ghost use Rattle.h3_messages.specs.declared.violation.Violation.TheVariants as violation;
 
@@ -42,8 +43,8 @@ pub fn rules_see_no_flags()
 
 /// A list that is refused for a name or a value has an invalid field, and `invalid_field` tells its index. One that is no header section by
 /// a name or a value has it at its first field with a malformed name or value (RFC 9114, 4.2 and 4.3): that part of it is malformed, and
-/// nothing of the fields before it. One that is a header section has no such field. If it is refused for a value by the rules of its sender,
-/// as a request, a response or a trailer, the index is that of the first field with white space around its value (RFC 9114, 10.3).
+/// nothing of the fields before it. One that is a header section has no such field. If it is refused for a value by the rules of its
+/// sender, as a request, a response or a trailer, the index is that of the first field with white space around its value (RFC 9114, 10.3).
 pub fn refused_lists_have_an_invalid_field()
     ensures read { (any strict : Bool) (fields : List Field) (bad : BadPart) → head_by any fields ≡ IsNone (refusal_of bad)
         → HasInvalidPart any strict fields bad }

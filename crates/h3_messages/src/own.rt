@@ -1,7 +1,10 @@
 //! The rules of a message that bind who sends it, after those by which its peer judges it (RFC 9110, 6.5.1, 8.6, 9.3.8 and 15.3.6).
 ghost use Rattle.std.specs.Prelude.{◌≡◌};
 ghost use Rattle.h3_messages.specs.Content.{awaited_by};
-ghost use Rattle.h3_messages.specs.OwnMessages.{answer_names, authentication_names, condition_names, content_of_own_request, control_names, format_names, has_no_trailer_field, is_no_trailer_name, is_own_length_misplaced, is_reset_content, is_trace, or_broken, says_content, violation_of_own_request, violation_of_own_response, violation_of_own_trailer};
+ghost use Rattle.h3_messages.specs.OwnMessages.{answer_names, authentication_names, condition_names, content_of_own_request, control_names};
+ghost use Rattle.h3_messages.specs.OwnMessages.{format_names, has_no_trailer_field, is_no_trailer_name, is_own_length_misplaced};
+ghost use Rattle.h3_messages.specs.OwnMessages.{is_reset_content, is_trace, or_broken, says_content, violation_of_own_request};
+ghost use Rattle.h3_messages.specs.OwnMessages.{violation_of_own_response, violation_of_own_trailer};
 ghost use Rattle.h3_messages.specs.Messages.{is_one_of};
 ghost use Rattle.h3_messages.specs.ResponseSaid.{response_said};
 

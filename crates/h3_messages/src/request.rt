@@ -1,6 +1,8 @@
 //! Which rule the header section of a request breaks (RFC 9114, 4.2, 4.3, 4.3.1 and 4.4; RFC 9220, 3).
 ghost use Rattle.std.specs.Prelude.{◌≡◌};
-ghost use Rattle.h3_messages.specs.Messages.{is_connect, is_plain_connect, needs_authority, misses_pseudo, is_protocol_wrong, is_connect_wrong, is_scheme_wrong, misses_authority, is_target_wrong, is_authority_wrong, is_path_right, is_path_wrong, violation_of_request};
+ghost use Rattle.h3_messages.specs.Messages.{is_connect, is_plain_connect, needs_authority, misses_pseudo, is_protocol_wrong};
+ghost use Rattle.h3_messages.specs.Messages.{is_connect_wrong, is_scheme_wrong, misses_authority, is_target_wrong, is_authority_wrong};
+ghost use Rattle.h3_messages.specs.Messages.{is_path_right, is_path_wrong, violation_of_request};
 
 use crate::host::{is_host_wrong, is_plain_host};
 use crate::known::Known;

@@ -52,7 +52,8 @@ impl ResponseSaid {
         }
     }
 
-    /// What is left to come of a request, of which so much was left, if its server sends such a header section. A final one answers CONNECT.
+    /// What is left to come of a request, of which so much was left, if its server sends such a header section. A final one answers
+    /// CONNECT.
     pub fn answering(self, content: Content) -> Content
         ensures { (fields : List Field) → self ≡ response_said fields → result ≡ answered_by content fields }
     {

@@ -3,7 +3,7 @@ use Rattle.std.proofs.Common.{◌≡◌, ◌<◌, ℕ, zero, suc, ◌+◌, ◌-�
 use Rattle.std.specs.Prelude.{slice_index_or}
 use Rattle.std.proofs.lemmas.List.{take_min, drop_min, take_more, take_all, append-nil, flat_map_more}
 use Rattle.std.proofs.Math.ListN.{drop_of_length-le}
-use Rattle.h3_wire.specs.Outgoing.{Outgoing as Piece, all_of}
+use Rattle.h3_frames.specs.Outgoing.{Outgoing as Piece, all_of}
 use Rattle.h3_connection.specs.WaitingPieces.{bytes_of}
 use Rattle.h3_outgoing.specs.Copied.{put, Filled, Puts}
 

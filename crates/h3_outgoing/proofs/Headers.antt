@@ -8,8 +8,8 @@ use Rattle.std.proofs.Math.ListN.{drop_of_length-le}
 use borrow.Rule.Slice.PartMut.{put_mid}
 use Rattle.h3_coding.specs.Encodings.{encoding}
 use Rattle.h3_coding.specs.ShortestLaws.{encoding_one}
-use Rattle.h3_wire.specs.Encoded.{head_encoding}
-use Rattle.h3_wire.specs.Outgoing.{first_of_both}
+use Rattle.h3_frames.specs.Encoded.{head_encoding}
+use Rattle.h3_frames.specs.Outgoing.{first_of_both}
 
 -- what is left of the head, and behind it what is left of the section
 split_before : (start : ℕ) (block : List ℕ) → 9 ≤ length block → start < 9 → drop start block ≡ drop start (take 9 block) ++ drop (max start 9) block

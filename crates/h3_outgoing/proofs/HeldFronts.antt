@@ -6,7 +6,7 @@ use Rattle.std.proofs.lemmas.Bool.{cases_Bool, cases_lt, eqb-true, eqb-false, lt
 use Rattle.std.proofs.lemmas.Grind.{common_steps, flat_map-append}
 use Rattle.std.proofs.lemmas.List.{drop-append-le, drop-drop, drop-replicate, drop_all, length-drop, length-take-le, take-append-drop}
 use Rattle.h3_coding.specs.Encodings.{IsByte}
-use Rattle.h3_wire.specs.Outgoing.{Outgoing as Piece, all_of, first_of_both}
+use Rattle.h3_frames.specs.Outgoing.{Outgoing as Piece, all_of, first_of_both}
 use Rattle.h3_connection.specs.WaitingPieces.{bytes_of, without_first}
 use Rattle.h3_outgoing.specs.Copied.{put, Filled, Puts}
 use Rattle.h3_outgoing.specs.Held.{held, front_of, past_of, Fronts, FrontsAt, AreApart}

@@ -10,7 +10,7 @@ use Rattle.h3_coding.specs.EncodingLaws.{opened, encoding_is_valid}
 use Rattle.h3_coding.specs.Opened.{Opened}
 use Rattle.h3_connection.specs.WaitingPieces.{bytes_of, frame_piece, without_first, without_front}
 use Rattle.h3_connection.specs.WaitingPieceLaws.{bytes-without, first-bytes, without-append, without-none, without-within, without-past}
-use Rattle.h3_wire.specs.Outgoing.{Outgoing as Piece, all_of}
+use Rattle.h3_frames.specs.Outgoing.{Outgoing as Piece, all_of}
 use Rattle.h3_outgoing.specs.Queue.{at_most_one, frames_in, has_own_place}
 
 -- no frame is empty

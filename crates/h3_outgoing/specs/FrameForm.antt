@@ -1,6 +1,6 @@
 -- What the forms of a frame that waits stand for.
 use Rattle.std.specs.Prelude.{ℕ, List}
-use Rattle.h3_wire.specs.Outgoing.{Outgoing}
+use Rattle.h3_frames.specs.Outgoing.{Outgoing}
 use Rattle.h3_outgoing.specs.declared.block.BytesForm.{BytesForm}
 use Rattle.h3_outgoing.specs.declared.block.BytesForm.TheVariants as bytes
 use Rattle.h3_outgoing.specs.declared.frame.Form.{Form}

@@ -1,7 +1,7 @@
 -- A payload that the caller holds: it is announced by its length, and none of its bytes is given. In the lists of what is sent a number that is
 -- no byte, 256, stands in the place of each of them.
 use Rattle.std.specs.Prelude.{◌≡◌, ◌<◌, ◌⊎◌, ℕ, suc, ◌+◌, ◌-◌, Bool, true, false, List, [], ◌∷◌, length, drop, nat_lt, if◌then◌else◌, replicate}
-use Rattle.h3_wire.specs.Outgoing.{Outgoing as Piece}
+use Rattle.h3_frames.specs.Outgoing.{Outgoing as Piece}
 use Rattle.h3_connection.specs.WaitingPieces.{bytes_of}
 use Rattle.h3_outgoing.specs.Copied.{Filled, Puts}
 

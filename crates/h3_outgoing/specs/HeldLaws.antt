@@ -8,8 +8,8 @@ use Rattle.h3_coding.specs.Encodings.{IsByte, encoding}
 use Rattle.h3_coding.specs.Encodings.IsEncoding.{one, two, four, eight}
 use Rattle.h3_coding.specs.EncodingLaws.{encoding_is_valid}
 use Rattle.h3_coding.specs.ShortestLaws.{encoding_one}
-use Rattle.h3_wire.specs.Encoded.{frame_encoding, head_encoding}
-use Rattle.h3_wire.specs.Outgoing.{all_of}
+use Rattle.h3_frames.specs.Encoded.{frame_encoding, head_encoding}
+use Rattle.h3_frames.specs.Outgoing.{all_of}
 use Rattle.h3_connection.specs.WaitingPieces.{frame_piece}
 use Rattle.h3_outgoing.specs.Copied.{Filled}
 use Rattle.h3_outgoing.specs.Held.{held, front_of, past_of, filled_with, Fronts}

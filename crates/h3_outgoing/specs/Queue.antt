@@ -1,6 +1,6 @@
 -- Frames that wait on a stream, and room for more.
 use Rattle.std.specs.Prelude.{ℕ, Bool, true, false, ◌==◌, List, [], ◌∷◌, ◌++◌, length, Option, Some, None}
-use Rattle.h3_wire.specs.Outgoing.{Outgoing}
+use Rattle.h3_frames.specs.Outgoing.{Outgoing}
 
 -- the frames in the order in which they go out, and how many more find a place
 pub record Queue : Type 0 where

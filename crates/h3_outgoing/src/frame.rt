@@ -1,7 +1,7 @@
 //! A frame of a message that waits.
 ghost use Rattle.std.specs.Prelude.{◌≡◌, ◌≤◌, ◌^◌, ◌<◌, ◌-◌, length, drop, IfSome};
 ghost use Rattle.h3_connection.specs.WaitingPieces.{frame_piece, without_first};
-ghost use Rattle.h3_wire.specs.Outgoing.{all_of, first_part};
+ghost use Rattle.h3_frames.specs.Outgoing.{all_of, first_part};
 ghost use Rattle.h3_outgoing.specs.Held.{Fronts, FrontsAt, front_of, held, past_of};
 ghost use Rattle.h3_outgoing.specs.Copied.{Puts};
 
@@ -9,7 +9,7 @@ use crate::copying::{as_bytes, put_at, put_bytes, put_front};
 use crate::held::HeldFrame;
 use crate::section::{EncodedSection, HeadersFrame};
 use bytes::{Buf, Bytes};
-use h3_wire::stream::MessageBuf;
+use h3_frames::stream::MessageBuf;
 use std::marker::Model;
 
 /// A HEADERS or DATA frame that waits. A contract sees what is left of its type and length, and of its payload.
@@ -33,7 +33,7 @@ pub(crate) enum Form {
 const _: () = prove!(size_of::<Frame>() == 80);
 
 impl Model for Frame {
-    ghost use Rattle.h3_wire.specs.Outgoing.{Outgoing};
+    ghost use Rattle.h3_frames.specs.Outgoing.{Outgoing};
     ghost use Rattle.h3_outgoing.specs.FrameForm.{frame_in};
 
     ghost Value = { Outgoing };

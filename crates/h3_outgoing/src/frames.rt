@@ -1,7 +1,8 @@
 //! The frames that wait on a stream.
-ghost use Rattle.std.specs.Prelude.{◌≡◌, ◌+◌, ◌-◌, ◌*◌, ◌<◌, ◌≤◌, ◌^◌, ◌++◌, [], ◌∷◌, ◌==◌, true, length, drop, min, max, All, IfSome, MatchOption, OnOk, OnErr};
+ghost use Rattle.std.specs.Prelude.{◌≡◌, ◌+◌, ◌-◌, ◌*◌, ◌<◌, ◌≤◌, ◌^◌, ◌++◌, [], ◌∷◌, ◌==◌, true, length, drop, min, max, All, IfSome};
+ghost use Rattle.std.specs.Prelude.{MatchOption, OnOk, OnErr};
 ghost use Rattle.std.specs.VecDeque.{deque_len, deque_capacity};
-ghost use Rattle.h3_wire.specs.Outgoing.{all_of, first_part};
+ghost use Rattle.h3_frames.specs.Outgoing.{all_of, first_part};
 ghost use Rattle.h3_connection.specs.WaitingPieces.{bytes_of, lent, without_front};
 ghost use Rattle.h3_outgoing.specs.Copied.{Filled, Puts};
 ghost use Rattle.h3_outgoing.specs.Held.{AreApart, FrontsAt, front_of, past_of};
@@ -29,7 +30,7 @@ pub(crate) struct WaitingFrames {
 impl Model for WaitingFrames {
     ghost use Rattle.std.specs.Prelude.{◌≡◌, ◌<◌, ◌+◌, ◌-◌, length, All};
     ghost use Rattle.std.specs.VecDeque.{deque_len, deque_capacity};
-    ghost use Rattle.h3_wire.specs.Outgoing.{all_of};
+    ghost use Rattle.h3_frames.specs.Outgoing.{all_of};
     ghost use Rattle.h3_connection.specs.WaitingPieces.{bytes_of};
     ghost use Rattle.h3_outgoing.specs.Queue.{Queue, frames_in, has_own_place, own_room};
 

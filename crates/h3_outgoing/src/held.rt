@@ -2,7 +2,7 @@
 ghost use Rattle.std.specs.Prelude.{◌≡◌, ◌<◌, ◌≤◌, ◌^◌, length};
 ghost use Rattle.h3_connection.specs.WaitingPieces.{frame_piece, without_first};
 ghost use Rattle.h3_outgoing.specs.Held.{held};
-ghost use Rattle.h3_wire.specs.Outgoing.{all_of};
+ghost use Rattle.h3_frames.specs.Outgoing.{all_of};
 
 use crate::section::{HEAD_ROOM, write_front};
 use std::marker::Model;
@@ -16,8 +16,8 @@ const WORDS: usize = 16;
 /// The place from which on they may begin.
 const HEAD_START: usize = WORDS - HEAD_ROOM;
 
-/// A DATA frame that waits, whose payload the caller holds: its type and length, and how many bytes of the payload are left. A contract sees
-/// the places of these bytes.
+/// A DATA frame that waits, whose payload the caller holds: its type and length, and how many bytes of the payload are left. A contract
+/// sees the places of these bytes.
 #[derive(Drop)]
 pub(crate) struct HeldFrame {
     // the type and the length end with the last byte, and lie in two words, so that a move of them is one of two words
@@ -29,7 +29,7 @@ pub(crate) struct HeldFrame {
 impl Model for HeldFrame {
     ghost use Rattle.std.specs.Prelude.{◌≤◌, ◌<◌, ◌^◌, drop};
     ghost use Rattle.h3_outgoing.specs.Held.{held};
-    ghost use Rattle.h3_wire.specs.Outgoing.{Outgoing};
+    ghost use Rattle.h3_frames.specs.Outgoing.{Outgoing};
 
     ghost Value = { Outgoing };
 

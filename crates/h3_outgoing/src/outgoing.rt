@@ -1,11 +1,13 @@
 //! What is sent on a request stream: the place in its message, and the frames that wait.
-ghost use Rattle.std.specs.Prelude.{◌≡◌, ◌==◌, ◌+◌, ◌<◌, ◌≤◌, ◌^◌, ◌++◌, length, take, drop, true, false, OnOk, OnErr, IfErr, IfSome, IsTrue};
+ghost use Rattle.std.specs.Prelude.{◌≡◌, ◌==◌, ◌+◌, ◌<◌, ◌≤◌, ◌^◌, ◌++◌, length, take, drop, true, false, OnOk, OnErr, IfErr, IfSome};
+ghost use Rattle.std.specs.Prelude.{IsTrue};
 ghost use Rattle.h3_connection.specs.WaitingPieces.{bytes_of, lent};
 ghost use Rattle.h3_connection.specs.State.{nothing_waits};
 ghost use Rattle.h3_connection.specs.StrictSending.{early_trailer, passes_content};
 ghost use Rattle.h3_outgoing.specs.Copied.{Filled, put};
 ghost use Rattle.h3_outgoing.specs.Held.{AreApart, front_of, held, past_of};
-ghost use Rattle.h3_outgoing.specs.Sent.{has_section, has_body, is_to_have, has_ended, was_cut_off, taken_from, takes_head, takes_body, takes_end, is_sent_off, end_waits, is_end_next, has_end_taken, preceding};
+ghost use Rattle.h3_outgoing.specs.Sent.{has_section, has_body, is_to_have, has_ended, was_cut_off, taken_from, takes_head, takes_body};
+ghost use Rattle.h3_outgoing.specs.Sent.{takes_end, is_sent_off, end_waits, is_end_next, has_end_taken, preceding};
 
 pub use crate::copying::{as_bytes, put_bytes, put_front};
 use crate::frame::Frame;

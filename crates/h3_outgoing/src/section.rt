@@ -3,8 +3,8 @@ ghost use Rattle.std.specs.Prelude.{◌≡◌, ◌-◌, ◌<◌, ◌≤◌, ◌^
 ghost use Rattle.std.specs.Int.{w64, to_be_bytes};
 ghost use Rattle.h3_coding.specs.Encodings.{encoding};
 ghost use Rattle.h3_connection.specs.WaitingPieces.{frame_piece, without_first};
-ghost use Rattle.h3_wire.specs.Encoded.{head_encoding};
-ghost use Rattle.h3_wire.specs.Outgoing.{all_of, first_part};
+ghost use Rattle.h3_frames.specs.Encoded.{head_encoding};
+ghost use Rattle.h3_frames.specs.Outgoing.{all_of, first_part};
 
 use crate::block::FrameBytes;
 use std::alloc::{AllocError, Global};
@@ -88,7 +88,7 @@ pub(crate) struct HeadersFrame {
 
 impl Model for HeadersFrame {
     ghost use Rattle.std.specs.Prelude.{◌≤◌, length, take, drop, max};
-    ghost use Rattle.h3_wire.specs.Outgoing.{Outgoing};
+    ghost use Rattle.h3_frames.specs.Outgoing.{Outgoing};
 
     ghost Value = { Outgoing };
 

@@ -1,6 +1,7 @@
 //! Items of structured fields (RFC 8941, section 4.2.3).
 ghost use Rattle.std.specs.Prelude.{◌≡◌, ◌≤◌, length, false, MatchOption};
-ghost use Rattle.h3_priority.specs.Items.{key_at, number_of, number_at, string_from, byte_sequence_at, boolean_at, bare_item_at, parameter_at, parameters_at, item_at};
+ghost use Rattle.h3_priority.specs.Items.{key_at, number_of, number_at, string_from, byte_sequence_at, boolean_at, bare_item_at};
+ghost use Rattle.h3_priority.specs.Items.{parameter_at, parameters_at, item_at};
 ghost use Rattle.h3_priority.specs.Reading.{Answers};
 
 use crate::characters::Class;

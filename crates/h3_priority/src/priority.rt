@@ -2,7 +2,8 @@
 ghost use Rattle.std.specs.Prelude.{◌≡◌, ◌≤◌, ◌∷◌, [], ℕ, List, MatchOption, MatchResult, Some, None, Option, bytes_eq, ◌<◌};
 ghost use Rattle.std.specs.Option.{SomeIff};
 ghost use Rattle.h3_priority.specs.Dictionary.{Members};
-ghost use Rattle.h3_priority.specs.Priority.{PriorityParameters, default_parameters, urgency_of, incremental_of, parameters_in, priority_of, value_that_says};
+ghost use Rattle.h3_priority.specs.Priority.{PriorityParameters, default_parameters, urgency_of, incremental_of, parameters_in};
+ghost use Rattle.h3_priority.specs.Priority.{priority_of, value_that_says};
 
 use crate::characters::Class;
 use crate::cursor::Cursor;

@@ -302,14 +302,15 @@ impl Config {
     /// acknowledged. Of the ids in the peer's GOAWAY frames (RFC 9114, section 5.2) the last one alone is kept. 2^62 - 1 by default, and
     /// then all of both are kept; a greater value is the same.
     pub fn with_kept_ids(mut self, max: u64) -> Self
-        ensures { result ≡ record self { choices = record self.choices { extensions = record self.choices.extensions { kept_ids = max } } } }
+        ensures { result
+            ≡ record self { choices = record self.choices { extensions = record self.choices.extensions { kept_ids = max } } } }
     {
         self.choices.extensions.kept_ids = max;
         self
     }
 
-    /// Whether a server refuses what first comes on a request stream from the id of its last GOAWAY on (RFC 9114, section 5.2). Off by default: such
-    /// a request is taken as any other.
+    /// Whether a server refuses what first comes on a request stream from the id of its last GOAWAY on (RFC 9114, section 5.2). Off by
+    /// default: such a request is taken as any other.
     pub fn with_requests_rejected(mut self, rejected: bool) -> Self
         ensures { result ≡ record self {
           choices = record self.choices { extensions = record self.choices.extensions { requests_rejected = rejected } };
@@ -368,8 +369,8 @@ impl Config {
     ///   2.2.3). If the local end announces no table, the encoded count and the sign are 0 (sections 4.5.1.1 and 4.5.1.2). Else
     ///   QPACK_DECOMPRESSION_FAILED.
     ///
-    /// Without WebTransport announced, the frames of type 0x41 and the streams of type 0x54 are of unknown type: they are ignored (RFC 9114,
-    /// section 9).
+    /// Without WebTransport announced, the frames of type 0x41 and the streams of type 0x54 are of unknown type: they are ignored (RFC
+    /// 9114, section 9).
     ///
     /// The local end keeps two rules itself: after a GOAWAY of its peer it sends no header section on a stream on which nothing was sent
     /// (RFC 9114, section 5.2), and it does not announce WebTransport without datagrams.
@@ -395,8 +396,8 @@ impl Config {
         self
     }
 
-    /// How many of the peer's settings are kept whose ids have no meaning here, at most 64: the first ones of its SETTINGS frame. A reserved
-    /// id is not kept (RFC 9114, section 7.2.4.1). A greater value is the same as 64. 0 by default: such settings are ignored.
+    /// How many of the peer's settings are kept whose ids have no meaning here, at most 64: the first ones of its SETTINGS frame. A
+    /// reserved id is not kept (RFC 9114, section 7.2.4.1). A greater value is the same as 64. 0 by default: such settings are ignored.
     pub fn with_other_settings(mut self, most: u64) -> Self
         ensures { result ≡ record self {
           choices = record self.choices { extensions = record self.choices.extensions { other_settings = most } };
@@ -406,9 +407,9 @@ impl Config {
         self
     }
 
-    /// Whether the peer's unidirectional streams of types that have no meaning here are delivered (RFC 9114, section 6.2). Off by default: what
-    /// comes on them is thrown away. A stream of a reserved type (section 6.2.3) is never delivered, nor one of WebTransport if that is not
-    /// known here.
+    /// Whether the peer's unidirectional streams of types that have no meaning here are delivered (RFC 9114, section 6.2). Off by default:
+    /// what comes on them is thrown away. A stream of a reserved type (section 6.2.3) is never delivered, nor one of WebTransport if that
+    /// is not known here.
     pub fn with_other_streams(mut self, handed_out: bool) -> Self
         ensures { result ≡ record self {
           choices = record self.choices { extensions = record self.choices.extensions { other_streams = handed_out } };

@@ -1,12 +1,14 @@
 //! The settings that the payload of a SETTINGS frame carries (RFC 9114, section 7.2.4).
-ghost use Rattle.std.specs.Prelude.{◌≡◌, ℕ, ◌+◌, ◌^◌, ◌<◌, ◌≤◌, ◌==◌, List, [], ◌++◌, length, take, drop, true, All, IfErr, IfSome, IsNone, Ok, Err, Some, None, OnOk, OnErr};
+ghost use Rattle.std.specs.Prelude.{◌≡◌, ℕ, ◌+◌, ◌^◌, ◌<◌, ◌≤◌, ◌==◌, List, [], ◌++◌, length, take, drop, true, All, IfErr, IfSome, IsNone};
+ghost use Rattle.std.specs.Prelude.{Ok, Err, Some, None, OnOk, OnErr};
 ghost use Rattle.std.specs.Cmp.Lexicographic.{pointwise};
 ghost use Rattle.h3_coding.specs.Writing.{AppendsFront, UsesRoom};
 ghost use Rattle.h3_proto.specs.Codes.{settings_code};
 ghost use Rattle.h3_proto.specs.Ids.{reserved};
 ghost use Rattle.h3_proto.specs.PairLaws.{same_pairs};
 ghost use Rattle.h3_proto.specs.Pairs.{IsPair, same_pair, pair_encoding, payload_of, pair_at};
-ghost use Rattle.h3_proto.specs.Settings.{error_text, is_forbidden, is_known, has_id, ids_differ, value_of, inserted, received, settings_of, left_of, left_of_pair};
+ghost use Rattle.h3_proto.specs.Settings.{error_text, is_forbidden, is_known, has_id, ids_differ, value_of, inserted, received};
+ghost use Rattle.h3_proto.specs.Settings.{settings_of, left_of, left_of_pair};
 
 use crate::error::Code;
 use bytes::{Buf, BufMut};

@@ -5,8 +5,8 @@ ghost use Rattle.h3_proto.specs.Further.{further_from, with_further};
 use crate::frame::{SettingId, Settings, SettingsError};
 
 impl Settings {
-    /// These pairs of an id and a value as further settings, beside those here. Refuses, in order, the first one whose id is one of HTTP/2's or
-    /// is announced here already, as each id that has a meaning is, and what `insert` refuses.
+    /// These pairs of an id and a value as further settings, beside those here. Refuses, in order, the first one whose id is one of
+    /// HTTP/2's or is announced here already, as each id that has a meaning is, and what `insert` refuses.
     pub fn further(&self, pairs: &[(u64, u64)]) -> Result<Settings, SettingsError>
         ensures { result ≡ further_from self.now [] pairs.now }
     {

@@ -21,7 +21,8 @@ fn is_other(id: u64) -> bool
     !SettingId(id).is_known() && !is_reserved(id)
 }
 
-/// Of the settings in a payload of `len` bytes the first ones that have no meaning here, `most` at most. It stops at a pair that is not whole.
+/// Of the settings in a payload of `len` bytes the first ones that have no meaning here, `most` at most. It stops at a pair that is not
+/// whole.
 pub fn read_others<B: Buf>(
     alloc: Global,
     buf: &mut B,

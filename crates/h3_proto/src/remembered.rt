@@ -41,8 +41,8 @@ fn holds_to(id: SettingId, before: u64, now: Option<u64>) -> bool
 }
 
 impl Settings {
-    /// Whether these, which came, keep to those that were remembered of the same server: none with a meaning is gone that was not its default,
-    /// and none allows less. The capacity of the table stays the same unless it was 0 (RFC 9204, section 3.2.3).
+    /// Whether these, which came, keep to those that were remembered of the same server: none with a meaning is gone that was not its
+    /// default, and none allows less. The capacity of the table stays the same unless it was 0 (RFC 9204, section 3.2.3).
     pub fn keeps_to(&self, remembered: &Settings) -> bool
         ensures { result ≡ keeps_to remembered.now self.now }
     {

@@ -4,7 +4,8 @@ ghost use Rattle.std.specs.Fmt.{digits};
 ghost use Rattle.h3_coding.specs.Encodings.{IsEncoding, IsUnfinished, encoding};
 ghost use Rattle.h3_coding.specs.EncodingLaws.{one_encoding, finished, encoding_is_valid};
 ghost use Rattle.h3_proto.specs.Ids.{Converts, reserved};
-ghost use Rattle.h3_proto.specs.StreamIds.{index_of, initiator_of, is_unidirectional, is_request_stream, is_push, after, stream_text, type_text};
+ghost use Rattle.h3_proto.specs.StreamIds.{index_of, initiator_of, is_unidirectional, is_request_stream, is_push, after, stream_text};
+ghost use Rattle.h3_proto.specs.StreamIds.{type_text};
 
 use crate::webtransport::SessionId;
 use bytes::{Buf, BufMut};

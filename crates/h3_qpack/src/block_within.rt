@@ -1,5 +1,6 @@
 //! The fields of a section's lines, in a block that the caller passes: its memory serves again.
-ghost use Rattle.std.specs.Prelude.{◌≡◌, ◌≤◌, ◌<◌, [], ◌∷◌, ◌++◌, List, length, true, false, Ok, IfOk, IfErr, OnOk, Some, None, MatchOption};
+ghost use Rattle.std.specs.Prelude.{◌≡◌, ◌≤◌, ◌<◌, [], ◌∷◌, ◌++◌, List, length, true, false, Ok, IfOk, IfErr, OnOk, Some, None};
+ghost use Rattle.std.specs.Prelude.{MatchOption};
 ghost use Rattle.h3_field.specs.Field.{Field};
 ghost use Rattle.h3_field.specs.OntoAnswer.{AnswersField};
 ghost use Rattle.h3_field.specs.Shapes.{begins};
@@ -237,7 +238,8 @@ impl<'t> Lines<'t> {
     ) -> Result<Option<u64>, DecoderError>
         requires { block.old ≡ [] }
         ensures ok { IfOk result (λ told. MatchOption told (PassesLimit self.now.table self.now.base buf.old max × (buf.new ≡ buf.old))
-            (λ sum. (fields_in self.now.table self.now.base buf.old ≡ Some block.new) × (sum ≡ told_size block.new) × (sum ≤ max) × (buf.new ≡ []))) }
+            (λ sum. (fields_in self.now.table self.now.base buf.old ≡ Some block.new) × (sum ≡ told_size block.new) × (sum ≤ max)
+            × (buf.new ≡ []))) }
         ensures err { IfErr result (IsReasonFor (fields_in self.now.table self.now.base buf.old ≡ None) (λ count. ⊥)) }
         ensures memory { IfErr result (λ e. e ≡ OutOfMemory → LinesAskMemory self.now.table self.now.base buf.old) }
     {

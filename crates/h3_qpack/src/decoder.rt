@@ -1,5 +1,6 @@
 //! A decoder with its dynamic table (RFC 9204, sections 2.2 and 4).
-ghost use Rattle.std.specs.Prelude.{◌≡◌, ◌≢◌, ◌≤◌, ◌<◌, ◌^◌, ℕ, ◌-◌, List, [], Some, true, false, length, min, nat_lt, drop, IfOk, IfErr, IfNone, IfSome, OnOk, OnErr, ◌++◌};
+ghost use Rattle.std.specs.Prelude.{◌≡◌, ◌≢◌, ◌≤◌, ◌<◌, ◌^◌, ℕ, ◌-◌, List, [], Some, true, false, length, min, nat_lt, drop, IfOk, IfErr};
+ghost use Rattle.std.specs.Prelude.{IfNone, IfSome, OnOk, OnErr, ◌++◌};
 ghost use Rattle.h3_field.specs.Instruction.{decoder_bytes};
 ghost use Rattle.h3_field.specs.Instruction.DecoderInstruction.{Acknowledge, CancelStream};
 ghost use Rattle.h3_field.specs.Reading.{Unfinished};
@@ -161,8 +162,8 @@ impl Decoder {
         Lines::new(self.alloc, &self.entries, base, most, longest_name)
     }
 
-    /// Decodes an encoded field section, to the end of `buf` (RFC 9204, section 4.5), as `decode_block`, into a list of fields of their own.
-    /// A refused read takes nothing.
+    /// Decodes an encoded field section, to the end of `buf` (RFC 9204, section 4.5), as `decode_block`, into a list of fields of their
+    /// own. A refused read takes nothing.
     pub fn decode_header(&self, buf: &mut SliceCursor<'_>) -> Result<Decoded, DecoderError>
         ensures ok { IfOk result (λ d. (count : ℕ) × MeansFields self.now buf.old count d.fields.items × (d.dyn_ref ≡ nat_lt 0 count)
             × (d.mem_size ≡ min (2 ^ 64 - 1) (section_size d.fields.items)) × (buf.new ≡ [])) }
@@ -189,10 +190,10 @@ impl Decoder {
         })
     }
 
-    /// Decodes an encoded field section, to the end of `buf` (RFC 9204, section 4.5), into a block whose memory serves again: the fields that
-    /// it holds are removed first. If the sizes of the section's fields sum to at most `max` the block has them. Else it is left empty, and
-    /// the answer is the sum and the value of the last field named `name`. What is held at one time is at most the fields up to the limit,
-    /// one line and one value. The value's block may have room for a name of at most `max` bytes.
+    /// Decodes an encoded field section, to the end of `buf` (RFC 9204, section 4.5), into a block whose memory serves again: the fields
+    /// that it holds are removed first. If the sizes of the section's fields sum to at most `max` the block has them. Else it is left
+    /// empty, and the answer is the sum and the value of the last field named `name`. What is held at one time is at most the fields up to
+    /// the limit, one line and one value. The value's block may have room for a name of at most `max` bytes.
     ///
     /// `MissingRefs(n)`: the section needs n insertions, and not all were read; no line is read then. `OutOfMemory`: it may be tried again.
     /// Every other refusal is of a bad section, also if its fields before the bad line pass the limit. A refused read takes nothing, and

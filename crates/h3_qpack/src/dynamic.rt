@@ -1,5 +1,6 @@
 //! The dynamic table with what its encoder goes by (RFC 9204, sections 2.1 and 3.2).
-ghost use Rattle.std.specs.Prelude.{◌≡◌, ℕ, ◌+◌, ◌-◌, ◌^◌, ◌<◌, ◌≤◌, List, [], length, min, max, true, false, None, IfSome, IfNone, ◌==◌, ◌||◌, IfOk, IfErr, OnErr, OnOk};
+ghost use Rattle.std.specs.Prelude.{◌≡◌, ℕ, ◌+◌, ◌-◌, ◌^◌, ◌<◌, ◌≤◌, List, [], length, min, max, true, false, None, IfSome, IfNone, ◌==◌};
+ghost use Rattle.std.specs.Prelude.{◌||◌, IfOk, IfErr, OnErr, OnOk};
 ghost use Rattle.std.specs.List.{list_any};
 ghost use Rattle.h3_table.specs.Cancellations.{none_canceled};
 ghost use Rattle.h3_field.specs.Field.{Field, field_size, section_size};
@@ -9,7 +10,8 @@ ghost use Rattle.h3_table.specs.Index.{IsIndexed, HasRoom};
 ghost use Rattle.h3_table.specs.Tracking.{is_of, is_free_to};
 ghost use Rattle.h3_field.specs.Instruction.DecoderInstruction.{Acknowledge, CancelStream};
 ghost use Rattle.h3_qpack.specs.EncoderHistory.{no_choices};
-ghost use Rattle.h3_qpack.specs.EncoderState.{EncoderState, MayInsertInto, MayHaveCapacity, IsCapacityRefusal, raised, refuses_increment, encoder_state_sent, encoder_state_after, encoder_state_withdrawn, was_canceled_in};
+ghost use Rattle.h3_qpack.specs.EncoderState.{EncoderState, MayInsertInto, MayHaveCapacity, IsCapacityRefusal, raised, refuses_increment};
+ghost use Rattle.h3_qpack.specs.EncoderState.{encoder_state_sent, encoder_state_after, encoder_state_withdrawn, was_canceled_in};
 ghost use Rattle.h3_qpack.specs.Marks.{no_marks};
 ghost use Rattle.h3_qpack.specs.Missed.{IsMissed};
 ghost use Rattle.h3_qpack.specs.Drafting.{begun, draining_in, is_worth_in, noted, IsSmall, MayInsertAhead};
@@ -328,8 +330,8 @@ impl DynamicTable {
     }
 
     // RFC 9204 2.1.1: entries that may be evicted
-    /// How many entries are evicted once the field, which has no flag, is inserted, if it may be inserted. The entries have to be known to be
-    /// received, named by no tracked section, and below `oldest`.
+    /// How many entries are evicted once the field, which has no flag, is inserted, if it may be inserted. The entries have to be known to
+    /// be received, named by no tracked section, and below `oldest`.
     pub(crate) fn room_for(&self, field: &FieldRef<'_>, oldest: usize) -> Option<usize>
         requires plain { field.now.never_indexed ≡ false }
         ensures some { IfSome result

@@ -15,7 +15,8 @@ ghost use Rattle.h3_table.specs.TableState.{with_capacity};
 ghost use Rattle.h3_field.specs.Instruction.{encoder_bytes};
 ghost use Rattle.h3_field.specs.Instruction.EncoderInstruction.{SetCapacity};
 ghost use Rattle.h3_qpack.specs.Hearing.{HasListened};
-ghost use Rattle.h3_qpack.specs.EncoderAnswers.{HasReadDecoderInstructions, AnswersDecoderInstruction, IsLeft, IsDecoderInstructionRefusal, IsSizeRefusal, IsTableRefusal};
+ghost use Rattle.h3_qpack.specs.EncoderAnswers.{HasReadDecoderInstructions, AnswersDecoderInstruction, IsLeft, IsDecoderInstructionRefusal};
+ghost use Rattle.h3_qpack.specs.EncoderAnswers.{IsSizeRefusal, IsTableRefusal};
 
 use crate::dynamic::{DynamicTable, MAX_BLOCKED};
 use crate::encoder_choices::EncoderChoices;

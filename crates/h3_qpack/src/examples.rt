@@ -10,12 +10,17 @@ ghost use Rattle.h3_qpack.specs.SectionEncoding.{draining, guarded_fields, draft
 ghost use Rattle.std.specs.Prelude.{Some, None, option_map, true, false};
 ghost use Rattle.h3_field.specs.Instruction.DecoderInstruction.{Acknowledge};
 ghost use Rattle.h3_field.specs.Line.FieldLine.{RelativeField, PostBaseField, Literal};
-ghost use Rattle.h3_field.specs.Instruction.EncoderInstruction.{SetCapacity, InsertWithStaticName, InsertWithEntryName, InsertLiteral, Duplicate};
+ghost use Rattle.h3_field.specs.Instruction.EncoderInstruction.{SetCapacity, InsertWithStaticName, InsertWithEntryName, InsertLiteral};
+ghost use Rattle.h3_field.specs.Instruction.EncoderInstruction.{Duplicate};
 ghost use Rattle.h3_qpack.specs.EncoderHistory.{is_refused, encoder_after_front, withdrawn};
 ghost use Rattle.h3_table.specs.Table.{table};
 ghost use Rattle.h3_qpack.specs.DecodedSection.{Fields, BadSection};
 ghost use Rattle.h3_qpack.specs.DecoderState.{announcing, decoder_after_all};
-ghost use Rattle.h3_qpack.specs.Worked.{three, fresh, sample, host_text, path_text, with_header, x_a, x_b, x_a_of, decoded_by, decoded_without_table, secret_a, secret_sent, older_known, three_canceled, canceled_first, one_kept, one_waits, one_acknowledged, two_on_a_stream, no_waiting, inserted_ahead, capped, twice_inserted, empty_b, x_long, two_drain, a_of_two, guarding, short_cookie, long_cookie, with_shortest};
+ghost use Rattle.h3_qpack.specs.Worked.{three, fresh, sample, host_text, path_text, with_header, x_a, x_b, x_a_of, decoded_by};
+ghost use Rattle.h3_qpack.specs.Worked.{decoded_without_table, secret_a, secret_sent, older_known, three_canceled, canceled_first};
+ghost use Rattle.h3_qpack.specs.Worked.{one_kept, one_waits, one_acknowledged, two_on_a_stream, no_waiting, inserted_ahead, capped};
+ghost use Rattle.h3_qpack.specs.Worked.{twice_inserted, empty_b, x_long, two_drain, a_of_two, guarding, short_cookie, long_cookie};
+ghost use Rattle.h3_qpack.specs.Worked.{with_shortest};
 
 /// Three requests for the same page: the first inserts two fields, the second names them, and the third may not.
 #[tactic(auto, unfolding(h3_field::specs::StaticTable::static_table, h3_field::specs::StaticTable::static_field, h3_field::specs::StaticTable::static_name, h3_huffman::specs::Huffman::huffman, h3_huffman::specs::Huffman::octets, h3_huffman::specs::Huffman::code_word, h3_huffman::specs::Huffman::bits))]

@@ -1,6 +1,7 @@
 //! Laws over the definitions.
 
-ghost use Rattle.std.specs.Prelude.{◌≡◌, ◌==◌, ◌&&◌, ◌||◌, nat_lt, ℕ, ◌+◌, ◌-◌, ◌*◌, ◌%◌, ◌^◌, ◌<◌, ◌≤◌, ◌∷◌, Bool, true, false, List, Option, Some, option_map};
+ghost use Rattle.std.specs.Prelude.{◌≡◌, ◌==◌, ◌&&◌, ◌||◌, nat_lt, ℕ, ◌+◌, ◌-◌, ◌*◌, ◌%◌, ◌^◌, ◌<◌, ◌≤◌, ◌∷◌, Bool, true, false, List};
+ghost use Rattle.std.specs.Prelude.{Option, Some, option_map};
 ghost use Rattle.h3_field.specs.Field.{Field, section_size};
 ghost use Rattle.h3_field.specs.ReadBack.{IsFieldOfBytes};
 ghost use Rattle.h3_field.specs.Section.{section_bytes};
@@ -19,11 +20,14 @@ ghost use Rattle.h3_qpack.specs.Instructions.{HasRead, AreInstructions, AreDecod
 ghost use Rattle.h3_qpack.specs.TableHistory.{IsReadAs, table_after_all, table_of};
 ghost use Rattle.h3_qpack.specs.Meaning.{MeansFields, IsMissing, is_allowed, table_for};
 ghost use Rattle.h3_qpack.specs.DecodedSection.{DecodedSection, decode_section, IsDecodedAs};
-ghost use Rattle.h3_qpack.specs.Hearing.{Heard, heard, hear, heard_then, IsHeardAs, Listened, listened, listen, listened_then, IsListenedAs};
+ghost use Rattle.h3_qpack.specs.Hearing.{Heard, heard, hear, heard_then, IsHeardAs, Listened, listened, listen, listened_then};
+ghost use Rattle.h3_qpack.specs.Hearing.{IsListenedAs};
 ghost use Rattle.h3_field.specs.Secret.{is_secret};
 ghost use Rattle.h3_field.specs.StringLiteral.{coded, huffman_text};
 ghost use Rattle.h3_qpack.specs.StaticSections.{static_section};
-ghost use Rattle.h3_qpack.specs.SectionEncoding.{Draft, guarded_fields, draft_of, encoded_section, finds_room, found, having_inserted, held, instructions_for, is_insertable, is_insertable_ahead, marks_after, required_insert_count, sent_section};
+ghost use Rattle.h3_qpack.specs.SectionEncoding.{Draft, guarded_fields, draft_of, encoded_section, finds_room, found, having_inserted};
+ghost use Rattle.h3_qpack.specs.SectionEncoding.{held, instructions_for, is_insertable, is_insertable_ahead, marks_after};
+ghost use Rattle.h3_qpack.specs.SectionEncoding.{required_insert_count, sent_section};
 ghost use Rattle.h3_field.specs.Line.{FieldLine, line_bytes};
 ghost use Rattle.h3_qpack.specs.Secrets.{MayBeIndexed, has_bit_n, without_secrets, line_without_secret};
 ghost use Rattle.h3_qpack.specs.SectionSizes.{most_encoded};
@@ -37,7 +41,8 @@ ghost use Rattle.h3_qpack.specs.Schedule.{SessionEvent, SessionRun, beginning};
 ghost use Rattle.std.specs.Ordering.{nat_cmp};
 ghost use Rattle.std.specs.BTreeSet.{insert_key};
 ghost use Rattle.h3_table.specs.Cancellations.{Cancellations, KeepsAll, with_canceled};
-ghost use Rattle.h3_qpack.specs.EncoderHistory.{EncoderHistory, HasNoTable, no_choices, blocks_out, encoder_after, encoder_after_all, was_canceled, withdrawn, writing_on};
+ghost use Rattle.h3_qpack.specs.EncoderHistory.{EncoderHistory, HasNoTable, no_choices, blocks_out, encoder_after, encoder_after_all};
+ghost use Rattle.h3_qpack.specs.EncoderHistory.{was_canceled, withdrawn, writing_on};
 ghost use Rattle.h3_qpack.specs.EncoderState.{encoder_state};
 ghost use Rattle.h3_qpack.specs.Exchange.{ExchangeHistory, Exchange, start, opening};
 ghost use Rattle.h3_qpack.specs.Expected.{Expected};
@@ -72,7 +77,8 @@ pub fn secrets_leave_no_trace()
         map line_without_secret (draft_of s fields).lines ≡ map line_without_secret (draft_of s others).lines }
     ensures sent { (s : EncoderHistory) (stream : ℕ) (fields others : List Field) → without_secrets s fields ≡ without_secrets s others
         → sent_section s stream fields ≡ sent_section s stream others }
-    ensures inserted { (s : EncoderHistory) (stream : ℕ) (fields others : List Field) → without_secrets s fields ≡ without_secrets s others →
+    ensures inserted { (s : EncoderHistory) (stream : ℕ) (fields others : List Field)
+        → without_secrets s fields ≡ without_secrets s others →
         having_inserted s stream fields ≡ having_inserted s stream others }
 {}
 
@@ -137,7 +143,8 @@ pub fn plain_encoders_go_by_their_table()
 /// most so many are kept as are to be.
 pub fn cancellations_are_kept()
     ensures canceled { (s : EncoderHistory) (stream : ℕ) → was_canceled (encoder_after s (CancelStream stream)) stream ≡ true }
-    ensures stays { (counts : Bool) (most announced limit : ℕ) (events : List SessionEvent) (s : Session) (i : DecoderInstruction) (stream : ℕ) → SessionRun (beginning counts most announced limit) events s →
+    ensures stays { (counts : Bool) (most announced limit : ℕ) (events : List SessionEvent) (s : Session) (i : DecoderInstruction)
+        (stream : ℕ) → SessionRun (beginning counts most announced limit) events s →
         was_canceled s.encoder stream ≡ true → was_canceled (encoder_after s.encoder i) stream ≡ true }
     ensures counted { (s : EncoderHistory) (count other : ℕ)
         → was_canceled (encoder_after s (Increment count)) other ≡ was_canceled s other }
@@ -160,7 +167,8 @@ pub fn all_cancellations_are_kept()
 
 /// Over every schedule, no tracked section is of a stream that counts as canceled.
 pub fn canceled_streams_are_not_tracked()
-    ensures { (counts : Bool) (most announced limit : ℕ) (events : List SessionEvent) (s : Session) (stream : ℕ) → SessionRun (beginning counts most announced limit) events s → was_canceled s.encoder stream ≡ true →
+    ensures { (counts : Bool) (most announced limit : ℕ) (events : List SessionEvent) (s : Session) (stream : ℕ)
+        → SessionRun (beginning counts most announced limit) events s → was_canceled s.encoder stream ≡ true →
         tracked_references stream s.encoder.tracked ≡ [] }
 {}
 
@@ -174,8 +182,10 @@ pub fn every_session_is_sound()
 /// Over every schedule, an acknowledgment that is read tells of no insertion that no increment told of before. What is known to be received
 /// is the same whether acknowledgments count or not, and so is each section that is written then.
 pub fn acknowledgments_tell_nothing_new()
-    ensures known { (counts : Bool) (most announced limit : ℕ) (events : List SessionEvent) (s : Session) (stream : ℕ) (rest : List DecoderInstruction) → SessionRun (beginning counts most announced limit) events s →
-        s.decoder_instructions ≡ Acknowledge stream ∷ rest → (encoder_after s.encoder (Acknowledge stream)).known_received ≡ s.encoder.known_received }
+    ensures known { (counts : Bool) (most announced limit : ℕ) (events : List SessionEvent) (s : Session) (stream : ℕ)
+        (rest : List DecoderInstruction) → SessionRun (beginning counts most announced limit) events s →
+        s.decoder_instructions ≡ Acknowledge stream ∷ rest
+        → (encoder_after s.encoder (Acknowledge stream)).known_received ≡ s.encoder.known_received }
     ensures bytes { (s : EncoderHistory) (counts : Bool) (stream : ℕ) (fields : List Field)
         → encoded_section (writing_on (record s { counts_acknowledgments = counts }) stream) fields ≡ encoded_section
         (writing_on s stream) fields }
@@ -187,9 +197,11 @@ pub fn acknowledgments_tell_nothing_new()
 /// Over every schedule, a section that is tried once its insertions came decodes to its fields, and its encoded count is
 /// read as its count whenever it is tried.
 pub fn every_section_decodes()
-    ensures fields { (counts : Bool) (most announced limit : ℕ) (events : List SessionEvent) (s : Session) (b : UndecodedSection) → SessionRun (beginning counts most announced limit) events s →
+    ensures fields { (counts : Bool) (most announced limit : ℕ) (events : List SessionEvent) (s : Session) (b : UndecodedSection)
+        → SessionRun (beginning counts most announced limit) events s →
         oldest b.stream s.sections ≡ Some b → is_canceled s b.stream ≡ false → count_of b ≤ s.received → DecodesTo s b }
-    ensures count { (counts : Bool) (most announced limit : ℕ) (events : List SessionEvent) (s : Session) (b : UndecodedSection) → SessionRun (beginning counts most announced limit) events s →
+    ensures count { (counts : Bool) (most announced limit : ℕ) (events : List SessionEvent) (s : Session) (b : UndecodedSection)
+        → SessionRun (beginning counts most announced limit) events s →
         oldest b.stream s.sections ≡ Some b → is_canceled s b.stream ≡ false → 0 < count_of b →
         IsRequiredCount s.encoder.announced s.received (count_of b % (2 * most_entries s.encoder.announced) + 1) (count_of b) }
 {}
@@ -199,10 +211,12 @@ pub fn every_section_decodes()
 /// announced the capacity that the encoder goes by, or any other while the encoder has inserted nothing, as before the peer's settings
 /// came. Whether it checks counts does not matter.
 pub fn every_encoding_means_its_fields()
-    ensures means { (checks counts : Bool) (most announced limit : ℕ) (events : List SessionEvent) (s : Session) (b : UndecodedSection) → SessionRun (beginning counts most announced limit) events s →
+    ensures means { (checks counts : Bool) (most announced limit : ℕ) (events : List SessionEvent) (s : Session) (b : UndecodedSection)
+        → SessionRun (beginning counts most announced limit) events s →
         oldest b.stream s.sections ≡ Some b → is_canceled s b.stream ≡ false → count_of b ≤ s.received → IsWritten s b →
         MeansFields (checking checks (decoder_of s)) (encoded_section b.encoder b.fields) (count_of b) (guarded_fields b.encoder b.fields) }
-    ensures value { (counts : Bool) (most announced limit other : ℕ) (events : List SessionEvent) (s : Session) (b : UndecodedSection) (r : DecoderState) → SessionRun (beginning counts most announced limit) events s → IsDecoderAt other s r →
+    ensures value { (counts : Bool) (most announced limit other : ℕ) (events : List SessionEvent) (s : Session) (b : UndecodedSection)
+        (r : DecoderState) → SessionRun (beginning counts most announced limit) events s → IsDecoderAt other s r →
         oldest b.stream s.sections ≡ Some b → is_canceled s b.stream ≡ false → IsWritten s b →
         decode_section r (encoded_section b.encoder b.fields) ≡ tried s b }
 {}
@@ -210,15 +224,19 @@ pub fn every_encoding_means_its_fields()
 /// Over every schedule, the section that a stream decodes next is what a writer took, if its fields are of bytes and its encoding is
 /// not longer than memory holds.
 pub fn every_section_is_written()
-    ensures { (counts : Bool) (most announced limit : ℕ) (events : List SessionEvent) (s : Session) (b : UndecodedSection) → SessionRun (beginning counts most announced limit) events s → oldest b.stream s.sections ≡ Some b →
-        AllByRecursion IsFieldOfBytes b.fields → section_size b.fields < 2 ^ 62 → length (encoded_section b.encoder b.fields) < 2 ^ 63 → IsWritten s b }
+    ensures { (counts : Bool) (most announced limit : ℕ) (events : List SessionEvent) (s : Session) (b : UndecodedSection)
+        → SessionRun (beginning counts most announced limit) events s → oldest b.stream s.sections ≡ Some b →
+        AllByRecursion IsFieldOfBytes b.fields → section_size b.fields < 2 ^ 62 → length (encoded_section b.encoder b.fields) < 2 ^ 63
+        → IsWritten s b }
 {}
 
 /// A decoder that announced a capacity refuses no instruction of an encoder that set that capacity or a smaller one. After any number of
 /// them it has read as many insertions, without the instruction that sets the capacity, and holds what of them fits.
 pub fn written_instructions_are_accepted()
-    ensures { (checks : Bool) (announced capacity : ℕ) (instructions : List EncoderInstruction) (inserted : List Field) (k : ℕ) → capacity ≤ announced → IsReadAs announced capacity instructions inserted → k ≤ length (opening capacity ++ instructions) →
-        (r : DecoderState) × (decoder_after_all (Some (checking checks (announcing announced))) (take k (opening capacity ++ instructions)) ≡ Some r)
+    ensures { (checks : Bool) (announced capacity : ℕ) (instructions : List EncoderInstruction) (inserted : List Field) (k : ℕ)
+        → capacity ≤ announced → IsReadAs announced capacity instructions inserted → k ≤ length (opening capacity ++ instructions) →
+        (r : DecoderState)
+        × (decoder_after_all (Some (checking checks (announcing announced))) (take k (opening capacity ++ instructions)) ≡ Some r)
         × HasInsertions announced capacity (take (k - length (opening capacity)) inserted) r }
 {}
 
@@ -226,9 +244,11 @@ pub fn written_instructions_are_accepted()
 /// required insert counts that an encoder keeps, a section that was sent adds its own, and no decoder instruction takes one away.
 pub fn sections_leave_their_counts()
     ensures withdrawn { (s : EncoderHistory) (stream : ℕ) (fields : List Field) →
-        withdrawn (sent_section s stream fields) stream (required_insert_count (draft_of (writing_on s stream) fields)) ≡ having_inserted s stream fields }
+        withdrawn (sent_section s stream fields) stream (required_insert_count (draft_of (writing_on s stream) fields))
+        ≡ having_inserted s stream fields }
     ensures sent { (s : EncoderHistory) (stream : ℕ) (fields : List Field) →
-        (sent_section s stream fields).required_insert_counts ≡ s.required_insert_counts ++ required_insert_count (draft_of (writing_on s stream) fields) ∷ [] }
+        (sent_section s stream fields).required_insert_counts ≡ s.required_insert_counts ++ required_insert_count
+        (draft_of (writing_on s stream) fields) ∷ [] }
     ensures read { (s : EncoderHistory) (i : DecoderInstruction) → (encoder_after s i).required_insert_counts ≡ s.required_insert_counts }
 {}
 
@@ -272,15 +292,18 @@ pub fn encoded_sections_are_short()
 pub fn sections_are_no_longer_than_their_lists()
     ensures history { (s : EncoderHistory) (fields : List Field) → s.choices.shortest_strings ≡ true → s.capacity < 2 ^ 30
         → length (encoded_section s fields) ≤ max 2 (section_size fields) }
-    ensures session { (counts : Bool) (most announced limit : ℕ) (events : List SessionEvent) (s : Session) (stream : ℕ) (fields : List Field) → SessionRun (beginning counts most announced limit) events s →
-        s.encoder.announced < 2 ^ 30 → s.encoder.choices.shortest_strings ≡ true → length (encoded_section (writing_on s.encoder stream) fields) ≤ max 2 (section_size fields) }
+    ensures session { (counts : Bool) (most announced limit : ℕ) (events : List SessionEvent) (s : Session) (stream : ℕ)
+        (fields : List Field) → SessionRun (beginning counts most announced limit) events s →
+        s.encoder.announced < 2 ^ 30 → s.encoder.choices.shortest_strings ≡ true
+        → length (encoded_section (writing_on s.encoder stream) fields) ≤ max 2 (section_size fields) }
 {}
 
 /// An instruction of an encoder that a decoder takes is written in at most ten bytes, or in four times the capacity that the decoder
 /// announced. The strings of an entry that fits it may be written in the Huffman code. An instruction of a decoder is one number, of at
 /// most ten bytes (RFC 9204, section 4.1.1).
 pub fn instructions_are_short()
-    ensures taken { (checks : Bool) (announced : ℕ) (instructions : List EncoderInstruction) (r : DecoderState) → decoder_after_all (Some (checking checks (announcing announced))) instructions ≡ Some r →
+    ensures taken { (checks : Bool) (announced : ℕ) (instructions : List EncoderInstruction) (r : DecoderState)
+        → decoder_after_all (Some (checking checks (announcing announced))) instructions ≡ Some r →
         AllByRecursion (λ i. length (encoder_bytes i) ≤ most_instruction announced) instructions }
     ensures replies { (i : DecoderInstruction) → length (decoder_bytes i) ≤ 10 }
 {}
@@ -289,22 +312,27 @@ pub fn instructions_are_short()
 /// count that was answered then, which is above the insertions read. Nothing is refused unless an allocation fails. If the bytes of the
 /// first n insertions were read, n insertions were.
 pub fn every_run_answers_as_expected()
-    ensures { (capacity limit : ℕ) (events : List RunEvent) (answers : List SessionAnswer) (end : ExchangeHistory) → capacity < 2 ^ 30 → Exchange (start capacity limit) events answers end →
+    ensures { (capacity limit : ℕ) (events : List RunEvent) (answers : List SessionAnswer) (end : ExchangeHistory) → capacity < 2 ^ 30
+        → Exchange (start capacity limit) events answers end →
         (s : Session) × Expected (beginning false (2 ^ 30 - 1) capacity limit) events answers s
-        × ((n : ℕ) → n ≤ length s.instructions → length (flat_map encoder_bytes (opening capacity ++ take n s.instructions)) ≤ end.encoder_stream.read → n ≤ s.received) }
+        × ((n : ℕ) → n ≤ length s.instructions
+        → length (flat_map encoder_bytes (opening capacity ++ take n s.instructions)) ≤ end.encoder_stream.read → n ≤ s.received) }
 {}
 
 /// After any number of events as expected, the session is sound, and at most the limit of its sections are blocked.
 pub fn every_expected_session_is_sound()
-    ensures { (counts : Bool) (most announced limit : ℕ) (events : List RunEvent) (answers : List SessionAnswer) (s : Session) → Expected (beginning counts most announced limit) events answers s →
+    ensures { (counts : Bool) (most announced limit : ℕ) (events : List RunEvent) (answers : List SessionAnswer) (s : Session)
+        → Expected (beginning counts most announced limit) events answers s →
         IsSound s × (blocks_out s.encoder ≤ limit) }
 {}
 
 /// After any number of the encoder's instructions the table of a decoder, which takes any capacity up to the announced one, is the
 /// encoder's after as many insertions.
 pub fn tables_agree()
-    ensures { (counts : Bool) (most announced limit : ℕ) (events : List SessionEvent) (s : Session) (k : ℕ) → SessionRun (beginning counts most announced limit) events s → k ≤ length s.instructions →
-        table_after_all s.encoder.announced (Some (table_of s.encoder.capacity [])) (take k s.instructions) ≡ Some (table_of s.encoder.capacity (take k s.encoder.inserted)) }
+    ensures { (counts : Bool) (most announced limit : ℕ) (events : List SessionEvent) (s : Session) (k : ℕ)
+        → SessionRun (beginning counts most announced limit) events s → k ≤ length s.instructions →
+        table_after_all s.encoder.announced (Some (table_of s.encoder.capacity [])) (take k s.instructions) ≡ Some
+        (table_of s.encoder.capacity (take k s.encoder.inserted)) }
 {}
 
 /// What was read of the first bytes is read of all, and then what is left.
@@ -353,7 +381,8 @@ pub fn decoder_bytes_are_their_value()
 /// The instructions that an encoder writes for a section of bytes can be written. Their indexes and strings are small enough for integers
 /// of 62 bits (RFC 9204, section 4.1.1), and each is shorter than memory.
 pub fn instructions_can_be_written()
-    ensures { (s : EncoderHistory) (stream : ℕ) (fields : List Field) → length s.inserted < 2 ^ 62 → AllByRecursion IsFieldOfBytes fields → section_size fields < 2 ^ 56 →
+    ensures { (s : EncoderHistory) (stream : ℕ) (fields : List Field) → length s.inserted < 2 ^ 62 → AllByRecursion IsFieldOfBytes fields
+        → section_size fields < 2 ^ 56 →
         AllByRecursion IsWrittenInstruction (instructions_for (writing_on s stream) fields) }
 {}
 
@@ -361,8 +390,10 @@ pub fn instructions_can_be_written()
 /// next one is left, and is not whole.
 pub fn fronts_of_written_instructions()
     ensures instructions { (all : List EncoderInstruction) (n : ℕ) → AllByRecursion IsWrittenInstruction all →
-        AreInstructions (take n (flat_map encoder_bytes all)) (take (whole_in encoder_bytes n all) all) (rest_in encoder_bytes n all) × (instruction (rest_in encoder_bytes n all) ≡ Unfinished) }
-    ensures decoder { (r new : DecoderState) (all : List EncoderInstruction) (n : ℕ) → AllByRecursion IsWrittenInstruction all → decoder_after_all (Some r) (take (whole_in encoder_bytes n all) all) ≡ Some new →
+        AreInstructions (take n (flat_map encoder_bytes all)) (take (whole_in encoder_bytes n all) all) (rest_in encoder_bytes n all)
+        × (instruction (rest_in encoder_bytes n all) ≡ Unfinished) }
+    ensures decoder { (r new : DecoderState) (all : List EncoderInstruction) (n : ℕ) → AllByRecursion IsWrittenInstruction all
+        → decoder_after_all (Some r) (take (whole_in encoder_bytes n all) all) ≡ Some new →
         hear r (take n (flat_map encoder_bytes all)) ≡ heard new (rest_in encoder_bytes n all) false }
 {}
 
@@ -370,9 +401,12 @@ pub fn fronts_of_written_instructions()
 /// next one is left, and is not whole. All bytes are read as all instructions.
 pub fn fronts_of_written_decoder_instructions()
     ensures instructions { (all : List DecoderInstruction) (n : ℕ) → AllByRecursion IsReply all →
-        AreDecoderInstructions (take n (flat_map decoder_bytes all)) (decoder_instructions_in n all) (rest_in decoder_bytes n all) × (decoder_instruction (rest_in decoder_bytes n all) ≡ Unfinished) }
-    ensures encoder { (s : EncoderHistory) (all : List DecoderInstruction) (n : ℕ) → AllByRecursion IsReply all → AreAccepted s (decoder_instructions_in n all) →
-        listen s (take n (flat_map decoder_bytes all)) ≡ listened (encoder_after_all s (decoder_instructions_in n all)) (rest_in decoder_bytes n all) false }
+        AreDecoderInstructions (take n (flat_map decoder_bytes all)) (decoder_instructions_in n all) (rest_in decoder_bytes n all)
+        × (decoder_instruction (rest_in decoder_bytes n all) ≡ Unfinished) }
+    ensures encoder { (s : EncoderHistory) (all : List DecoderInstruction) (n : ℕ) → AllByRecursion IsReply all
+        → AreAccepted s (decoder_instructions_in n all) →
+        listen s (take n (flat_map decoder_bytes all)) ≡ listened (encoder_after_all s (decoder_instructions_in n all))
+        (rest_in decoder_bytes n all) false }
     ensures all { (all : List DecoderInstruction) (rest : List ℕ) → AllByRecursion IsReply all
         → AreDecoderInstructions (flat_map decoder_bytes all ++ rest) all rest }
 {}

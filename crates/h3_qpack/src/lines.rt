@@ -1,5 +1,6 @@
 //! The field lines of a section, read against a table (RFC 9204, section 4.5).
-ghost use Rattle.std.specs.Prelude.{◌≡◌, ◌+◌, ◌-◌, ◌^◌, ◌<◌, ◌≤◌, true, length, min, bytes_eq, IfSome, IfNone, IfOk, Some, None, MatchResult};
+ghost use Rattle.std.specs.Prelude.{◌≡◌, ◌+◌, ◌-◌, ◌^◌, ◌<◌, ◌≤◌, true, length, min, bytes_eq, IfSome, IfNone, IfOk, Some, None};
+ghost use Rattle.std.specs.Prelude.{MatchResult};
 ghost use Rattle.h3_field.specs.Field.{Field, field_size};
 ghost use Rattle.h3_field.specs.Shapes.{begins};
 ghost use Rattle.h3_field.specs.declared.decoder_error.DecoderError.TheVariants.{InvalidIndex};

@@ -1,5 +1,6 @@
 //! A run of one encoder and one decoder, with a stream of bytes each way (RFC 9204, section 4.2).
-ghost use Rattle.std.specs.Prelude.{◌≡◌, ◌<◌, ◌≤◌, ◌^◌, ℕ, false, Some, None, IfSome, IfNone, IfOk, IfErr, OnOk, OnErr, nat_lt, ◌++◌, [], if◌then◌else◌};
+ghost use Rattle.std.specs.Prelude.{◌≡◌, ◌<◌, ◌≤◌, ◌^◌, ℕ, false, Some, None, IfSome, IfNone, IfOk, IfErr, OnOk, OnErr, nat_lt, ◌++◌, []};
+ghost use Rattle.std.specs.Prelude.{if◌then◌else◌};
 ghost use Rattle.h3_field.specs.Instruction.{decoder_bytes};
 ghost use Rattle.h3_field.specs.Instruction.DecoderInstruction.{Acknowledge};
 ghost use Rattle.std.specs.List.{AllByRecursion, list_any};
@@ -7,7 +8,9 @@ ghost use Rattle.h3_field.specs.Field.{section_size};
 ghost use Rattle.h3_qpack.specs.Meaning.{MeansFields};
 ghost use Rattle.h3_qpack.specs.SectionAnswers.{IsRefusal};
 ghost use Rattle.h3_qpack.specs.RunAnswers.{HasAnswered};
-ghost use Rattle.h3_qpack.specs.Exchange.{ExchangeHistory, ExchangeState, exchange_state, start, is_given_up, is_of, Encodes, DeliversToDecoder, DeliversToEncoder, Decodes, Cancels, Happens, IsEvent, IsPlace, refused_section, IsNoBeginning, IsNoRun};
+ghost use Rattle.h3_qpack.specs.Exchange.{ExchangeHistory, ExchangeState, exchange_state, start, is_given_up, is_of, Encodes};
+ghost use Rattle.h3_qpack.specs.Exchange.{DeliversToDecoder, DeliversToEncoder, Decodes, Cancels, Happens, IsEvent, IsPlace};
+ghost use Rattle.h3_qpack.specs.Exchange.{refused_section, IsNoBeginning, IsNoRun};
 
 use crate::pending_section::PendingSection;
 use crate::{Decoder, DynamicTable, Encoder, ack_header, set_dynamic_table_size, stream_canceled};

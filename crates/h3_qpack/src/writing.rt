@@ -17,7 +17,8 @@ ghost use Rattle.h3_qpack.specs.EncoderState.{MayInsertInto};
 ghost use Rattle.h3_qpack.specs.EncoderHistory.{EncoderHistory};
 ghost use Rattle.h3_qpack.specs.SectionEncoding.{Draft, add_field, draft_of, entry_name_line};
 ghost use Rattle.h3_qpack.specs.Missed.{IsMissed, IsMissedFor};
-ghost use Rattle.h3_qpack.specs.Drafting.{IsOver, IsPossible, line_for, section_after, encoder_state_with, instructions_after, insertion_for, IsDrafted, IsCutOff, IsPutAhead};
+ghost use Rattle.h3_qpack.specs.Drafting.{IsOver, IsPossible, line_for, section_after, encoder_state_with, instructions_after};
+ghost use Rattle.h3_qpack.specs.Drafting.{insertion_for, IsDrafted, IsCutOff, IsPutAhead};
 
 use crate::dynamic::DynamicTable;
 use crate::section::{Choice, Section};
@@ -259,7 +260,8 @@ fn put_field(
     ensures memory { IsOkUnless result OutOfMemory }
     ensures over { OnOk result (IsOver table.new.table section.new) }
     ensures grows { length encoder_buf.old.items ≤ length encoder_buf.new.items }
-    ensures ok { OnOk result ((s : EncoderHistory) (d : Draft) (start : List ℕ) → IsDrafted s d table.old section.old lines.old.items start encoder_buf.old.items →
+    ensures ok { OnOk result ((s : EncoderHistory) (d : Draft) (start : List ℕ)
+        → IsDrafted s d table.old section.old lines.old.items start encoder_buf.old.items →
         IsDrafted s (add_field s d field.now) table.new section.new lines.new.items start encoder_buf.new.items) }
     ensures err { OnErr result ((table.new ≡ table.old) × (encoder_buf.new.items ≡ encoder_buf.old.items)) }
 {
@@ -300,10 +302,12 @@ pub(crate) fn put_fields(
     ensures memory { IsOkUnless result OutOfMemory }
     ensures over { OnOk result (IsOver table.new.table section.new) }
     ensures grows { length encoder_buf.old.items ≤ length encoder_buf.new.items }
-    ensures ok { OnOk result ((s : EncoderHistory) (start : List ℕ) → IsDrafted s (draft_of s []) table.old section.old lines.old.items start encoder_buf.old.items →
+    ensures ok { OnOk result ((s : EncoderHistory) (start : List ℕ)
+        → IsDrafted s (draft_of s []) table.old section.old lines.old.items start encoder_buf.old.items →
         IsDrafted s (draft_of s fields.now) table.new section.new lines.new.items start encoder_buf.new.items) }
     ensures bytes { OnOk result (AllByRecursion IsFieldOfBytes fields.now) }
-    ensures err { OnErr result ((s : EncoderHistory) (start : List ℕ) → IsDrafted s (draft_of s []) table.old section.old lines.old.items start encoder_buf.old.items →
+    ensures err { OnErr result ((s : EncoderHistory) (start : List ℕ)
+        → IsDrafted s (draft_of s []) table.old section.old lines.old.items start encoder_buf.old.items →
         IsCutOff s s fields.now table.new start encoder_buf.new.items) }
 {
     let guards = table.choices().guards_secrets;

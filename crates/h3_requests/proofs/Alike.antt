@@ -1,8 +1,8 @@
 -- What a stream has is what one has that is like it but for the code of a reset.
 use Rattle.std.proofs.Common.{◌≡◌, ℕ, ◌+◌, Bool, true, false, [], refl, sym, ◌∙◌, ap, if◌then◌else◌}
 use Rattle.h3_coding.specs.VarintLaws.{none_at_end}
-use Rattle.h3_wire.specs.FrameLeft.{left_behind_type}
-use Rattle.h3_wire.specs.UnknownSize.{is_under_way}
+use Rattle.h3_frames.specs.FrameLeft.{left_behind_type}
+use Rattle.h3_frames.specs.UnknownSize.{is_under_way}
 use Rattle.std.specs.Prelude.{Option, Some, None, is_some, option_map, unwrap_or, ◌||◌}
 use Rattle.h3_proto.specs.declared.stream.Side.{Side}
 use Rattle.h3_proto.specs.declared.stream.Side.TheVariants.{Client, Server}

@@ -12,7 +12,7 @@ use Rattle.h3_connection.specs.State.{OutgoingState, RequestState, kept_at}
 use Rattle.h3_connection.specs.StreamSets.{Streams, HaveDistinctIds}
 use Rattle.h3_connection.specs.WaitingPieces.{bytes_of, without_front}
 use Rattle.h3_connection.specs.WaitingPieceLaws.{bytes-without}
-use Rattle.h3_wire.specs.Outgoing.{Outgoing as Piece}
+use Rattle.h3_frames.specs.Outgoing.{Outgoing as Piece}
 use Rattle.h3_outgoing.specs.Sent.{end_waits, has_body, has_end_taken, is_end_next, is_open, takes_end}
 use Rattle.h3_requests.specs.Classes.{class_at, class_of}
 use Rattle.h3_requests.specs.Waiting.{has_place, is_any, is_any_below, is_waiting, IsOnePlace, KeepsOtherPlaces}

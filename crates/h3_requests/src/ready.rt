@@ -94,8 +94,8 @@ impl ReadyStreams {
         self.bytes.release(class, reserved);
     }
 
-    /// Room for a stream of this class on which a header section goes out, for its bytes and for its end, if it has none. What is ready stays
-    /// as it was.
+    /// Room for a stream of this class on which a header section goes out, for its bytes and for its end, if it has none. What is ready
+    /// stays as it was.
     #[inline(always)]
     pub(crate) fn reserve_both(&mut self, class: u64, id: StreamId) -> Result<(), AllocError>
         requires { class ≤ 16 }

@@ -10,8 +10,8 @@ use std::marker::Model;
 /// So many blocks are kept at most: some 30 KB, however many streams there were at once.
 const MOST: usize = 64;
 
-/// The blocks that are kept, with a stream in each on which nothing has happened: so streams that come and go, one after the other or many at
-/// once, take no new block each time.
+/// The blocks that are kept, with a stream in each on which nothing has happened: so streams that come and go, one after the other or many
+/// at once, take no new block each time.
 #[derive(Drop)]
 pub(crate) struct Spare {
     streams: Vec<BoxedStream>,

@@ -1,10 +1,12 @@
 //! Request streams on which something waits, found in the order of their ids: bytes, or an end.
-ghost use Rattle.std.specs.Prelude.{◌≡◌, ◌≢◌, ◌<◌, ◌≤◌, ◌+◌, ◌*◌, ◌/◌, ◌%◌, ◌^◌, ◌==◌, ℕ, true, false, bit_and, bit_or, IfSome, IfNone, OnOk, OnErr};
+ghost use Rattle.std.specs.Prelude.{◌≡◌, ◌≢◌, ◌<◌, ◌≤◌, ◌+◌, ◌*◌, ◌/◌, ◌%◌, ◌^◌, ◌==◌, ℕ, true, false, bit_and, bit_or, IfSome, IfNone};
+ghost use Rattle.std.specs.Prelude.{OnOk, OnErr};
 ghost use Rattle.std.specs.Int.{bit_not, w64};
 ghost use Rattle.h3_connection.specs.NextWaiting.{IsLeast};
 ghost use Rattle.h3_requests.specs.FirstWord.{IsFirstWord};
 ghost use Rattle.h3_requests.specs.Lesser.{lesser_of};
-ghost use Rattle.h3_requests.specs.Waiting.{has_place, is_any, is_waiting, places_at, waiting_at, word_at_number, IsClassFrom, IsFirstClass, IsOnePlace, IsOneWord, HaveSameWords, KeepsOtherPlaces, PutIf};
+ghost use Rattle.h3_requests.specs.Waiting.{has_place, is_any, is_waiting, places_at, waiting_at, word_at_number, IsClassFrom};
+ghost use Rattle.h3_requests.specs.Waiting.{IsFirstClass, IsOnePlace, IsOneWord, HaveSameWords, KeepsOtherPlaces, PutIf};
 
 use h3_proto::stream::StreamId;
 use std::alloc::{AllocError, Global};

@@ -9,11 +9,12 @@ ghost use Rattle.h3_scheduler.specs.Streams.{next_of, Streams};
 ghost use Rattle.h3_scheduler.specs.Turns.{turns_in, Turn, Waits};
 ghost use Rattle.h3_scheduler.specs.declared.round.Round.{Round};
 
-/// Nobody starves: while a stream waits for its turn, whatever becomes of the streams, and those of its urgency send in their turns, none of
-/// these has a third turn. So it is also if streams come again and again.
+/// Nobody starves: while a stream waits for its turn, whatever becomes of the streams, and those of its urgency send in their turns, none
+/// of these has a third turn. So it is also if streams come again and again.
 #[tactic(auto, using(crate::proofs::ThirdTurn::two_at_most))]
 pub fn none_has_a_third_turn()
-    ensures { (urgency waiting id : ℕ) (rounds : List Round) (turns : List Turn) → urgency < length rounds → Waits urgency waiting rounds turns
+    ensures { (urgency waiting id : ℕ) (rounds : List Round) (turns : List Turn) → urgency < length rounds
+        → Waits urgency waiting rounds turns
         → turns_in urgency id turns ≤ 2 }
 {}
 
@@ -34,7 +35,8 @@ pub fn none_has_a_third_turn_by_next()
 /// Whose turn it is over places is who sends next of the list of streams whose places these are. So the laws below are those of it, too.
 #[tactic(auto, using(crate::proofs::Turning::next_is))]
 pub fn the_next_is_that_of_the_list()
-    ensures { (places : Places) (streams : Streams) (rounds : List Round) (found : Option ℕ) → ArePlaces places streams → IsNext places rounds found
+    ensures { (places : Places) (streams : Streams) (rounds : List Round) (found : Option ℕ) → ArePlaces places streams
+        → IsNext places rounds found
         → found ≡ next_of rounds streams }
 {}
 

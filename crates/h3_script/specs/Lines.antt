@@ -14,14 +14,14 @@ use Rattle.h3_connection.specs.declared.event.Refusal.{Refusal}
 use Rattle.h3_connection.specs.declared.event.Refusal.TheVariants as refusal
 use Rattle.h3_connection.specs.declared.event.PeerLimits.{PeerLimits}
 use Rattle.h3_connection.specs.declared.event.TableSizes.{TableSizes}
+use Rattle.h3_connection.specs.declared.lists.ListItem.{ListItem}
+use Rattle.h3_connection.specs.declared.lists.ListItem.TheVariants as list_item
+use Rattle.h3_connection.specs.declared.lists.ListPull.{ListPull}
+use Rattle.h3_connection.specs.declared.lists.ListPull.TheVariants as list_pull
 use Rattle.h3_script.specs.declared.text.Behind.{Behind}
 use Rattle.h3_script.specs.declared.text.Behind.TheVariants as behind
 use Rattle.h3_world.specs.declared.event.Answer.{Answer}
 use Rattle.h3_world.specs.declared.event.Answer.TheVariants as answer
-use Rattle.h3_world.specs.declared.lists.ListItem.{ListItem}
-use Rattle.h3_world.specs.declared.lists.ListItem.TheVariants as list_item
-use Rattle.h3_world.specs.declared.lists.ListPull.{ListPull}
-use Rattle.h3_world.specs.declared.lists.ListPull.TheVariants as list_pull
 
 -- the name of a refusal, with the code, the id, the size or the rule that it carries
 abbrev pub refusal_text : Refusal → List ℕ

@@ -2,7 +2,8 @@
 ghost use Rattle.std.specs.Prelude.{◌≡◌, IfOk, IfErr, option_map};
 ghost use Rattle.h3_script.specs.Pieces.{texts};
 ghost use Rattle.h3_script.specs.BodyLine.{body_of};
-ghost use Rattle.h3_script.specs.ScriptLine.{is_skipped, config_of, setup_by, setup_of, side_event, number_event, deliver_event, short_event, IsSectionEvent, SaysWords, SaysSetup, SaysEvent, Denies};
+ghost use Rattle.h3_script.specs.ScriptLine.{is_skipped, config_of, setup_by, setup_of, side_event, number_event, deliver_event};
+ghost use Rattle.h3_script.specs.ScriptLine.{short_event, IsSectionEvent, SaysWords, SaysSetup, SaysEvent, Denies};
 ghost use Rattle.h3_world.specs.Setup.{Setup as Made};
 ghost use Rattle.h3_world.specs.declared.event.Event.{Event as Does};
 

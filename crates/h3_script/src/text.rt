@@ -1,16 +1,17 @@
 //! The lines that answers are printed as.
 ghost use Rattle.std.specs.Prelude.{◌≡◌, ◌++◌, string_bytes, IfOk, OnOk};
 ghost use Rattle.std.specs.Fmt.{decimal};
-ghost use Rattle.h3_script.specs.Lines.{answer_line, pull_line, item_line, list_item_line, list_pull_line, section_line, field_word, limits_words, lossy, refusal_text, shown_line, tables_words, with_behind};
+ghost use Rattle.h3_script.specs.Lines.{answer_line, pull_line, item_line, list_item_line, list_pull_line, section_line, field_word};
+ghost use Rattle.h3_script.specs.Lines.{limits_words, lossy, refusal_text, shown_line, tables_words, with_behind};
 ghost use Rattle.h3_header.specs.Head.{head_fields};
 
 use bstr::BStr;
 use h3_connection::event::{Fault, Item, Malformation, PeerLimits, Pull, Refusal, TableSizes};
+use h3_connection::lists::{ListItem, ListPull};
 use h3_field::{FieldBlock, HeaderField};
 use h3_header::Header;
 use h3_proto::error::Code;
 use h3_world::event::Answer;
-use h3_world::lists::{ListItem, ListPull};
 use std::alloc::{AllocError, Global};
 use std::fmt;
 use std::fmt::Write;

@@ -1,15 +1,16 @@
 -- An id of a request is passed over, and a fault that was found elsewhere closes an endpoint.
 use Rattle.std.proofs.Common.{◌≡◌, ◌≤◌, ◌^◌, ◌+◌, ℕ, Some, None, refl, sym, subst, ap, ◌∙◌, Ok, Err}
-use Rattle.std.specs.Prelude.{nat_le, unwrap_or, Option}
+use Rattle.std.specs.Prelude.{nat_le, unwrap_or, Option, Bool, is_some}
 use Rattle.std.proofs.lemmas.Bool.{le-leb}
 use Rattle.h3_connection.specs.Endpoint.{EndpointHistory}
+use Rattle.h3_connection.specs.Keeping.{arrival_refusal}
 use Rattle.h3_connection.specs.Lasts.{last_id}
 use Rattle.h3_connection.specs.Sending.{open_refusal}
 use Rattle.h3_connection.specs.StandsLaws.{own_same, reached_same}
 use Rattle.h3_connection.specs.State.{EndpointState, StandsFor}
 use Rattle.h3_connection.specs.declared.event.Refusal.{Refusal}
 use Rattle.h3_connection.specs.declared.event.Refusal.TheVariants as refusal
-use Rattle.h3_session.specs.Beside.{ClosesFor, TakesId, closed_for}
+use Rattle.h3_session.specs.Beside.{ClosesFor, ShowsEnd, TakesId, closed_for}
 use Rattle.h3_session.specs.Refused.{open_refused}
 use Rattle.h3_session.proofs.NextRequest.{used_up}
 use Rattle.h3_session.proofs.Opened.{stands_closed}
@@ -73,3 +74,7 @@ pub closes_now : (s : EndpointState) (code : ℕ) → s.closed ≡ None → Clos
 closes_now s code is = λ e h.
     let was : e.closed ≡ None = sym h.closed ∙ is in
     subst (StandsFor (record s { closed = Some code })) (ap (λ c. record e { closed = Some (unwrap_or c code) }) (sym was)) (stands_closed s e code h)
+
+-- what refuses arrivals on a stream
+pub shows_end : (s : EndpointState) (id : ℕ) (why : Option Refusal) (ended : Bool) → ((e : EndpointHistory) → StandsFor s e → why ≡ arrival_refusal e id) → ended ≡ is_some why → ShowsEnd s id ended
+shows_end s id why ended is told e h = told ∙ ap is_some (is e h)

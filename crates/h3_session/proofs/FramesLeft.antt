@@ -1,7 +1,7 @@
 -- How much of a frame is still to come: by what is stored, as the definitions count it.
 use Rattle.std.proofs.Common.{◌≡◌, ℕ, Bool, true, false, if◌then◌else◌, List, ap, refl, sym, ◌∙◌}
 use Rattle.std.specs.Prelude.{is_some, option_map, unwrap_or}
-use Rattle.h3_wire.specs.FrameLeft.{left_of_frame}
+use Rattle.h3_frames.specs.FrameLeft.{left_of_frame}
 use Rattle.h3_connection.specs.Delivering.{incoming_at}
 use Rattle.h3_connection.specs.Endpoint.{EndpointHistory, Kind, kind_of, is_read_as}
 use Rattle.h3_connection.specs.FrameLeft.{ShowsFrameLeft, frame_left_at, frame_left_of_peer, frame_left_of_request}

@@ -9,12 +9,11 @@ use Rattle.h3_connection.specs.declared.event.Malformation.{Malformation}
 use Rattle.h3_connection.specs.declared.event.Refusal.{Refusal}
 use Rattle.h3_connection.specs.declared.event.Refusal.TheVariants as refusal
 use Rattle.h3_connection.specs.declared.place.SendPlace.{SendPlace}
-use Rattle.h3_connection.specs.declared.place.SendPlace.TheVariants.{NothingSent, HeadSent, TrailerSent}
+use Rattle.h3_connection.specs.declared.place.SendPlace.TheVariants.{NothingSent, HeadSent}
 use Rattle.h3_messages.specs.Outline.{IsOutlined, outline_of}
 use Rattle.h3_messages.specs.declared.outline.Outline.{Outline}
 use Rattle.h3_proto.specs.declared.stream.Side.{Side}
 use Rattle.h3_proto.specs.declared.stream.Side.TheVariants.{Client, Server}
-use Rattle.h3_session.proofs.Remembering.{before_trailer}
 use Rattle.h3_session.specs.JudgedLists.{IsHeadAt, IsTrailer, head_list_refusal, is_sent_outline, trailer_list_refusal}
 use Rattle.h3_session.specs.SendingLists.{malformed}
 
@@ -37,10 +36,6 @@ head_of_other side (IsHead h) o e is sent wrong =
     let theirs : is_for (other side) h ≡ false = sym (sent_for side h) ∙ ap (is_sent_outline side) (sym is) ∙ sent in
     ap refused_by theirs ∙ ap Some (sym wrong)
 head_of_other side (IsNone why) o e is sent wrong = absurd is
-
-pub head_place : (side : Side) (r : HeadRead) (place : SendPlace) → IsHeadAt side r place → place ≢ TrailerSent
-head_place side (IsHead h) place at = before_trailer (is_interim h.status) place at.1
-head_place side (IsNone why) place at = absurd at
 
 abbrev pseudo_by : Bool → Option Refusal
 pseudo_by b = if b then Some refusal.PseudoInTrailer else None

@@ -2,7 +2,7 @@
 use Rattle.std.proofs.Common.{◌≡◌, ℕ, Bool, true, false, Option, Some, ap, subst}
 use Rattle.std.specs.Prelude.{option_map}
 use Rattle.std.specs.List.{concat}
-use Rattle.h3_wire.specs.UnreadFrames.{UnreadFrames}
+use Rattle.h3_frames.specs.UnreadFrames.{UnreadFrames}
 use Rattle.h3_connection.specs.Endpoint.{is_read_as}
 use Rattle.h3_connection.specs.State.{EndpointState, kept_at}
 use Rattle.h3_session.specs.Frames.{FramesAt, LendsFrames}

@@ -8,6 +8,7 @@ pub mod Taking
 pub mod Next
 pub mod NextRequest
 pub mod Beside
+pub mod Dropping
 pub mod Draining
 pub mod Starting
 pub mod SectionsSent

@@ -18,14 +18,14 @@ use Rattle.h3_connection.specs.declared.event.Fault.TheVariants as fault
 use Rattle.h3_connection.specs.declared.event.Refusal.{Refusal}
 use Rattle.h3_connection.specs.declared.event.Refusal.TheVariants as refusal
 use Rattle.h3_connection.specs.Keeping.{pulls}
+use Rattle.h3_connection.specs.Lists.{list_of, listed_pull, pull_of}
+use Rattle.h3_connection.specs.declared.lists.ListItem.TheVariants as listed
+use Rattle.h3_connection.specs.declared.lists.ListPull.{ListPull}
+use Rattle.h3_connection.specs.declared.lists.ListPull.TheVariants as list
 use Rattle.h3_incoming.specs.Answering.{Lists}
 use Rattle.h3_world.specs.EndLists as lists
 use Rattle.h3_world.specs.Ends.{Ends, done}
 use Rattle.h3_world.specs.Headline.{is_out_of_memory}
-use Rattle.h3_world.specs.Lists.{list_of, listed_pull, pull_of}
-use Rattle.h3_world.specs.declared.lists.ListItem.TheVariants as listed
-use Rattle.h3_world.specs.declared.lists.ListPull.{ListPull}
-use Rattle.h3_world.specs.declared.lists.ListPull.TheVariants as list
 use Rattle.h3_world.specs.declared.event.Answer.{Answer}
 use Rattle.h3_world.specs.declared.event.Answer.TheVariants as answer
 use Rattle.h3_world.specs.declared.event.Event.TheVariants as does

@@ -25,7 +25,7 @@ use Rattle.h3_connection.specs.declared.place.SendPlace.{SendPlace}
 use Rattle.h3_connection.specs.declared.place.SendPlace.TheVariants.{NothingSent, HeadSent, TrailerSent}
 use Rattle.h3_requests.specs.Refused.{head_refused_at, body_refused_at, early_trailer_at, known_in}
 use Rattle.h3_session.proofs.Opened.{stands_same}
-use Rattle.h3_session.specs.SendingLists.{IsJudgedOr, NotMalformed, SendsJudged, SendsJudgedHead, SendsJudgedTrailer, SendsListedHead, SendsListedTrailer, after_head, after_trailer, listed_head_refusal, listed_trailer_refusal, send_listed_head, send_listed_trailer}
+use Rattle.h3_session.specs.SendingLists.{IsJudgedOr, NotMalformed, SendsJudged, SendsJudgedHead, SendsJudgedTrailer, SendsListedHead, SendsListedTrailer, after_head, after_trailer, listed_head_refusal, listed_trailer_refusal, refusal_after, send_listed_head, send_listed_trailer}
 use Rattle.h3_session.specs.Refused.{list_refused, refused_behind, broken_behind, own_head_refused, own_trailer_refused, head_refused, trailer_refused, going_refused, head_refused_in, broken_head_in}
 use Rattle.h3_session.proofs.ReceivingCancel.{requests_same}
 use Rattle.h3_session.specs.SendingFields.{IsPart, SendsFields, asking}
@@ -265,11 +265,17 @@ head_unreserved s n id head fields later r closed is rest same why =
     (subst (λ r. SendsListedHead s (record s { requests = n.requests }) id head fields (Err r)) (sym (why ∙ ap (λ l. unwrap_or (or_later (head_refused_in s id) l) refusal.OutOfMemory) is))
     (section_alike (λ e. send_listed_head e id head fields) s id fields n.requests same (unwrap_or rule refusal.OutOfMemory) (head_refused_by s id head fields rule (head_open s id head closed))))
 
--- its fields could not be listed,
-pub head_unlisted : (s n : EndpointState) (id : ℕ) (head : Head) (fields : List Field) (later : Option Refusal) → s.closed ≡ None → later ≡ own_head_refused s.announced s.side head → n ≡ record s { requests = n.requests } → AllSame s.requests n.requests
-    → or_later (head_refused_in s id) later ≡ None → SendsListedHead s n id head fields (Err refusal.OutOfMemory)
-head_unlisted s n id head fields later closed is rest same none =
-    head_unreserved s n id head fields later refusal.OutOfMemory closed is rest same (ap (λ o. unwrap_or o refusal.OutOfMemory) (sym none))
+-- it was refused before room was asked for: the stream's own refusal comes first,
+all_here : {X : Type 0} (streams : Streams X) → AllSame streams streams
+all_here streams = record { each = λ q. refl }
+
+after_is : (first later : Option Refusal) → refusal_after first (unwrap_or later refusal.OutOfMemory) ≡ unwrap_or (or_later first later) refusal.OutOfMemory
+after_is (Some r) later = refl
+after_is None later = refl
+
+pub head_refused_first : (s : EndpointState) (id : ℕ) (head : Head) (fields : List Field) (later : Option Refusal) (r : Refusal) → s.closed ≡ None → later ≡ own_head_refused s.announced s.side head
+    → r ≡ refusal_after (head_refused_in s id) (unwrap_or later refusal.OutOfMemory) → SendsListedHead s s id head fields (Err r)
+head_refused_first s id head fields later r closed is told = head_unreserved s s id head fields later r closed is refl (all_here s.requests) (told ∙ after_is (head_refused_in s id) later)
 
 -- or they were sent
 pub head_sent : (s m n : EndpointState) (id : ℕ) (head : Head) (later : Option Refusal) (given fields : List Field) (place : SendPlace) (result : Result Unit Refusal) → s.closed ≡ None → later ≡ own_head_refused s.announced s.side head

@@ -116,9 +116,10 @@ pub order_refusal_is : (s : EndpointState) (e : EndpointHistory) (id : ℕ) → 
 order_refusal_is s e id h =
     ap (λ c. closed_or c (body_refused_at (kept_at s.requests id))) h.closed ∙ ap (λ v. closed_or e.closed (first_of (not_next v v.takes_body []))) (seen_same s e id h)
 
-pub later_twice : (first second third : Option Refusal) → or_later (or_later first second) third ≡ or_later first (or_later second third)
-later_twice (Some r) second third = refl
-later_twice None second third = refl
+-- with nothing judged behind it
+pub none_later : (first : Option Refusal) → or_later first None ≡ first
+none_later (Some r) = refl
+none_later None = refl
 
 -- with the GOAWAY behind it
 then_going : (a b : Bool) (p q : Refusal) (going : Option ℕ) → or_later (first_of ((a, p) ∷ (b, q) ∷ [])) (first_of (unless_going going [])) ≡ first_of ((a, p) ∷ (b, q) ∷ unless_going going [])

@@ -1,7 +1,7 @@
 -- What a new endpoint stores stands for the history of a new endpoint.
 use Rattle.std.proofs.Common.{arith, ◌≡◌, ℕ, Bool, true, false, List, [], None, refl, sym, subst, append-nil}
 use Rattle.h3_coding.specs.Encodings.{encoding}
-use Rattle.h3_wire.specs.StreamHeaders.{control_encoding}
+use Rattle.h3_frames.specs.ControlStreams.{control_encoding}
 use Rattle.h3_proto.specs.declared.stream.Side.{Side}
 use Rattle.h3_proto.specs.declared.stream.Side.TheVariants.{Client, Server}
 use Rattle.h3_connection.specs.declared.arrival.Arrival.{Arrival}

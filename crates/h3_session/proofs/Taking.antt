@@ -7,7 +7,7 @@ use Rattle.std.specs.List.{AllByRecursion}
 use Rattle.h3_coding.specs.Encodings.{IsByte, encoding}
 use Rattle.h3_coding.specs.EncodingLaws.{opened, encoding_is_valid}
 use Rattle.h3_coding.specs.Opened.{Opened}
-use Rattle.h3_wire.specs.Outgoing.{Outgoing as Piece, all_of, first_of_both}
+use Rattle.h3_frames.specs.Outgoing.{Outgoing as Piece, all_of, first_of_both}
 use Rattle.h3_outgoing.specs.HistoryLaws.{waits, advanced}
 use Rattle.h3_outgoing.specs.Held.{AreApart, front_of, past_of}
 use Rattle.h3_outgoing.specs.HeldLaws.{begins, cut, front_bytes, front_in, front_out}

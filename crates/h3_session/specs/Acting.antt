@@ -10,15 +10,15 @@ use Rattle.h3_connection.specs.Shown.{has_outgoing, waiting, is_finished, is_res
 use Rattle.h3_connection.specs.State.{EndpointState, StandsFor}
 use Rattle.h3_connection.specs.declared.event.DeliverError.{DeliverError}
 use Rattle.h3_connection.specs.declared.event.Refusal.TheVariants as refusal
+use Rattle.h3_connection.specs.declared.lists.ListPull.{ListPull}
+use Rattle.h3_connection.specs.Lists.{list_of, pull_of}
 use Rattle.h3_world.specs.declared.event.Event.{Event}
 use Rattle.h3_world.specs.declared.event.Event.TheVariants as event
 use Rattle.h3_world.specs.declared.event.Answer.{Answer}
 use Rattle.h3_world.specs.declared.event.Answer.TheVariants as answer
-use Rattle.h3_world.specs.declared.lists.ListPull.{ListPull}
 use Rattle.h3_world.specs.Delivering.{reset_code}
 use Rattle.h3_world.specs.Ends.{Ends}
 use Rattle.h3_world.specs.Headline.{is_out_of_memory}
-use Rattle.h3_world.specs.Lists.{list_of, pull_of}
 use Rattle.h3_session.specs.Listing.{ListsNext}
 use Rattle.h3_session.specs.SendingLists.{SendsFieldList, SendsTrailerList}
 use Rattle.h3_session.specs.Running.{Carried, Carries, Shown, answer_of, body_answer, bytes_go, done_answer, end_goes, is_stored, opened_answer, reset_goes, told_answer}

@@ -1,7 +1,7 @@
 -- The bytes of a stream of frames that were not read, as they lie.
 use Rattle.std.specs.Prelude.{◌≡◌, ℕ, Bool, true, false, Option, Some, option_map}
 use Rattle.std.specs.List.{concat}
-use Rattle.h3_wire.specs.UnreadFrames.{UnreadFrames}
+use Rattle.h3_frames.specs.UnreadFrames.{UnreadFrames}
 use Rattle.h3_connection.specs.Endpoint.{is_read_as}
 use Rattle.h3_connection.specs.State.{EndpointState, kept_at}
 

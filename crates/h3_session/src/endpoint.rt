@@ -120,8 +120,8 @@ impl Endpoint {
         Ok(endpoint)
     }
 
-    /// The same of what is announced, with a table of at most 2^30 - 1 bytes. (It stands in its callers: an endpoint that is returned is cleared
-    /// and moved by each call.)
+    /// The same of what is announced, with a table of at most 2^30 - 1 bytes. (It stands in its callers: an endpoint that is returned is
+    /// cleared and moved by each call.)
     #[inline(always)]
     pub fn announcing(
         alloc: Global,

@@ -114,10 +114,13 @@ pub fn strict_endpoints_send_no_broken_field_list()
 /// out of memory are the answers of two endpoints of the definitions with the bytes carried between them (`each`). If none does, what is
 /// stored stands for these (`whole`).
 pub fn calls_are_steps_of_two_endpoints()
-    ensures steps { (ends : Ends) (events : List Event) (answers : List Answer) (client server : EndpointState) → RunsByCalls ends events answers client server →
+    ensures steps { (ends : Ends) (events : List Event) (answers : List Answer) (client server : EndpointState)
+        → RunsByCalls ends events answers client server →
         (new : Ends) × EndsRun ends events answers new × StandsFor client new.client × StandsFor server new.server }
-    ensures each { (ends : Ends) (events : List Event) (answers : List Answer) (client server : EndpointState) → RunsByCalls ends events answers client server → AnswersEach ends events answers }
-    ensures whole { (ends : Ends) (events : List Event) (answers : List Answer) (client server : EndpointState) → RunsByCalls ends events answers client server → list_any is_out_of_memory answers ≡ false →
+    ensures each { (ends : Ends) (events : List Event) (answers : List Answer) (client server : EndpointState)
+        → RunsByCalls ends events answers client server → AnswersEach ends events answers }
+    ensures whole { (ends : Ends) (events : List Event) (answers : List Answer) (client server : EndpointState)
+        → RunsByCalls ends events answers client server → list_any is_out_of_memory answers ≡ false →
         RunsTo ends events answers client server }
 {}
 
@@ -129,7 +132,8 @@ ghost use Rattle.h3_session.specs.Typed.{IsTyped};
 /// The events of a schedule within the bound of `run` may be sent: what the laws of two endpoints ask for, of any sides, and of plain ones.
 pub fn schedules_within_bounds_may_be_sent()
     ensures any { (events : List Event) → AllByRecursion IsTyped events → AreSmall events → AllByRecursion (IsSendableBy true) events }
-    ensures plain { (setup : Setup) (events : List Event) → AllByRecursion IsTyped events → AreSmall events → ArePlain setup events → AllByRecursion (IsSendable setup) events }
+    ensures plain { (setup : Setup) (events : List Event) → AllByRecursion IsTyped events → AreSmall events → ArePlain setup events
+        → AllByRecursion (IsSendable setup) events }
 {}
 
 ghost use Rattle.std.specs.Prelude.{Result};
@@ -141,8 +145,10 @@ ghost use Rattle.h3_session.specs.SendingLists.{SendsFieldList, SendsTrailerList
 /// A list that is sent, as a header section or as a trailer, leaves an endpoint with its bounds, and so does a call that changes nothing.
 /// So each call of an endpoint does, by its contract alone, whether it was answered, refused, or out of memory (`endpoints_stay_bounded`).
 pub fn lists_leave_endpoints_bounded()
-    ensures fields { (old new : EndpointState) (id : ℕ) (fields : List Field) (result : Result Unit Refusal) → SendsFieldList old new id fields result → StandsBounded old → StandsBounded new }
-    ensures trailer { (old new : EndpointState) (id : ℕ) (fields : List Field) (result : Result Unit Refusal) → SendsTrailerList old new id fields result → StandsBounded old → StandsBounded new }
+    ensures fields { (old new : EndpointState) (id : ℕ) (fields : List Field) (result : Result Unit Refusal)
+        → SendsFieldList old new id fields result → StandsBounded old → StandsBounded new }
+    ensures trailer { (old new : EndpointState) (id : ℕ) (fields : List Field) (result : Result Unit Refusal)
+        → SendsTrailerList old new id fields result → StandsBounded old → StandsBounded new }
     ensures same { (old new : EndpointState) → IsSame old new → StandsBounded old → StandsBounded new }
 {
     h3_connection::laws::tries_and_waiting_streams_are_bounded();
@@ -164,7 +170,8 @@ ghost use Rattle.h3_session.specs.declared.endpoint.datagrams.DatagramRead.TheVa
 /// What an endpoint writes in front of the payload of a datagram is read by its peer as the id of the same stream (RFC 9297, section 2.1),
 /// whatever the payload is. Of the peer it is asked that both sides announced datagrams to it, and that the stream is open to receive.
 pub fn datagrams_read_back()
-    ensures { (sender peer : EndpointHistory) (id : ℕ) (head payload : List ℕ) → id < 2 ^ 62 → datagram_head sender id ≡ Ok head → TakesDatagrams peer id
+    ensures { (sender peer : EndpointHistory) (id : ℕ) (head payload : List ℕ) → id < 2 ^ 62 → datagram_head sender id ≡ Ok head
+        → TakesDatagrams peer id
         → read_datagram peer (head ++ payload) ≡ (For id (length head), peer) }
 {
     h3_capsule::laws::datagrams_read_back();
@@ -173,8 +180,8 @@ pub fn datagrams_read_back()
 ghost use Rattle.h3_strict.specs.Limits.{EarlyAreTaken};
 ghost use Rattle.h3_strict.specs.Tallies.{JudgesStrictly};
 
-/// A side without a limit on what is unfinished takes each list that comes, whenever it was sent. So of two such sides the laws of limits ask
-/// nothing of what is sent before the settings came.
+/// A side without a limit on what is unfinished takes each list that comes, whenever it was sent. So of two such sides the laws of limits
+/// ask nothing of what is sent before the settings came.
 pub fn sides_without_limits_take_all()
     ensures { (setup : Setup) (ends : Ends) (events : List Event) → JudgesStrictly setup → EarlyAreTaken setup ends events }
 {}
@@ -190,5 +197,6 @@ pub fn events_are_reported_once()
     ensures ends { (e : EndpointHistory) (seen : EventsSeen) → next_event e (asked_once e (asked_once e seen)) ≡ None }
     ensures all { (e : EndpointHistory) (seen : EventsSeen) → next_event e seen ≡ None → IsAllReported e seen }
     ensures settings { (e : EndpointHistory) (seen : EventsSeen) → next_event e seen ≡ Some Settings → is_some e.peer.settings ≡ true }
-    ensures goaway { (e : EndpointHistory) (seen : EventsSeen) (id : ℕ) → next_event e seen ≡ Some (Goaway id) → last_id e.peer.goaways ≡ Some id }
+    ensures goaway { (e : EndpointHistory) (seen : EventsSeen) (id : ℕ) → next_event e seen ≡ Some (Goaway id)
+        → last_id e.peer.goaways ≡ Some id }
 {}

@@ -5,7 +5,7 @@
 //!
 //! - An endpoint is made for a `Side`, by a `Config` and the `Limits` of its decoder, unless a `NewError` refuses them.
 //! - Messages are a `Header`, `Bytes` and perhaps a `Header` again; a stream is named by a `StreamId`.
-//! - A `Pull` is an `Item`, a pause or a `Fault`, and a `FieldsPull` the same with lists of fields in the place of headers. A `BlockPull`
+//! - A `Pull` is an `Item`, a pause or a `Fault`, and a `ListPull` the same with lists of fields in the place of headers. A `BlockPull`
 //!   has these in a block of memory that serves again. A call that is refused answers a `Refusal`, a delivery a `DeliverError`.
 //! - `run::run` drives two endpoints, made by a `Setup`, over a list of `Event`s, and gives an `Answer` for each. What a client and a
 //!   server may count on with each other is its contract.
@@ -25,11 +25,13 @@ pub use h3_coding::varint::VarInt;
 pub use h3_connection::event::{
     DeliverError, Fault, Item, Malformation, PeerLimits, Pull, Refusal, StreamFault, TableSizes,
 };
+pub use h3_connection::lists::{ListItem, ListPull};
 pub use h3_connection::setup::{Announced, Limits, NewError};
 pub use h3_field::{FieldBlock, FieldRef, Fields, HeaderField};
+pub use h3_frames::frame::FrameBuffer;
 pub use h3_header::{Header, HeaderError, Protocol};
 pub use h3_incoming::answer::{MessageKind, Plain};
-pub use h3_incoming::{BlockPull, BodyPlace, FieldsItem, FieldsPull, Told};
+pub use h3_incoming::{BlockPull, BodyPlace, Told};
 pub use h3_priority::priority::Priority;
 pub use h3_proto::config::{Choices, Config};
 pub use h3_proto::error::Code;
@@ -37,6 +39,5 @@ pub use h3_proto::frame::{SettingId, Settings, SettingsError};
 pub use h3_proto::stream::{InvalidStreamId, Side, StreamId};
 pub use h3_proto::webtransport::SessionId;
 pub use h3_unidirectional::stream::Kind;
-pub use h3_wire::frame::FrameBuffer;
 pub use h3_world::event::{Answer, Event};
 pub use h3_world::setup::Setup;

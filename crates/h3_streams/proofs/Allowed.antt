@@ -7,7 +7,7 @@ use Rattle.h3_connection.specs.PeerReading.{Peer, with_unread}
 use Rattle.h3_unidirectional.specs.Fronts.{KeepsPart}
 use Rattle.h3_unidirectional.specs.Learned.{capacity_of, blocked_of, usable_capacity}
 use Rattle.h3_connection.specs.PeerReadingLaws.{nothing_read_on}
-use Rattle.h3_wire.specs.declared.frame.kinds.FrameKinds.{FrameKinds}
+use Rattle.h3_frames.specs.declared.frame.kinds.FrameKinds.{FrameKinds}
 
 -- nothing was read
 pub nothing_read : (kinds : FrameKinds) (last : Bool) (limit : ℕ) (side : Side) (p : Peer) → KeepsPart kinds last limit side p p

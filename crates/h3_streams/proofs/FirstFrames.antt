@@ -15,7 +15,7 @@ use Rattle.h3_connection.specs.Control.{are_refused, if_learned, is_table_usable
 use Rattle.h3_connection.specs.KeptGoawayLaws.{peer_twice, reads_alike}
 use Rattle.h3_connection.specs.StrictConnection.{is_strict, kinds_of, settings_refused}
 use Rattle.h3_connection.specs.StrictConnectionLaws.{held_refused, held_taken, still_first}
-use Rattle.h3_wire.specs.FirstFrames.{begins_other}
+use Rattle.h3_frames.specs.FirstFrames.{begins_other}
 use Rattle.h3_connection.specs.Delivering.{unidirectional_at}
 use Rattle.h3_connection.specs.Endpoint.{EndpointHistory, limit_of, kind_of}
 use Rattle.h3_connection.specs.Endpoint.Kind.{PeerUnidirectional}
@@ -36,7 +36,7 @@ use Rattle.h3_streams.proofs.Again.{touched, nothing_more, touched_stands}
 use Rattle.h3_streams.proofs.Frames.{stands_peer, peer_found, peer_part}
 use Rattle.h3_streams.proofs.PeerAgain.{read_again}
 use Rattle.h3_streams.proofs.Peers.{with_early}
-use Rattle.h3_wire.specs.declared.frame.kinds.FrameKinds.{FrameKinds}
+use Rattle.h3_frames.specs.declared.frame.kinds.FrameKinds.{FrameKinds}
 
 -- what settings change
 used_is : (b : Bool) (e : EndpointHistory) (capacity blocked : ℕ) → (if b then with_table e capacity blocked else e) ≡ record e { encoder = (if b then with_table e capacity blocked else e).encoder; own = (if b then with_table e capacity blocked else e).own }

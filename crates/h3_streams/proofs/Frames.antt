@@ -24,7 +24,7 @@ use Rattle.h3_streams.proofs.PeerAgain.{settings_stay}
 use Rattle.h3_streams.proofs.Peers.{one_peer, told_by, told_peer}
 use Rattle.h3_connection.specs.StrictConnectionLaws.{held_taken, known_missed, known_refused}
 use Rattle.h3_connection.specs.StrictConnection.{kinds_of}
-use Rattle.h3_wire.specs.declared.frame.kinds.FrameKinds.{FrameKinds}
+use Rattle.h3_frames.specs.declared.frame.kinds.FrameKinds.{FrameKinds}
 
 -- the peer's bytes are held
 held_read : (s : EndpointState) (x : StreamsState) (e : EndpointHistory) (side : Side) (own : Announced) (id : ℕ) (bytes : List ℕ) (p : Peer) → IsRead s x e side own id Control → p ≡ with_unread x.peer (x.peer.unread ++ bytes)

@@ -1,7 +1,7 @@
 -- How much of a unidirectional stream of the peer is held: what is stored of it, as the definitions count it.
 use Rattle.std.proofs.Common.{arith, ◌≡◌, ℕ, ◌+◌, ap, ◌∙◌, sym}
 use Rattle.std.specs.Prelude.{◌-◌, ◌^◌, length, min, unwrap_or}
-use Rattle.h3_wire.specs.UnknownSize.{held_length}
+use Rattle.h3_frames.specs.UnknownSize.{held_length}
 use Rattle.h3_connection.specs.Delivering.{unidirectional_at}
 use Rattle.h3_connection.specs.Endpoint.{EndpointHistory}
 use Rattle.h3_connection.specs.State.{EndpointState, StandsFor}

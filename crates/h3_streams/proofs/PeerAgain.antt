@@ -2,19 +2,19 @@
 use Rattle.std.proofs.Common.{◌≡◌, ℕ, zero, suc, ◌<◌, Bool, true, false, if◌then◌else◌, List, length, Option, Some, None, refl, ap, sym, ◌∙◌, subst, arith}
 use Rattle.h3_proto.specs.declared.stream.Side.{Side}
 use Rattle.h3_proto.specs.declared.stream.Side.TheVariants.{Client, Server}
-use Rattle.h3_wire.specs.ExcessiveFrames.{is_excessive_by}
-use Rattle.h3_wire.specs.Frames.{Front, Whole, Unknown, Refused, Unfinished, frame_by}
-use Rattle.h3_wire.specs.Known.{known_by, IsWaiting}
-use Rattle.h3_wire.specs.KnownLaws.{known_is, known_known}
-use Rattle.h3_wire.specs.Fronts.{IsKnown}
-use Rattle.h3_wire.specs.declared.proto.frame.PayloadLen.{PayloadLen}
-use Rattle.h3_wire.specs.declared.proto.frame.Frame.{Frame}
-use Rattle.h3_wire.specs.declared.proto.frame.Frame.TheVariants as frame
+use Rattle.h3_frames.specs.ExcessiveFrames.{is_excessive_by}
+use Rattle.h3_frames.specs.Frames.{Front, Whole, Unknown, Refused, Unfinished, frame_by}
+use Rattle.h3_frames.specs.Known.{known_by, IsWaiting}
+use Rattle.h3_frames.specs.KnownLaws.{known_is, known_known}
+use Rattle.h3_frames.specs.Fronts.{IsKnown}
+use Rattle.h3_frames.specs.declared.proto.frame.PayloadLen.{PayloadLen}
+use Rattle.h3_frames.specs.declared.proto.frame.Frame.{Frame}
+use Rattle.h3_frames.specs.declared.proto.frame.Frame.TheVariants as frame
 use Rattle.h3_connection.specs.PeerReading.{Peer, PeerFound, having_frame, with_unread, read_max_push, read_frame, unless_fault, at_front, read_peer}
 use Rattle.h3_connection.specs.PeerReadingLaws.{peer_step, step_excessive, step_within, frame_keeps, update_settings}
 use Rattle.h3_connection.specs.SkippingLaws.{rest_shorter}
 use Rattle.h3_unidirectional.specs.PeerLaws.{peer_waits}
-use Rattle.h3_wire.specs.declared.frame.kinds.FrameKinds.{FrameKinds}
+use Rattle.h3_frames.specs.declared.frame.kinds.FrameKinds.{FrameKinds}
 
 -- what holds of both ways
 if_both : (P : PeerFound → Type 0) (b : Bool) (x y : PeerFound) → P x → P y → P (if b then x else y)

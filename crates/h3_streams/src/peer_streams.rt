@@ -53,8 +53,10 @@ fn receive_elsewhere(
 ) -> Result<Received, Bytes>
     requires absent { kept_at (plain_streams plain.old) id ≡ None }
     requires fits { length (concat (peer_stream kept.old.entries id).unread) + length bytes < 2 ^ 64 }
-    ensures ok { IfOk result (λ received. Receives (known_streams own.now) (plain_streams plain.old ++ kept.old.entries) (plain_streams plain.new ++ kept.new.entries) id bytes received) }
-    ensures err { IfErr result (λ back. (back ≡ bytes) × AllSame (plain_streams plain.old ++ kept.old.entries) (plain_streams plain.new ++ kept.new.entries)) }
+    ensures ok { IfOk result (λ received. Receives (known_streams own.now) (plain_streams plain.old ++ kept.old.entries)
+        (plain_streams plain.new ++ kept.new.entries) id bytes received) }
+    ensures err { IfErr result (λ back. (back ≡ bytes)
+        × AllSame (plain_streams plain.old ++ kept.old.entries) (plain_streams plain.new ++ kept.new.entries)) }
 {
     if map::has(kept, id) {
         return map::receive(kept, alloc, own, id, bytes);

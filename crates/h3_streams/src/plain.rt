@@ -1,5 +1,6 @@
 //! The peer's streams of which nothing is kept but their role and whether they ended, in two bytes each.
-ghost use Rattle.std.specs.Prelude.{◌≡◌, ◌≤◌, ◌+◌, ◌*◌, ℕ, true, false, [], length, max, ◌/◌, ◌%◌, Some, None, IsSome, IfSome, IfNone, unwrap_or, option_map, OnOk, OnErr, IfOk, IfErr};
+ghost use Rattle.std.specs.Prelude.{◌≡◌, ◌≤◌, ◌+◌, ◌*◌, ℕ, true, false, [], length, max, ◌/◌, ◌%◌, Some, None, IsSome, IfSome, IfNone};
+ghost use Rattle.std.specs.Prelude.{unwrap_or, option_map, OnOk, OnErr, IfOk, IfErr};
 ghost use Rattle.h3_connection.specs.Calls.{Sets, AllSame};
 ghost use Rattle.h3_connection.specs.StrictConnection.{known_streams};
 ghost use Rattle.h3_connection.specs.State.{kept_at};
@@ -204,7 +205,8 @@ impl PlainStreams {
     /// The reset of a stream came, which is there. If an allocation fails, nothing changes.
     fn reset(&mut self, id: u64, code: u64) -> Result<(), AllocError>
         requires { IsSome (kept_at (plain_streams self.old) id) }
-        ensures ok { OnOk result (Sets (plain_streams self.old) (plain_streams self.new) id (closed_by (peer_stream (plain_streams self.old) id) (Some code))) }
+        ensures ok { OnOk result (Sets (plain_streams self.old) (plain_streams self.new) id
+            (closed_by (peer_stream (plain_streams self.old) id) (Some code))) }
         ensures err { OnErr result (AllSame (plain_streams self.old) (plain_streams self.new)) }
     {
         let Some(place) = self.place(id) else {
@@ -251,7 +253,8 @@ impl PlainStreams {
     /// The end of a stream came, which is there, or its reset with this code. If an allocation fails, nothing changes.
     pub(crate) fn close(&mut self, id: u64, code: Option<u64>) -> Result<(), AllocError>
         requires { IsSome (kept_at (plain_streams self.old) id) }
-        ensures ok { OnOk result (Sets (plain_streams self.old) (plain_streams self.new) id (closed_by (peer_stream (plain_streams self.old) id) code)) }
+        ensures ok { OnOk result (Sets (plain_streams self.old) (plain_streams self.new) id
+            (closed_by (peer_stream (plain_streams self.old) id) code)) }
         ensures err { OnErr result (AllSame (plain_streams self.old) (plain_streams self.new)) }
     {
         let Some(code) = code else {
@@ -271,7 +274,8 @@ impl PlainStreams {
         mut bytes: Bytes,
     ) -> Result<Received, Bytes>
         requires { kept_at (plain_streams self.old) id ≡ None }
-        ensures ok { IfOk result (λ received. Receives (known_streams own.now) (plain_streams self.old) (plain_streams self.new) id bytes received) }
+        ensures ok { IfOk result (λ received. Receives (known_streams own.now) (plain_streams self.old)
+            (plain_streams self.new) id bytes received) }
         ensures err { IfErr result (λ back. (back ≡ bytes) × AllSame (plain_streams self.old) (plain_streams self.new)) }
     {
         let Some((role, passed)) = first_role(bytes.as_slice(), own) else {

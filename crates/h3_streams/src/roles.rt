@@ -1,6 +1,6 @@
 //! Bytes for the streams of the peer that the connection itself reads: its control, encoder and decoder stream.
 ghost use Rattle.std.specs.Prelude.{◌≡◌, ◌&&◌, Some, IfOk, IfErr};
-ghost use Rattle.h3_wire.specs.FirstFrames.{begins_other};
+ghost use Rattle.h3_frames.specs.FirstFrames.{begins_other};
 ghost use Rattle.h3_connection.specs.StrictConnection.{is_strict, stream_fault};
 ghost use Rattle.h3_proto.specs.declared.stream.Side.{Side};
 ghost use Rattle.h3_connection.specs.Delivering.{heard_as};

@@ -12,12 +12,12 @@ use crate::ids::{StreamKind, is_own, other};
 use crate::peer_streams::PeerStreams;
 use h3_connection::event::Pull;
 use h3_connection::setup::Announced;
+use h3_frames::frame::FrameBuffer;
 use h3_proto::stream::{Side, StreamId};
 use h3_unidirectional::control::PeerControl;
 use h3_unidirectional::decoding::Decoding;
 use h3_unidirectional::encoding::Encoding;
 use h3_unidirectional::own::OwnStreams;
-use h3_wire::frame::FrameBuffer;
 use std::alloc::{AllocError, Global};
 use std::marker::Model;
 
@@ -96,7 +96,8 @@ impl ConnectionStreams {
     #[tactic(auto, using(crate::specs::PlacedLaws::critical_stands))]
     pub fn is_critical(&self, side: Side, id: StreamId) -> bool
         ensures value { result ≡ is_critical_at side self.now id (Rattle.h3_connection.specs.Endpoint.kind_of side id) }
-        ensures history { (s : EndpointState) (e : EndpointHistory) → StandsFor (placed s self.now) e → e.side ≡ side → result ≡ is_critical_id e id }
+        ensures history { (s : EndpointState) (e : EndpointHistory) → StandsFor (placed s self.now) e → e.side ≡ side
+            → result ≡ is_critical_id e id }
     {
         match StreamKind::of(side, id) {
             StreamKind::Request => false,
@@ -132,7 +133,8 @@ impl ConnectionStreams {
 
     /// What this stream of the peer gives next. Before anything of it came that is pending. It takes no memory.
     pub fn pull(&mut self, id: StreamId) -> Pull
-        ensures { (s : EndpointState) (e : EndpointHistory) → StandsFor (placed s self.old) e → Answers s result self.new (pull_peer e id (stream_at e.unidirectional id)) }
+        ensures { (s : EndpointState) (e : EndpointHistory) → StandsFor (placed s self.old) e
+            → Answers s result self.new (pull_peer e id (stream_at e.unidirectional id)) }
     {
         self.unidirectional.pull(id)
     }

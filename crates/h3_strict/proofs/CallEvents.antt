@@ -8,7 +8,7 @@ use Rattle.h3_messages.specs.OwnMessages.{IsSentOf}
 use Rattle.h3_messages.specs.OwnMessageLaws.{sent_ends, sent_fits, sent_trails}
 use Rattle.h3_proto.specs.declared.stream.Side.{Side}
 use Rattle.h3_proto.specs.declared.stream.Side.TheVariants.{Client, Server}
-use Rattle.h3_wire.specs.Encoded.{frame_encoding}
+use Rattle.h3_frames.specs.Encoded.{frame_encoding}
 use Rattle.h3_connection.specs.Delivering.{incoming_at}
 use Rattle.h3_connection.specs.Endpoint.{EndpointHistory}
 use Rattle.h3_connection.specs.Incoming.{Incoming, nothing_came}

@@ -17,7 +17,7 @@ use Rattle.h3_headline.specs.Standing.{AreGoaways}
 use Rattle.h3_headline.specs.UnitLaws.{drop_past, goes_on, take_both}
 use Rattle.h3_headline.specs.WritesMoreLaws.{type_of_control}
 use Rattle.h3_strict.proofs.ControlTexts.{Fits, all_fits, goaways_fit}
-use Rattle.h3_wire.specs.declared.frame.kinds.FrameKinds.{FrameKinds}
+use Rattle.h3_frames.specs.declared.frame.kinds.FrameKinds.{FrameKinds}
 
 -- the ids are written in eight bytes at most
 small_goaways : (writer : Side) (before : Option ℕ) (ids : List ℕ) → AreGoaways writer before ids → AllByRecursion (λ id. id < 2 ^ 62) ids

@@ -6,16 +6,16 @@ use Rattle.h3_coding.specs.Encodings.{encoding}
 use Rattle.h3_coding.specs.VarintLaws.{none_at_end}
 use Rattle.h3_proto.specs.Pairs.{payload_of}
 use Rattle.h3_proto.specs.declared.stream.Side.{Side}
-use Rattle.h3_wire.specs.Encoded.{frame_encoding, head_encoding}
-use Rattle.h3_wire.specs.EncodedLaws.{length-encoding, written_goaway, written_settings}
-use Rattle.h3_wire.specs.ExcessiveFrames.{is_excessive_by, is_kept_whole}
-use Rattle.h3_wire.specs.ExcessiveLaws.{none_told}
-use Rattle.h3_wire.specs.FrameLaws.{frame_by-nil}
-use Rattle.h3_wire.specs.Frames.{Front, Unfinished, Whole, frame_by, is_update, settings_frame}
-use Rattle.h3_wire.specs.Fronts.{IsKnown, IsUnfinishedFront}
-use Rattle.h3_wire.specs.KnownLaws.{known-other}
-use Rattle.h3_wire.specs.UnfinishedLaws.{front_of_frame}
-use Rattle.h3_wire.specs.declared.proto.frame.Frame.TheVariants as frame
+use Rattle.h3_frames.specs.Encoded.{frame_encoding, head_encoding}
+use Rattle.h3_frames.specs.EncodedLaws.{length-encoding, written_goaway, written_settings}
+use Rattle.h3_frames.specs.ExcessiveFrames.{is_excessive_by, is_kept_whole}
+use Rattle.h3_frames.specs.ExcessiveLaws.{none_told}
+use Rattle.h3_frames.specs.FrameLaws.{frame_by-nil}
+use Rattle.h3_frames.specs.Frames.{Front, Unfinished, Whole, frame_by, is_update, settings_frame}
+use Rattle.h3_frames.specs.Fronts.{IsKnown, IsUnfinishedFront}
+use Rattle.h3_frames.specs.KnownLaws.{known-other}
+use Rattle.h3_frames.specs.UnfinishedLaws.{front_of_frame}
+use Rattle.h3_frames.specs.declared.proto.frame.Frame.TheVariants as frame
 use Rattle.h3_connection.specs.Codes.{excessive_load, id_error}
 use Rattle.h3_connection.specs.Endpoint.{goaway_encoding}
 use Rattle.h3_connection.specs.PeerReading.{Peer, PeerFound, at_front, having_frame, is_above, is_no_goaway, read_frame, read_within, unless_excessive, unless_fault, with_unread}
@@ -26,7 +26,7 @@ use Rattle.h3_headline.specs.PeerStreams.{Announces, settings_frame_of}
 use Rattle.h3_headline.specs.Standing.{with_meaning}
 use Rattle.h3_strict.proofs.TakenFronts.{head_within}
 use Rattle.h3_strict.specs.Plainly.{is_excess}
-use Rattle.h3_wire.specs.declared.frame.kinds.FrameKinds.{FrameKinds}
+use Rattle.h3_frames.specs.declared.frame.kinds.FrameKinds.{FrameKinds}
 
 -- it is no fault of what is too long
 abbrev pub Fits : PeerFound → Type 0

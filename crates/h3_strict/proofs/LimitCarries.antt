@@ -6,7 +6,7 @@ use Rattle.h3_field.specs.Instruction.{EncoderInstruction}
 use Rattle.h3_proto.specs.StreamIds.{is_request_stream}
 use Rattle.h3_proto.specs.declared.stream.Side.{Side}
 use Rattle.h3_proto.specs.declared.stream.Side.TheVariants.{Client, Server}
-use Rattle.h3_wire.specs.StreamHeaders.{control_encoding}
+use Rattle.h3_frames.specs.ControlStreams.{control_encoding}
 use Rattle.h3_connection.specs.StrictConnection.{is_strict}
 use Rattle.h3_connection.specs.Endpoint.{EndpointHistory, Own, bytes_waiting, goaway_encoding, limit_of, first_decoder}
 use Rattle.h3_connection.specs.Listeners.{Decoding}

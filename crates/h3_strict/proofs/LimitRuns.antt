@@ -4,8 +4,8 @@ use Rattle.std.specs.Prelude.{unwrap_or}
 use Rattle.std.specs.List.{concat}
 use Rattle.h3_proto.specs.declared.stream.Side.{Side}
 use Rattle.h3_proto.specs.declared.stream.Side.TheVariants.{Client, Server}
-use Rattle.h3_wire.specs.ExcessiveFrames.{is_excessive_by}
-use Rattle.h3_wire.specs.ExcessiveLaws.{none_excessive_by}
+use Rattle.h3_frames.specs.ExcessiveFrames.{is_excessive_by}
+use Rattle.h3_frames.specs.ExcessiveLaws.{none_excessive_by}
 use Rattle.h3_connection.specs.Endpoint.{EndpointHistory}
 use Rattle.h3_connection.specs.Incoming.{Incoming, is_body, nothing_came}
 use Rattle.h3_connection.specs.OwnIds.{other}
@@ -33,7 +33,7 @@ use Rattle.h3_strict.proofs.TakenFronts.{PartsTaken, flow_within}
 use Rattle.h3_strict.proofs.TakenWorlds.{IsTakenWorld}
 use Rattle.h3_strict.specs.PlainEnds.{NoneJudges}
 use Rattle.h3_strict.specs.Limits.{AreTaken, IsNotExcess, IsTaken, RunsUnlimited, limit_at, unlimited_ends}
-use Rattle.h3_wire.specs.declared.frame.kinds.FrameKinds.{FrameKinds}
+use Rattle.h3_frames.specs.declared.frame.kinds.FrameKinds.{FrameKinds}
 
 -- An end that stands in a world whose sections its limit takes: its receivers find no frame too long.
 pub looks_within : (setup X : Setup) (w : World) (side : Side) (e : EndpointHistory) (id : ℕ) (i : Incoming) → StandsAt X w side e → IsSoundWorld X w → IsTakenWorld setup w → stream_at e.incoming id ≡ Some i → LooksWithin (limit_at setup side) i

@@ -10,7 +10,6 @@ use Rattle.h3_field.specs.Field.{Field}
 use Rattle.h3_connection.specs.Coming.{fields_behind, fields_of_kind}
 use Rattle.h3_connection.specs.Control.{Found}
 use Rattle.h3_world.specs.EndLists.{fields_refusal, send_fields, send_trailer_fields, trailer_fields_refusal}
-use Rattle.h3_world.specs.Lists.{listed_pull}
 use Rattle.h3_connection.specs.Incoming.{Incoming}
 use Rattle.h3_connection.specs.Keeping.{arrives, pulls}
 use Rattle.h3_connection.specs.Outgoing.{Outgoing}
@@ -24,6 +23,7 @@ use Rattle.h3_connection.specs.declared.arrival.Arrival.{Arrival}
 use Rattle.h3_connection.specs.declared.arrival.Arrival.TheVariants.{BytesCame, EndCame, ResetCame}
 use Rattle.h3_connection.specs.declared.event.Pull.{Pull}
 use Rattle.h3_connection.specs.declared.event.Refusal.{Refusal}
+use Rattle.h3_connection.specs.Lists.{listed_pull}
 use Rattle.h3_world.specs.Delivering.{reset_code}
 use Rattle.h3_world.specs.Ends.{Ends, answered, delivery, done, end_at, end_delivery, reset_delivery, was_listed, was_offered, was_pulled, with_end}
 use Rattle.h3_world.specs.declared.event.Answer.{Answer}

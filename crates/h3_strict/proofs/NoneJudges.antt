@@ -22,8 +22,8 @@ use Rattle.h3_connection.specs.declared.setup.Announced.{Announced}
 use Rattle.h3_proto.specs.StreamIds.{is_request_stream}
 use Rattle.h3_connection.specs.declared.event.Pull.{Pull}
 use Rattle.h3_connection.specs.Coming.{fields_behind}
+use Rattle.h3_connection.specs.Lists.{listed_pull, pull_of}
 use Rattle.h3_world.specs.ListLaws.{pulls_listed}
-use Rattle.h3_world.specs.Lists.{listed_pull, pull_of}
 use Rattle.h3_world.specs.Pulling.{Pulls, list_next}
 use Rattle.h3_world.specs.Step.{IsExact, Step}
 use Rattle.h3_world.specs.Ends.{Ends, answered, answers_of_ends, delivery, end_at, end_delivery, ends_after, new_ends, reset_delivery}

@@ -21,7 +21,6 @@ use Rattle.h3_connection.specs.declared.event.Pull.{Pull}
 use Rattle.h3_connection.specs.declared.event.Pull.TheVariants as answer
 use Rattle.h3_connection.specs.declared.event.StreamFault.{StreamFault}
 use Rattle.h3_connection.specs.Coming.{fields_behind, fields_in, fields_item, fields_of_kind, fields_there, next_section}
-use Rattle.h3_world.specs.Lists.{listed_pull}
 use Rattle.h3_connection.specs.Coming.{HasNoHeader}
 use Rattle.h3_headline.specs.ListEventLaws.{any_list}
 use Rattle.h3_strict.specs.PlainEnds.{FewWait, FewWaitBehind, FewWaitIn}
@@ -33,6 +32,7 @@ use Rattle.h3_strict.proofs.PlainReading.{IsTooLong, ReadsAlike, ReadsPlainly, a
 use Rattle.h3_strict.proofs.PlainStreams.{at_each, set_each, count_each, count_set, waits_at}
 use Rattle.h3_strict.proofs.StrictCodes.{any_told}
 use Rattle.h3_connection.specs.declared.setup.Announced.{Announced}
+use Rattle.h3_connection.specs.Lists.{listed_pull}
 
 -- It judges, and tells so where no more streams wait than may.
 pub data PulledPlainly (strict : Bool) (few : Type 0) (judged : Bool) (x y : Pull × EndpointHistory) : Type 0 where

@@ -19,7 +19,6 @@ use Rattle.h3_connection.specs.declared.event.Refusal.{Refusal}
 use Rattle.h3_connection.specs.declared.event.Refusal.TheVariants as refusal
 use Rattle.h3_connection.specs.Coming.{fields_behind}
 use Rattle.h3_world.specs.EndLists.{send_fields, send_trailer_fields}
-use Rattle.h3_world.specs.Lists.{listed_pull}
 use Rattle.h3_world.specs.Delivering.{reset_code}
 use Rattle.h3_world.specs.Ends.{Ends, answered, delivery, done, end_at, end_delivery, reset_delivery, was_listed, was_offered, was_pulled, with_end}
 use Rattle.h3_world.specs.declared.event.Answer.{Answer}
@@ -28,6 +27,7 @@ use Rattle.h3_world.specs.declared.event.Event.{Event}
 use Rattle.h3_world.specs.declared.event.Event.TheVariants as event
 use Rattle.h3_strict.specs.PlainEnds.{FewWaitBehind, StepsPlainly, Alike, Judges, RefusesMalformed, asks_strictly, finds_fault, is_malformed_refusal, judges, plain_ends, refused_by, was_too_long}
 use Rattle.h3_connection.specs.StrictConnection.{is_strict}
+use Rattle.h3_connection.specs.Lists.{listed_pull}
 use Rattle.h3_strict.specs.Plainly.{exceeds, is_excess, is_judged, plain_outgoing, plainly}
 use Rattle.h3_strict.proofs.PlainCalls.{CallsPlainly, Malforms, Does, plain_result, tells}
 use Rattle.h3_strict.proofs.PlainLists.{tells_same}

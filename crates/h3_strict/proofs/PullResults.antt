@@ -10,8 +10,8 @@ use Rattle.h3_connection.specs.Incoming.{Incoming, given_up}
 use Rattle.h3_connection.specs.declared.event.Malformation.{Malformation}
 use Rattle.h3_connection.specs.declared.event.Pull.{Pull}
 use Rattle.h3_connection.specs.declared.event.StreamFault.TheVariants.{Malformed}
+use Rattle.h3_connection.specs.Lists.{listed_pull}
 use Rattle.h3_world.specs.Ends.{Ends, end_at, was_listed, was_pulled, with_end}
-use Rattle.h3_world.specs.Lists.{listed_pull}
 use Rattle.h3_world.specs.declared.event.Answer.{Answer}
 use Rattle.h3_world.specs.declared.event.Answer.TheVariants as answer
 

@@ -5,9 +5,9 @@ use Rattle.h3_proto.specs.declared.stream.Side.{Side}
 use Rattle.h3_connection.specs.declared.event.Pull.{Pull}
 use Rattle.h3_connection.specs.declared.event.Pull.TheVariants as pull
 use Rattle.h3_connection.specs.declared.event.Refusal.{Refusal}
+use Rattle.h3_connection.specs.Lists.{pull_of}
 use Rattle.h3_world.specs.Ends.{Ends, answered, answers_of_ends, ends_after}
 use Rattle.h3_world.specs.Headline.{Happens}
-use Rattle.h3_world.specs.Lists.{pull_of}
 use Rattle.h3_world.specs.Pulling.{PullsNext, settled}
 use Rattle.h3_world.specs.Run.{Run}
 use Rattle.h3_world.specs.Step.{Does, Step}

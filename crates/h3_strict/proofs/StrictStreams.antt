@@ -12,11 +12,11 @@ use Rattle.h3_proto.specs.declared.stream.Side.{Side}
 use Rattle.h3_proto.specs.declared.stream.Side.TheVariants.{Client, Server}
 use Rattle.h3_qpack.specs.DecodedSection.{Fields, Missing, decode_section}
 use Rattle.h3_qpack.specs.DecoderState.{DecoderState}
-use Rattle.h3_wire.specs.Encoded.{frame_encoding, head_encoding}
-use Rattle.h3_wire.specs.EncodedLaws.{written_headers}
-use Rattle.h3_wire.specs.Frames.{frame_by}
-use Rattle.h3_wire.specs.Pieces.{chunk_of}
-use Rattle.h3_wire.specs.declared.proto.frame.Frame.TheVariants as frame
+use Rattle.h3_frames.specs.Encoded.{frame_encoding, head_encoding}
+use Rattle.h3_frames.specs.EncodedLaws.{written_headers}
+use Rattle.h3_frames.specs.Frames.{frame_by}
+use Rattle.h3_frames.specs.Pieces.{chunk_of}
+use Rattle.h3_frames.specs.declared.proto.frame.Frame.TheVariants as frame
 use Rattle.h3_connection.specs.Codes.{decompression_failed, frame_error, frame_unexpected}
 use Rattle.h3_connection.specs.Incoming.{Incoming, is_before_head}
 use Rattle.h3_connection.specs.Pulling.{acknowledgment, at_end, at_frame, at_payload, at_section, begun_payload, begun_section, between_frames, body_of, connection_fault, decoded, in_message, in_payload, just, left_with, malformed, new_section, next_item, past_section, pull_stream, read_section, tried}

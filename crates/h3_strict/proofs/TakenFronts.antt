@@ -7,13 +7,13 @@ use Rattle.h3_coding.specs.Encodings.{encoding}
 use Rattle.h3_coding.specs.Varint.{varint_at}
 use Rattle.h3_coding.specs.VarintLaws.{cases_number, none_at_end, reads_more, reads_shortest}
 use Rattle.h3_proto.specs.Config.{is_limit}
-use Rattle.h3_wire.specs.Encoded.{frame_encoding, head_encoding}
-use Rattle.h3_wire.specs.EncodedLaws.{written_headers}
-use Rattle.h3_wire.specs.ExcessiveFrames.{is_excessive_by, is_kept_whole}
-use Rattle.h3_wire.specs.ExcessiveLaws.{begun_told, none_excessive_by, none_told, said_of}
-use Rattle.h3_wire.specs.FrameLaws.{no_update}
-use Rattle.h3_wire.specs.Frames.{frame_by, is_update}
-use Rattle.h3_wire.specs.declared.proto.frame.Frame.TheVariants as frame
+use Rattle.h3_frames.specs.Encoded.{frame_encoding, head_encoding}
+use Rattle.h3_frames.specs.EncodedLaws.{written_headers}
+use Rattle.h3_frames.specs.ExcessiveFrames.{is_excessive_by, is_kept_whole}
+use Rattle.h3_frames.specs.ExcessiveLaws.{begun_told, none_excessive_by, none_told, said_of}
+use Rattle.h3_frames.specs.FrameLaws.{no_update}
+use Rattle.h3_frames.specs.Frames.{frame_by, is_update}
+use Rattle.h3_frames.specs.declared.proto.frame.Frame.TheVariants as frame
 use Rattle.h3_connection.specs.Incoming.{Incoming, is_body}
 use Rattle.h3_connection.specs.Skipping.{skipped}
 use Rattle.h3_world.specs.Flow.{Flow, Part, flow_bytes, part_bytes}
@@ -24,7 +24,7 @@ use Rattle.h3_world.specs.World.{Party}
 use Rattle.h3_headline.specs.FrontLaws.{data_front, long_front, short_front, skipped_none, skipped_unfinished, skipped_whole, unfinished_data, unfinished_section}
 use Rattle.h3_headline.specs.Standing.{ReceivesFlow, StandsBefore, section_frame}
 use Rattle.h3_strict.proofs.LimitPulls.{LooksWithin}
-use Rattle.h3_wire.specs.declared.frame.kinds.FrameKinds.{FrameKinds}
+use Rattle.h3_frames.specs.declared.frame.kinds.FrameKinds.{FrameKinds}
 
 -- the part's section is no longer than its reader takes
 abbrev pub PartTaken : ℕ → Part → Type 0

@@ -10,7 +10,7 @@ use Rattle.h3_proto.specs.declared.stream.Side.{Side}
 use Rattle.h3_proto.specs.declared.stream.Side.TheVariants.{Client, Server}
 use Rattle.h3_qpack.specs.EncoderHistory.{EncoderHistory, writing_on}
 use Rattle.h3_qpack.specs.SectionEncoding.{encoded_section}
-use Rattle.h3_wire.specs.Encoded.{frame_encoding}
+use Rattle.h3_frames.specs.Encoded.{frame_encoding}
 use Rattle.h3_connection.specs.Outgoing.{takes_body, takes_end, takes_head}
 use Rattle.h3_connection.specs.OwnIds.{other}
 use Rattle.h3_connection.specs.Pulling.{is_for, is_interim}
@@ -21,6 +21,7 @@ use Rattle.h3_connection.specs.declared.event.Pull.TheVariants as pull
 use Rattle.h3_connection.specs.declared.event.Refusal.{Refusal}
 use Rattle.h3_connection.specs.declared.event.Refusal.TheVariants as refusal
 use Rattle.h3_connection.specs.declared.event.StreamFault.TheVariants.{Canceled}
+use Rattle.h3_connection.specs.Lists.{pull_of}
 use Rattle.h3_world.specs.Came.{settings_known}
 use Rattle.h3_world.specs.Delivering.{delivery, end_delivery, reset_delivery}
 use Rattle.h3_world.specs.Flow.{Flow, Part, Section, flow_bytes, unused}
@@ -33,7 +34,7 @@ use Rattle.h3_world.specs.Pulling.{Pulls, PullsNext, settled}
 use Rattle.h3_world.specs.Refusals.{body_refusal, cancel_refusal, finish_refusal, goaway_refusal, head_refusal, is_critical, none_after, next_id, open_refusal, reset_refusal, trailer_refusal, fields_refusal, trailer_fields_refusal}
 use Rattle.h3_world.specs.Run.{Run}
 use Rattle.h3_world.specs.Sending.{appended, cut_off, finished, given_up, having_encoded, opened, section_sent, sent_body, sent_head, sent_trailer, with_goaway, sent_fields, sent_trailer_fields}
-use Rattle.h3_world.specs.Lists.{pull_of, unreadable}
+use Rattle.h3_world.specs.Lists.{unreadable}
 use Rattle.h3_world.specs.Setup.{Setup, announced_at, takes_any}
 use Rattle.h3_world.specs.Step.{Does, Step}
 use Rattle.h3_world.specs.Streams.{flow, is_open, with_flow}

@@ -6,7 +6,7 @@ use Rattle.h3_header.specs.Head.{Head, head_fields, has_pseudo}
 use Rattle.h3_header.specs.Reads.{head_of_fields}
 use Rattle.h3_proto.specs.declared.stream.Side.{Side}
 use Rattle.h3_proto.specs.declared.stream.Side.TheVariants.{Client, Server}
-use Rattle.h3_wire.specs.Encoded.{frame_encoding}
+use Rattle.h3_frames.specs.Encoded.{frame_encoding}
 use Rattle.h3_connection.specs.Endpoint.{EndpointHistory}
 use Rattle.h3_connection.specs.Outgoing.{takes_body, takes_end, takes_head, with_body, with_finish}
 use Rattle.h3_connection.specs.Outgoing.OwnPart.{OwnTrailer}

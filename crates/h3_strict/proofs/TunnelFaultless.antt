@@ -16,9 +16,9 @@ use Rattle.h3_connection.specs.declared.event.Fault.TheVariants as fault
 use Rattle.h3_connection.specs.declared.event.Item.TheVariants as item
 use Rattle.h3_connection.specs.declared.event.Pull.{Pull}
 use Rattle.h3_connection.specs.declared.event.Pull.TheVariants as pull
+use Rattle.h3_connection.specs.Lists.{listed_pull, pull_of}
 use Rattle.h3_world.specs.Ends.{Ends, end_at}
 use Rattle.h3_world.specs.Headline.{is_connection_fault}
-use Rattle.h3_world.specs.Lists.{listed_pull, pull_of}
 use Rattle.h3_world.specs.Setup.{Setup, announced_at}
 use Rattle.h3_world.specs.World.{World}
 use Rattle.h3_world.specs.declared.event.Answer.{Answer}

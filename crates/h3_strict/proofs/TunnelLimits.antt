@@ -6,14 +6,14 @@ use Rattle.std.proofs.lemmas.Bool.{cases_lt, lt-ltb, ne_eqb}
 use Rattle.h3_coding.specs.Encodings.{encoding}
 use Rattle.h3_coding.specs.Varint.{varint_at}
 use Rattle.h3_coding.specs.VarintLaws.{cases_number, none_at_end, reads_more, reads_shortest}
-use Rattle.h3_wire.specs.Encoded.{frame_encoding, head_encoding}
-use Rattle.h3_wire.specs.EncodedLaws.{written_headers}
-use Rattle.h3_wire.specs.ExcessiveFrames.{begins_section, is_excessive_by, is_of_type}
-use Rattle.h3_wire.specs.ExcessiveLaws.{none_told}
-use Rattle.h3_wire.specs.FrameLaws.{no_update}
-use Rattle.h3_wire.specs.Frames.{frame_by}
-use Rattle.h3_wire.specs.declared.frame.kinds.FrameKinds.{FrameKinds}
-use Rattle.h3_wire.specs.declared.proto.frame.Frame.TheVariants as frame
+use Rattle.h3_frames.specs.Encoded.{frame_encoding, head_encoding}
+use Rattle.h3_frames.specs.EncodedLaws.{written_headers}
+use Rattle.h3_frames.specs.ExcessiveFrames.{begins_section, is_excessive_by, is_of_type}
+use Rattle.h3_frames.specs.ExcessiveLaws.{none_told}
+use Rattle.h3_frames.specs.FrameLaws.{no_update}
+use Rattle.h3_frames.specs.Frames.{frame_by}
+use Rattle.h3_frames.specs.declared.frame.kinds.FrameKinds.{FrameKinds}
+use Rattle.h3_frames.specs.declared.proto.frame.Frame.TheVariants as frame
 use Rattle.h3_connection.specs.Incoming.{Incoming, is_body}
 use Rattle.h3_connection.specs.Skipping.{skipped}
 use Rattle.h3_world.specs.Flow.{Flow, Part, flow_bytes, part_bytes}

@@ -15,12 +15,12 @@ use Rattle.h3_proto.specs.declared.stream.Side.TheVariants.{Client, Server}
 use Rattle.h3_qpack.specs.DecodedSection.{BadSection, DecodedSection, Fields, Missing, decode_section}
 use Rattle.h3_qpack.specs.DecoderState.{DecoderState}
 use Rattle.h3_qpack.specs.Sizes.{last_value, told_size}
-use Rattle.h3_wire.specs.ExcessiveFrames.{begins_section, is_excessive_by}
-use Rattle.h3_wire.specs.Frames.{Front, Refused, Unfinished, Unknown, Whole, frame_by}
-use Rattle.h3_wire.specs.Pieces.{chunk_of, first_of}
-use Rattle.h3_wire.specs.declared.proto.frame.Frame.{Frame}
-use Rattle.h3_wire.specs.declared.proto.frame.Frame.TheVariants as frame
-use Rattle.h3_wire.specs.declared.proto.frame.PayloadLen.{PayloadLen}
+use Rattle.h3_frames.specs.ExcessiveFrames.{begins_section, is_excessive_by}
+use Rattle.h3_frames.specs.Frames.{Front, Refused, Unfinished, Unknown, Whole, frame_by}
+use Rattle.h3_frames.specs.Pieces.{chunk_of, first_of}
+use Rattle.h3_frames.specs.declared.proto.frame.Frame.{Frame}
+use Rattle.h3_frames.specs.declared.proto.frame.Frame.TheVariants as frame
+use Rattle.h3_frames.specs.declared.proto.frame.PayloadLen.{PayloadLen}
 use Rattle.h3_connection.specs.Announcing.{section_of}
 use Rattle.h3_connection.specs.Incoming.{Incoming, is_before_head, is_body}
 use Rattle.h3_connection.specs.Pulling.{Pulled, acknowledgment, at_end, at_frame, at_payload, at_section, at_trailer, begun_payload, begun_section, between_frames, body_of, decoded, framed, head_or_trailer, in_message, in_payload, is_client, is_for, is_interim, judged, just, left_with, malformed, next_frame, next_item, past_section, pull_stream, raw_of, read_section, unless_broken, with_content}

@@ -7,10 +7,10 @@ use Rattle.h3_connection.specs.Coming.{fields_behind}
 use Rattle.h3_connection.specs.Incoming.{nothing_came}
 use Rattle.h3_connection.specs.Keeping.{pulls}
 use Rattle.h3_connection.specs.Outgoing.{nothing_sent}
+use Rattle.h3_connection.specs.Lists.{listed_pull, pull_of}
 use Rattle.h3_world.specs.Ends.{Ends, answered, end_at, new_ends}
 use Rattle.h3_world.specs.Flow.{Flow, unused}
 use Rattle.h3_world.specs.Headline.{is_connection_fault}
-use Rattle.h3_world.specs.Lists.{listed_pull, pull_of}
 use Rattle.h3_world.specs.Pulling.{Pulls}
 use Rattle.h3_world.specs.Setup.{Setup, announced_at}
 use Rattle.h3_world.specs.Step.{Step}

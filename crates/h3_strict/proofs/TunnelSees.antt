@@ -8,7 +8,7 @@ use Rattle.h3_proto.specs.StreamIds.{is_request_stream}
 use Rattle.h3_proto.specs.declared.stream.Side.{Side}
 use Rattle.h3_proto.specs.declared.stream.Side.TheVariants.{Client, Server}
 use Rattle.h3_qpack.specs.DecoderState.{DecoderState}
-use Rattle.h3_wire.specs.ExcessiveFrames.{begins_section, is_excessive_by}
+use Rattle.h3_frames.specs.ExcessiveFrames.{begins_section, is_excessive_by}
 use Rattle.h3_connection.specs.Remembering.{settings_known, settings_or}
 use Rattle.h3_connection.specs.Announcing.{connects, section_of}
 use Rattle.h3_connection.specs.Coming.{fields_behind, fields_next, fields_of_kind, fields_there}

@@ -10,7 +10,7 @@ use Rattle.h3_proto.specs.declared.stream.Side.{Side}
 use Rattle.h3_proto.specs.declared.stream.Side.TheVariants.{Client, Server}
 use Rattle.h3_qpack.specs.DecoderState.{DecoderState}
 use Rattle.h3_qpack.specs.Sizes.{last_value}
-use Rattle.h3_wire.specs.ExcessiveFrames.{begins_section, is_excessive_by}
+use Rattle.h3_frames.specs.ExcessiveFrames.{begins_section, is_excessive_by}
 use Rattle.h3_connection.specs.Coming.{fields_next}
 use Rattle.h3_connection.specs.Incoming.{Incoming, is_before_head, is_body}
 use Rattle.h3_connection.specs.PartReading.{HasNoSection}

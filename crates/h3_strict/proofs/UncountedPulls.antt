@@ -12,13 +12,13 @@ use Rattle.h3_header.specs.HeadRead.{HeadRead, IsHead, IsNone, Value, head_by}
 use Rattle.h3_messages.specs.declared.content.Content.TheVariants.{Unsaid}
 use Rattle.h3_proto.specs.declared.stream.Side.{Side}
 use Rattle.h3_proto.specs.declared.stream.Side.TheVariants.{Client, Server}
-use Rattle.h3_wire.specs.ExcessiveFrames.{begins_section, is_excessive_by}
-use Rattle.h3_wire.specs.ExcessiveLaws.{none_excessive_by}
-use Rattle.h3_wire.specs.Frames.{Front, Refused, Unfinished, Unknown, Whole, frame_by}
-use Rattle.h3_wire.specs.Pieces.{chunk_of, first_of}
-use Rattle.h3_wire.specs.declared.proto.frame.Frame.{Frame}
-use Rattle.h3_wire.specs.declared.proto.frame.Frame.TheVariants as frame
-use Rattle.h3_wire.specs.declared.proto.frame.PayloadLen.{PayloadLen}
+use Rattle.h3_frames.specs.ExcessiveFrames.{begins_section, is_excessive_by}
+use Rattle.h3_frames.specs.ExcessiveLaws.{none_excessive_by}
+use Rattle.h3_frames.specs.Frames.{Front, Refused, Unfinished, Unknown, Whole, frame_by}
+use Rattle.h3_frames.specs.Pieces.{chunk_of, first_of}
+use Rattle.h3_frames.specs.declared.proto.frame.Frame.{Frame}
+use Rattle.h3_frames.specs.declared.proto.frame.Frame.TheVariants as frame
+use Rattle.h3_frames.specs.declared.proto.frame.PayloadLen.{PayloadLen}
 use Rattle.h3_connection.specs.Announcing.{section_of}
 use Rattle.h3_connection.specs.Codes.{excessive_load}
 use Rattle.h3_connection.specs.Coming.{decoded_fields, fields_in, fields_next, next_section, section_in, section_of_frame}

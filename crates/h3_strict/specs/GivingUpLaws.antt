@@ -12,7 +12,6 @@ use Rattle.h3_connection.specs.declared.event.Pull.TheVariants as pull
 use Rattle.h3_connection.specs.declared.event.StreamFault.TheVariants.{Malformed}
 use Rattle.h3_world.specs.Flow.{Flow, unused}
 use Rattle.h3_world.specs.Items.{handed_out}
-use Rattle.h3_world.specs.Lists.{pull_of}
 use Rattle.h3_world.specs.Order.{is_over}
 use Rattle.h3_world.specs.Pulling.{Pulls, PullsNext, settled}
 use Rattle.h3_world.specs.Sending.{given_up}
@@ -24,9 +23,6 @@ use Rattle.h3_world.specs.declared.event.Answer.{Answer}
 use Rattle.h3_world.specs.declared.event.Answer.TheVariants as answer
 use Rattle.h3_world.specs.declared.event.Event.{Event}
 use Rattle.h3_world.specs.declared.event.Event.TheVariants as event
-use Rattle.h3_world.specs.declared.lists.ListItem.TheVariants as listed
-use Rattle.h3_world.specs.declared.lists.ListPull.{ListPull}
-use Rattle.h3_world.specs.declared.lists.ListPull.TheVariants as list
 use Rattle.h3_world.specs.Setup.{Setup}
 use Rattle.h3_headline.specs.ContentLaws.{moves_then, stays}
 use Rattle.h3_headline.specs.Contents.{GoneStays, HasSameParts, Moves, reader_of}
@@ -43,6 +39,10 @@ use Rattle.h3_headline.specs.Steps.{IsThere}
 use Rattle.h3_strict.specs.Accounts.{Accounts, AdvancesBy, AnswersNothing, KeepsOn, Quiet}
 use Rattle.h3_connection.specs.declared.event.Refusal.{Refusal}
 use Rattle.h3_connection.specs.declared.event.Refusal.TheVariants as refusal
+use Rattle.h3_connection.specs.Lists.{pull_of}
+use Rattle.h3_connection.specs.declared.lists.ListItem.TheVariants as listed
+use Rattle.h3_connection.specs.declared.lists.ListPull.{ListPull}
+use Rattle.h3_connection.specs.declared.lists.ListPull.TheVariants as list
 use Rattle.h3_strict.specs.MalformedLaws.{ends_none, finishes_none, pulls_none, refused_is, sends_none}
 use Rattle.h3_strict.specs.PlainEnds.{is_malformed_refusal}
 use Rattle.h3_strict.specs.AdvanceLaws.{keeps, says, advances, gives_up_on, quiet_none}

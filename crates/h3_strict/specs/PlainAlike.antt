@@ -16,8 +16,9 @@ use Rattle.h3_connection.specs.declared.arrival.Arrival.{Arrival}
 use Rattle.h3_connection.specs.declared.event.Malformation.{Malformation}
 use Rattle.h3_connection.specs.declared.event.Refusal.{Refusal}
 use Rattle.h3_connection.specs.declared.event.Refusal.TheVariants as refusal
+use Rattle.h3_connection.specs.Lists.{listed_pull}
 use Rattle.h3_world.specs.EndLists.{send_fields, send_trailer_fields}
-use Rattle.h3_world.specs.Lists.{listed_pull, unreadable}
+use Rattle.h3_world.specs.Lists.{unreadable}
 use Rattle.h3_world.specs.Setup.{takes_any}
 use Rattle.h3_strict.specs.Plainly.{plain_incoming, plainly}
 

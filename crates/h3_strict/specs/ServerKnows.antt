@@ -8,8 +8,8 @@ use Rattle.h3_connection.specs.declared.event.Item.{Item}
 use Rattle.h3_connection.specs.declared.event.Item.TheVariants as item
 use Rattle.h3_connection.specs.declared.event.Pull.{Pull}
 use Rattle.h3_connection.specs.declared.event.Pull.TheVariants as pull
+use Rattle.h3_connection.specs.Lists.{pull_of}
 use Rattle.h3_header.specs.Reads.{head_of_fields}
-use Rattle.h3_world.specs.Lists.{pull_of}
 use Rattle.h3_world.specs.declared.event.Answer.{Answer}
 use Rattle.h3_world.specs.declared.event.Answer.TheVariants as answer
 use Rattle.h3_world.specs.declared.event.Event.{Event}

@@ -13,7 +13,8 @@ ghost use Rattle.h3_world.specs.declared.event.Event.{Event};
 ghost use Rattle.h3_headline.specs.Exactly.{IsAllOf, IsExactly, reader_at};
 ghost use Rattle.h3_headline.specs.Messages.{IsFrontOf, has_finished, has_pulled_end, pulled, sent};
 ghost use Rattle.h3_headline.specs.Standing.{Stands};
-ghost use Rattle.h3_strict.specs.Limits.{AreTaken, AsksForNone, AsksForStrict, EarlyAreTaken, LimitsTakeWhatIsSent, RunsUnlimited, unlimited_ends, unlimited_setup};
+ghost use Rattle.h3_strict.specs.Limits.{AreTaken, AsksForNone, AsksForStrict, EarlyAreTaken, LimitsTakeWhatIsSent, RunsUnlimited};
+ghost use Rattle.h3_strict.specs.Limits.{unlimited_ends, unlimited_setup};
 ghost use Rattle.h3_strict.specs.PlainEnds.{NoneJudges, answers_without_malformed, plain_ends, plain_setup, without_malformed};
 ghost use Rattle.h3_strict.specs.ServerKnows.{ServerKnows};
 
@@ -21,10 +22,13 @@ ghost use Rattle.h3_strict.specs.ServerKnows.{ServerKnows};
 /// takes, and no delivery is answered by the fault of what is too long. Then the schedule is answered as by the same two endpoints without
 /// limits, and leads to the same ends. So it is if neither side asks for strict messages (`plain`), and if both do (`strict`).
 pub fn limits_that_take_what_is_sent_change_nothing()
-    ensures plain { (setup : Setup) (events : List Event) → IsMadeSetup setup → AsksForNone setup → AllByRecursion (IsSendable setup) events →
+    ensures plain { (setup : Setup) (events : List Event) → IsMadeSetup setup → AsksForNone setup
+        → AllByRecursion (IsSendable setup) events →
         AreTaken setup events (answers_of_ends (new_ends setup) events) → RunsUnlimited (new_ends setup) events }
-    ensures strict { (setup : Setup) (events : List Event) → IsMadeSetup setup → AsksForStrict setup → AllByRecursion (IsSendable setup) events →
-        ServerKnows events (answers_of_ends (new_ends setup) events) → AreTaken setup events (answers_of_ends (new_ends setup) events) → RunsUnlimited (new_ends setup) events }
+    ensures strict { (setup : Setup) (events : List Event) → IsMadeSetup setup → AsksForStrict setup
+        → AllByRecursion (IsSendable setup) events →
+        ServerKnows events (answers_of_ends (new_ends setup) events) → AreTaken setup events (answers_of_ends (new_ends setup) events)
+        → RunsUnlimited (new_ends setup) events }
 {
     h3_qpack::laws::encoded_sections_are_short();
     h3_headline::laws::two_endpoints_run_in_a_world();
@@ -38,10 +42,13 @@ pub fn limits_that_take_what_is_sent_change_nothing()
 /// are taken too. No delivery is then answered by the fault of what is too long.
 pub fn limits_above_what_is_announced_take_what_is_sent()
     ensures made { (setup : Setup) → IsMadeSetup setup → LimitsTakeWhatIsSent setup }
-    ensures plain { (setup : Setup) (events : List Event) → IsMadeSetup setup → AsksForNone setup → AllByRecursion (IsSendable setup) events →
+    ensures plain { (setup : Setup) (events : List Event) → IsMadeSetup setup → AsksForNone setup
+        → AllByRecursion (IsSendable setup) events →
         EarlyAreTaken setup (new_ends setup) events → AreTaken setup events (answers_of_ends (new_ends setup) events) }
-    ensures strict { (setup : Setup) (events : List Event) → IsMadeSetup setup → AsksForStrict setup → AllByRecursion (IsSendable setup) events →
-        ServerKnows events (answers_of_ends (new_ends setup) events) → EarlyAreTaken setup (new_ends setup) events → AreTaken setup events (answers_of_ends (new_ends setup) events) }
+    ensures strict { (setup : Setup) (events : List Event) → IsMadeSetup setup → AsksForStrict setup
+        → AllByRecursion (IsSendable setup) events →
+        ServerKnows events (answers_of_ends (new_ends setup) events) → EarlyAreTaken setup (new_ends setup) events
+        → AreTaken setup events (answers_of_ends (new_ends setup) events) }
 {
     h3_qpack::laws::encoded_sections_are_short();
     h3_headline::laws::what_is_cited_holds();
@@ -54,16 +61,23 @@ pub fn limits_above_what_is_announced_take_what_is_sent()
 /// world of the setup without limits (`world`). By the answers alone, no answer tells of a connection fault (`fault`). What a side pulled
 /// from a stream is a front of what the other side sent on it (`front`), and all of that with the end (`end`).
 pub fn two_limited_endpoints_run_in_a_world()
-    ensures world { (setup : Setup) (events : List Event) → IsMadeSetup setup → AsksForNone setup → AllByRecursion (IsSendable setup) events → EarlyAreTaken setup (new_ends setup) events →
-        (w : World) × Run (Happens (unlimited_setup setup)) (empty_world (unlimited_setup setup)) events (answers_of_ends (new_ends setup) events) w
+    ensures world { (setup : Setup) (events : List Event) → IsMadeSetup setup → AsksForNone setup → AllByRecursion (IsSendable setup) events
+        → EarlyAreTaken setup (new_ends setup) events → (w : World)
+        × Run (Happens (unlimited_setup setup)) (empty_world (unlimited_setup setup)) events
+        (answers_of_ends (new_ends setup) events) w
         × Stands (unlimited_setup setup) w (unlimited_ends (ends_after (new_ends setup) events)) }
-    ensures fault { (setup : Setup) (events : List Event) → IsMadeSetup setup → AsksForNone setup → AllByRecursion (IsSendable setup) events → EarlyAreTaken setup (new_ends setup) events →
+    ensures fault { (setup : Setup) (events : List Event) → IsMadeSetup setup → AsksForNone setup → AllByRecursion (IsSendable setup) events
+        → EarlyAreTaken setup (new_ends setup) events →
         list_any is_connection_fault (answers_of_ends (new_ends setup) events) ≡ false }
-    ensures front { (setup : Setup) (events : List Event) (side : Side) (id : ℕ) → IsMadeSetup setup → AsksForNone setup → AllByRecursion (IsSendable setup) events → EarlyAreTaken setup (new_ends setup) events →
-        IsFrontOf (IsExactly (reader_at setup side)) (pulled side id events (answers_of_ends (new_ends setup) events)) (sent (other side) id events (answers_of_ends (new_ends setup) events)) }
-    ensures end { (setup : Setup) (events : List Event) (side : Side) (id : ℕ) → IsMadeSetup setup → AsksForNone setup → AllByRecursion (IsSendable setup) events → EarlyAreTaken setup (new_ends setup) events →
+    ensures front { (setup : Setup) (events : List Event) (side : Side) (id : ℕ) → IsMadeSetup setup → AsksForNone setup
+        → AllByRecursion (IsSendable setup) events → EarlyAreTaken setup (new_ends setup) events →
+        IsFrontOf (IsExactly (reader_at setup side)) (pulled side id events (answers_of_ends (new_ends setup) events))
+        (sent (other side) id events (answers_of_ends (new_ends setup) events)) }
+    ensures end { (setup : Setup) (events : List Event) (side : Side) (id : ℕ) → IsMadeSetup setup → AsksForNone setup
+        → AllByRecursion (IsSendable setup) events → EarlyAreTaken setup (new_ends setup) events →
         has_pulled_end side id events (answers_of_ends (new_ends setup) events) ≡ true →
-        IsAllOf (IsExactly (reader_at setup side)) (pulled side id events (answers_of_ends (new_ends setup) events)) (sent (other side) id events (answers_of_ends (new_ends setup) events))
+        IsAllOf (IsExactly (reader_at setup side)) (pulled side id events (answers_of_ends (new_ends setup) events))
+        (sent (other side) id events (answers_of_ends (new_ends setup) events))
         × (has_finished (other side) id events (answers_of_ends (new_ends setup) events) ≡ true) }
 {
     limits_that_take_what_is_sent_change_nothing();
@@ -75,20 +89,32 @@ pub fn two_limited_endpoints_run_in_a_world()
 /// And so do two endpoints that both ask for strict messages, if the server knows what was asked when it answers. No event judges a message
 /// or finds a frame too long (`none`), and all of the above holds without the sends that were refused as malformed.
 pub fn two_strict_limited_endpoints_run_in_a_world()
-    ensures none { (setup : Setup) (events : List Event) → IsMadeSetup setup → AsksForStrict setup → AllByRecursion (IsSendable setup) events →
-        ServerKnows events (answers_of_ends (new_ends setup) events) → EarlyAreTaken setup (new_ends setup) events → NoneJudges (new_ends setup) events }
-    ensures world { (setup : Setup) (events : List Event) → IsMadeSetup setup → AsksForStrict setup → AllByRecursion (IsSendable setup) events →
+    ensures none { (setup : Setup) (events : List Event) → IsMadeSetup setup → AsksForStrict setup
+        → AllByRecursion (IsSendable setup) events →
+        ServerKnows events (answers_of_ends (new_ends setup) events) → EarlyAreTaken setup (new_ends setup) events
+        → NoneJudges (new_ends setup) events }
+    ensures world { (setup : Setup) (events : List Event) → IsMadeSetup setup → AsksForStrict setup
+        → AllByRecursion (IsSendable setup) events →
         ServerKnows events (answers_of_ends (new_ends setup) events) → EarlyAreTaken setup (new_ends setup) events →
-        (w : World) × Run (Happens (plain_setup setup)) (empty_world (plain_setup setup)) (without_malformed events (answers_of_ends (new_ends setup) events)) (answers_without_malformed (answers_of_ends (new_ends setup) events)) w
+        (w : World) × Run (Happens (plain_setup setup)) (empty_world (plain_setup setup))
+        (without_malformed events (answers_of_ends (new_ends setup) events))
+        (answers_without_malformed (answers_of_ends (new_ends setup) events)) w
         × Stands (plain_setup setup) w (plain_ends (ends_after (new_ends setup) events)) }
-    ensures fault { (setup : Setup) (events : List Event) → IsMadeSetup setup → AsksForStrict setup → AllByRecursion (IsSendable setup) events →
-        ServerKnows events (answers_of_ends (new_ends setup) events) → EarlyAreTaken setup (new_ends setup) events → list_any is_connection_fault (answers_of_ends (new_ends setup) events) ≡ false }
-    ensures front { (setup : Setup) (events : List Event) (side : Side) (id : ℕ) → IsMadeSetup setup → AsksForStrict setup → AllByRecursion (IsSendable setup) events →
+    ensures fault { (setup : Setup) (events : List Event) → IsMadeSetup setup → AsksForStrict setup
+        → AllByRecursion (IsSendable setup) events →
+        ServerKnows events (answers_of_ends (new_ends setup) events) → EarlyAreTaken setup (new_ends setup) events
+        → list_any is_connection_fault (answers_of_ends (new_ends setup) events) ≡ false }
+    ensures front { (setup : Setup) (events : List Event) (side : Side) (id : ℕ) → IsMadeSetup setup → AsksForStrict setup
+        → AllByRecursion (IsSendable setup) events →
         ServerKnows events (answers_of_ends (new_ends setup) events) → EarlyAreTaken setup (new_ends setup) events →
-        IsFrontOf (IsExactly (reader_at setup side)) (pulled side id events (answers_of_ends (new_ends setup) events)) (sent (other side) id events (answers_of_ends (new_ends setup) events)) }
-    ensures end { (setup : Setup) (events : List Event) (side : Side) (id : ℕ) → IsMadeSetup setup → AsksForStrict setup → AllByRecursion (IsSendable setup) events →
-        ServerKnows events (answers_of_ends (new_ends setup) events) → EarlyAreTaken setup (new_ends setup) events → has_pulled_end side id events (answers_of_ends (new_ends setup) events) ≡ true →
-        IsAllOf (IsExactly (reader_at setup side)) (pulled side id events (answers_of_ends (new_ends setup) events)) (sent (other side) id events (answers_of_ends (new_ends setup) events))
+        IsFrontOf (IsExactly (reader_at setup side)) (pulled side id events (answers_of_ends (new_ends setup) events))
+        (sent (other side) id events (answers_of_ends (new_ends setup) events)) }
+    ensures end { (setup : Setup) (events : List Event) (side : Side) (id : ℕ) → IsMadeSetup setup → AsksForStrict setup
+        → AllByRecursion (IsSendable setup) events →
+        ServerKnows events (answers_of_ends (new_ends setup) events) → EarlyAreTaken setup (new_ends setup) events
+        → has_pulled_end side id events (answers_of_ends (new_ends setup) events) ≡ true →
+        IsAllOf (IsExactly (reader_at setup side)) (pulled side id events (answers_of_ends (new_ends setup) events))
+        (sent (other side) id events (answers_of_ends (new_ends setup) events))
         × (has_finished (other side) id events (answers_of_ends (new_ends setup) events) ≡ true) }
 {
     limits_that_take_what_is_sent_change_nothing();

@@ -33,18 +33,28 @@ pub fn strict_endpoints_take_what_they_send()
 /// answer tells of a connection fault (`fault`). What a side pulled from a stream is a front of what the other side sent on it (`front`),
 /// and all of that with the end (`end`).
 pub fn two_strict_endpoints_run_in_a_world()
-    ensures world { (setup : Setup) (events : List Event) → IsMadeSetup setup → JudgesStrictly setup → AllByRecursion (IsSendable setup) events →
+    ensures world { (setup : Setup) (events : List Event) → IsMadeSetup setup → JudgesStrictly setup
+        → AllByRecursion (IsSendable setup) events →
         ServerKnows events (answers_of_ends (new_ends setup) events) →
-        (w : World) × Run (Happens (plain_setup setup)) (empty_world (plain_setup setup)) (without_malformed events (answers_of_ends (new_ends setup) events)) (answers_without_malformed (answers_of_ends (new_ends setup) events)) w
+        (w : World) × Run (Happens (plain_setup setup)) (empty_world (plain_setup setup))
+        (without_malformed events (answers_of_ends (new_ends setup) events))
+        (answers_without_malformed (answers_of_ends (new_ends setup) events)) w
         × Stands (plain_setup setup) w (plain_ends (ends_after (new_ends setup) events)) }
-    ensures fault { (setup : Setup) (events : List Event) → IsMadeSetup setup → JudgesStrictly setup → AllByRecursion (IsSendable setup) events →
-        ServerKnows events (answers_of_ends (new_ends setup) events) → list_any is_connection_fault (answers_of_ends (new_ends setup) events) ≡ false }
-    ensures front { (setup : Setup) (events : List Event) (side : Side) (id : ℕ) → IsMadeSetup setup → JudgesStrictly setup → AllByRecursion (IsSendable setup) events →
+    ensures fault { (setup : Setup) (events : List Event) → IsMadeSetup setup → JudgesStrictly setup
+        → AllByRecursion (IsSendable setup) events →
+        ServerKnows events (answers_of_ends (new_ends setup) events)
+        → list_any is_connection_fault (answers_of_ends (new_ends setup) events) ≡ false }
+    ensures front { (setup : Setup) (events : List Event) (side : Side) (id : ℕ) → IsMadeSetup setup → JudgesStrictly setup
+        → AllByRecursion (IsSendable setup) events →
         ServerKnows events (answers_of_ends (new_ends setup) events) →
-        IsFrontOf (IsExactly (reader_at setup side)) (pulled side id events (answers_of_ends (new_ends setup) events)) (sent (other side) id events (answers_of_ends (new_ends setup) events)) }
-    ensures end { (setup : Setup) (events : List Event) (side : Side) (id : ℕ) → IsMadeSetup setup → JudgesStrictly setup → AllByRecursion (IsSendable setup) events →
-        ServerKnows events (answers_of_ends (new_ends setup) events) → has_pulled_end side id events (answers_of_ends (new_ends setup) events) ≡ true →
-        IsAllOf (IsExactly (reader_at setup side)) (pulled side id events (answers_of_ends (new_ends setup) events)) (sent (other side) id events (answers_of_ends (new_ends setup) events))
+        IsFrontOf (IsExactly (reader_at setup side)) (pulled side id events (answers_of_ends (new_ends setup) events))
+        (sent (other side) id events (answers_of_ends (new_ends setup) events)) }
+    ensures end { (setup : Setup) (events : List Event) (side : Side) (id : ℕ) → IsMadeSetup setup → JudgesStrictly setup
+        → AllByRecursion (IsSendable setup) events →
+        ServerKnows events (answers_of_ends (new_ends setup) events)
+        → has_pulled_end side id events (answers_of_ends (new_ends setup) events) ≡ true →
+        IsAllOf (IsExactly (reader_at setup side)) (pulled side id events (answers_of_ends (new_ends setup) events))
+        (sent (other side) id events (answers_of_ends (new_ends setup) events))
         × (has_finished (other side) id events (answers_of_ends (new_ends setup) events) ≡ true) }
 {
     strict_endpoints_take_what_they_send();

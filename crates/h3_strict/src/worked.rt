@@ -7,7 +7,8 @@ ghost use Rattle.h3_proto.specs.declared.stream.Side.TheVariants.{Client};
 ghost use Rattle.h3_world.specs.Ends.{answers_of_ends, ends_after, new_ends};
 ghost use Rattle.h3_world.specs.declared.event.Event.TheVariants as event;
 ghost use Rattle.h3_strict.specs.PlainEnds.{answers_without_malformed, before_judged, finds_fault, judges, plain_setup, without_malformed};
-ghost use Rattle.h3_strict.specs.WorkedStrict.{early_answers, early_front, early_run, head_request, left_answers, left_run, one_strict, refused_answers, refused_run, strict_setup, tunnel_answers, tunnel_run};
+ghost use Rattle.h3_strict.specs.WorkedStrict.{early_answers, early_front, early_run, head_request, left_answers, left_run, one_strict};
+ghost use Rattle.h3_strict.specs.WorkedStrict.{refused_answers, refused_run, strict_setup, tunnel_answers, tunnel_run};
 
 /// A header section without a path, more content than was said and an end before all of it are refused. What is sent comes out: as without
 /// strict messages and these three sends.
@@ -34,7 +35,8 @@ pub fn worked_tunnel()
 {}
 
 ghost use Rattle.h3_strict.specs.Limits.{LimitsTakeWhatIsSent, is_early};
-ghost use Rattle.h3_strict.specs.WorkedLimits.{close_client, inserting_answers, inserting_run, no_room, settings_answers, settings_run, settled_answers, settled_run, small_server, waiting_answers, waiting_run};
+ghost use Rattle.h3_strict.specs.WorkedLimits.{close_client, inserting_answers, inserting_run, no_room, settings_answers, settings_run};
+ghost use Rattle.h3_strict.specs.WorkedLimits.{settled_answers, settled_run, small_server, waiting_answers, waiting_run};
 
 /// A client cancels nineteen requests, and what its decoder says of them comes to a server whose limit takes what is sent (`limits`).
 /// Before the client's settings it waits, and may pass the limit (`waits`), and after them it is read (`settled`).

@@ -1,9 +1,11 @@
 //! Sections that are sent and neither acknowledged nor canceled (RFC 9204, sections 2.1.1 and 2.1.2), and how many of
 //! them hold each entry.
-ghost use Rattle.std.specs.Prelude.{◌≡◌, ◌+◌, ◌-◌, ◌^◌, ◌<◌, ◌≤◌, [], length, true, drop, slice_set, slice_index_or, is_some, IfSome, OnErr, OnOk};
+ghost use Rattle.std.specs.Prelude.{◌≡◌, ◌+◌, ◌-◌, ◌^◌, ◌<◌, ◌≤◌, [], length, true, drop, slice_set, slice_index_or, is_some, IfSome};
+ghost use Rattle.std.specs.Prelude.{OnErr, OnOk};
 ghost use Rattle.std.specs.List.{list_any, AllByRecursion};
 ghost use Rattle.h3_table.specs.InOrder.{put_last};
-ghost use Rattle.h3_table.specs.Tracking.{TrackingState, is_of, reference_count, is_free_to, newest_named, without_oldest_of, without_newest_of, without_all_of};
+ghost use Rattle.h3_table.specs.Tracking.{TrackingState, is_of, reference_count, is_free_to, newest_named, without_oldest_of};
+ghost use Rattle.h3_table.specs.Tracking.{without_newest_of, without_all_of};
 
 use crate::alone::TrackedSections;
 use crate::index::reserve_number;

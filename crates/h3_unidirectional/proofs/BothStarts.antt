@@ -3,8 +3,8 @@ use Rattle.std.proofs.Common.{◌≡◌, ℕ, ◌+◌, List, [], ◌∷◌, ◌+
 use Rattle.std.proofs.lemmas.Grind.{flat_map-append}
 use Rattle.h3_coding.specs.Encodings.{encoding}
 use Rattle.h3_proto.specs.Pairs.{pair_encoding, payload_of}
-use Rattle.h3_wire.specs.Encoded.{head_encoding}
-use Rattle.h3_wire.specs.StreamHeaders.{control_encoding}
+use Rattle.h3_frames.specs.Encoded.{head_encoding}
+use Rattle.h3_frames.specs.ControlStreams.{control_encoding}
 use Rattle.h3_connection.specs.OwnSettings.{control_start}
 use Rattle.h3_unidirectional.specs.Starts.{start_of_both}
 

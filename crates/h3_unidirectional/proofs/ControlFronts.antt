@@ -3,19 +3,19 @@ use Rattle.std.proofs.Common.{◌≡◌, ℕ, ◌<◌, Bool, true, false, if◌t
 use Rattle.std.specs.Prelude.{OnOk}
 use Rattle.h3_proto.specs.declared.stream.Side.{Side}
 use Rattle.h3_proto.specs.declared.stream.Side.TheVariants.{Client, Server}
-use Rattle.h3_wire.specs.ExcessiveFrames.{is_excessive_by}
-use Rattle.h3_wire.specs.ExcessiveLaws.{excessive_more}
-use Rattle.h3_wire.specs.Frames.{Front, Whole, Unknown, Refused, Unfinished, frame_by}
-use Rattle.h3_wire.specs.Known.{known_by, Gives}
-use Rattle.h3_wire.specs.declared.frame.errors.FrameStreamError.{FrameStreamError}
-use Rattle.h3_wire.specs.declared.frame.errors.FrameStreamError.TheVariants as stream
-use Rattle.h3_wire.specs.KnownLaws.{known-other}
-use Rattle.h3_wire.specs.Fronts.{IsFinished, IsKnown}
+use Rattle.h3_frames.specs.ExcessiveFrames.{is_excessive_by}
+use Rattle.h3_frames.specs.ExcessiveLaws.{excessive_more}
+use Rattle.h3_frames.specs.Frames.{Front, Whole, Unknown, Refused, Unfinished, frame_by}
+use Rattle.h3_frames.specs.Known.{known_by, Gives}
+use Rattle.h3_frames.specs.declared.frame.errors.FrameStreamError.{FrameStreamError}
+use Rattle.h3_frames.specs.declared.frame.errors.FrameStreamError.TheVariants as stream
+use Rattle.h3_frames.specs.KnownLaws.{known-other}
+use Rattle.h3_frames.specs.Fronts.{IsFinished, IsKnown}
 use Rattle.h3_priority.specs.Priority.{PriorityParameters, priority_of}
-use Rattle.h3_wire.specs.Update.{Update}
-use Rattle.h3_wire.specs.declared.proto.frame.PayloadLen.{PayloadLen}
-use Rattle.h3_wire.specs.declared.proto.frame.Frame.{Frame}
-use Rattle.h3_wire.specs.declared.proto.frame.Frame.TheVariants as frame
+use Rattle.h3_frames.specs.Update.{Update}
+use Rattle.h3_frames.specs.declared.proto.frame.PayloadLen.{PayloadLen}
+use Rattle.h3_frames.specs.declared.proto.frame.Frame.{Frame}
+use Rattle.h3_frames.specs.declared.proto.frame.Frame.TheVariants as frame
 use Rattle.h3_connection.specs.Codes.{excessive_load, id_error}
 use Rattle.h3_connection.specs.OtherSettings.{with_others}
 use Rattle.h3_connection.specs.OtherSettingsLaws.{others_more}
@@ -27,7 +27,7 @@ use Rattle.h3_unidirectional.specs.Judged.{TellsOthers, others_by}
 use Rattle.h3_unidirectional.proofs.OthersTold.{having_as, having_settings, tells_kept}
 use Rattle.h3_unidirectional.proofs.FrameFronts.{Precedes, followed_by, frame_front, unknown_front}
 use Rattle.h3_connection.specs.PeerReadingLaws.{frame_keeps, peer_step, step_excessive}
-use Rattle.h3_wire.specs.declared.frame.kinds.FrameKinds.{FrameKinds}
+use Rattle.h3_frames.specs.declared.frame.kinds.FrameKinds.{FrameKinds}
 
 -- the same finding, over other bytes
 abbrev over : PeerFound → List ℕ → PeerFound

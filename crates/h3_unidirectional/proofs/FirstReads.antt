@@ -2,10 +2,10 @@
 use Rattle.std.proofs.Common.{◌≡◌, ℕ, Bool, true, false, if◌then◌else◌, List, [], ◌∷◌, ◌++◌, append-nil, Option, Some, None, Result, Ok, Err, refl, ap, sym, ◌∙◌}
 use Rattle.std.specs.Prelude.{IfOk, OnErr, is_some}
 use Rattle.h3_proto.specs.declared.stream.Side.{Side}
-use Rattle.h3_wire.specs.declared.proto.frame.PayloadLen.{PayloadLen}
-use Rattle.h3_wire.specs.declared.proto.frame.Frame.{Frame}
-use Rattle.h3_wire.specs.declared.proto.frame.Frame.TheVariants as frame
-use Rattle.h3_wire.specs.declared.frame.kinds.FrameKinds.{FrameKinds}
+use Rattle.h3_frames.specs.declared.proto.frame.PayloadLen.{PayloadLen}
+use Rattle.h3_frames.specs.declared.proto.frame.Frame.{Frame}
+use Rattle.h3_frames.specs.declared.proto.frame.Frame.TheVariants as frame
+use Rattle.h3_frames.specs.declared.frame.kinds.FrameKinds.{FrameKinds}
 use Rattle.h3_connection.specs.Codes.{settings_error}
 use Rattle.h3_connection.specs.Control.{settings_alone}
 use Rattle.h3_connection.specs.KeptGoaways.{keeps_last, kept_peer, kept_found}

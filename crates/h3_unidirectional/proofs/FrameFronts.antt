@@ -4,12 +4,12 @@ use Rattle.std.proofs.lemmas.List.{take_at, drop_at, take-append-drop, nil_from_
 use Rattle.std.proofs.lemmas.Bool.{cases_lt, lt-ltb, le-ltb}
 use Rattle.h3_coding.specs.Varint.{varint_at}
 use Rattle.h3_coding.specs.VarintLaws.{cases_number, begins, of_front}
-use Rattle.h3_wire.specs.Frames.{Front, Whole, Unknown, Refused, Unfinished, frame_known, with_head, frame_by, is_session}
-use Rattle.h3_wire.specs.FrameLaws.{at_no_kind, at_no_number, at_head, frame_known-finished, frame_known-more, frame_by-nil}
-use Rattle.h3_wire.specs.Fronts.{IsFinished, IsBefore, with_more, IsKnown, tested}
-use Rattle.h3_wire.specs.Known.{known_by}
-use Rattle.h3_wire.specs.KnownLaws.{cases_front, known-unknown, known-other, unknown_shorter}
-use Rattle.h3_wire.specs.declared.frame.kinds.FrameKinds.{FrameKinds}
+use Rattle.h3_frames.specs.Frames.{Front, Whole, Unknown, Refused, Unfinished, frame_known, with_head, frame_by, is_session}
+use Rattle.h3_frames.specs.FrameLaws.{at_no_kind, at_no_number, at_head, frame_known-finished, frame_known-more, frame_by-nil}
+use Rattle.h3_frames.specs.Fronts.{IsFinished, IsBefore, with_more, IsKnown, tested}
+use Rattle.h3_frames.specs.Known.{known_by}
+use Rattle.h3_frames.specs.KnownLaws.{cases_front, known-unknown, known-other, unknown_shorter}
+use Rattle.h3_frames.specs.declared.frame.kinds.FrameKinds.{FrameKinds}
 
 -- a whole frame, or a whole unknown one, is followed by these bytes
 abbrev pub Precedes : Front → List ℕ → Type 0

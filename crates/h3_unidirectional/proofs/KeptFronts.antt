@@ -8,7 +8,7 @@ use Rattle.h3_connection.specs.Lasts.{last_id}
 use Rattle.h3_connection.specs.PeerReading.{Peer, PeerFound, with_unread, read_peer}
 use Rattle.h3_connection.specs.PeerReadingLaws.{nothing_read_on}
 use Rattle.h3_unidirectional.specs.Fronts.{ReadsFront, KeepsFront, KeepsOn, IsPart, StopsReading}
-use Rattle.h3_wire.specs.declared.frame.kinds.FrameKinds.{FrameKinds}
+use Rattle.h3_frames.specs.declared.frame.kinds.FrameKinds.{FrameKinds}
 
 -- nothing is read
 pub none_kept : (kinds : FrameKinds) (last : Bool) (limit : ℕ) (side : Side) (p : Peer) → KeepsFront kinds last limit side p p

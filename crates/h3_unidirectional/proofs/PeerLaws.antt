@@ -1,17 +1,17 @@
 -- The reading of a control stream, step by step.
 use Rattle.std.proofs.Common.{◌≡◌, ℕ, List, Some, ap, sym, ◌∙◌, ◌<◌, length, Option, arith, true, None, false}
 use Rattle.h3_proto.specs.declared.stream.Side.{Side}
-use Rattle.h3_wire.specs.ExcessiveFrames.{is_excessive_by}
-use Rattle.h3_wire.specs.Frames.{Refused, frame_by, Whole}
-use Rattle.h3_wire.specs.Known.{known_by}
-use Rattle.h3_wire.specs.declared.proto.frame.FrameError.{FrameError}
+use Rattle.h3_frames.specs.ExcessiveFrames.{is_excessive_by}
+use Rattle.h3_frames.specs.Frames.{Refused, frame_by, Whole}
+use Rattle.h3_frames.specs.Known.{known_by}
+use Rattle.h3_frames.specs.declared.proto.frame.FrameError.{FrameError}
 use Rattle.h3_connection.specs.PeerReadingLaws.{step_within, frame_keeps}
 use Rattle.h3_connection.specs.PeerReading.{Peer, with_unread, having_frame, at_front, read_peer, refused_code, PeerFound, read_frame, unless_fault}
-use Rattle.h3_wire.specs.declared.proto.frame.PayloadLen.{PayloadLen}
-use Rattle.h3_wire.specs.declared.proto.frame.Frame.{Frame}
+use Rattle.h3_frames.specs.declared.proto.frame.PayloadLen.{PayloadLen}
+use Rattle.h3_frames.specs.declared.proto.frame.Frame.{Frame}
 use Rattle.h3_connection.specs.SkippingLaws.{rest_shorter}
 use Rattle.std.specs.Option.{is_some}
-use Rattle.h3_wire.specs.declared.frame.kinds.FrameKinds.{FrameKinds}
+use Rattle.h3_frames.specs.declared.frame.kinds.FrameKinds.{FrameKinds}
 
 -- a frame is refused
 pub peer_refused : (kinds : FrameKinds) (limit : ℕ) (side : Side) (p : Peer) (left : List ℕ) (e : FrameError) → is_excessive_by kinds limit (known_by kinds p.unread) ≡ false → left ≡ known_by kinds p.unread → frame_by kinds left ≡ Refused e

@@ -2,7 +2,7 @@
 use Rattle.std.specs.Prelude.{ℕ, List, [], drop, Option, Some, None, if◌then◌else◌, ◌==◌}
 use Rattle.h3_coding.specs.Encodings.{encoding}
 use Rattle.h3_proto.specs.declared.stream.Side.{Side}
-use Rattle.h3_wire.specs.StreamHeaders.{control_encoding}
+use Rattle.h3_frames.specs.ControlStreams.{control_encoding}
 use Rattle.h3_connection.specs.OwnIds.{control_id, encoder_id, decoder_id}
 use Rattle.h3_connection.specs.State.{OwnState}
 use Rattle.h3_unidirectional.specs.declared.own.OwnStream.{OwnStream}

@@ -1,15 +1,17 @@
 //! The peer's control stream (RFC 9114, section 6.2.1).
-ghost use Rattle.std.specs.Prelude.{◌≡◌, ◌+◌, ◌^◌, ◌<◌, ◌++◌, ℕ, List, [], length, false, remove, slice_get, Some, None, is_some, IfOk, IfErr, OnOk, OnErr, option_copied};
+ghost use Rattle.std.specs.Prelude.{◌≡◌, ◌+◌, ◌^◌, ◌<◌, ◌++◌, ℕ, List, [], length, false, remove, slice_get, Some, None, is_some, IfOk};
+ghost use Rattle.std.specs.Prelude.{IfErr, OnOk, OnErr, option_copied};
 ghost use Rattle.std.specs.List.{concat};
 ghost use Rattle.h3_proto.specs.declared.stream.Side.{Side};
-ghost use Rattle.h3_wire.specs.FirstFrames.{begins_other};
-ghost use Rattle.h3_wire.specs.Known.{refusal};
-ghost use Rattle.h3_wire.specs.UnknownSize.{held_length};
+ghost use Rattle.h3_frames.specs.FirstFrames.{begins_other};
+ghost use Rattle.h3_frames.specs.Known.{refusal};
+ghost use Rattle.h3_frames.specs.UnknownSize.{held_length};
 ghost use Rattle.h3_connection.specs.Codes.{settings_code, refusal_code};
 ghost use Rattle.h3_connection.specs.KeptGoaways.{keeps_last, kept_found, kept_peer};
 ghost use Rattle.h3_connection.specs.Lasts.{last_id};
 ghost use Rattle.h3_connection.specs.OtherSettings.{no_others, setting_in};
-ghost use Rattle.h3_connection.specs.PeerReading.{Peer, none_read, with_unread, is_no_goaway, read_goaway, read_max_push, read_update, read_frame, refused_code, read_peer};
+ghost use Rattle.h3_connection.specs.PeerReading.{Peer, none_read, with_unread, is_no_goaway, read_goaway, read_max_push, read_update};
+ghost use Rattle.h3_connection.specs.PeerReading.{read_frame, refused_code, read_peer};
 ghost use Rattle.h3_connection.specs.StreamSets.{stream_at};
 ghost use Rattle.h3_connection.specs.StrictConnection.{settings_refused};
 ghost use Rattle.h3_unidirectional.specs.Fronts.{KeepsOn, KeepsPart, ReadsFront, StopsReading, found_first};
@@ -21,14 +23,14 @@ use crate::updates::WaitingUpdates;
 use bytes::Bytes;
 use h3_coding::varint::VarInt;
 use h3_connection::setup::Announced;
+use h3_frames::frame::{FrameBuffer, FrameKinds, FrameProtocolError, FrameStreamError};
+use h3_frames::proto::frame::{Frame, PayloadLen, PriorityUpdate};
 use h3_priority::priority::Priority;
 use h3_proto::config::Choices;
 use h3_proto::error::Code;
 use h3_proto::frame::{SettingId, Settings, SettingsError};
 use h3_proto::push::PushId;
 use h3_proto::stream::{Side, StreamId};
-use h3_wire::frame::{FrameBuffer, FrameKinds, FrameProtocolError, FrameStreamError};
-use h3_wire::proto::frame::{Frame, PayloadLen, PriorityUpdate};
 use std::alloc::{AllocError, Global};
 use std::marker::Model;
 
@@ -51,7 +53,14 @@ impl Model for PeerControl {
 
     ghost Value = { Peer };
 
-    ghost view = { λ p. record { unread = concat p.unread.pieces; settings = p.settings; goaways = p.goaways.items; most_pushes = p.most_pushes; updates = updates_in p.updates; others = others_in p.others } };
+    ghost view = { λ p. record {
+      unread = concat p.unread.pieces;
+      settings = p.settings;
+      goaways = p.goaways.items;
+      most_pushes = p.most_pushes;
+      updates = updates_in p.updates;
+      others = others_in p.others;
+    } };
 
     ghost invariant = { λ p. p.settings ≡ None → p.others.kept.items ≡ [] };
 }
@@ -435,7 +444,8 @@ impl PeerControl {
         choices: Choices,
         kinds: FrameKinds,
     ) -> Result<Option<Code>, AllocError>
-        ensures ok { IfOk result (λ fault. kept_found (keeps_last choices) (read_peer kinds choices.unfinished_limit side self.old) ≡ (self.new, fault)) }
+        ensures ok { IfOk result (λ fault. kept_found (keeps_last choices) (read_peer kinds choices.unfinished_limit side self.old) ≡
+            (self.new, fault)) }
         ensures refused { OnErr result (StopsReading kinds (keeps_last choices) choices.unfinished_limit side self.old self.new) }
         ensures front { OnErr result (KeepsOn kinds (keeps_last choices) choices.unfinished_limit side self.old self.new) }
     {
@@ -486,8 +496,10 @@ impl PeerControl {
         kinds: FrameKinds,
     ) -> Result<Option<Code>, AllocError>
         requires { self.old.settings ≡ None }
-        ensures ok { IfOk result (λ fault. kept_found (keeps_last own.now.choices) (found_first side own.now self.old (read_peer kinds own.now.choices.unfinished_limit side self.old)) ≡ (self.new, fault)) }
-        ensures refused { OnErr result (KeepsPart kinds (keeps_last own.now.choices) own.now.choices.unfinished_limit side self.old self.new) }
+        ensures ok { IfOk result (λ fault. kept_found (keeps_last own.now.choices)
+            (found_first side own.now self.old (read_peer kinds own.now.choices.unfinished_limit side self.old)) ≡ (self.new, fault)) }
+        ensures refused { OnErr result
+            (KeepsPart kinds (keeps_last own.now.choices) own.now.choices.unfinished_limit side self.old self.new) }
         ensures taken { OnErr result (settings_refused side own.now self.new.settings ≡ false) }
     {
         let most_others = self.most_others();

@@ -95,7 +95,8 @@ impl Decoding {
     fn read_unread(&mut self, most: u64) -> Result<(), DecoderError>
         ensures front { HearsFront most self.old self.new }
         ensures ok { OnOk result (HearingEnds most self.new.decoder self.new.unread) }
-        ensures err { IfErr result (IsReasonFor (hear_up_to most self.new.decoder self.new.unread ≡ heard self.new.decoder self.new.unread true) (λ count. ⊥)) }
+        ensures err { IfErr result (IsReasonFor (hear_up_to most self.new.decoder self.new.unread
+            ≡ heard self.new.decoder self.new.unread true) (λ count. ⊥)) }
     {
         let bytes = self.unread.as_slice();
         let mut rest = SliceCursor::new(bytes);
@@ -112,8 +113,10 @@ impl Decoding {
         requires { goes_on (encoder_wait self.old.unread) ≡ false }
         ensures front { HearsFront most self.old self.new }
         ensures ok { OnOk result (HearingEnds most self.new.decoder self.new.unread) }
-        ensures err { IfErr result (IsReasonFor (Hears most self.old self.new [] (Some encoder_stream_error) replies.old.items replies.new.items) (λ count. ⊥)) }
-        ensures increment { replies.new.items ≡ replies.old.items ++ increment_for (self.new.decoder.table.inserted - self.old.decoder.table.inserted) }
+        ensures err { IfErr result (IsReasonFor (Hears most self.old self.new []
+            (Some encoder_stream_error) replies.old.items replies.new.items) (λ count. ⊥)) }
+        ensures increment { replies.new.items ≡ replies.old.items ++ increment_for
+            (self.new.decoder.table.inserted - self.old.decoder.table.inserted) }
     {
         if replies.reserve(INCREMENT_LEN).is_err() {
             return Err(DecoderError::OutOfMemory);
@@ -129,7 +132,8 @@ impl Decoding {
         requires { goes_on (encoder_wait self.old.unread) ≡ false }
         ensures front { HearsFront most self.old self.new }
         ensures ok { IfOk result (λ fault. Hears most self.old self.new [] fault replies.old.items replies.new.items) }
-        ensures increment { replies.new.items ≡ replies.old.items ++ increment_for (self.new.decoder.table.inserted - self.old.decoder.table.inserted) }
+        ensures increment { replies.new.items ≡ replies.old.items ++ increment_for
+            (self.new.decoder.table.inserted - self.old.decoder.table.inserted) }
     {
         match self.read_front(most, replies) {
             Ok(()) => Ok(self.excess(most)),
@@ -176,7 +180,8 @@ fn read_window(
     rest: &mut SliceCursor<'_>,
     most: u64,
 ) -> Result<bool, DecoderError>
-    ensures front { HearsFront most (record { decoder = decoder.old; unread = rest.old }) (record { decoder = decoder.new; unread = rest.new }) }
+    ensures front { HearsFront most (record { decoder = decoder.old; unread = rest.old })
+        (record { decoder = decoder.new; unread = rest.new }) }
     ensures ok { IfOk result (HearsWindow most decoder.new rest.old rest.new) }
     ensures err { IfErr result (IsReasonFor (hear_up_to most decoder.new rest.new ≡ heard decoder.new rest.new true) (λ count. ⊥)) }
 {
@@ -198,7 +203,8 @@ fn read_windows(
     rest: &mut SliceCursor<'_>,
     most: u64,
 ) -> Result<(), DecoderError>
-    ensures front { HearsFront most (record { decoder = decoder.old; unread = rest.old }) (record { decoder = decoder.new; unread = rest.new }) }
+    ensures front { HearsFront most (record { decoder = decoder.old; unread = rest.old })
+        (record { decoder = decoder.new; unread = rest.new }) }
     ensures ok { OnOk result (HearingEnds most decoder.new rest.new) }
     ensures err { IfErr result (IsReasonFor (hear_up_to most decoder.new rest.new ≡ heard decoder.new rest.new true) (λ count. ⊥)) }
 {

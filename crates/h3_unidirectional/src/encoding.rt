@@ -103,7 +103,8 @@ impl Encoding {
     /// the peer announced and the most that the table may have. The call takes no memory.
     pub fn allow(&mut self, settings: &Settings) -> Option<u64>
         requires { self.old.encoder.table.inserted ≡ 0 }
-        ensures encoder { (s : EncoderHistory) → self.old.encoder ≡ encoder_state s → self.new.encoder ≡ encoder_state (having_learned s settings.now) }
+        ensures encoder { (s : EncoderHistory) → self.old.encoder ≡ encoder_state s
+            → self.new.encoder ≡ encoder_state (having_learned s settings.now) }
         ensures capacity { result ≡ usable_capacity self.old.encoder.most_capacity settings.now }
         ensures unread { self.new.unread ≡ self.old.unread }
     {
@@ -137,7 +138,8 @@ impl Encoding {
         ensures sent { IfOk result (λ count. (s : EncoderHistory) → self.old.encoder ≡ encoder_state s →
             IsSent s stream fields.now count self.new.encoder block.old.items block.new.items out.old out.new) }
         ensures unwritten { OnErr result (block.new.items ≡ block.old.items) }
-        ensures cut_off { OnErr result ((s : EncoderHistory) → self.old.encoder ≡ encoder_state s → IsCutOff s (writing_on s stream) fields.now self.new.encoder out.old out.new) }
+        ensures cut_off { OnErr result ((s : EncoderHistory) → self.old.encoder ≡ encoder_state s
+            → IsCutOff s (writing_on s stream) fields.now self.new.encoder out.old out.new) }
         ensures unread { self.new.unread ≡ self.old.unread }
     {
         let Ok(count) = self
@@ -152,7 +154,8 @@ impl Encoding {
     /// Takes back the newest section of a stream, as if it had not been written; `count` is its required insert count.
     /// Its insertions stay.
     pub fn withdraw(&mut self, stream: StreamId, count: usize)
-        ensures encoder { (s : EncoderHistory) → self.old.encoder ≡ encoder_state s → self.new.encoder ≡ encoder_state (withdrawn s stream count) }
+        ensures encoder { (s : EncoderHistory) → self.old.encoder ≡ encoder_state s
+            → self.new.encoder ≡ encoder_state (withdrawn s stream count) }
         ensures unread { self.new.unread ≡ self.old.unread }
     {
         self.encoder.withdraw(stream.into_inner(), count);
@@ -173,7 +176,8 @@ impl Encoding {
         requires { goes_on (decoder_wait self.old.unread) ≡ false }
         ensures front { (s : EncoderHistory) → self.old.encoder ≡ encoder_state s → ListensFront most s self.old self.new }
         ensures ok { OnOk result ((s : EncoderHistory) → self.old.encoder ≡ encoder_state s → ListeningEnds most self.new.unread) }
-        ensures err { IfErr result (λ e. UnlessMemory e ((s : EncoderHistory) → self.old.encoder ≡ encoder_state s → Listens most s self.old.unread self.new (Some decoder_stream_error))) }
+        ensures err { IfErr result (λ e. UnlessMemory e ((s : EncoderHistory) → self.old.encoder ≡ encoder_state s
+            → Listens most s self.old.unread self.new (Some decoder_stream_error))) }
     {
         let bytes = self.unread.as_slice();
         let mut rest = SliceCursor::new(bytes);
@@ -189,8 +193,10 @@ impl Encoding {
     /// instructions that were read stand. The others stay unread, and the next reading goes on with them.
     #[tactic(auto, using(crate::proofs::Listened::is_reply_fault))]
     pub fn read(&mut self, most: u64) -> Result<Option<Code>, AllocError>
-        ensures ok { IfOk result (λ fault. (s : EncoderHistory) → self.old.encoder ≡ encoder_state s → Listens most s self.old.unread self.new fault) }
-        ensures refused { OnErr result ((s : EncoderHistory) → self.old.encoder ≡ encoder_state s → StopsListening most s self.old self.new) }
+        ensures ok { IfOk result (λ fault. (s : EncoderHistory) → self.old.encoder ≡ encoder_state s
+            → Listens most s self.old.unread self.new fault) }
+        ensures refused { OnErr result ((s : EncoderHistory) → self.old.encoder ≡ encoder_state s
+            → StopsListening most s self.old self.new) }
     {
         if self.wait.goes_on() {
             return Ok(self.excess(most));
@@ -209,7 +215,8 @@ fn read_window(
     rest: &mut SliceCursor<'_>,
     most: u64,
 ) -> Result<bool, EncoderError>
-    ensures front { (s : EncoderHistory) → encoder.old ≡ encoder_state s → ListensFront most s (record { encoder = encoder.old; unread = rest.old }) (record { encoder = encoder.new; unread = rest.new }) }
+    ensures front { (s : EncoderHistory) → encoder.old ≡ encoder_state s
+        → ListensFront most s (record { encoder = encoder.old; unread = rest.old }) (record { encoder = encoder.new; unread = rest.new }) }
     ensures ok { IfOk result (ListensWindow most rest.old rest.new) }
     ensures err { IfErr result (λ e. UnlessMemory e (IsRefusedAt most encoder.new rest.new)) }
 {
@@ -231,7 +238,8 @@ fn read_windows(
     rest: &mut SliceCursor<'_>,
     most: u64,
 ) -> Result<(), EncoderError>
-    ensures front { (s : EncoderHistory) → encoder.old ≡ encoder_state s → ListensFront most s (record { encoder = encoder.old; unread = rest.old }) (record { encoder = encoder.new; unread = rest.new }) }
+    ensures front { (s : EncoderHistory) → encoder.old ≡ encoder_state s
+        → ListensFront most s (record { encoder = encoder.old; unread = rest.old }) (record { encoder = encoder.new; unread = rest.new }) }
     ensures ok { OnOk result (ListeningEnds most rest.new) }
     ensures err { IfErr result (λ e. UnlessMemory e (IsRefusedAt most encoder.new rest.new)) }
 {

@@ -6,9 +6,9 @@ ghost use Rattle.h3_unidirectional.specs.Starts.{start_of_both};
 use crate::own::OwnStreams;
 use crate::waiting::WaitingBytes;
 use h3_coding::coding::BufMutExt;
+use h3_frames::proto::frame::FrameType;
 use h3_proto::frame::Settings;
 use h3_proto::stream::StreamType;
-use h3_wire::proto::frame::FrameType;
 use std::alloc::{AllocError, Global};
 
 /// The type of the control stream, and one SETTINGS frame over both lists.

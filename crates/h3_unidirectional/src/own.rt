@@ -3,15 +3,15 @@ ghost use Rattle.std.specs.Prelude.{◌≡◌, ◌≤◌, ◌++◌, ℕ, length,
 ghost use Rattle.h3_coding.specs.Encodings.{encoding};
 ghost use Rattle.h3_connection.specs.OwnUpdates.{goaway_encoding, update_encoding};
 ghost use Rattle.h3_unidirectional.specs.Owned.{first_own, own_stream_of, waiting_on, having_taken};
-ghost use Rattle.h3_wire.specs.StreamHeaders.{control_encoding};
+ghost use Rattle.h3_frames.specs.ControlStreams.{control_encoding};
 
 use crate::waiting::WaitingBytes;
 use h3_coding::coding::BufMutExt;
 use h3_coding::varint::VarInt;
+use h3_frames::proto::frame::FrameType;
 use h3_priority::priority::Priority;
 use h3_proto::frame::Settings;
 use h3_proto::stream::{Side, StreamId, StreamType};
-use h3_wire::proto::frame::FrameType;
 use std::alloc::{AllocError, Global};
 use std::marker::Model;
 
@@ -88,7 +88,8 @@ fn goaway_frame(alloc: Global, id: VarInt) -> Result<Vec<u8>, AllocError>
 
 /// A PRIORITY_UPDATE frame (RFC 9218, section 7.2).
 fn update_frame(alloc: Global, id: StreamId, priority: Priority) -> Result<Vec<u8>, AllocError>
-    ensures { IfOk result (λ bytes. (behind : ℕ) → bytes.items ≡ update_encoding (record { behind = behind; id = id; priority = priority })) }
+    ensures { IfOk result (λ bytes. (behind : ℕ)
+        → bytes.items ≡ update_encoding (record { behind = behind; id = id; priority = priority })) }
 {
     let mut bytes = Vec::new(alloc);
     let number = VarInt::from(id);
@@ -166,7 +167,11 @@ impl OwnStreams {
         id: StreamId,
         priority: Priority,
     ) -> Result<(), AllocError>
-        ensures ok { OnOk result ((behind : ℕ) → self.new ≡ record self.old { control = self.old.control ++ update_encoding (record { behind = behind; id = id; priority = priority }) }) }
+        ensures ok { OnOk result ((behind : ℕ)
+            → self.new ≡ record self.old {
+              control = self.old.control ++ update_encoding
+                  (record { behind = behind; id = id; priority = priority });
+            }) }
         ensures err { OnErr result (self.new ≡ self.old) }
     {
         let frame = update_frame(alloc, id, priority)?;

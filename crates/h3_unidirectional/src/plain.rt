@@ -79,9 +79,11 @@ impl PlainRole {
 
 /// What the first bytes of a stream tell if its type alone tells its role: the role, and how many of them the type takes.
 pub fn first_role(bytes: &[u8], own: &Announced) -> Option<(PlainRole, usize)>
-    ensures told { IfSome result (λ first. role_after (known_streams own.now) (Untold []) bytes.now ≡ (plain first.0, drop first.1 bytes.now)) }
+    ensures told { IfSome result (λ first. role_after (known_streams own.now) (Untold []) bytes.now ≡
+        (plain first.0, drop first.1 bytes.now)) }
     ensures within { IfSome result (λ first. first.1 ≤ length bytes.now) }
-    ensures front { (r : Role) (rest : List ℕ) → is_untold r ≡ false → role_after (known_streams own.now) (Untold []) bytes.now ≡ (r, rest) → TellsFirst (known_streams own.now) (Untold []) bytes.now r rest }
+    ensures front { (r : Role) (rest : List ℕ) → is_untold r ≡ false → role_after (known_streams own.now) (Untold []) bytes.now ≡ (r, rest)
+        → TellsFirst (known_streams own.now) (Untold []) bytes.now r rest }
 {
     let mut ahead = bytes;
     let Some(kind) = read_kind(&mut ahead, own) else {

@@ -4,7 +4,8 @@ ghost use Rattle.std.specs.List.{concat};
 ghost use Rattle.h3_coding.specs.Varint.{varint_at};
 ghost use Rattle.h3_connection.specs.Keeping.{is_settled_session};
 ghost use Rattle.h3_connection.specs.StrictConnection.{known_streams};
-ghost use Rattle.h3_connection.specs.Unidirectional.{Role, untold, is_closed, reset_with, is_critical, role_after, with_bytes, may_be_session, untold_pull, raw, if_over, pull_other, pull_unidirectional};
+ghost use Rattle.h3_connection.specs.Unidirectional.{Role, untold, is_closed, reset_with, is_critical, role_after, with_bytes};
+ghost use Rattle.h3_connection.specs.Unidirectional.{may_be_session, untold_pull, raw, if_over, pull_other, pull_unidirectional};
 ghost use Rattle.h3_connection.specs.Unidirectional.Role.{Untold, Session, Other};
 ghost use Rattle.h3_unidirectional.specs.Kinds.{role_of, is_told_kind, is_untold, Tells, TellsFirst, received_by};
 ghost use Rattle.h3_unidirectional.specs.Told.{kind_in};
@@ -13,9 +14,9 @@ use bytes::{Buf, Bytes};
 use h3_coding::coding::BufExt;
 use h3_connection::event::{Fault, Item, Pull, StreamFault};
 use h3_connection::setup::Announced;
+use h3_frames::buf::BufList;
 use h3_proto::stream::StreamType;
 use h3_proto::webtransport::SessionId;
-use h3_wire::buf::BufList;
 use std::alloc::Global;
 use std::marker::Model;
 
@@ -81,7 +82,14 @@ impl Model for UnidirectionalStream {
 
     ghost Value = { Unidirectional };
 
-    ghost view = { λ s. record { role = role_of s.kind s.front.items; unread = s.unread.pieces; ended = s.ended; reset_code = code_of s.is_reset s.reset_code; is_told = s.is_told; is_over = s.is_over } };
+    ghost view = { λ s. record {
+      role = role_of s.kind s.front.items;
+      unread = s.unread.pieces;
+      ended = s.ended;
+      reset_code = code_of s.is_reset s.reset_code;
+      is_told = s.is_told;
+      is_over = s.is_over;
+    } };
 
     ghost invariant = { λ s. IsUnfinished s.kind s.front.items };
 }
@@ -263,7 +271,8 @@ impl UnidirectionalStream {
         requires told { is_told_kind kind ≡ true }
         requires inside { passed ≤ length bytes }
         requires fits { length (concat self.old.unread) + length bytes < 2 ^ 64 }
-        ensures ok { IfOk result (λ received. (self.new ≡ with_bytes self.old (role_of kind [], drop passed bytes)) × (received ≡ received_by (role_of kind [], drop passed bytes))) }
+        ensures ok { IfOk result (λ received. (self.new ≡ with_bytes self.old (role_of kind [], drop passed bytes))
+            × (received ≡ received_by (role_of kind [], drop passed bytes))) }
         ensures err { IfErr result (λ back. (back ≡ bytes) × (self.new ≡ self.old)) }
     {
         match kind {
@@ -306,7 +315,8 @@ impl UnidirectionalStream {
     fn tell(&mut self, own: &Announced, bytes: Bytes) -> Result<Received, Bytes>
         requires untold { is_untold self.old.role ≡ true }
         requires fits { length (concat self.old.unread) + length bytes < 2 ^ 64 }
-        ensures ok { IfOk result (λ received. (self.new ≡ with_bytes self.old (role_after (known_streams own.now) self.old.role bytes)) × (received ≡ received_by (role_after (known_streams own.now) self.old.role bytes))) }
+        ensures ok { IfOk result (λ received. (self.new ≡ with_bytes self.old (role_after (known_streams own.now) self.old.role bytes))
+            × (received ≡ received_by (role_after (known_streams own.now) self.old.role bytes))) }
         ensures err { IfErr result (λ back. (back ≡ bytes) × (self.new ≡ self.old)) }
     {
         let mut both = self.front.as_slice().chain(bytes.as_slice());
@@ -331,8 +341,11 @@ impl UnidirectionalStream {
     #[tactic(auto, using(crate::proofs::Heads::tells_first))]
     pub fn receive(&mut self, own: &Announced, bytes: Bytes) -> Result<Received, Bytes>
         requires { length (concat self.old.unread) + length bytes < 2 ^ 64 }
-        ensures front { (r : Role) (rest : List ℕ) → is_untold r ≡ false → role_after (known_streams own.now) self.old.role bytes ≡ (r, rest) → TellsFirst (known_streams own.now) self.old.role bytes r rest }
-        ensures ok { IfOk result (λ received. (self.new ≡ with_bytes self.old (role_after (known_streams own.now) self.old.role bytes)) × (received ≡ received_by (role_after (known_streams own.now) self.old.role bytes))) }
+        ensures front { (r : Role) (rest : List ℕ) → is_untold r ≡ false
+            → role_after (known_streams own.now) self.old.role bytes ≡ (r, rest)
+            → TellsFirst (known_streams own.now) self.old.role bytes r rest }
+        ensures ok { IfOk result (λ received. (self.new ≡ with_bytes self.old (role_after (known_streams own.now) self.old.role bytes))
+            × (received ≡ received_by (role_after (known_streams own.now) self.old.role bytes))) }
         ensures err { IfErr result (λ back. (back ≡ bytes) × (self.new ≡ self.old)) }
     {
         let kind = self.kind;
@@ -404,9 +417,9 @@ impl UnidirectionalStream {
         Pull::Fault(Fault::Stream(StreamFault::Reset(self.reset_code)))
     }
 
-    /// What it gives next: of a session its id, the bytes that came in pieces, and its end. A stream of another type that is delivered has its
-    /// bytes and its end; any other stream no messages.
-    /// While its type, or the id of a session, is not whole and it may come, that is pending. This takes no memory.
+    /// What it gives next: of a session its id, the bytes that came in pieces, and its end. A stream of another type that is delivered has
+    /// its bytes and its end; any other stream no messages. While its type, or the id of a session, is not whole and it may come, that is
+    /// pending. This takes no memory.
     pub fn pull(&mut self) -> Pull
         ensures { pull_unidirectional self.old self.old.role ≡ (result, self.new) }
     {

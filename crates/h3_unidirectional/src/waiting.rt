@@ -91,7 +91,8 @@ impl WaitingBytes {
     /// Lends a vector to write after what waits, which is its end: bytes that were taken may stand in front of it, as many as wait at
     /// most. So it moves no more bytes than were taken since it last moved any.
     pub fn behind_mut(&mut self) -> &mut Vec<u8>
-        ensures* writes_back { sem 𝓛 (Lends the_row bytes_row self.entry result (λ bytes. drop (length result.now.items - length self.old) bytes.items)) }
+        ensures* writes_back { sem 𝓛 (Lends the_row bytes_row self.entry result
+            (λ bytes. drop (length result.now.items - length self.old) bytes.items)) }
         ensures value { drop (length result.now.items - length self.old) result.now.items ≡ self.old }
     {
         self.taken = let_go(&mut self.bytes, self.taken);

@@ -1,20 +1,21 @@
 -- A stream of a session is given up both ways.
-use Rattle.std.proofs.Common.{◌≡◌, ◌≢◌, ℕ, Bool, true, false, Option, Some, None, Ok, Err, refl, ap, ◌∙◌, is_some, is_none, is_ok}
-use Rattle.std.specs.Prelude.{Result, unwrap_or}
+use Rattle.std.proofs.Common.{◌≡◌, ◌≢◌, ℕ, Bool, true, false, [], Option, Some, None, Ok, Err, refl, sym, ap, ◌∙◌, is_some, is_none, is_ok}
+use Rattle.std.specs.Prelude.{Result, unwrap_or, ◌||◌, not, if◌then◌else◌}
 use Rattle.h3_proto.specs.StreamIds.{is_request_stream}
 use Rattle.h3_connection.specs.Answers.{call_refused}
 use Rattle.h3_connection.specs.State.{EndpointState, kept_at}
+use Rattle.h3_connection.specs.ReceivingContracts.{DeliversReset}
 use Rattle.h3_connection.specs.StreamSets.{Streams}
+use Rattle.h3_connection.specs.declared.event.DeliverError.{DeliverError}
 use Rattle.h3_connection.specs.declared.event.Refusal.{Refusal}
-use Rattle.h3_connection.specs.declared.event.Refusal.TheVariants.{NotOpen}
+use Rattle.h3_connection.specs.declared.event.Refusal.TheVariants.{Ended, NotOpen}
 use Rattle.h3_session.specs.Closing.{ClosesStream}
-use Rattle.h3_session.specs.Lacking.{RefusesDeliveries}
 use Rattle.h3_session.specs.declared.endpoint.closing.ClosedStream.{ClosedStream}
 use Rattle.h3_webtransport_streams.specs.Begun.{refusal_of}
 use Rattle.h3_webtransport_streams.specs.Receiver.{Receiver}
-use Rattle.h3_webtransport_streams.specs.Sender.{cut_off}
-use Rattle.h3_webtransport_streams.specs.SessionStream.{SessionStream, ActsOn, answer_at, receiver_of, sending, unseen}
-use Rattle.h3_webtransport.specs.Closing.{ClosesRaw, Forgets, Stops, StopsAt, resets_raw, stop_of}
+use Rattle.h3_webtransport_streams.specs.Sender.{Sender, cut_off, end_told, is_end_next, is_sent_off}
+use Rattle.h3_webtransport_streams.specs.SessionStream.{SessionStream, ActsOn, answer_at, on_sender, passes, receiver_of, sender_of, sending, unseen}
+use Rattle.h3_webtransport.specs.Closing.{ClosesRaw, Forgets, Stops, StopsAt, StopsOneWay, StopsRequest, given_up_code, is_cut, resets_raw}
 use Rattle.h3_webtransport.specs.Joint.{Joint, stored_at}
 
 -- what comes on it: it is read here,
@@ -36,35 +37,86 @@ module _ (e f : EndpointState) (id : ℕ) (r : Option Receiver) (result : Result
       at None none = stops
       at (Some x) none = absurd (cc)
 
-  pub stops_request : (inner : Result ClosedStream Refusal) → is_some r ≡ false → is_request_stream id ≡ true → ClosesStream e f id inner → result ≡ stop_of inner → Stops r e f id result
-  stops_request inner there is closes same = stops_other there (rw is (record { inner = inner; closes = closes; is = same }))
+  pub stops_request : is_some r ≡ false → is_request_stream id ≡ true → StopsRequest e f id result → Stops r e f id result
+  stops_request there is stops = stops_other there (rw is stops)
 
-pub stops_one_way : (e : EndpointState) (id : ℕ) (r : Option Receiver) (why : Option Refusal) → is_some r ≡ false → is_request_stream id ≡ false → RefusesDeliveries e id why → Stops r e e id (Ok (is_none why))
-stops_one_way e id r why there is shows = stops_other e e id r (Ok (is_none why)) there (rw is (record { why = why; shows = shows; is = refl; same = refl }))
+  pub stops_one_way : is_some r ≡ false → is_request_stream id ≡ false → StopsOneWay e f id result → Stops r e f id result
+  stops_one_way there is stops = stops_other there (rw is stops)
+
+-- a request is refused, or its end came, or it ends now
+pub stops_not : (e mid : EndpointState) (id : ℕ) (r : Refusal) → ClosesStream e mid id (Err r) → StopsRequest e mid id (Err r)
+stops_not e mid id r closes = record { inner = Err r; mid = mid; closes = closes; ends = refl; is = refl }
+
+pub stops_ended : (e mid : EndpointState) (id : ℕ) (frames : ClosedStream) → ClosesStream e mid id (Ok frames) → frames.stop_sending ≡ false → StopsRequest e mid id (Ok false)
+stops_ended e mid id frames closes is = record { inner = Ok frames; mid = mid; closes = closes; ends = refl; is = ap Ok (sym is) }
+
+pub stops_open : (e mid f : EndpointState) (id : ℕ) (frames : ClosedStream) (reset : Result Unit DeliverError) → ClosesStream e mid id (Ok frames) → frames.stop_sending ≡ true
+    → DeliversReset mid f id given_up_code reset → StopsRequest e f id (Ok true)
+stops_open e mid f id frames reset closes is delivers = record { inner = Ok frames; mid = mid; closes = closes; ends = (reset, delivers); is = ap Ok (sym is) }
 
 -- what is sent on it
 ok_is : (result : Result Unit Refusal) → is_ok result ≡ is_none (call_refused result)
 ok_is (Ok done) = refl
 ok_is (Err r) = refl
 
-answer_is : (old new : Streams SessionStream) (id : ℕ) (answer : Option Refusal) (o : Option SessionStream) → ActsOn (Some NotOpen) (sending (Some NotOpen) cut_off) old new id answer o
-    → answer ≡ answer_at (Some NotOpen) (sending (Some NotOpen) cut_off) o
-answer_is old new id answer None acts = acts.0
-answer_is old new id answer (Some s) acts = acts.0
+-- its FIN is taken from it first, and then it is reset
+abbrev ended_if : Bool → Sender → Bool × Sender
+ended_if b x = if b then (true, record x { end_taken = true }) else (false, x)
 
-others_are : (old new : Streams SessionStream) (id : ℕ) (answer : Option Refusal) (o : Option SessionStream) → ActsOn (Some NotOpen) (sending (Some NotOpen) cut_off) old new id answer o
-    → (q : ℕ) → q ≢ id → kept_at new q ≡ kept_at old q
-others_are old new id answer None acts q differs = acts.1.each q
-others_are old new id answer (Some s) acts q differs = acts.1.others q differs
+abbrev cut_if : Bool → Sender → Option Refusal × Sender
+cut_if b x = if b then (Some Ended, x) else (None, record x { waiting = []; is_finished = false; is_reset = true })
 
-pub resets_here : (s : Joint) (new : Streams SessionStream) (id : ℕ) (result : Result Unit Refusal)
-    → ActsOn (Some NotOpen) (sending (Some NotOpen) cut_off) s.sessions.streams new id (call_refused result) (stored_at s id) → is_ok result ≡ resets_raw s id
-resets_here s new id result acts = ok_is result ∙ ap is_none (answer_is s.sessions.streams new id (call_refused result) (stored_at s id) acts)
+cut_rest : (x : Sender) (b : Bool) → is_none (cut_if b x).0 ≡ not b
+cut_rest x true = refl
+cut_rest x false = refl
 
-pub forgets_all : (s : Joint) (new last : Streams SessionStream) (id : ℕ) (result : Result Unit Refusal)
-    → ActsOn (Some NotOpen) (sending (Some NotOpen) cut_off) s.sessions.streams new id (call_refused result) (stored_at s id) → ((q : ℕ) → q ≢ id → kept_at last q ≡ kept_at new q)
-    → (q : ℕ) → q ≢ id → kept_at last q ≡ stored_at s q
-forgets_all s new last id result acts others q differs = others q differs ∙ others_are s.sessions.streams new id (call_refused result) (stored_at s id) acts q differs
+cut_first : (x : Sender) (b : Bool) → ((ended_if b x).0 || is_none (cut_off (ended_if b x).1).0) ≡ (b || not (is_sent_off x))
+cut_first x true = refl
+cut_first x false = cut_rest x (is_sent_off x)
+
+cuts_sender : (s : SessionStream) (o : Option Sender) → s.sender ≡ o
+    → ((on_sender false end_told s o).0 || is_none (answer_at (Some NotOpen) (sending (Some NotOpen) cut_off) (Some (on_sender false end_told s o).1))) ≡ passes is_cut o
+cuts_sender s None is = ap (λ x. is_none (on_sender (Some NotOpen) cut_off s x).0) is
+cuts_sender s (Some x) is = cut_first x (is_end_next x)
+
+-- the stream after its FIN was taken
+abbrev ended : Option SessionStream → Option SessionStream
+ended None = None
+ended (Some s) = Some (sending false end_told s).1
+
+cuts_stored : (o : Option SessionStream) → (answer_at false (sending false end_told) o || is_none (answer_at (Some NotOpen) (sending (Some NotOpen) cut_off) (ended o))) ≡ passes is_cut (sender_of o)
+cuts_stored None = refl
+cuts_stored (Some s) = cuts_sender s s.sender refl
+
+module _ {A : Type 0} (absent : A) (act : SessionStream → A × SessionStream) (old new : Streams SessionStream) (id : ℕ) (answer : A) where
+  answer_is : (o : Option SessionStream) → ActsOn absent act old new id answer o → answer ≡ answer_at absent act o
+  answer_is None acts = acts.0
+  answer_is (Some s) acts = acts.0
+
+  others_are : (o : Option SessionStream) → ActsOn absent act old new id answer o → (q : ℕ) → q ≢ id → kept_at new q ≡ kept_at old q
+  others_are None acts q differs = acts.1.each q
+  others_are (Some s) acts q differs = acts.1.others q differs
+
+ended_is : (old new : Streams SessionStream) (id : ℕ) (waited : Bool) (o : Option SessionStream) → kept_at old id ≡ o → ActsOn false (sending false end_told) old new id waited o → kept_at new id ≡ ended o
+ended_is old new id waited None is acts = acts.1.each id ∙ is
+ended_is old new id waited (Some s) is acts = acts.1.here
+
+module _ (s : Joint) (mid new : Streams SessionStream) (id : ℕ) (waited : Bool) (result : Result Unit Refusal) where
+  pub cuts_here : ActsOn false (sending false end_told) s.sessions.streams mid id waited (stored_at s id)
+      → ActsOn (Some NotOpen) (sending (Some NotOpen) cut_off) mid new id (call_refused result) (kept_at mid id) → (waited || is_ok result) ≡ resets_raw s id
+  cuts_here first next =
+      ap (λ w. w || is_ok result) (answer_is false (sending false end_told) s.sessions.streams mid id waited (stored_at s id) first)
+      ∙ ap (λ b. answer_at false (sending false end_told) (stored_at s id) || b) (ok_is result ∙ ap is_none (answer_is (Some NotOpen) (sending (Some NotOpen) cut_off) mid new id (call_refused result) (kept_at mid id) next))
+      ∙ ap (λ o. answer_at false (sending false end_told) (stored_at s id) || is_none (answer_at (Some NotOpen) (sending (Some NotOpen) cut_off) o))
+      (ended_is s.sessions.streams mid id waited (stored_at s id) refl first)
+      ∙ cuts_stored (stored_at s id)
+
+  pub forgets_all : (last : Streams SessionStream) → ActsOn false (sending false end_told) s.sessions.streams mid id waited (stored_at s id)
+      → ActsOn (Some NotOpen) (sending (Some NotOpen) cut_off) mid new id (call_refused result) (kept_at mid id) → ((q : ℕ) → q ≢ id → kept_at last q ≡ kept_at new q)
+      → (q : ℕ) → q ≢ id → kept_at last q ≡ stored_at s q
+  forgets_all last first next others q differs =
+      others q differs ∙ others_are (Some NotOpen) (sending (Some NotOpen) cut_off) mid new id (call_refused result) (kept_at mid id) next q differs
+      ∙ others_are false (sending false end_told) s.sessions.streams mid id waited (stored_at s id) first q differs
 
 -- both
 module _ (e f : EndpointState) (s t : Joint) (id : ℕ) where

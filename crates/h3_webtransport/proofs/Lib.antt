@@ -6,4 +6,5 @@ pub mod Telling
 pub mod GivingUp
 pub mod Parting
 pub mod Arriving
+pub mod Canceling
 pub mod Turning

@@ -11,13 +11,13 @@ use Rattle.h3_connection.specs.Shown.{peer_setting}
 use Rattle.h3_connection.specs.State.{EndpointState, StandsFor}
 use Rattle.h3_connection.specs.declared.event.Refusal.{Refusal}
 use Rattle.h3_connection.specs.declared.event.Refusal.TheVariants.{Closed, OutOfMemory}
-use Rattle.h3_session.specs.Beside.{TakesId}
+use Rattle.h3_session.specs.Beside.{ShowsEnd, TakesId}
 use Rattle.h3_session.specs.Lacking.{RefusesBodies}
 use Rattle.h3_session.specs.NextRequest.{ShowsNextRequest, id_unless}
 use Rattle.h3_webtransport_streams.specs.SessionStream.{both_ways, one_way}
 use Rattle.h3_webtransport_streams.specs.Sessions.{OpensNext, SessionsState}
 use Rattle.h3_webtransport.specs.Joint.{Joint}
-use Rattle.h3_webtransport.specs.Opening.{IsCounted, OpensAtClient, OpensKind, OpensOn, OpensUnless, is_one, open_error, opened_as, takes_sessions, unless_closed, unless_taken}
+use Rattle.h3_webtransport.specs.Opening.{IsCounted, OpensAtClient, OpensKind, OpensOn, OpensUnless, is_one, is_over, open_error, opened_as, takes_sessions, unless_closed, unless_taken}
 use Rattle.h3_webtransport.specs.declared.opening.OpenError.{OpenError}
 use Rattle.h3_webtransport.specs.declared.opening.OpenError.TheVariants.{Refused}
 
@@ -56,14 +56,19 @@ module _ (s : EndpointState) (id : ℕ) where
       let is : Some r ≡ (send_body e id []).0 = ((h [] refl).sends.done e stands (λ same. differs (let it : r ≡ OutOfMemory = cc in it))).0 in
       ap is_some (is ∙ rule_of e id)
 
+-- either half of it has ended
+pub over_of : (s : EndpointState) (id : ℕ) (refuses ended : Bool) → ((e : EndpointHistory) → StandsFor s e → refuses ≡ is_some (body_refusal e id 0)) → ShowsEnd s id ended
+    → (e : EndpointHistory) → StandsFor s e → (refuses || ended) ≡ is_over e id
+over_of s id refuses ended bytes shows e h = ap (λ b. b || ended) (bytes e h) ∙ ap (λ b. is_some (body_refusal e id 0) || b) (shows e h)
+
 -- why no stream is opened, whichever way it goes
 module _ (s : EndpointState) (side : Side) (is_on : Bool) (session : ℕ) where
   pub says_closed : (code : ℕ) → s.closed ≡ Some code → (e : EndpointHistory) → StandsFor s e → e.side ≡ side → Some (Refused (Closed code)) ≡ open_error e is_on session
   says_closed code closed e h is =
-      ap (λ c. unless_closed c (unless_taken (is_on && takes_sessions e) session (is_some (body_refusal e session 0)))) (sym closed ∙ h.closed)
+      ap (λ c. unless_closed c (unless_taken (is_on && takes_sessions e) session (is_over e session))) (sym closed ∙ h.closed)
 
   pub says_rest : (taken refuses : Bool) (why : Option OpenError) → s.closed ≡ None → ((e : EndpointHistory) → StandsFor s e → e.side ≡ side → taken ≡ (is_on && takes_sessions e))
-      → ((e : EndpointHistory) → StandsFor s e → refuses ≡ is_some (body_refusal e session 0)) → why ≡ unless_taken taken session refuses
+      → ((e : EndpointHistory) → StandsFor s e → refuses ≡ is_over e session) → why ≡ unless_taken taken session refuses
       → (e : EndpointHistory) → StandsFor s e → e.side ≡ side → why ≡ open_error e is_on session
   says_rest taken refuses why closed takes bytes is e h same =
       is

@@ -1,28 +1,34 @@
 -- The first pull of a stream that may turn out to be of a session, and what is read beside the endpoint.
 use Rattle.std.proofs.Common.{arith, ◌≡◌, ◌≢◌, ◌⊎◌, inl, inr, ◌%◌, ℕ, Bool, true, false, ◌&&◌, ◌||◌, not, List, [], ◌∷◌, Option, Some, None, refl, sym, ap, subst, ◌∙◌, is_some, unwrap_or, if◌then◌else◌}
+use Rattle.std.specs.Prelude.{Result, is_ok}
 use Rattle.std.proofs.lemmas.Bool.{cases_eq, eqb-true}
 use Rattle.h3_field.specs.Field.{Field}
 use Rattle.h3_proto.specs.StreamIds.{is_request_stream}
 use Rattle.h3_proto.specs.declared.stream.Side.{Side}
 use Rattle.h3_proto.specs.declared.stream.Side.TheVariants.{Client, Server}
+use Rattle.h3_connection.specs.Answers.{call_refused}
 use Rattle.h3_connection.specs.Calls.{AllSame, Sets}
 use Rattle.h3_connection.specs.Codes.{id_error}
 use Rattle.h3_connection.specs.Coming.{fields_behind}
 use Rattle.h3_connection.specs.ReceivingContracts.{PullsNext}
+use Rattle.h3_connection.specs.SendingContracts.{Resets}
 use Rattle.h3_connection.specs.State.{EndpointState, kept_at}
 use Rattle.h3_connection.specs.StreamSets.{Streams}
 use Rattle.h3_connection.specs.declared.event.Fault.TheVariants.{Connection as Closing}
 use Rattle.h3_connection.specs.declared.event.Pull.{Pull}
 use Rattle.h3_connection.specs.declared.event.Pull.TheVariants as pull
+use Rattle.h3_connection.specs.declared.event.Refusal.{Refusal}
+use Rattle.h3_connection.specs.declared.event.Refusal.TheVariants.{NotOpen}
 use Rattle.h3_incoming.specs.Answering.{Lists, has_header}
 use Rattle.h3_session.specs.Listing.{ListsNext}
 use Rattle.h3_webtransport_streams.specs.Receiver.{Receiver, pulled, raw, told_or_raw, unless_reset}
-use Rattle.h3_webtransport_streams.specs.SessionStream.{SessionStream, Acts, ActsOn, Changes, ChangesOn, entered, on_receiver, receiver_of}
+use Rattle.h3_webtransport_streams.specs.Sender.{cut_off}
+use Rattle.h3_webtransport_streams.specs.SessionStream.{SessionStream, Acts, ActsOn, Changes, ChangesOn, entered, on_receiver, receiver_of, sending}
 use Rattle.h3_webtransport_streams.specs.Sessions.{SessionsState}
 use Rattle.h3_webtransport.specs.Closing.{Forgets}
 use Rattle.h3_webtransport.specs.Joint.{Joint, is_begun_by_peer, is_read, is_server_opened, may_begin, stored_at}
 use Rattle.h3_webtransport.specs.Parts.{ActsHere, StreamsAlone}
-use Rattle.h3_webtransport.specs.Receiving.{Begins, BeginsAt, BeginsIf, Enters, ListsAgain, PullsFirst, PullsOn, PullsRaw, PullsThere, pulls_raw, session_of}
+use Rattle.h3_webtransport.specs.Receiving.{Begins, BeginsAt, BeginsIf, Enters, ListsAgain, PullsFirst, PullsOn, PullsRaw, PullsThere, joined, pulls_raw, session_of}
 use Rattle.h3_webtransport.specs.Receiving.PullsFirst.{pulls}
 
 -- no stream of a session has such an id yet
@@ -74,12 +80,46 @@ twice_alone s v w first next = ap (λ (x : SessionsState). record s { sessions =
 pub then_alone : (s t : Joint) (v : SessionsState) → v ≡ record s.sessions { streams = v.streams } → StreamsAlone (record s { sessions = v }) t → StreamsAlone s t
 then_alone s t v first next = alone_again s (record s { sessions = v }) t (ap (λ (x : SessionsState). record s { sessions = x }) first) next
 
+-- what is sent on a stream that was entered: nothing,
+pub sends_none : (e : EndpointState) (s : Joint) (id : ℕ) → is_request_stream id ≡ false → (session : ℕ) → stored_at s id ≡ Some (entered session (is_request_stream id))
+    → Enters e e s.sessions.streams s.sessions.streams id session (is_request_stream id)
+sends_none e s id is session at =
+    subst (Enters e e s.sessions.streams s.sessions.streams id session) (sym is)
+    (refl, record { here = subst (λ b. stored_at s id ≡ Some (entered session b)) is at; others = λ q differs. refl })
+
+-- or no message,
+module _ (e f : EndpointState) (s : Joint) (id : ℕ) where
+  pub sends_on : (result : Result Unit Refusal) → is_request_stream id ≡ true → is_ok result ≡ true → Resets e f id result → (session : ℕ)
+      → stored_at s id ≡ Some (entered session (is_request_stream id)) → Enters e f s.sessions.streams s.sessions.streams id session (is_request_stream id)
+  sends_on result is ok resets session at =
+      let here : stored_at s id ≡ Some (entered session true) = subst (λ b. stored_at s id ≡ Some (entered session b)) is at in
+      subst (Enters e f s.sessions.streams s.sessions.streams id session) (sym is)
+      (result, (resets, record { here = here ∙ ap (λ b. Some (joined session b)) (sym ok); others = λ q differs. refl }))
+
+  -- or nothing more
+  pub sends_no_more : (v : SessionsState) (result again : Result Unit Refusal) → is_request_stream id ≡ true → is_ok result ≡ false → Resets e f id result
+      → Acts (Some NotOpen) (sending (Some NotOpen) cut_off) s.sessions.streams v.streams id (call_refused again) → (session : ℕ)
+      → stored_at s id ≡ Some (entered session (is_request_stream id)) → Enters e f s.sessions.streams v.streams id session (is_request_stream id)
+  sends_no_more v result again is ok resets acts session at =
+      let here : stored_at s id ≡ Some (entered session true) = subst (λ b. stored_at s id ≡ Some (entered session b)) is at in
+      let sets = (subst (ActsOn (Some NotOpen) (sending (Some NotOpen) cut_off) s.sessions.streams v.streams id (call_refused again)) here acts).1 in
+      subst (Enters e f s.sessions.streams v.streams id session) (sym is)
+      (result, (resets, subst (λ b. Sets s.sessions.streams v.streams id (joined session b)) (sym ok) sets))
+
+enters_again : (e f : EndpointState) (a b c : Streams SessionStream) (id session : ℕ) (x : SessionStream) (both : Bool) → Sets a b id x → Enters e f b c id session both → Enters e f a c id session both
+enters_again e f a b c id session x true first (result, (resets, sets)) = (result, (resets, sets_again a b c id x (joined session (is_ok result)) first sets))
+enters_again e f a b c id session x false first (same, sets) = (same, sets_again a b c id x (entered session false) first sets)
+
 -- a stream that was entered is one of a session
 module _ (e f : EndpointState) (m t : Joint) (id session : ℕ) (inner answer : Pull) where
-  pub begins_taken : is_request_stream session ≡ true → answer ≡ inner → stored_at m id ≡ Some (entered id (is_request_stream id))
-      → Changes (λ x. record x { session = Some session }) m.sessions.streams t.sessions.streams id → Enters e f id (is_request_stream id)
+  pub begins_taken : (k : SessionsState) → is_request_stream session ≡ true → answer ≡ inner → stored_at m id ≡ Some (entered id (is_request_stream id))
+      → Changes (λ x. record x { session = Some session }) m.sessions.streams k.streams id
+      → ((n : ℕ) → kept_at k.streams id ≡ Some (entered n (is_request_stream id)) → Enters e f k.streams t.sessions.streams id n (is_request_stream id))
       → BeginsAt (is_request_stream session) e f m t id session inner answer
-  begins_taken is same at changes enters = rw is (same, subst (ChangesOn (λ x. record x { session = Some session }) m.sessions.streams t.sessions.streams id) at changes, enters)
+  begins_taken k is same at changes enters =
+      let sets : Sets m.sessions.streams k.streams id (entered session (is_request_stream id))
+      = subst (ChangesOn (λ x. record x { session = Some session }) m.sessions.streams k.streams id) at changes in
+      rw is (same, enters_again e f m.sessions.streams k.streams t.sessions.streams id session _ (is_request_stream id) sets (enters session sets.here))
 
   -- or its id is that of no session
   pub begins_wrong : is_request_stream session ≡ false → answer ≡ pull.Fault (Closing (unwrap_or e.closed id_error)) → Forgets m t id → f ≡ record e { closed = Some (unwrap_or e.closed id_error) }
@@ -89,7 +129,7 @@ module _ (e f : EndpointState) (m t : Joint) (id session : ℕ) (inner answer : 
 begins_from : (b : Bool) (e f : EndpointState) (s m t : Joint) (id session : ℕ) (inner answer : Pull) (x : SessionStream) → stored_at s id ≡ None → Sets s.sessions.streams m.sessions.streams id x
     → BeginsAt b e f m t id session inner answer → Begins b e f s t id session inner answer
 begins_from true e f s m t id session inner answer x free first begins =
-    (begins.0, sets_again s.sessions.streams m.sessions.streams t.sessions.streams id x (entered session (is_request_stream id)) first begins.1, begins.2)
+    (begins.0, enters_again e f s.sessions.streams m.sessions.streams t.sessions.streams id session x (is_request_stream id) first begins.1)
 begins_from false e f s m t id session inner answer x free first begins =
     (begins.0, gone_again s.sessions.streams m.sessions.streams t.sessions.streams id x free first begins.1.0 begins.1.1, begins.2)
 

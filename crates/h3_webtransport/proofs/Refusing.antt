@@ -1,14 +1,15 @@
 -- Why bytes are refused on a stream, whatever they are.
-use Rattle.std.proofs.Common.{◌≡◌, ℕ, true, false, List, Option, Some, None, Err, refl, sym, ◌∙◌}
+use Rattle.std.proofs.Common.{◌≡◌, ℕ, true, false, List, length, Option, Some, None, Err, refl, sym, ap, ◌∙◌}
+use Rattle.std.specs.List.{concat}
 use Rattle.h3_connection.specs.State.{EndpointState}
 use Rattle.h3_connection.specs.StreamSets.{Streams}
 use Rattle.h3_connection.specs.declared.event.Refusal.{Refusal}
 use Rattle.h3_connection.specs.declared.event.Refusal.TheVariants.{Connection}
 use Rattle.h3_session.specs.Lacking.{RefusesDeliveries, delivery_error}
 use Rattle.h3_webtransport_streams.specs.Begun.{LeavesBytes, refusal_of, stream_or_unseen}
-use Rattle.h3_webtransport_streams.specs.SessionStream.{SessionStream}
+use Rattle.h3_webtransport_streams.specs.SessionStream.{SessionStream, unread_of}
 use Rattle.h3_webtransport.specs.Joint.{Joint, is_read}
-use Rattle.h3_webtransport.specs.Receiving.{RefusesDeliveriesOn}
+use Rattle.h3_webtransport.specs.Receiving.{RefusesDeliveriesOn, raw_unread}
 
 -- one that is read elsewhere
 pub refuses_other : (e : EndpointState) (s : Joint) (id : ℕ) (why : Option Refusal) → is_read s id ≡ false → RefusesDeliveries e id why → RefusesDeliveriesOn e s id why
@@ -29,3 +30,10 @@ refuses_here e s id why read closed is bytes =
       own = λ _. rw closed (record { inner = Err (delivery_error why bytes); delivers = leaves s.sessions.streams bytes why _ is; alone = refl; is = refl });
       other = λ not_read. absurd (let never : true ≡ false = sym read ∙ not_read in cc);
     }
+
+-- how many bytes are held
+pub counts_none : (closed : Option ℕ) (s : Joint) (id code : ℕ) → closed ≡ Some code → 0 ≡ raw_unread closed s id
+counts_none closed s id code is = sym (ap (λ c. raw_unread c s id) is)
+
+pub counts_unread : (closed : Option ℕ) (s : Joint) (id count : ℕ) → closed ≡ None → count ≡ length (concat (unread_of (stream_or_unseen s.sessions.streams id).receiver)) → count ≡ raw_unread closed s id
+counts_unread closed s id count is same = same ∙ sym (ap (λ c. raw_unread c s id) is)

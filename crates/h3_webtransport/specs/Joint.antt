@@ -1,5 +1,6 @@
 -- The sessions of a connection, and what each stream is to them.
 use Rattle.std.specs.Prelude.{ℕ, ◌%◌, ◌==◌, Bool, false, not, ◌&&◌, ◌||◌, Option, is_some}
+use Rattle.h3_proto.specs.StreamIds.{is_request_stream}
 use Rattle.h3_proto.specs.declared.stream.Side.{Side}
 use Rattle.h3_proto.specs.declared.stream.Side.TheVariants.{Client, Server}
 use Rattle.h3_connection.specs.State.{kept_at}
@@ -41,3 +42,7 @@ is_begun_by_peer Server id = id % 4 == 0 || id % 4 == 2
 -- what the endpoint reads on it may turn out to be of a session
 abbrev pub may_begin : Joint → ℕ → Bool
 may_begin s id = s.is_on && not (is_some (stored_at s id)) && is_begun_by_peer s.side id
+
+-- the endpoint reads it as a stream that goes one way, or nothing comes on it
+abbrev pub is_one_way : Joint → ℕ → Bool
+is_one_way s id = has_stream s id && not (is_some (receiver_of (stored_at s id))) && not (is_request_stream id)

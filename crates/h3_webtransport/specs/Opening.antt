@@ -3,6 +3,7 @@ use Rattle.std.specs.Prelude.{◌≡◌, ◌+◌, ◌==◌, ◌&&◌, ◌||◌, 
 use Rattle.h3_proto.specs.StreamIds.{is_request_stream}
 use Rattle.h3_connection.specs.Calls.{AllSame, Sets}
 use Rattle.h3_connection.specs.Endpoint.{EndpointHistory}
+use Rattle.h3_connection.specs.Keeping.{arrival_refusal}
 use Rattle.h3_connection.specs.Pulling.{is_client}
 use Rattle.h3_connection.specs.Sending.{body_refusal, open_refusal}
 use Rattle.h3_connection.specs.Shown.{peer_setting}
@@ -36,8 +37,12 @@ abbrev pub unless_closed : Option ℕ → Option OpenError → Option OpenError
 unless_closed (Some code) later = Some (Refused (Closed code))
 unless_closed None later = later
 
+-- on its request no header section was sent, or one of its halves has ended: the session is over then (draft-ietf-webtrans-http3-02, section 5)
+abbrev pub is_over : EndpointHistory → ℕ → Bool
+is_over e session = is_some (body_refusal e session 0) || is_some (arrival_refusal e session)
+
 abbrev pub open_error : EndpointHistory → Bool → ℕ → Option OpenError
-open_error e is_on session = unless_closed e.closed (unless_taken (is_on && takes_sessions e) session (is_some (body_refusal e session 0)))
+open_error e is_on session = unless_closed e.closed (unless_taken (is_on && takes_sessions e) session (is_over e session))
 
 -- what the call answers of a refusal of the stream alone
 abbrev pub opened_as : Result ℕ Refusal → Result ℕ OpenError

@@ -1,5 +1,5 @@
 -- Which stream sends next, with sessions beside an endpoint.
-use Rattle.std.specs.Prelude.{◌≡◌, ◌==◌, ◌&&◌, ◌||◌, ℕ, Bool, true, false, not, nat_lt, Option, Some, None, Result, if◌then◌else◌}
+use Rattle.std.specs.Prelude.{◌≡◌, ◌==◌, ◌&&◌, ◌||◌, ℕ, Bool, true, false, not, nat_lt, Option, Some, None, is_none, Result, if◌then◌else◌}
 use Rattle.h3_proto.specs.StreamIds.{is_request_stream}
 use Rattle.h3_connection.specs.Answers.{call_refused}
 use Rattle.h3_connection.specs.ByPriority.{Holds}
@@ -7,6 +7,7 @@ use Rattle.h3_connection.specs.EndsWaiting.{ShowsNextToSend}
 use Rattle.h3_connection.specs.NextWaiting.{IsLeast}
 use Rattle.h3_connection.specs.Prioritizing.{SendsNext}
 use Rattle.h3_connection.specs.SendingContracts.{Advances}
+use Rattle.h3_connection.specs.Shutdown.{ShowsDrained}
 use Rattle.h3_connection.specs.State.{EndpointState}
 use Rattle.h3_connection.specs.declared.event.Refusal.{Refusal}
 use Rattle.h3_connection.specs.declared.event.Refusal.TheVariants.{NotOpen}
@@ -77,3 +78,11 @@ abbrev pub HoldsOn : EndpointState → EndpointState → Joint → Joint → ℕ
 HoldsOn e f s t id is_held result =
     Parts (has_stream s id) ((f ≡ e) × UnlessClosed e.closed s t (call_refused result) (HoldsRaw s t id is_held (call_refused result)))
     ((t ≡ s) × Holds e f id is_held result)
+
+-- `is_drained`: the endpoint is, and nothing waits on a stream of a session
+pub record DrainsOn (e : EndpointState) (s : Joint) (result : Bool) : Type 0 where
+  pub first : Bool
+  pub raw : Option ℕ
+  pub first_is : ShowsDrained e first
+  pub raw_is : s.is_on ≡ true → IsLeast (λ id. passes has_something (stored_at s id)) 0 raw
+  pub is : result ≡ (if s.is_on then first && is_none raw else first)

@@ -1,5 +1,6 @@
 -- What comes on streams, with sessions beside an endpoint.
-use Rattle.std.specs.Prelude.{◌≡◌, ℕ, Bool, true, false, List, Option, Some, None, Result, Ok, Err, unwrap_or}
+use Rattle.std.specs.List.{concat}
+use Rattle.std.specs.Prelude.{◌≡◌, ℕ, Bool, true, false, length, List, Option, Some, None, Result, Ok, Err, is_ok, unwrap_or}
 use Rattle.h3_field.specs.Field.{Field}
 use Rattle.h3_proto.specs.StreamIds.{is_request_stream}
 use Rattle.h3_connection.specs.Answers.{call_refused}
@@ -8,6 +9,7 @@ use Rattle.h3_connection.specs.Codes.{id_error, stream_creation_error}
 use Rattle.h3_connection.specs.ReceivingContracts.{Delivers, DeliversEnd, DeliversReset, PullsNext}
 use Rattle.h3_connection.specs.SendingContracts.{Cancels, Resets}
 use Rattle.h3_connection.specs.State.{EndpointState}
+use Rattle.h3_connection.specs.StreamSets.{Streams}
 use Rattle.h3_connection.specs.declared.event.DeliverError.{DeliverError}
 use Rattle.h3_connection.specs.declared.event.DeliverError.TheVariants.{Refused}
 use Rattle.h3_connection.specs.declared.event.Fault.TheVariants.{Connection as Closing, Memory}
@@ -16,15 +18,17 @@ use Rattle.h3_connection.specs.declared.event.Pull.{Pull}
 use Rattle.h3_connection.specs.declared.event.Pull.TheVariants as pull
 use Rattle.h3_connection.specs.declared.event.Refusal.{Refusal}
 use Rattle.h3_connection.specs.declared.event.Refusal.TheVariants.{Connection, NotOpen}
+use Rattle.h3_session.specs.Beside.{DropsSession, ShowsEnd}
 use Rattle.h3_session.specs.Lacking.{delivery_error}
-use Rattle.h3_webtransport_streams.specs.Begun.{Delivers as DeliversRaw}
+use Rattle.h3_webtransport_streams.specs.Begun.{Delivers as DeliversRaw, stream_or_unseen}
 use Rattle.h3_webtransport_streams.specs.Closing.{Closes}
 use Rattle.h3_webtransport_streams.specs.Receiver.{canceled, pulled}
-use Rattle.h3_webtransport_streams.specs.SessionStream.{SessionStream, entered, receiving}
+use Rattle.h3_webtransport_streams.specs.Sender.{cut_off}
+use Rattle.h3_webtransport_streams.specs.SessionStream.{SessionStream, Changes, entered, gives_up, receiving, sending, unread_of}
 use Rattle.h3_webtransport_streams.specs.declared.receiver.Begun.{Begun}
 use Rattle.h3_webtransport_streams.specs.declared.receiver.Begun.TheVariants as begun
-use Rattle.h3_webtransport.specs.Closing.{Forgets}
-use Rattle.h3_webtransport.specs.Joint.{Joint, is_read, may_begin, stored_at}
+use Rattle.h3_webtransport.specs.Closing.{Forgets, given_up_code}
+use Rattle.h3_webtransport.specs.Joint.{Joint, is_one_way, is_read, may_begin, stored_at}
 use Rattle.h3_webtransport.specs.Parts.{Parts, ActsHere, StreamsAlone, UnlessClosed}
 
 -- bytes that are no front of a session's stream, or whose front names no session, are a fault of the connection
@@ -62,6 +66,11 @@ DeliversOn e f s t id bytes result =
 abbrev pub RefusesDeliveriesOn : EndpointState → Joint → ℕ → Option Refusal → Type 0
 RefusesDeliveriesOn e s id why = (bytes : List ℕ) → DeliversOn e e s s id bytes (Err (delivery_error why bytes))
 
+-- `unread`: what came and was not pulled, of which nothing counts behind a fault of the connection
+abbrev pub raw_unread : Option ℕ → Joint → ℕ → ℕ
+raw_unread (Some code) s id = 0
+raw_unread None s id = length (concat (unread_of (stream_or_unseen s.sessions.streams id).receiver))
+
 -- `deliver_end` (no code) and `deliver_reset`
 abbrev pub Ends : EndpointState → EndpointState → ℕ → Option ℕ → Result Unit DeliverError → Type 0
 Ends e f id None result = DeliversEnd e f id result
@@ -73,12 +82,23 @@ EndsOn e f s t id code result =
     (UnlessFaulty e.closed e f s t result ((f ≡ e) × Closes s.sessions.streams t.sessions.streams id code result × StreamsAlone s t))
     ((t ≡ s) × Ends e f id code result)
 
+-- A stream of the peer that goes one way is given up where the endpoint reads it, and what comes from then on is read beside the endpoint: it is thrown away.
+abbrev pub GivesUp : Option Refusal → Joint → Joint → ℕ → Bool → Type 0
+GivesUp None s t id ended = Changes (λ x. gives_up x ended) s.sessions.streams t.sessions.streams id × StreamsAlone s t
+GivesUp (Some r) s t id ended = t ≡ s
+
+pub record CancelsOneWay (e f : EndpointState) (s t : Joint) (id : ℕ) (result : Result Unit Refusal) : Type 0 where
+  pub ended : Bool
+  pub shows : ShowsEnd e id ended
+  pub drops : DropsSession e f id given_up_code result
+  pub gives_up : GivesUp (call_refused result) s t id ended
+
 -- `cancel`
-abbrev pub CancelsOn : EndpointState → EndpointState → Joint → Joint → ℕ → Result Unit Refusal → Type 0
-CancelsOn e f s t id result =
-    Parts (is_read s id)
-    ((f ≡ e) × UnlessClosed e.closed s t (call_refused result) (ActsHere (Some NotOpen) (receiving (Some NotOpen) canceled) s t id (call_refused result)))
-    ((t ≡ s) × Cancels e f id result)
+pub record CancelsOn (e f : EndpointState) (s t : Joint) (id : ℕ) (result : Result Unit Refusal) : Type 0 where
+  pub own : is_read s id ≡ true
+      → (f ≡ e) × UnlessClosed e.closed s t (call_refused result) (ActsHere (Some NotOpen) (receiving (Some NotOpen) canceled) s t id (call_refused result))
+  pub one_way : is_read s id ≡ false → is_one_way s id ≡ true → CancelsOneWay e f s t id result
+  pub other : is_read s id ≡ false → is_one_way s id ≡ false → (t ≡ s) × Cancels e f id result
 
 -- What comes next on a stream that is read beside the endpoint, where it is there
 abbrev pub pulls_raw : SessionStream → Pull × SessionStream
@@ -97,21 +117,27 @@ abbrev pub session_of : Pull → Option ℕ
 session_of (pull.Item (item.Session session)) = Some session
 session_of _ = None
 
+-- it goes both ways, and this side sends on it, unless sending there has ended before
+abbrev pub joined : ℕ → Bool → SessionStream
+joined session true = entered session true
+joined session false = (sending (Some NotOpen) cut_off (entered session true)).1
+
 -- it is entered, and no message goes out on it
-abbrev pub Enters : EndpointState → EndpointState → ℕ → Bool → Type 0
-Enters e f id true = (result : Result Unit Refusal) × Resets e f id result
-Enters e f id false = f ≡ e
+abbrev pub EntersBothWays : EndpointState → EndpointState → Streams SessionStream → Streams SessionStream → ℕ → ℕ → Result Unit Refusal → Type 0
+EntersBothWays e f old new id session result = Resets e f id result × Sets old new id (joined session (is_ok result))
+
+abbrev pub Enters : EndpointState → EndpointState → Streams SessionStream → Streams SessionStream → ℕ → ℕ → Bool → Type 0
+Enters e f old new id session true = (result : Result Unit Refusal) × EntersBothWays e f old new id session result
+Enters e f old new id session false = (f ≡ e) × Sets old new id (entered session false)
 
 abbrev pub Begins : Bool → EndpointState → EndpointState → Joint → Joint → ℕ → ℕ → Pull → Pull → Type 0
-Begins true e f s t id session inner answer =
-    (answer ≡ inner) × Sets s.sessions.streams t.sessions.streams id (entered session (is_request_stream id)) × Enters e f id (is_request_stream id)
+Begins true e f s t id session inner answer = (answer ≡ inner) × Enters e f s.sessions.streams t.sessions.streams id session (is_request_stream id)
 Begins false e f s t id session inner answer =
     (answer ≡ pull.Fault (Closing (unwrap_or e.closed id_error))) × AllSame s.sessions.streams t.sessions.streams × (f ≡ record e { closed = Some (unwrap_or e.closed id_error) })
 
 -- the same of one for which there is room already
 abbrev pub BeginsAt : Bool → EndpointState → EndpointState → Joint → Joint → ℕ → ℕ → Pull → Pull → Type 0
-BeginsAt true e f s t id session inner answer =
-    (answer ≡ inner) × Sets s.sessions.streams t.sessions.streams id (entered session (is_request_stream id)) × Enters e f id (is_request_stream id)
+BeginsAt true e f s t id session inner answer = (answer ≡ inner) × Enters e f s.sessions.streams t.sessions.streams id session (is_request_stream id)
 BeginsAt false e f s t id session inner answer =
     (answer ≡ pull.Fault (Closing (unwrap_or e.closed id_error))) × Forgets s t id × (f ≡ record e { closed = Some (unwrap_or e.closed id_error) })
 

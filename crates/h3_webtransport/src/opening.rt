@@ -1,6 +1,6 @@
 //! Streams that this side opens for a session.
 ghost use Rattle.std.specs.Prelude.{◌≡◌, ◌&&◌, ◌||◌, not, is_some};
-ghost use Rattle.h3_webtransport.specs.Opening.{OpensAtClient, OpensKind, OpensOn, is_one, open_error, takes_sessions, unless_taken};
+ghost use Rattle.h3_webtransport.specs.Opening.{OpensAtClient, OpensKind, OpensOn, is_one, is_over, open_error, takes_sessions, unless_taken};
 ghost use Rattle.h3_connection.specs.Endpoint.{EndpointHistory};
 ghost use Rattle.h3_connection.specs.Pulling.{is_client};
 ghost use Rattle.h3_connection.specs.Sending.{body_refusal};
@@ -64,6 +64,16 @@ fn refuses_bytes(endpoint: &Endpoint, session: StreamId) -> bool
     true
 }
 
+// Whether no session goes on there: it has not begun, or one of the halves of its stream has ended.
+#[tactic(auto, using(crate::proofs::Opened::over_of))]
+fn is_over(endpoint: &Endpoint, session: StreamId) -> bool
+    ensures { (e : EndpointHistory) → StandsFor endpoint.now e → result ≡ is_over e session }
+{
+    let refuses = refuses_bytes(endpoint, session);
+    let ended = endpoint.has_ended(session);
+    refuses || ended
+}
+
 fn refusal_of(is_taken: bool, session: StreamId, refuses: bool) -> Option<OpenError>
     ensures { result ≡ unless_taken is_taken session refuses }
 {
@@ -80,12 +90,12 @@ fn refusal_of(is_taken: bool, session: StreamId, refuses: bool) -> Option<OpenEr
 }
 
 impl Sessions {
-    /// Opens a stream of the session whose CONNECT request has this id, both ways or from this side alone. Its front waits on it, and `send_raw`
-    /// sends after that. A client's stream both ways gets the id that `open_request` would give next, a server's 1, 5 and so on; one that
-    /// goes one way gets 14, 18 and so on from a client, 15, 19 and so on from a server. Refused are, in this order, every call after a
-    /// connection fault, sessions that are off or that the peer does not take (`NoSessions`), the id of no request, and a session on whose
-    /// request no header section was sent or on which sending has ended (`NotOpen`). Next is a stream both ways of a client after the peer's
-    /// GOAWAY, then one beyond the last id. `OutOfMemory` comes last.
+    /// Opens a stream of the session whose CONNECT request has this id, both ways or from this side alone. Its front waits on it, and
+    /// `send_raw` sends after that. A client's stream both ways gets the id that `open_request` would give next, a server's 1, 5 and so on;
+    /// one that goes one way gets 14, 18 and so on from a client, 15, 19 and so on from a server. Refused are, in this order, every call
+    /// after a connection fault, sessions that are off or that the peer does not take (`NoSessions`), and the id of no request. Next is a
+    /// session on whose request no header section was sent, or which is over as sending there has ended, or the peer's end or reset came
+    /// (`NotOpen`). Then come a stream both ways of a client after the peer's GOAWAY, and one beyond the last id. `OutOfMemory` comes last.
     #[tactic(auto, using(crate::proofs::Opened::opens_not, crate::proofs::Opened::opens_it, crate::proofs::Opened::opens_none))]
     pub fn open_session_stream(
         &mut self,
@@ -107,7 +117,8 @@ impl Sessions {
     // Whether there may be sessions.
     #[tactic(auto, using(crate::proofs::Opened::takes_if_on))]
     fn takes(&self, endpoint: &Endpoint) -> bool
-        ensures { (e : EndpointHistory) → StandsFor endpoint.now e → e.side ≡ self.now.side → result ≡ (self.now.is_on && takes_sessions e) }
+        ensures { (e : EndpointHistory) → StandsFor endpoint.now e → e.side ≡ self.now.side
+            → result ≡ (self.now.is_on && takes_sessions e) }
     {
         let are_taken = takes_sessions(endpoint, self.side);
         self.is_on && are_taken
@@ -122,8 +133,8 @@ impl Sessions {
             return Some(OpenError::Refused(Refusal::Closed(code)));
         }
         let is_taken = self.takes(endpoint);
-        let refuses = refuses_bytes(endpoint, session);
-        refusal_of(is_taken, session, refuses)
+        let is_over = is_over(endpoint, session);
+        refusal_of(is_taken, session, is_over)
     }
 
     #[tactic(auto, using(crate::proofs::Opened::opens_one_way, crate::proofs::Opened::opens_at_server, crate::proofs::Opened::opens_at_client))]

@@ -8,7 +8,7 @@ use Rattle.h3_coding.specs.Varint.{varint_at}
 use Rattle.h3_capsule.specs.Capsule.{Place, in_head, in_value, read_on}
 use Rattle.h3_capsule.specs.Capsule.Place.{InHead}
 use Rattle.h3_capsule.specs.declared.capsule.Capsule.TheVariants.{Head, Pending}
-use Rattle.h3_wire.specs.Pieces.{with_piece}
+use Rattle.h3_frames.specs.Pieces.{with_piece}
 use Rattle.h3_webtransport_streams.specs.Carrying.{Begins, Step, after, asked, coming, handed, sessions_told}
 use Rattle.h3_webtransport_streams.specs.Carrying.Step.{Asks, Comes}
 use Rattle.h3_webtransport_streams.specs.Receiver.{names_session, untold}

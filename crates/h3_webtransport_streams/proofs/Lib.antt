@@ -1,7 +1,9 @@
-pub mod Least
+pub mod Walk
 pub mod Heads
 pub mod Carried
 pub mod Sent
 pub mod CodesBack
 pub mod RowsHold
 pub mod Reading
+pub mod Greatest
+pub mod Turns

@@ -9,3 +9,4 @@ pub mod Codes
 pub mod Carrying
 pub mod Sent
 pub mod Rows
+pub mod Turns

@@ -3,7 +3,7 @@ use Rattle.std.specs.Prelude.{ℕ, ◌%◌, ◌^◌, ◌==◌, nat_lt, Bool, tru
 use Rattle.h3_capsule.specs.Capsule.{Place, Answer, read_on}
 use Rattle.h3_capsule.specs.Capsule.Place.{InHead}
 use Rattle.h3_capsule.specs.declared.capsule.Capsule.TheVariants.{Head}
-use Rattle.h3_wire.specs.Pieces.{with_piece}
+use Rattle.h3_frames.specs.Pieces.{with_piece}
 use Rattle.h3_connection.specs.declared.event.Refusal.{Refusal}
 use Rattle.h3_connection.specs.declared.event.Refusal.TheVariants as refusal
 use Rattle.h3_connection.specs.declared.event.Item.TheVariants as item
@@ -32,6 +32,10 @@ untold = record { front = Some (InHead []); unread = []; is_told = false; ended 
 -- an own stream has no front of the peer
 abbrev pub answering : Receiver
 answering = record untold { front = None; is_told = true }
+
+-- of one that another part read nothing more is needed, whose end came there or not
+abbrev pub given_up : Bool → Receiver
+given_up ended = record answering { ended = ended; is_canceled = true }
 
 -- nothing more comes
 abbrev pub is_closed : Receiver → Bool

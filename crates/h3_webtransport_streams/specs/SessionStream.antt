@@ -4,7 +4,7 @@ use Rattle.h3_connection.specs.Calls.{AllSame, Sets}
 use Rattle.h3_connection.specs.State.{kept_at}
 use Rattle.h3_connection.specs.StreamSets.{Streams}
 use Rattle.h3_webtransport_streams.specs.Sender.{Sender, beginning, front_both_ways, front_one_way, sends, has_to_send, taken}
-use Rattle.h3_webtransport_streams.specs.Receiver.{Receiver, Arrived, answering, untold}
+use Rattle.h3_webtransport_streams.specs.Receiver.{Receiver, Arrived, answering, given_up, untold}
 use Rattle.h3_webtransport_streams.specs.Receiver.Arrived.{Taken, NoFront, NoSession}
 
 pub record SessionStream : Type 0 where
@@ -120,3 +120,7 @@ told_by s (Taken None receiver) = record s { receiver = Some receiver }
 told_by s (Taken (Some session) receiver) = record { session = Some session; sender = Some (beginning []); receiver = Some receiver }
 told_by s NoFront = s
 told_by s NoSession = s
+
+-- nothing more is needed of one that another part read: what comes is read here from then on, and thrown away
+abbrev pub gives_up : SessionStream → Bool → SessionStream
+gives_up s ended = record s { receiver = Some (given_up ended) }

@@ -1,5 +1,5 @@
-//! The codes with which an application resets streams of its sessions (draft-ietf-webtrans-http3-02, section 4.3): HTTP/3 has them one after
-//! another, and leaves out the codes that are reserved.
+//! The codes with which an application resets streams of its sessions (draft-ietf-webtrans-http3-02, section 4.3): HTTP/3 has them one
+//! after another, and leaves out the codes that are reserved.
 ghost use Rattle.std.specs.Prelude.{◌≡◌, ◌<◌, ◌^◌};
 ghost use Rattle.h3_webtransport_streams.specs.Codes.{code_of, number_of};
 

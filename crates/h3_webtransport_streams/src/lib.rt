@@ -1,5 +1,5 @@
-//! The streams of WebTransport sessions (draft-ietf-webtrans-http3-02): what is sent on each, and what comes on those that no other part of an endpoint
-//! reads.
+//! The streams of WebTransport sessions (draft-ietf-webtrans-http3-02): what is sent on each, and what comes on those that no other part of
+//! an endpoint reads.
 #![tactic(auto)]
 
 pub mod codes;

@@ -5,14 +5,15 @@ ghost use Rattle.h3_connection.specs.Answers.{call_refused};
 ghost use Rattle.h3_capsule.specs.Capsule.{read_on};
 ghost use Rattle.h3_capsule.specs.ReaderStates.{place_of_state};
 ghost use Rattle.h3_webtransport_streams.specs.Begun.{ArrivesAs, arrived_by, used_of};
-ghost use Rattle.h3_webtransport_streams.specs.Receiver.{Receiver, answering, came, canceled, is_closed, is_done, pulled, raw, read_front, told_or_raw, untold, with_end, with_reset};
+ghost use Rattle.h3_webtransport_streams.specs.Receiver.{Receiver, answering, came, canceled, given_up, is_closed, is_done, pulled, raw, read_front};
+ghost use Rattle.h3_webtransport_streams.specs.Receiver.{told_or_raw, untold, with_end, with_reset};
 
 use crate::front::BOTH_WAYS;
 use bytes::{Buf, Bytes};
 use h3_capsule::capsule::{Capsule, CapsuleReader, ReaderState};
 use h3_connection::event::{Fault, Item, Pull, Refusal, StreamFault};
+use h3_frames::buf::BufList;
 use h3_proto::webtransport::SessionId;
-use h3_wire::buf::BufList;
 use std::alloc::Global;
 use std::marker::Model;
 
@@ -98,6 +99,21 @@ impl ReceivingHalf {
             ended: false,
             is_over: false,
             is_canceled: false,
+        }
+    }
+
+    /// Nothing more is needed of a stream that another part read, whose end came there or not. It takes no memory.
+    pub(crate) fn given_up(alloc: Global, ended: bool) -> ReceivingHalf
+        ensures { result ≡ given_up ended }
+    {
+        ReceivingHalf {
+            front: None,
+            unread: BufList::new(alloc),
+            reset_code: None,
+            is_told: true,
+            ended,
+            is_over: false,
+            is_canceled: true,
         }
     }
 

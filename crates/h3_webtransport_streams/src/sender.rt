@@ -2,11 +2,12 @@
 ghost use Rattle.std.specs.Prelude.{◌≡◌, ◌≤◌, ◌++◌, [], length, take, drop, min, unwrap_or, Some, None, IfErr, IfOk, OnOk};
 ghost use Rattle.h3_connection.specs.Answers.{call_refused};
 ghost use Rattle.h3_connection.specs.declared.event.Refusal.TheVariants.{OutOfMemory};
-ghost use Rattle.h3_webtransport_streams.specs.Sender.{beginning, cut_off, end_told, finished, goes_on, has_to_send, held, is_end_next, is_sent_off, sends, sent, taken};
+ghost use Rattle.h3_webtransport_streams.specs.Sender.{beginning, cut_off, end_told, finished, goes_on, has_to_send, held, is_end_next};
+ghost use Rattle.h3_webtransport_streams.specs.Sender.{is_sent_off, sends, sent, taken};
 
 use bytes::{Buf, Bytes};
 use h3_connection::event::Refusal;
-use h3_wire::buf::BufList;
+use h3_frames::buf::BufList;
 use std::alloc::{AllocError, Global};
 use std::marker::Model;
 

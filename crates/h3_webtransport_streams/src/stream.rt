@@ -1,6 +1,6 @@
 //! One stream of a session, both ways.
 ghost use Rattle.std.specs.Prelude.{◌≡◌, IfOk, Some};
-ghost use Rattle.h3_webtransport_streams.specs.SessionStream.{both_ways, entered, one_way, unseen};
+ghost use Rattle.h3_webtransport_streams.specs.SessionStream.{both_ways, entered, one_way, takes_turns, unseen};
 ghost use Rattle.h3_webtransport_streams.specs.Sought.{is_sought};
 
 use crate::front::{both_ways_front, one_way_front};
@@ -18,8 +18,6 @@ mod sending;
 pub(crate) enum Sought {
     /// On which bytes or an end wait.
     ToSend,
-    /// On which they do, and which is not held.
-    Turn,
     /// Of the session of this id.
     Session(u64),
 }
@@ -116,6 +114,16 @@ impl StoredStream {
         self.session = Some(session);
     }
 
+    /// Whether its turn may come: bytes or an end wait on it, and it is not held.
+    pub(crate) fn takes_turns(&self) -> bool
+        ensures { result ≡ takes_turns self.now }
+    {
+        match &self.sender {
+            Some(sender) => sender.sends(),
+            None => false,
+        }
+    }
+
     /// Whether it is looked for.
     pub(crate) fn is_sought(&self, sought: Sought) -> bool
         ensures { result ≡ is_sought sought self.now }
@@ -123,10 +131,6 @@ impl StoredStream {
         match sought {
             Sought::ToSend => match &self.sender {
                 Some(sender) => sender.has_to_send(),
-                None => false,
-            },
-            Sought::Turn => match &self.sender {
-                Some(sender) => sender.sends(),
                 None => false,
             },
             Sought::Session(session) => match self.session {

@@ -3,7 +3,8 @@ ghost use Rattle.std.specs.Prelude.{◌≡◌, ◌≢◌, ◌+◌, ◌<◌, ◌^
 ghost use Rattle.h3_connection.specs.Calls.{AllSame, Sets};
 ghost use Rattle.h3_connection.specs.NextWaiting.{IsLeast};
 ghost use Rattle.h3_connection.specs.State.{kept_at};
-ghost use Rattle.h3_webtransport_streams.specs.SessionStream.{Changes, both_ways, entered, has_something, is_of, one_way, passes, receiver_of, session_of, takes_turns};
+ghost use Rattle.h3_webtransport_streams.specs.SessionStream.{Changes, both_ways, entered, has_something, is_of, one_way, passes};
+ghost use Rattle.h3_webtransport_streams.specs.SessionStream.{receiver_of, session_of, takes_turns};
 ghost use Rattle.h3_webtransport_streams.specs.Sessions.{OpensNext, no_streams};
 
 use crate::stream::{Sought, StoredStream};
@@ -162,7 +163,7 @@ impl SessionStreams {
         map::take_out(&mut self.streams, id);
     }
 
-    /// The least id from `from` on of a stream on which bytes or an end wait. It goes over all streams.
+    /// The least id from `from` on of a stream on which bytes or an end wait. It goes over the streams from `from` on, up to that one.
     pub fn next_to_send(&self, from: u64) -> Option<u64>
         ensures value { IsLeast (λ id. passes has_something (kept_at self.now.streams id)) from result }
         ensures fits { IfSome result (λ id. id < 2 ^ 64) }
@@ -170,19 +171,11 @@ impl SessionStreams {
         map::next(&self.streams, Sought::ToSend, from)
     }
 
-    /// The least id from `from` on of a stream of this session. It goes over all streams.
+    /// The least id from `from` on of a stream of this session. It goes over the streams from `from` on, up to that one.
     pub fn next_of_session(&self, session: SessionId, from: u64) -> Option<u64>
         ensures value { IsLeast (λ id. passes (is_of session) (kept_at self.now.streams id)) from result }
         ensures fits { IfSome result (λ id. id < 2 ^ 64) }
     {
         map::next(&self.streams, Sought::Session(session.into_inner()), from)
-    }
-
-    // The least id from `from` on of a stream that sends and is not held.
-    fn next_turn(&self, from: u64) -> Option<u64>
-        ensures value { IsLeast (λ id. passes takes_turns (kept_at self.now.streams id)) from result }
-        ensures fits { IfSome result (λ id. id < 2 ^ 64) }
-    {
-        map::next(&self.streams, Sought::Turn, from)
     }
 }

@@ -2,7 +2,8 @@
 use Rattle.std.proofs.Common.{◌≡◌, ℕ, ◌≤◌, Bool, true, false, List, ◌++◌, length, arith, sym, ap, if◌then◌else◌, Option, Some, None, IsSome}
 use Rattle.h3_coding.specs.Varint.{varint_at}
 use Rattle.h3_coding.specs.VarintLaws.{reads_more, shorter}
-use Rattle.h3_wire.specs.Accepting.{Typed, has_id, with_id, with_type, start_from, resolved, TakesNumber}
+use Rattle.h3_wire.specs.Accepting.{Typed, has_id, with_id, with_type, start_from, resolved}
+use Rattle.h3_frames.specs.Numbers.{TakesNumber}
 
 -- a number that is taken makes the bytes fewer
 pub takes_fewer : (o : Option ℕ) (old new : List ℕ) → TakesNumber o old new → length new ≤ length old

@@ -4,25 +4,25 @@ use Rattle.std.proofs.Common.{◌≡◌, ◌⊎◌, inl, inr, ℕ, Bool, true, f
 use Rattle.std.specs.List.{concat}
 use Rattle.h3_wire.specs.declared.quic.Poll.{Poll}
 use Rattle.h3_wire.specs.declared.quic.Poll.TheVariants.{Ready}
-use Rattle.h3_wire.specs.declared.proto.frame.PayloadLen.{PayloadLen}
-use Rattle.h3_wire.specs.declared.proto.frame.Frame.{Frame}
-use Rattle.h3_wire.specs.declared.proto.frame.FrameError.{FrameError}
-use Rattle.h3_wire.specs.declared.proto.frame.FrameError.TheVariants as error
-use Rattle.h3_wire.specs.declared.frame.errors.FrameProtocolError.{FrameProtocolError}
-use Rattle.h3_wire.specs.declared.frame.errors.FrameProtocolError.TheVariants as protocol
-use Rattle.h3_wire.specs.declared.frame.errors.FrameStreamError.{FrameStreamError}
-use Rattle.h3_wire.specs.declared.frame.errors.FrameStreamError.TheVariants as stream
+use Rattle.h3_frames.specs.declared.proto.frame.PayloadLen.{PayloadLen}
+use Rattle.h3_frames.specs.declared.proto.frame.Frame.{Frame}
+use Rattle.h3_frames.specs.declared.proto.frame.FrameError.{FrameError}
+use Rattle.h3_frames.specs.declared.proto.frame.FrameError.TheVariants as error
+use Rattle.h3_frames.specs.declared.frame.errors.FrameProtocolError.{FrameProtocolError}
+use Rattle.h3_frames.specs.declared.frame.errors.FrameProtocolError.TheVariants as protocol
+use Rattle.h3_frames.specs.declared.frame.errors.FrameStreamError.{FrameStreamError}
+use Rattle.h3_frames.specs.declared.frame.errors.FrameStreamError.TheVariants as stream
 use Rattle.h3_wire.specs.declared.frame.payload_left.PayloadLeft.{PayloadLeft}
 use Rattle.h3_wire.specs.declared.stream.Received.{Received}
 use Rattle.h3_wire.specs.Source.{Answer, Asked, done, more}
 use Rattle.h3_wire.specs.Buffering.{AnswersFrom, buffered, ended, asked, ends}
-use Rattle.h3_wire.specs.Frames.{Front, Whole, Unknown, Refused, Unfinished, frame_at, plain_frames}
+use Rattle.h3_frames.specs.Frames.{Front, Whole, Unknown, Refused, Unfinished, frame_at, plain_frames}
 use Rattle.h3_wire.specs.Given.{piece_in}
-use Rattle.h3_wire.specs.Known.{known, refusal, IsWaiting, Gives}
-use Rattle.h3_wire.specs.Pieces.{ending}
+use Rattle.h3_frames.specs.Known.{known, refusal, IsWaiting, Gives}
+use Rattle.h3_frames.specs.Pieces.{ending}
 use Rattle.h3_wire.specs.Cut.{cut}
 use Rattle.h3_wire.specs.Streams.{Buffered, Framing, stream_part}
-use Rattle.h3_wire.specs.Tries.{Decoding}
+use Rattle.h3_frames.specs.Tries.{Decoding}
 use Rattle.h3_wire.specs.Asking.{Asks, at_end, no_room, once, told_by, Looks, IsRound, answer_of, payload_found, Rounds, bytes_of, payload_without, TakesFirst, is_short, data_of, ReadsOnce, read_fails, answers_with, goes_on, closed, fails, cut_short, no_memory, takes}
 use Rattle.h3_wire.specs.OneAnswer.{IsFunction, IsMemory, OneAnswer}
 

@@ -3,8 +3,8 @@ use Rattle.std.specs.Prelude.{◌≡◌, ℕ, List, [], ◌++◌, length}
 use Rattle.std.proofs.Common.{refl, sym, ◌∙◌, ap, subst, append_assoc, append-nil}
 use Rattle.std.specs.List.{concat}
 use Rattle.h3_wire.specs.Source.{Answer}
-use Rattle.h3_wire.specs.Pieces.{IsRest}
-use Rattle.h3_wire.specs.PieceLaws.{rest_same, rest_then, rest_behind, rest_is}
+use Rattle.h3_frames.specs.Pieces.{IsRest}
+use Rattle.h3_frames.specs.PieceLaws.{rest_same, rest_then, rest_behind, rest_is}
 use Rattle.h3_wire.specs.Given.{piece_in, Gave, asked_no_more, answered, AddsPieces, PassesPieces, LeavesPieces}
 
 module _ {S : Type 0} (answers : S → Answer → S → Type 0) where

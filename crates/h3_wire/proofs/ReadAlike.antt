@@ -2,17 +2,17 @@
 use Rattle.std.proofs.Common.{◌≡◌, Bool, true, false, ℕ, zero, suc, ◌<◌, ◌≤◌, List, [], ◌∷◌, ◌++◌, length, arith, sym, ◌∙◌, ap, subst, refl, inl, inr}
 use Rattle.std.proofs.lemmas.List.{nil_from_length}
 use Rattle.std.proofs.lemmas.Bool.{lt-ltb}
-use Rattle.h3_wire.specs.declared.proto.frame.PayloadLen.{PayloadLen}
-use Rattle.h3_wire.specs.declared.proto.frame.Frame.{Frame}
-use Rattle.h3_wire.specs.declared.proto.frame.Frame.TheVariants as frame
-use Rattle.h3_wire.specs.declared.proto.frame.FrameError.{FrameError}
+use Rattle.h3_frames.specs.declared.proto.frame.PayloadLen.{PayloadLen}
+use Rattle.h3_frames.specs.declared.proto.frame.Frame.{Frame}
+use Rattle.h3_frames.specs.declared.proto.frame.Frame.TheVariants as frame
+use Rattle.h3_frames.specs.declared.proto.frame.FrameError.{FrameError}
 use Rattle.h3_wire.specs.declared.frame.payload_left.PayloadLeft.{PayloadLeft}
 use Rattle.h3_wire.specs.declared.frame.payload_left.PayloadLeft.TheVariants as payload
-use Rattle.h3_wire.specs.Frames.{Front, Whole, Unknown, Refused, Unfinished, frame_at, plain_frames}
-use Rattle.h3_wire.specs.FrameLaws.{frame_by-more, frame_by-shorter, frame_by-nil}
-use Rattle.h3_wire.specs.Fronts.{IsFinished, IsShorter, with_more, IsKnown}
-use Rattle.h3_wire.specs.Known.{known}
-use Rattle.h3_wire.specs.KnownLaws.{cases_front, known-unknown, known-other, unknown_shorter}
+use Rattle.h3_frames.specs.Frames.{Front, Whole, Unknown, Refused, Unfinished, frame_at, plain_frames}
+use Rattle.h3_frames.specs.FrameLaws.{frame_by-more, frame_by-shorter, frame_by-nil}
+use Rattle.h3_frames.specs.Fronts.{IsFinished, IsShorter, with_more, IsKnown}
+use Rattle.h3_frames.specs.Known.{known}
+use Rattle.h3_frames.specs.KnownLaws.{cases_front, known-unknown, known-other, unknown_shorter}
 use Rattle.h3_wire.specs.Streams.{payload_behind, is_open, TakesPayload}
 use Rattle.h3_wire.specs.Reads.{Reads, Framed, Byte, Refuses, Leaves, read_front, reads_within, reads, bytes_then, then_more}
 

@@ -3,14 +3,14 @@ use Rattle.std.proofs.Common.{◌≡◌, inl, inr, ℕ, Bool, true, false, List,
 use Rattle.std.specs.List.{concat}
 use Rattle.h3_wire.specs.declared.quic.Poll.{Poll}
 use Rattle.h3_wire.specs.declared.quic.Poll.TheVariants.{Ready, Pending}
-use Rattle.h3_wire.specs.declared.quic.StreamErrorIncoming.{StreamErrorIncoming}
-use Rattle.h3_wire.specs.declared.quic.StreamErrorIncoming.TheVariants as incoming
+use Rattle.h3_frames.specs.declared.quic.StreamErrorIncoming.{StreamErrorIncoming}
+use Rattle.h3_frames.specs.declared.quic.StreamErrorIncoming.TheVariants as incoming
 use Rattle.h3_wire.specs.Source.{Answer, Polls, coming, Asked, done, more}
 use Rattle.h3_wire.specs.Given.{AddsPieces, asked_no_more}
 use Rattle.h3_wire.proofs.GivenPieces.{gave_once}
-use Rattle.h3_wire.proofs.PieceLemmas.{with_piece-some, concat-with_piece}
+use Rattle.h3_frames.specs.PieceLaws.{with_piece-some, concat-with_piece}
 use Rattle.h3_wire.specs.Streams.{Buffered, ReadsMore, Tells, AsksFirst, stream_error}
-use Rattle.h3_wire.specs.declared.frame.errors.FrameStreamError.{FrameStreamError}
+use Rattle.h3_frames.specs.declared.frame.errors.FrameStreamError.{FrameStreamError}
 use Rattle.h3_wire.specs.declared.stream.Received.{Received}
 use Rattle.h3_wire.specs.declared.stream.Received.TheVariants as received
 use Rattle.h3_wire.specs.Asking.{Asks, no_room, once}

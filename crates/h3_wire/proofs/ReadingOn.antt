@@ -2,20 +2,20 @@
 use Rattle.std.proofs.Common.{◌≡◌, ℕ, ◌≤◌, length, length-append, false, List, ◌++◌, sym, ◌∙◌, ap, ap₂, append_assoc, Result, Ok, Err, Option, Some, None, arith}
 use Rattle.h3_wire.specs.declared.quic.Poll.{Poll}
 use Rattle.h3_wire.specs.declared.quic.Poll.TheVariants.{Ready, Pending}
-use Rattle.h3_wire.specs.declared.proto.frame.PayloadLen.{PayloadLen}
-use Rattle.h3_wire.specs.declared.proto.frame.Frame.{Frame}
-use Rattle.h3_wire.specs.declared.frame.errors.FrameStreamError.{FrameStreamError}
-use Rattle.h3_wire.specs.declared.frame.errors.FrameStreamError.TheVariants as stream
+use Rattle.h3_frames.specs.declared.proto.frame.PayloadLen.{PayloadLen}
+use Rattle.h3_frames.specs.declared.proto.frame.Frame.{Frame}
+use Rattle.h3_frames.specs.declared.frame.errors.FrameStreamError.{FrameStreamError}
+use Rattle.h3_frames.specs.declared.frame.errors.FrameStreamError.TheVariants as stream
 use Rattle.h3_wire.specs.declared.frame.payload_left.PayloadLeft.TheVariants as payload
 use Rattle.h3_wire.specs.Source.{Answer}
-use Rattle.h3_wire.specs.Known.{known, refusal}
-use Rattle.h3_wire.specs.KnownLaws.{known-more, known_known}
+use Rattle.h3_frames.specs.Known.{known, refusal}
+use Rattle.h3_frames.specs.KnownLaws.{known-more, known_known}
 use Rattle.h3_wire.specs.Streams.{Framing, left, is_open, PollsFrame, PollsData}
 use Rattle.h3_wire.specs.Reads.{Framed, reads}
 use Rattle.h3_wire.proofs.ReadAlike.{closed_is, reads-known, reads-whole, reads-refused, reads-bytes}
 use Rattle.h3_wire.specs.ReadsOn.{reads_on, ReadsFrame, ReadsData}
-use Rattle.h3_wire.proofs.Gives.{whole_behind, refused_behind}
-use Rattle.h3_wire.specs.Frames.{plain_frames}
+use Rattle.h3_frames.specs.GivesLaws.{whole_behind, refused_behind}
+use Rattle.h3_frames.specs.Frames.{plain_frames}
 
 -- bytes with the same known part read alike, whatever follows
 alike : (a b more : List ℕ) → known a ≡ known b → reads (payload.Bytes 0) (a ++ more) ≡ reads (payload.Bytes 0) (b ++ more)

@@ -2,17 +2,17 @@
 use Rattle.std.proofs.Common.{◌≡◌, ℕ, ◌<◌, Bool, inr, ap₂, append_assoc, length-append, true, false, List, [], ◌∷◌, ◌++◌, length, arith, sym, ◌∙◌, ap, subst, refl, Result, Ok, Err, Option, Some, None}
 use Rattle.std.specs.List.{concat}
 use Rattle.h3_wire.specs.declared.quic.Poll.TheVariants.{Ready, Pending}
-use Rattle.h3_wire.specs.declared.proto.frame.PayloadLen.{PayloadLen}
-use Rattle.h3_wire.specs.declared.proto.frame.Frame.{Frame}
-use Rattle.h3_wire.specs.declared.frame.errors.FrameStreamError.{FrameStreamError}
-use Rattle.h3_wire.specs.declared.frame.errors.FrameStreamError.TheVariants as stream
+use Rattle.h3_frames.specs.declared.proto.frame.PayloadLen.{PayloadLen}
+use Rattle.h3_frames.specs.declared.proto.frame.Frame.{Frame}
+use Rattle.h3_frames.specs.declared.frame.errors.FrameStreamError.{FrameStreamError}
+use Rattle.h3_frames.specs.declared.frame.errors.FrameStreamError.TheVariants as stream
 use Rattle.h3_wire.specs.declared.frame.payload_left.PayloadLeft.{PayloadLeft}
 use Rattle.h3_wire.specs.declared.stream.Received.{Received}
 use Rattle.h3_wire.specs.declared.frame.payload_left.PayloadLeft.TheVariants as payload
 use Rattle.h3_wire.specs.declared.stream.Received.TheVariants as received
 use Rattle.h3_wire.specs.Source.{Answer, coming}
 use Rattle.h3_wire.specs.Streams.{Buffered, Framing, stream_part, is_open, left, Tells, TakesData, TakesPayload, PollsData}
-use Rattle.h3_wire.specs.Tries.{Decoding}
+use Rattle.h3_frames.specs.Tries.{Decoding}
 use Rattle.h3_wire.specs.Asking.{Asks, Looks, IsRound, Rounds, read_fails, payload_found, at_end_of, ReadsOnce, no_memory, takes, is_short, data_of, TakesFirst}
 
 abbrev pub framed : {S : Type 0} → Buffered S → PayloadLeft → Decoding → Framing S

@@ -4,12 +4,12 @@ use Rattle.std.specs.List.{concat}
 use Rattle.h3_wire.specs.declared.quic.Poll.{Poll}
 use Rattle.h3_wire.specs.declared.quic.Poll.TheVariants.{Ready}
 use Rattle.h3_wire.specs.declared.stream.Received.{Received}
-use Rattle.h3_wire.specs.declared.frame.errors.FrameStreamError.{FrameStreamError}
-use Rattle.h3_wire.specs.declared.frame.errors.FrameStreamError.TheVariants as stream
+use Rattle.h3_frames.specs.declared.frame.errors.FrameStreamError.{FrameStreamError}
+use Rattle.h3_frames.specs.declared.frame.errors.FrameStreamError.TheVariants as stream
 use Rattle.h3_wire.specs.declared.stream.accept.PollTypeError.{PollTypeError}
 use Rattle.h3_wire.specs.declared.stream.accept.PollTypeError.TheVariants as failed
 use Rattle.h3_wire.specs.Source.{Answer}
-use Rattle.h3_wire.specs.Pieces.{ending}
+use Rattle.h3_frames.specs.Pieces.{ending}
 use Rattle.h3_wire.specs.Streams.{Buffered}
 use Rattle.h3_wire.specs.Accepting.{Accepting, stream_of, resolved}
 use Rattle.h3_wire.specs.Asking.{Asks}

@@ -2,14 +2,14 @@
 use Rattle.std.proofs.Common.{◌≡◌, ℕ, ◌≤◌, List, [], ◌++◌, length, arith, sym, ◌∙◌, ap, ap₂, subst, append-nil, length-append, Result, Ok, Err, Option, Some, None}
 use Rattle.std.specs.List.{concat}
 use Rattle.h3_wire.specs.declared.quic.Poll.TheVariants.{Ready}
-use Rattle.h3_wire.specs.declared.proto.frame.PayloadLen.{PayloadLen}
-use Rattle.h3_wire.specs.declared.proto.frame.Frame.{Frame}
-use Rattle.h3_wire.specs.declared.frame.errors.FrameStreamError.{FrameStreamError}
-use Rattle.h3_wire.specs.declared.frame.errors.FrameStreamError.TheVariants as stream
+use Rattle.h3_frames.specs.declared.proto.frame.PayloadLen.{PayloadLen}
+use Rattle.h3_frames.specs.declared.proto.frame.Frame.{Frame}
+use Rattle.h3_frames.specs.declared.frame.errors.FrameStreamError.{FrameStreamError}
+use Rattle.h3_frames.specs.declared.frame.errors.FrameStreamError.TheVariants as stream
 use Rattle.h3_wire.specs.Source.{Answer, coming}
-use Rattle.h3_wire.specs.Frames.{Whole, frame_at, plain_frames}
-use Rattle.h3_wire.proofs.Gives.{whole_behind, refused_behind, same_behind, gives_fewer}
-use Rattle.h3_wire.specs.Known.{known, Gives, IsWaiting, refusal}
+use Rattle.h3_frames.specs.Frames.{Whole, frame_at, plain_frames}
+use Rattle.h3_frames.specs.GivesLaws.{whole_behind, refused_behind, same_behind, gives_fewer}
+use Rattle.h3_frames.specs.Known.{known, Gives, IsWaiting, refusal}
 use Rattle.h3_wire.specs.Streams.{Buffered, Framing, left, PollsFrame}
 
 -- What was read, and what comes behind it, before and after a frame was taken.

@@ -4,8 +4,8 @@ use Rattle.std.specs.List.{concat}
 use Rattle.h3_coding.specs.Varint.{varint_at}
 use Rattle.h3_wire.specs.declared.quic.Poll.{Poll}
 use Rattle.h3_wire.specs.declared.quic.Poll.TheVariants.{Ready, Pending}
-use Rattle.h3_wire.specs.declared.quic.StreamErrorIncoming.{StreamErrorIncoming}
-use Rattle.h3_wire.specs.declared.quic.StreamErrorIncoming.TheVariants as incoming
+use Rattle.h3_frames.specs.declared.quic.StreamErrorIncoming.{StreamErrorIncoming}
+use Rattle.h3_frames.specs.declared.quic.StreamErrorIncoming.TheVariants as incoming
 use Rattle.h3_wire.specs.declared.stream.accept.PollTypeError.{PollTypeError}
 use Rattle.h3_wire.specs.declared.stream.accept.PollTypeError.TheVariants as failed
 use Rattle.h3_wire.specs.Source.{Answer, coming}
@@ -58,11 +58,6 @@ stream_of s = record { pieces = s.pieces; source = s.source; is_eos = s.is_eos }
 -- the bytes that are left
 abbrev pub all_left : {S : Type 0} → (S → List ℕ) → Accepting S → List ℕ
 all_left rest s = concat s.pieces ++ coming s.is_eos (rest s.source)
-
--- a number is taken where it is whole, and else nothing
-abbrev pub TakesNumber : Option ℕ → List ℕ → List ℕ → Type 0
-TakesNumber (Some v) old new = varint_at old ≡ Some (v, new)
-TakesNumber None old new = (varint_at old ≡ None) × (new ≡ old)
 
 -- an error of the source as it is told
 abbrev pub type_error : StreamErrorIncoming → PollTypeError

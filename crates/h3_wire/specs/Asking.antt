@@ -3,10 +3,10 @@ use Rattle.std.specs.Prelude.{◌≡◌, ℕ, ◌-◌, Bool, true, false, List, 
 use Rattle.std.specs.List.{concat}
 use Rattle.h3_wire.specs.declared.quic.Poll.{Poll}
 use Rattle.h3_wire.specs.declared.quic.Poll.TheVariants.{Ready, Pending}
-use Rattle.h3_wire.specs.declared.proto.frame.PayloadLen.{PayloadLen}
-use Rattle.h3_wire.specs.declared.proto.frame.Frame.{Frame}
-use Rattle.h3_wire.specs.declared.frame.errors.FrameStreamError.{FrameStreamError}
-use Rattle.h3_wire.specs.declared.frame.errors.FrameStreamError.TheVariants as stream
+use Rattle.h3_frames.specs.declared.proto.frame.PayloadLen.{PayloadLen}
+use Rattle.h3_frames.specs.declared.proto.frame.Frame.{Frame}
+use Rattle.h3_frames.specs.declared.frame.errors.FrameStreamError.{FrameStreamError}
+use Rattle.h3_frames.specs.declared.frame.errors.FrameStreamError.TheVariants as stream
 use Rattle.h3_wire.specs.declared.frame.payload_left.PayloadLeft.{PayloadLeft}
 use Rattle.h3_wire.specs.declared.frame.payload_left.PayloadLeft.TheVariants as payload
 use Rattle.h3_wire.specs.declared.stream.Received.{Received}
@@ -14,12 +14,12 @@ use Rattle.h3_wire.specs.declared.stream.Received.TheVariants as received
 use Rattle.h3_wire.specs.Source.{Answer}
 use Rattle.h3_wire.specs.Buffering.{ends}
 use Rattle.h3_wire.specs.Given.{piece_in}
-use Rattle.h3_wire.specs.Known.{Gives}
-use Rattle.h3_wire.specs.Pieces.{ending}
+use Rattle.h3_frames.specs.Known.{Gives}
+use Rattle.h3_frames.specs.Pieces.{ending}
 use Rattle.h3_wire.specs.Cut.{cut, is_cut_short}
-use Rattle.h3_wire.specs.Tries.{Decoding, Counts}
+use Rattle.h3_frames.specs.Tries.{Decoding, Counts}
 use Rattle.h3_wire.specs.Streams.{Buffered, Framing, stream_part, payload_behind, stream_error, is_open}
-use Rattle.h3_wire.specs.Frames.{plain_frames}
+use Rattle.h3_frames.specs.Frames.{plain_frames}
 
 -- an answer of the source as a read tells it
 abbrev pub told_by : Answer → Result Received FrameStreamError

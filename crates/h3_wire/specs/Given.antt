@@ -2,7 +2,7 @@
 use Rattle.std.specs.Prelude.{◌≡◌, ℕ, List, [], ◌∷◌, ◌++◌, Ok, Some}
 use Rattle.h3_wire.specs.declared.quic.Poll.TheVariants.{Ready}
 use Rattle.h3_wire.specs.Source.{Answer}
-use Rattle.h3_wire.specs.Pieces.{IsRest, ending}
+use Rattle.h3_frames.specs.Pieces.{IsRest, ending}
 
 -- the piece of an answer, if it has one
 abbrev pub piece_in : Answer → List (List ℕ)

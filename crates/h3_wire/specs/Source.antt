@@ -2,7 +2,7 @@
 use Rattle.std.specs.Prelude.{◌≡◌, ℕ, ◌<◌, Bool, true, false, List, [], ◌++◌, length, Result, Ok, Err, Option, Some, None}
 use Rattle.h3_wire.specs.declared.quic.Poll.{Poll}
 use Rattle.h3_wire.specs.declared.quic.Poll.TheVariants.{Ready, Pending}
-use Rattle.h3_wire.specs.declared.quic.StreamErrorIncoming.{StreamErrorIncoming}
+use Rattle.h3_frames.specs.declared.quic.StreamErrorIncoming.{StreamErrorIncoming}
 
 abbrev pub Answer : Type 0
 Answer = Poll (Result (Option (List ℕ)) StreamErrorIncoming)

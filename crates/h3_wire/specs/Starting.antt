@@ -6,12 +6,12 @@ use Rattle.h3_wire.specs.declared.quic.Poll.{Poll}
 use Rattle.h3_wire.specs.declared.quic.Poll.TheVariants.{Ready, Pending}
 use Rattle.h3_wire.specs.declared.stream.Received.{Received}
 use Rattle.h3_wire.specs.declared.stream.Received.TheVariants as received
-use Rattle.h3_wire.specs.declared.frame.errors.FrameStreamError.{FrameStreamError}
-use Rattle.h3_wire.specs.declared.frame.errors.FrameStreamError.TheVariants as stream
+use Rattle.h3_frames.specs.declared.frame.errors.FrameStreamError.{FrameStreamError}
+use Rattle.h3_frames.specs.declared.frame.errors.FrameStreamError.TheVariants as stream
 use Rattle.h3_wire.specs.declared.stream.accept.PollTypeError.{PollTypeError}
 use Rattle.h3_wire.specs.declared.stream.accept.PollTypeError.TheVariants as failed
 use Rattle.h3_wire.specs.Source.{Answer}
-use Rattle.h3_wire.specs.Pieces.{ending}
+use Rattle.h3_frames.specs.Pieces.{ending}
 use Rattle.h3_wire.specs.Asking.{Asks}
 use Rattle.h3_wire.specs.Accepting.{Accepting, stream_of, has_id, resolved, type_error}
 

@@ -1,16 +1,12 @@
 -- What streams begin with, as it is written (RFC 9114, section 6.2), and what is seen of bytes that are to be sent.
 use Rattle.std.specs.Prelude.{ℕ, List, ◌++◌}
 use Rattle.h3_coding.specs.Encodings.{encoding}
-use Rattle.h3_proto.specs.Pairs.{payload_of}
-use Rattle.h3_wire.specs.Encoded.{frame_encoding, head_encoding}
+use Rattle.h3_frames.specs.Encoded.{head_encoding}
 use Rattle.h3_wire.specs.declared.stream.headers.UniStreamHeader.{UniStreamHeader}
 use Rattle.h3_wire.specs.declared.stream.headers.UniStreamHeader.TheVariants.{Control, WebTransportUni, Encoder, Decoder}
 use Rattle.h3_wire.specs.declared.stream.headers.BidiStreamHeader.{BidiStreamHeader}
 use Rattle.h3_wire.specs.declared.stream.headers.BidiStreamHeader.TheVariants.{WebTransportBidi}
-
--- the type, then a SETTINGS frame
-abbrev pub control_encoding : List (ℕ × ℕ) → List ℕ
-control_encoding pairs = encoding 0 ++ frame_encoding 4 (payload_of pairs)
+use Rattle.h3_frames.specs.ControlStreams.{control_encoding}
 
 -- the type of the stream, then a SETTINGS frame or the session id
 abbrev pub uni_encoding : UniStreamHeader → List ℕ

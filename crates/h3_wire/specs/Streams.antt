@@ -3,22 +3,22 @@ use Rattle.std.specs.Prelude.{◌≡◌, ◌⊎◌, ℕ, ◌-◌, ◌<◌, ◌�
 use Rattle.std.specs.List.{concat}
 use Rattle.h3_wire.specs.declared.quic.Poll.{Poll}
 use Rattle.h3_wire.specs.declared.quic.Poll.TheVariants.{Ready, Pending}
-use Rattle.h3_wire.specs.declared.quic.StreamErrorIncoming.{StreamErrorIncoming}
-use Rattle.h3_wire.specs.declared.quic.StreamErrorIncoming.TheVariants as incoming
-use Rattle.h3_wire.specs.declared.proto.frame.PayloadLen.{PayloadLen}
-use Rattle.h3_wire.specs.declared.proto.frame.Frame.{Frame}
-use Rattle.h3_wire.specs.declared.proto.frame.Frame.TheVariants as frame
-use Rattle.h3_wire.specs.declared.frame.errors.FrameStreamError.{FrameStreamError}
-use Rattle.h3_wire.specs.declared.frame.errors.FrameStreamError.TheVariants as stream
+use Rattle.h3_frames.specs.declared.quic.StreamErrorIncoming.{StreamErrorIncoming}
+use Rattle.h3_frames.specs.declared.quic.StreamErrorIncoming.TheVariants as incoming
+use Rattle.h3_frames.specs.declared.proto.frame.PayloadLen.{PayloadLen}
+use Rattle.h3_frames.specs.declared.proto.frame.Frame.{Frame}
+use Rattle.h3_frames.specs.declared.proto.frame.Frame.TheVariants as frame
+use Rattle.h3_frames.specs.declared.frame.errors.FrameStreamError.{FrameStreamError}
+use Rattle.h3_frames.specs.declared.frame.errors.FrameStreamError.TheVariants as stream
 use Rattle.h3_wire.specs.declared.frame.payload_left.PayloadLeft.{PayloadLeft}
 use Rattle.h3_wire.specs.declared.frame.payload_left.PayloadLeft.TheVariants as payload
 use Rattle.h3_wire.specs.declared.stream.Received.{Received}
 use Rattle.h3_wire.specs.declared.stream.Received.TheVariants as received
 use Rattle.h3_wire.specs.Source.{Answer, coming}
-use Rattle.h3_wire.specs.Pieces.{with_piece}
-use Rattle.h3_wire.specs.Frames.{Whole, Refused, frame_at}
-use Rattle.h3_wire.specs.Known.{known, refusal, IsWaiting}
-use Rattle.h3_wire.specs.Tries.{Decoding}
+use Rattle.h3_frames.specs.Pieces.{with_piece}
+use Rattle.h3_frames.specs.Frames.{Whole, Refused, frame_at}
+use Rattle.h3_frames.specs.Known.{known, refusal, IsWaiting}
+use Rattle.h3_frames.specs.Tries.{Decoding}
 
 -- the pieces of what was read and not yet taken, where the rest comes from, and whether the end was told
 pub record Buffered (S : Type 0) : Type 0 where

@@ -5,38 +5,28 @@ ghost use Rattle.std.specs.Borrow.{Lends, sem};
 ghost use Rattle.h3_wire.specs.contracts.frame.FrameStream.{the_row};
 ghost use Rattle.h3_wire.specs.Asking.{Asks, IsRoundBefore, Rounds, ReadsOnce, TakesFirst, data_of, is_short};
 ghost use Rattle.h3_wire.specs.declared.stream.Received.TheVariants as end;
-ghost use Rattle.h3_wire.specs.declared.frame.errors.FrameStreamError.TheVariants as stream;
+ghost use Rattle.h3_frames.specs.declared.frame.errors.FrameStreamError.TheVariants as stream;
 ghost use Rattle.h3_wire.specs.Source.{Asked, coming};
 ghost use Rattle.std.specs.List.{concat};
 ghost use Rattle.h3_wire.specs.Cut.{PollsPiece, TellsEnd, cut, is_cut_short};
 ghost use Rattle.h3_wire.specs.Given.{AddsPieces, LeavesPieces, PassesPieces};
 ghost use Rattle.h3_wire.specs.ReadsOn.{ReadsFrame, ReadsData};
-ghost use Rattle.h3_wire.specs.Streams.{left, is_open, payload_behind, stream_part, Tells, PollsFrame, PollsData, TakesData, IsCutShort, Continues, EndIsTold, AsksFirst, error_of, poll_error, round_error};
+ghost use Rattle.h3_wire.specs.Streams.{left, is_open, payload_behind, stream_part, Tells, PollsFrame, PollsData, TakesData, IsCutShort};
+ghost use Rattle.h3_wire.specs.Streams.{Continues, EndIsTold, AsksFirst, error_of, poll_error, round_error};
 
-use crate::proto::frame::{Frame, PayloadLen};
-use crate::proto::stream::StreamId;
 use crate::quic::{Poll, RecvStream};
 use crate::stream::{BufRecvStream, Received};
 use bytes::Bytes;
+use h3_frames::proto::frame::{Frame, PayloadLen};
+use h3_frames::proto::stream::StreamId;
 use std::alloc::Global;
 use std::marker::Model;
 
-mod buffer;
-mod decoder;
-mod errors;
-mod excess;
-mod first;
-mod frame_left;
-mod kinds;
-mod let_go;
-mod other_settings;
 mod payload_left;
-mod sparing;
 
-pub use buffer::FrameBuffer;
-pub use decoder::{FrameDecoder, MessageFrame};
-pub use errors::{FrameProtocolError, FrameStreamError};
-pub use kinds::FrameKinds;
+pub use h3_frames::frame::{
+    FrameBuffer, FrameDecoder, FrameKinds, FrameProtocolError, FrameStreamError, MessageFrame,
+};
 pub use payload_left::PayloadLeft;
 
 /// Reads frames, and the payloads of DATA and of WebTransport in pieces.
@@ -51,15 +41,22 @@ pub struct FrameStream<S> {
 impl<S> Model for FrameStream<S> {
     ghost use Rattle.std.specs.Prelude.{◌≡◌, true, None};
     ghost use Rattle.std.specs.List.{concat};
-    ghost use Rattle.h3_wire.specs.Frames.{plain_frames};
-    ghost use Rattle.h3_wire.specs.Tries.{Expects};
+    ghost use Rattle.h3_frames.specs.Frames.{plain_frames};
+    ghost use Rattle.h3_frames.specs.Tries.{Expects};
     ghost use Rattle.h3_wire.specs.Streams.{Framing, is_open};
 
     ghost Value = { Framing S };
 
-    ghost view = { λ s. record { pieces = s.stream.pieces; source = s.stream.source; is_eos = s.stream.is_eos; payload = s.payload; decoder = s.decoder } };
+    ghost view = { λ s. record {
+      pieces = s.stream.pieces;
+      source = s.stream.source;
+      is_eos = s.stream.is_eos;
+      payload = s.payload;
+      decoder = s.decoder;
+    } };
 
-    ghost invariant = { λ s. Expects plain_frames s.decoder (concat s.stream.pieces) × (is_open s.payload ≡ true → s.decoder.expected ≡ None) };
+    ghost invariant = { λ s. Expects plain_frames s.decoder (concat s.stream.pieces)
+        × (is_open s.payload ≡ true → s.decoder.expected ≡ None) };
 }
 
 // The payload that is under way after a frame.
@@ -148,7 +145,8 @@ impl<S: RecvStream> FrameStream<S> {
         ensures asked { Asked S.answers self.old.source self.new.source }
         ensures ended { EndIsTold S.answers self.new.source self.old.is_eos self.new.is_eos }
         ensures first { self.old.is_eos ≡ false → AsksFirst S.answers self.old.source (poll_error result) }
-        ensures pieces { LeavesPieces S.answers (length (concat self.new.pieces)) self.old.source self.old.pieces self.new.source self.new.pieces }
+        ensures pieces { LeavesPieces S.answers
+            (length (concat self.new.pieces)) self.old.source self.old.pieces self.new.source self.new.pieces }
     {
         self.poll_frame()
     }
@@ -175,7 +173,8 @@ impl<S: RecvStream> FrameStream<S> {
     fn read_frame(&mut self) -> Option<Poll<Result<Option<Frame<PayloadLen>>, FrameStreamError>>>
         requires closed { is_open self.old.payload ≡ false }
         requires few { length (left S.rest self.old) < 2 ^ 62 }
-        ensures round { MatchOption result (IsRoundBefore S.answers self.old self.new) (λ answer. Rounds S.answers self.old answer self.new) }
+        ensures round { MatchOption result (IsRoundBefore S.answers self.old self.new)
+            (λ answer. Rounds S.answers self.old answer self.new) }
         ensures polls { MatchOption result (Continues S.rest self.old self.new)
             (λ answer. PollsFrame S.rest S.answers answer self.old self.new) }
         ensures fewer { length (left S.rest self.new) ≤ length (left S.rest self.old) }
@@ -216,7 +215,8 @@ impl<S: RecvStream> FrameStream<S> {
         ensures polls { PollsData S.rest S.answers result self.old self.new }
         ensures asked { Asked S.answers self.old.source self.new.source }
         ensures ended { EndIsTold S.answers self.new.source self.old.is_eos self.new.is_eos }
-        ensures first { self.old.is_eos ≡ false → is_open self.old.payload ≡ true → AsksFirst S.answers self.old.source (poll_error result) }
+        ensures first { self.old.is_eos ≡ false → is_open self.old.payload ≡ true
+            → AsksFirst S.answers self.old.source (poll_error result) }
         ensures fewer { length (left S.rest self.new) ≤ length (left S.rest self.old) }
         ensures pieces { PollsPiece S.answers result self.old self.new }
     {
@@ -230,7 +230,8 @@ impl<S: RecvStream> FrameStream<S> {
         ensures polls { PollsData S.rest S.answers result self.old self.new }
         ensures asked { Asked S.answers self.old.source self.new.source }
         ensures ended { EndIsTold S.answers self.new.source self.old.is_eos self.new.is_eos }
-        ensures first { self.old.is_eos ≡ false → is_open self.old.payload ≡ true → AsksFirst S.answers self.old.source (poll_error result) }
+        ensures first { self.old.is_eos ≡ false → is_open self.old.payload ≡ true
+            → AsksFirst S.answers self.old.source (poll_error result) }
         ensures pieces { PollsPiece S.answers result self.old self.new }
     {
         if !self.has_data() {
@@ -288,7 +289,8 @@ impl<S> FrameStream<S> {
     fn ends_short(&self, received: Received) -> bool
         ensures is { result ≡ is_short received self.now.payload (stream_part self.now) }
         ensures short { result ≡ true → (received ≡ end.End) × IsCutShort (length (concat self.now.pieces)) self.now.payload }
-        ensures whole { result ≡ false → received ≡ end.End → concat self.now.pieces ≡ [] → is_open self.now.payload ≡ true → self.now.payload ≡ PayloadLeft.ToEnd }
+        ensures whole { result ≡ false → received ≡ end.End → concat self.now.pieces ≡ [] → is_open self.now.payload ≡ true
+            → self.now.payload ≡ PayloadLeft.ToEnd }
     {
         match received {
             Received::End => self.is_cut_short(),
@@ -300,7 +302,8 @@ impl<S> FrameStream<S> {
     fn is_cut_short(&self) -> bool
         ensures is { result ≡ is_cut_short self.now.payload (length (concat self.now.pieces)) (length self.now.pieces) }
         ensures short { result ≡ true → IsCutShort (length (concat self.now.pieces)) self.now.payload }
-        ensures whole { result ≡ false → concat self.now.pieces ≡ [] → is_open self.now.payload ≡ true → self.now.payload ≡ PayloadLeft.ToEnd }
+        ensures whole { result ≡ false → concat self.now.pieces ≡ [] → is_open self.now.payload ≡ true
+            → self.now.payload ≡ PayloadLeft.ToEnd }
     {
         match self.payload {
             PayloadLeft::Bytes(count) => {

@@ -1,9 +1,9 @@
-//! Frames, and streams of bytes that come in pieces.
+//! Streams of frames, of a source that gives bytes in pieces.
 #![tactic(auto)]
 
-pub mod buf;
 pub mod frame;
 pub mod laws;
-pub mod proto;
 pub mod quic;
 pub mod stream;
+
+pub use h3_frames::{buf, proto};

@@ -2,8 +2,9 @@
 ghost use Rattle.std.specs.Prelude.{◌≡◌, ℕ, List};
 ghost use Rattle.h3_wire.specs.Source.{Answer, Polls};
 
-use crate::proto::stream::StreamId;
 use bytes::Bytes;
+use h3_frames::proto::stream::StreamId;
+pub use h3_frames::quic::StreamErrorIncoming;
 
 /// What a call has for its caller now.
 #[derive(Clone, Copy, Debug, PartialEq, Eq)]
@@ -12,19 +13,6 @@ pub enum Poll<T> {
     Ready(T),
     /// Nothing yet: ask again.
     Pending,
-}
-
-/// Why a stream gives no more.
-#[derive(Debug, Drop)]
-pub enum StreamErrorIncoming {
-    /// The connection was closed, with this code.
-    ConnectionErrorIncoming { code: u64 },
-    /// The peer reset the stream, with this code.
-    StreamTerminated { error_code: u64 },
-    /// The transport has another reason.
-    Unknown,
-    /// There was no memory for what came.
-    OutOfMemory,
 }
 
 /// A stream that is read in pieces. An implementation says what its answers mean by `answers`, and

@@ -1,40 +1,39 @@
 //! A source with a buffer before it.
-ghost use Rattle.std.specs.Prelude.{◌≡◌, nat_le, ◌<◌, ◌+◌, ◌^◌, ◌++◌, ◌≤◌, ℕ, List, false, true, [], length, MatchOption, IfOk, IfSome, None, OnErr, Err, IsTrue, ◌↔◌};
+ghost use Rattle.std.specs.Prelude.{◌≡◌, nat_le, ◌<◌, ◌+◌, ◌^◌, ◌++◌, ◌≤◌, ℕ, List, false, true, [], length, MatchOption, IfOk, IfSome};
+ghost use Rattle.std.specs.Prelude.{None, OnErr, Err, IsTrue, ◌↔◌};
 ghost use Rattle.h3_wire.specs.Source.{Asked, coming};
 ghost use Rattle.std.specs.Borrow.{Lends, sem};
 ghost use Rattle.h3_wire.specs.contracts.stream.BufRecvStream.{the_row};
-ghost use Rattle.h3_wire.specs.Accepting.{TakesNumber};
+ghost use Rattle.h3_frames.specs.Numbers.{TakesNumber};
 ghost use Rattle.h3_wire.specs.Asking.{Asks};
 ghost use Rattle.h3_wire.specs.Buffering.{left_behind, AnswersFrom};
 ghost use Rattle.h3_wire.specs.BufferingLaws.{polls_behind, same_behind};
-ghost use Rattle.h3_wire.specs.Frames.{plain_frames};
-ghost use Rattle.h3_wire.specs.Known.{Gives};
+ghost use Rattle.h3_frames.specs.Frames.{plain_frames};
+ghost use Rattle.h3_frames.specs.Known.{Gives};
 ghost use Rattle.h3_wire.specs.Cut.{TellsEnd};
 ghost use Rattle.h3_wire.specs.Given.{AddsPieces};
-ghost use Rattle.h3_wire.specs.Pieces.{IsRest, chunk_of, ending, first_of};
-ghost use Rattle.h3_wire.specs.Tries.{Counts, Expects};
+ghost use Rattle.h3_frames.specs.Pieces.{IsRest, chunk_of, ending, first_of};
+ghost use Rattle.h3_frames.specs.Tries.{Counts, Expects};
 ghost use Rattle.std.specs.List.{concat};
 ghost use Rattle.h3_wire.specs.Streams.{ReadsMore, Tells, Adds, EndIsTold, AsksFirst, stream_error, error_of};
 
-use crate::buf::BufList;
-use crate::frame::{FrameDecoder, FrameStreamError};
-use crate::proto::frame::{Frame, PayloadLen};
-use crate::proto::stream::StreamId;
 use crate::quic::{Poll, RecvStream, StreamErrorIncoming};
 use bytes::{Buf, Bytes};
+use h3_frames::buf::BufList;
+use h3_frames::frame::{FrameDecoder, FrameStreamError};
+use h3_frames::proto::frame::{Frame, PayloadLen};
+use h3_frames::proto::stream::StreamId;
 use std::alloc::{AllocError, Global};
 use std::fmt;
 use std::marker::Model;
 
 mod accept;
-mod head;
 mod headers;
-mod message_buf;
 mod write_buf;
 
 pub use accept::{AcceptRecvStream, AcceptedRecvStream, PollTypeError};
+pub use h3_frames::stream::MessageBuf;
 pub use headers::{BidiStreamHeader, UniStreamHeader};
-pub use message_buf::MessageBuf;
 pub use write_buf::WriteBuf;
 
 /// A source, and the bytes of it that were read and not yet taken.
@@ -182,7 +181,8 @@ impl<S: RecvStream> BufRecvStream<S> {
     // Reads more, unless the source's end is known.
     pub(crate) fn receive(&mut self) -> Result<Received, FrameStreamError>
         requires { length (concat self.old.pieces ++ coming self.old.is_eos (S.rest self.old.source)) < 2 ^ 62 }
-        ensures all { concat self.new.pieces ++ coming self.new.is_eos (S.rest self.new.source) ≡ concat self.old.pieces ++ coming self.old.is_eos (S.rest self.old.source) }
+        ensures all { concat self.new.pieces ++ coming self.new.is_eos (S.rest self.new.source) ≡ concat self.old.pieces
+            ++ coming self.old.is_eos (S.rest self.old.source) }
         ensures grows { (more : List ℕ) × (concat self.new.pieces ≡ concat self.old.pieces ++ more) }
         ensures adds { Adds result (concat self.old.pieces) (concat self.new.pieces) }
         ensures tells { Tells S.rest S.answers result self.old self.new }

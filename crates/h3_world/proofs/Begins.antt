@@ -8,7 +8,7 @@ use Rattle.h3_qpack.specs.Schedule.{beginning, choosing, keeping_canceled}
 use Rattle.h3_qpack.specs.Schedule.SessionEvent.{Choose, KeepCanceled}
 use Rattle.h3_qpack.specs.Session.{Session}
 use Rattle.h3_qpack.specs.WholeInstructions.{decoder_instructions_in}
-use Rattle.h3_wire.specs.Encoded.{frame_encoding}
+use Rattle.h3_frames.specs.Encoded.{frame_encoding}
 use Rattle.h3_proto.specs.Pairs.{payload_of}
 use Rattle.h3_proto.specs.StreamIds.{is_request_stream, index_of}
 use Rattle.h3_proto.specs.declared.stream.Side.{Side}

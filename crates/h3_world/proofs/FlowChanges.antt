@@ -4,7 +4,7 @@ use Rattle.std.specs.Prelude.{slice_get, flat_map, ◌==◌, ◌||◌}
 use Rattle.std.proofs.lemmas.Grind.{common_steps, flat_map-append}
 use Rattle.std.proofs.lemmas.List.{length-take, length-drop, take-append-drop}
 use Rattle.h3_coding.specs.Encodings.{encoding}
-use Rattle.h3_wire.specs.Encoded.{head_encoding}
+use Rattle.h3_frames.specs.Encoded.{head_encoding}
 use Rattle.h3_connection.specs.declared.event.Item.{Item}
 use Rattle.h3_connection.specs.declared.event.StreamFault.{StreamFault}
 use Rattle.h3_world.specs.Flow.{Flow, Part, Section, part_bytes, flow_bytes, bytes_waiting}

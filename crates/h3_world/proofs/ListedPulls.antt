@@ -11,6 +11,7 @@ use Rattle.h3_connection.specs.declared.event.Item.{Item}
 use Rattle.h3_connection.specs.declared.event.Item.TheVariants as item
 use Rattle.h3_connection.specs.declared.event.Pull.{Pull}
 use Rattle.h3_connection.specs.declared.event.Pull.TheVariants as pull
+use Rattle.h3_connection.specs.Lists.{IsListedAs}
 use Rattle.h3_world.specs.declared.event.Event.TheVariants as event
 use Rattle.h3_world.specs.declared.event.Answer.{Answer}
 use Rattle.h3_world.specs.declared.event.Answer.TheVariants as answer
@@ -19,7 +20,7 @@ use Rattle.h3_world.specs.Flow.{Flow, Part, Section}
 use Rattle.h3_world.specs.Flow.Part.{Interim, Head, Body, Trailer, End}
 use Rattle.h3_world.specs.Items.{body_there}
 use Rattle.h3_world.specs.ListLaws.{read_flagged, settled_listed}
-use Rattle.h3_world.specs.Lists.{IsListedAs, as_flagged}
+use Rattle.h3_world.specs.Lists.{as_flagged}
 use Rattle.h3_world.specs.Machine.{item_there, listed, pull_next, pull_settled, pulled, section_item}
 use Rattle.h3_world.specs.Order.{next_part, section_of_part}
 use Rattle.h3_world.specs.Pauses.{pause_before, section_pause}

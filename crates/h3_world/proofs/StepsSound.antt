@@ -19,6 +19,7 @@ use Rattle.h3_connection.specs.declared.event.Refusal.{Refusal}
 use Rattle.h3_connection.specs.declared.event.Refusal.TheVariants as refusal
 use Rattle.h3_connection.specs.declared.event.StreamFault.{StreamFault}
 use Rattle.h3_connection.specs.declared.event.StreamFault.TheVariants.{Canceled}
+use Rattle.h3_connection.specs.Lists.{pull_of}
 use Rattle.h3_world.specs.declared.event.Event.{Event}
 use Rattle.h3_world.specs.declared.event.Event.TheVariants as event
 use Rattle.h3_world.specs.declared.event.Answer.{Answer}
@@ -28,7 +29,7 @@ use Rattle.h3_world.specs.Flow.{Flow, Part, Section, flow_bytes, bytes_waiting}
 use Rattle.h3_world.specs.Flow.Part.{Interim, Head, Trailer}
 use Rattle.h3_world.specs.World.{World, party}
 use Rattle.h3_world.specs.Came.{insertions_came, settings_known}
-use Rattle.h3_world.specs.Lists.{pull_of, unreadable}
+use Rattle.h3_world.specs.Lists.{unreadable}
 use Rattle.h3_world.specs.Streams.{flow, is_open, has_outgoing, waiting}
 use Rattle.h3_world.specs.Order.{last_part, next_part, is_over, is_finished, is_sent_off, outgoing_of}
 use Rattle.h3_world.specs.Refusals.{is_critical, none_after, body_refusal, finish_refusal, reset_refusal, cancel_refusal, seen_at}

@@ -18,8 +18,8 @@ use Rattle.h3_world.specs.declared.event.Answer.{Answer}
 use Rattle.h3_world.specs.declared.event.Answer.TheVariants as answer
 use Rattle.h3_world.specs.Delivering.{reset_code}
 use Rattle.h3_connection.specs.Coming.{fields_behind}
+use Rattle.h3_connection.specs.Lists.{listed_pull}
 use Rattle.h3_world.specs.EndLists.{send_fields, send_trailer_fields}
-use Rattle.h3_world.specs.Lists.{listed_pull}
 
 pub record Ends : Type 0 where
   pub client : EndpointHistory

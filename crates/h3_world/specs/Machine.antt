@@ -12,6 +12,7 @@ use Rattle.h3_connection.specs.declared.event.Pull.{Pull}
 use Rattle.h3_connection.specs.declared.event.Pull.TheVariants as pull
 use Rattle.h3_connection.specs.declared.event.Refusal.{Refusal}
 use Rattle.h3_connection.specs.declared.event.StreamFault.TheVariants.{Canceled}
+use Rattle.h3_connection.specs.Lists.{listed_pull}
 use Rattle.h3_world.specs.declared.event.Event.{Event}
 use Rattle.h3_world.specs.declared.event.Event.TheVariants as event
 use Rattle.h3_world.specs.declared.event.Answer.{Answer}
@@ -23,7 +24,6 @@ use Rattle.h3_world.specs.World.{World, party}
 use Rattle.h3_world.specs.Came.{insertions_came}
 use Rattle.h3_world.specs.Streams.{flow}
 use Rattle.h3_world.specs.Order.{next_part}
-use Rattle.h3_world.specs.Lists.{listed_pull}
 use Rattle.h3_world.specs.Refusals.{next_id, open_refusal, head_refusal, fields_refusal, body_refusal, trailer_refusal, trailer_fields_refusal, finish_refusal, reset_refusal, cancel_refusal, goaway_refusal}
 use Rattle.h3_world.specs.Sending.{opened, sent_head, sent_fields, sent_body, sent_trailer, sent_trailer_fields, finished, cut_off, given_up, with_goaway}
 use Rattle.h3_world.specs.Delivering.{delivery, end_delivery, reset_delivery}

@@ -11,8 +11,9 @@ use Rattle.h3_connection.specs.declared.event.Pull.{Pull}
 use Rattle.h3_connection.specs.declared.event.Pull.TheVariants as pull
 use Rattle.h3_connection.specs.declared.event.Fault.TheVariants.{Stream}
 use Rattle.h3_connection.specs.declared.event.StreamFault.{StreamFault}
-use Rattle.h3_world.specs.declared.lists.ListPull.{ListPull}
-use Rattle.h3_world.specs.Lists.{as_flagged, list_of, pull_of}
+use Rattle.h3_connection.specs.declared.lists.ListPull.{ListPull}
+use Rattle.h3_connection.specs.Lists.{list_of, pull_of}
+use Rattle.h3_world.specs.Lists.{as_flagged}
 use Rattle.h3_world.specs.Setup.{Setup, announced_at, flags_secrets}
 use Rattle.h3_world.specs.World.{World, party}
 use Rattle.h3_world.specs.Came.{insertions_came}

@@ -9,12 +9,12 @@ use Rattle.h3_connection.specs.declared.event.Item.TheVariants as item
 use Rattle.h3_connection.specs.declared.event.Malformation.TheVariants as malformation
 use Rattle.h3_connection.specs.declared.event.Pull.TheVariants as pull
 use Rattle.h3_connection.specs.declared.event.Refusal.TheVariants as refusal
+use Rattle.h3_connection.specs.declared.lists.ListItem.TheVariants as listed
+use Rattle.h3_connection.specs.declared.lists.ListPull.TheVariants as list
 use Rattle.h3_world.specs.declared.event.Event.{Event}
 use Rattle.h3_world.specs.declared.event.Event.TheVariants as event
 use Rattle.h3_world.specs.declared.event.Answer.{Answer}
 use Rattle.h3_world.specs.declared.event.Answer.TheVariants as answer
-use Rattle.h3_world.specs.declared.lists.ListItem.TheVariants as listed
-use Rattle.h3_world.specs.declared.lists.ListPull.TheVariants as list
 use Rattle.h3_world.specs.WorkedHeads.{x_b}
 
 -- a response with two fields of one name, and one between them that is in no table

@@ -1,8 +1,9 @@
 //! What may happen to a client and a server, and what comes of it.
-use crate::lists::{FieldLines, ListPull};
+use crate::lists::FieldLines;
 use bytes::Bytes;
 use h3_coding::varint::VarInt;
 use h3_connection::event::{PeerLimits, Pull, Refusal, TableSizes};
+use h3_connection::lists::ListPull;
 use h3_header::Header;
 use h3_proto::stream::{Side, StreamId};
 

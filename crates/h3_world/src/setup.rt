@@ -32,8 +32,8 @@ impl Setup {
     /// The client's configuration, limits and the number of its reserved setting (RFC 9114, section 7.2.4.1), and then the server's.
     ///
     /// # Errors
-    /// What `Announced::new` refuses of the client, and then of the server. And WebTransport without datagrams, if one side announces it and
-    /// the other one does not take it, since that asks for a strict connection and announces WebTransport too.
+    /// What `Announced::new` refuses of the client, and then of the server. And WebTransport without datagrams, if one side announces it
+    /// and the other one does not take it, since that asks for a strict connection and announces WebTransport too.
     pub fn new(
         client: Config,
         client_limits: Limits,
@@ -44,7 +44,8 @@ impl Setup {
     ) -> Result<Setup, NewError>
         requires client_number { client_grease < 0x210842108421083 }
         requires server_number { server_grease < 0x210842108421083 }
-        ensures { result ≡ both (announced_by (announced client client_grease) client_limits client.choices) (announced_by (announced server server_grease) server_limits server.choices) }
+        ensures { result ≡ both (announced_by (announced client client_grease) client_limits client.choices)
+            (announced_by (announced server server_grease) server_limits server.choices) }
     {
         let client = Announced::new(client, client_limits, client_grease)?;
         let server = Announced::new(server, server_limits, server_grease)?;

@@ -3,11 +3,15 @@
 ghost use Rattle.std.specs.Prelude.{◌≡◌};
 ghost use Rattle.h3_world.specs.Ends.{new_ends, answers_of_ends};
 ghost use Rattle.h3_world.specs.WorkedHeads.{no_tables, of_client, of_server, small_client};
-ghost use Rattle.h3_world.specs.WorkedResponses.{head_run, head_answers, large_run, large_answers, second_run, second_answers, cut_run, cut_answers, literal_run, literal_answers, refused_run, refused_answers, bytewise_run, bytewise_answers, large_body_run, large_body_answers};
-ghost use Rattle.h3_world.specs.WorkedRequests.{home_run, home_answers, three_run, three_answers, waits_run, waits_answers, gives_up_run, gives_up_answers, shown_run, shown_answers, long_run, long_answers};
+ghost use Rattle.h3_world.specs.WorkedResponses.{head_run, head_answers, large_run, large_answers, second_run, second_answers, cut_run};
+ghost use Rattle.h3_world.specs.WorkedResponses.{cut_answers, literal_run, literal_answers, refused_run, refused_answers, bytewise_run};
+ghost use Rattle.h3_world.specs.WorkedResponses.{bytewise_answers, large_body_run, large_body_answers};
+ghost use Rattle.h3_world.specs.WorkedRequests.{home_run, home_answers, three_run, three_answers, waits_run, waits_answers, gives_up_run};
+ghost use Rattle.h3_world.specs.WorkedRequests.{gives_up_answers, shown_run, shown_answers, long_run, long_answers};
 ghost use Rattle.h3_world.specs.WorkedEnds.{reset_run, reset_answers, goaway_run, goaway_answers, cancel_run, cancel_answers};
 ghost use Rattle.h3_world.specs.WorkedTables.{kept_entry_run, kept_entry_answers, dropped_entry_run, dropped_entry_answers};
-ghost use Rattle.h3_world.specs.WorkedInterim.{interim_run, interim_answers, large_interim_run, large_interim_answers, interim_order_run, interim_order_answers, released_run, released_answers};
+ghost use Rattle.h3_world.specs.WorkedInterim.{interim_run, interim_answers, large_interim_run, large_interim_answers, interim_order_run};
+ghost use Rattle.h3_world.specs.WorkedInterim.{interim_order_answers, released_run, released_answers};
 ghost use Rattle.h3_world.specs.WorkedCanceled.{canceled_run, canceled_answers};
 ghost use Rattle.h3_world.specs.WorkedLists.{listed_run, listed_answers, mixed_run, mixed_answers, unlisted_run, unlisted_answers};
 

@@ -15,7 +15,8 @@ impl Connection {
         stop_sending: &mut u32,
         reset_stream: &mut u32,
     ) -> Told
-        ensures closes { OnStream id result self.old self.new (ClosesBeside result self.old self.new id stop_sending.old stop_sending.new reset_stream.old reset_stream.new) }
+        ensures closes { OnStream id result self.old self.new
+            (ClosesBeside result self.old self.new id stop_sending.old stop_sending.new reset_stream.old reset_stream.new) }
         ensures unwritten { 2 ^ 62 ≤ id → (stop_sending.new ≡ stop_sending.old) × (reset_stream.new ≡ reset_stream.old) }
     {
         let Ok(id) = StreamId::try_from(id) else {

@@ -1,11 +1,11 @@
 //! Connections that announce further settings.
 ghost use Rattle.std.specs.Prelude.{◌≡◌, ◌<◌, ◌≤◌, IfOk, IfErr, IfSome, IsNone, Ok, Some, None, take};
 ghost use Rattle.h3_connection.specs.SendingContracts.{CreatesWith};
+ghost use Rattle.h3_connection.specs.declared.lists.ListPull.TheVariants as answer;
 ghost use Rattle.h3_c.specs.Configs.{announced_of, sessions_of, side_of};
 ghost use Rattle.h3_c.specs.Further.{UnmakesWith, pairs_given};
 ghost use Rattle.h3_c.specs.Numbers.{argument};
 ghost use Rattle.h3_session.specs.Events.{nothing_seen};
-ghost use Rattle.h3_incoming.specs.declared.fields.FieldsPull.TheVariants as answer;
 
 use super::Connection;
 use crate::config::{GivenConfig, endpoint_with, side_of};
@@ -62,12 +62,14 @@ pub(crate) fn made_with(
     further: &GivenPairs,
 ) -> Result<Box<Connection>, Told>
     ensures near { IfOk result (λ b. given.now.grease < 0x210842108421083) }
-    ensures made { IfOk result (λ b. CreatesWith (side_of given.now) (announced_of given.now) (take further.now.len further.now.pairs) (Ok b.value.endpoint)) }
+    ensures made { IfOk result (λ b. CreatesWith (side_of given.now) (announced_of given.now) (take further.now.len further.now.pairs)
+        (Ok b.value.endpoint)) }
     ensures sessions { IfOk result (λ b. b.value.sessions ≡ sessions_of (side_of given.now) given.now) }
     ensures last { IfOk result (λ b. b.value.last ≡ answer.Pending) }
     ensures events { IfOk result (λ b. b.value.events ≡ nothing_seen) }
     ensures far { IfErr result (λ told. 0x210842108421083 ≤ given.now.grease → told ≡ argument) }
-    ensures refused { IfErr result (λ told. given.now.grease < 0x210842108421083 → UnmakesWith given.now (take further.now.len further.now.pairs) told) }
+    ensures refused { IfErr result (λ told. given.now.grease < 0x210842108421083
+        → UnmakesWith given.now (take further.now.len further.now.pairs) told) }
 {
     if given.grease >= RESERVED_NUMBERS {
         return Err(ARGUMENT);

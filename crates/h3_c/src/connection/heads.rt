@@ -23,7 +23,8 @@ impl Connection {
         bytes: &'static [u8],
     ) -> Told
         ensures does { OnStream id result self.old self.new
-            (SendsCut (fields_given sizes.now flags.now bytes.now) (λ e. place_refusal e id) result self.old self.new (λ fields call. SendsFieldList self.old.endpoint self.new.endpoint id fields call)) }
+            (SendsCut (fields_given sizes.now flags.now bytes.now) (λ e. place_refusal e id) result self.old self.new
+            (λ fields call. SendsFieldList self.old.endpoint self.new.endpoint id fields call)) }
         ensures sessions { self.new.sessions ≡ self.old.sessions }
     {
         let Ok(stream) = StreamId::try_from(id) else {
@@ -46,7 +47,9 @@ impl Connection {
     // The answer for a list that was not cut. If its stream takes none, it says so rather than out of memory.
     #[tactic(auto, using(crate::proofs::Uncut::no_sizes, crate::proofs::Uncut::not_taken, crate::proofs::Uncut::no_room))]
     fn head_not_cut(&self, stream: StreamId, told: Told) -> Told
-        ensures { (cut : Option (List Field)) → RefusesFields cut told → SendsCut cut (λ e. place_refusal e stream) result self.now self.now (λ fields call. SendsFieldList self.now.endpoint self.now.endpoint stream fields call) }
+        ensures { (cut : Option (List Field)) → RefusesFields cut told
+            → SendsCut cut (λ e. place_refusal e stream) result self.now self.now
+            (λ fields call. SendsFieldList self.now.endpoint self.now.endpoint stream fields call) }
     {
         if told.number == ARGUMENT.number {
             return told;
@@ -67,7 +70,8 @@ impl Connection {
         bytes: &'static [u8],
     ) -> Told
         ensures does { OnStream id result self.old self.new
-            (SendsCut (fields_given sizes.now flags.now bytes.now) (λ e. order_refusal e id) result self.old self.new (λ fields call. SendsTrailerList self.old.endpoint self.new.endpoint id fields call)) }
+            (SendsCut (fields_given sizes.now flags.now bytes.now) (λ e. order_refusal e id) result self.old self.new
+            (λ fields call. SendsTrailerList self.old.endpoint self.new.endpoint id fields call)) }
         ensures sessions { self.new.sessions ≡ self.old.sessions }
     {
         let Ok(stream) = StreamId::try_from(id) else {
@@ -92,7 +96,9 @@ impl Connection {
     // The same of a trailer.
     #[tactic(auto, using(crate::proofs::Uncut::no_sizes, crate::proofs::Uncut::not_taken, crate::proofs::Uncut::no_room))]
     fn trailer_not_cut(&self, stream: StreamId, told: Told) -> Told
-        ensures { (cut : Option (List Field)) → RefusesFields cut told → SendsCut cut (λ e. order_refusal e stream) result self.now self.now (λ fields call. SendsTrailerList self.now.endpoint self.now.endpoint stream fields call) }
+        ensures { (cut : Option (List Field)) → RefusesFields cut told
+            → SendsCut cut (λ e. order_refusal e stream) result self.now self.now
+            (λ fields call. SendsTrailerList self.now.endpoint self.now.endpoint stream fields call) }
     {
         if told.number == ARGUMENT.number {
             return told;

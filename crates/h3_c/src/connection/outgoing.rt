@@ -18,7 +18,8 @@ impl Connection {
         past: &mut usize,
         fin: &mut u32,
     ) -> Told
-        ensures copies { OnStream id (number result.number 0) self.now self.now (CopiesBeside self.now id (number result.number 0) out.old out.new count.new past.new fin.new) }
+        ensures copies { OnStream id (number result.number 0) self.now self.now
+            (CopiesBeside self.now id (number result.number 0) out.old out.new count.new past.new fin.new) }
         ensures unwritten { 2 ^ 62 ≤ id → (out.new ≡ out.old) × (count.new ≡ count.old) × (past.new ≡ past.old) × (fin.new ≡ fin.old) }
     {
         let Ok(id) = StreamId::try_from(id) else {

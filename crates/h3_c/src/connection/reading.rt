@@ -2,12 +2,13 @@
 ghost use Rattle.std.specs.Prelude.{◌≡◌, ◌<◌, ◌≤◌, ◌^◌, true, false, length, Err, IfErr, OnOk};
 ghost use Rattle.h3_connection.specs.Calls.{IsSame};
 ghost use Rattle.h3_connection.specs.Shutdown.{is_rejected_in};
-ghost use Rattle.h3_incoming.specs.declared.fields.FieldsPull.TheVariants as answer;
+ghost use Rattle.h3_connection.specs.declared.lists.ListPull.TheVariants as answer;
 ghost use Rattle.h3_session.specs.ReadingBodies.{BeginsBody};
 ghost use Rattle.h3_c.specs.Exported.{OnStream, UnlessRejected};
 ghost use Rattle.h3_c.specs.Numbers.{delivery_told};
 ghost use Rattle.h3_c.specs.Reads.{ends_with, is_after_end, is_kept, place_shown, taken_of};
-ghost use Rattle.h3_c.specs.ReadsBeside.{EndsThereBeside, ReadsCopiedBeside, ReadsNextBeside, RefusesEndBeside, StopsAtBeside, TakesBytesBeside, TakesEndBeside};
+ghost use Rattle.h3_c.specs.ReadsBeside.{EndsThereBeside, ReadsCopiedBeside, ReadsNextBeside, RefusesEndBeside, StopsAtBeside};
+ghost use Rattle.h3_c.specs.ReadsBeside.{TakesBytesBeside, TakesEndBeside};
 
 use super::Connection;
 use crate::items::{PulledItem, plain_shown};
@@ -36,7 +37,9 @@ impl Connection {
         used: &mut usize,
         item: &mut PulledItem,
     ) -> Told
-        ensures reads { OnStream id result self.old self.new (UnlessRejected id result self.old self.new (ReadsNextBeside self.old self.new id bytes.now fin result item.old item.new used.new)) }
+        ensures reads { OnStream id result self.old self.new
+            (UnlessRejected id result self.old self.new
+            (ReadsNextBeside self.old self.new id bytes.now fin result item.old item.new used.new)) }
         ensures unknown { 2 ^ 62 ≤ id → (item.new ≡ item.old) × (used.new ≡ 0) }
         ensures rejected { id < 2 ^ 62 → is_rejected_in self.old.endpoint id ≡ true → (item.new ≡ item.old) × (used.new ≡ 0) }
     {

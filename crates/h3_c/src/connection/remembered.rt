@@ -2,12 +2,12 @@
 ghost use Rattle.std.specs.Prelude.{◌≡◌, ◌⊎◌, ◌<◌, ◌≤◌, IfOk, IfErr, Ok, take};
 ghost use Rattle.h3_connection.specs.Remembering.{remembering};
 ghost use Rattle.h3_connection.specs.SendingContracts.{CreatesWith};
+ghost use Rattle.h3_connection.specs.declared.lists.ListPull.TheVariants as answer;
 ghost use Rattle.h3_proto.specs.declared.stream.Side.TheVariants.{Client};
 ghost use Rattle.h3_c.specs.Configs.{announced_of, sessions_of};
 ghost use Rattle.h3_c.specs.Numbers.{argument};
 ghost use Rattle.h3_c.specs.Remembered.{GivesSettings, LacksMemory, ShowsKept, UnmakesResumed};
 ghost use Rattle.h3_session.specs.Events.{nothing_seen};
-ghost use Rattle.h3_incoming.specs.declared.fields.FieldsPull.TheVariants as answer;
 
 use super::{Connection, GivenPairs};
 use crate::config::{GivenConfig, endpoint_resumed};
@@ -26,7 +26,8 @@ impl Connection {
         buffer: &mut [u8],
         count: &mut usize,
     ) -> Told
-        ensures { LacksMemory result buffer.old buffer.new count.old count.new ⊎ GivesSettings self.now result buffer.old buffer.new count.old count.new }
+        ensures { LacksMemory result buffer.old buffer.new count.old count.new
+            ⊎ GivesSettings self.now result buffer.old buffer.new count.old count.new }
     {
         let Some(settings) = self.endpoint.peer_settings() else {
             return NONE;
@@ -72,12 +73,14 @@ pub(crate) fn made_resumed(
     remembered: Settings,
 ) -> Result<Box<Connection>, Told>
     ensures near { IfOk result (λ b. given.now.grease < 0x210842108421083) }
-    ensures made { IfOk result (λ b. CreatesWith Client (remembering (announced_of given.now) remembered) (take further.now.len further.now.pairs) (Ok b.value.endpoint)) }
+    ensures made { IfOk result (λ b. CreatesWith Client (remembering (announced_of given.now) remembered)
+        (take further.now.len further.now.pairs) (Ok b.value.endpoint)) }
     ensures sessions { IfOk result (λ b. b.value.sessions ≡ sessions_of Client given.now) }
     ensures last { IfOk result (λ b. b.value.last ≡ answer.Pending) }
     ensures events { IfOk result (λ b. b.value.events ≡ nothing_seen) }
     ensures far { IfErr result (λ told. 0x210842108421083 ≤ given.now.grease → told ≡ argument) }
-    ensures refused { IfErr result (λ told. given.now.grease < 0x210842108421083 → UnmakesResumed given.now (take further.now.len further.now.pairs) remembered told) }
+    ensures refused { IfErr result (λ told. given.now.grease < 0x210842108421083
+        → UnmakesResumed given.now (take further.now.len further.now.pairs) remembered told) }
 {
     if given.grease >= RESERVED_NUMBERS {
         return Err(ARGUMENT);

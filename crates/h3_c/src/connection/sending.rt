@@ -57,7 +57,8 @@ impl Connection {
 
     /// A piece of a body goes out on a stream.
     pub(crate) fn send_body(&mut self, alloc: Global, id: u64, body: &[u8]) -> Told
-        ensures does { OnStream id result self.old self.new (Calls body_told result self.old self.new (λ call. SendsBody self.old.endpoint self.new.endpoint id body.now call)) }
+        ensures does { OnStream id result self.old self.new (Calls body_told result self.old self.new
+            (λ call. SendsBody self.old.endpoint self.new.endpoint id body.now call)) }
         ensures sessions { self.new.sessions ≡ self.old.sessions }
     {
         let stream = match stream_of(id) {

@@ -1,6 +1,6 @@
 //! Streams of WebTransport sessions.
 ghost use Rattle.h3_c.specs.Numbers.{number};
-ghost use Rattle.h3_c.specs.Sessions.{FindsOfSession, OpensSession, SendsRawOn};
+ghost use Rattle.h3_c.specs.Sessions.{FindsOfSession, OpensSession, OpensStreamOf, SendsRawOn};
 
 use super::Connection;
 use super::ordering::flag_given;
@@ -22,6 +22,14 @@ impl Connection {
         let Some(both_ways) = flag_given(both_ways) else {
             return ARGUMENT;
         };
+        self.open_stream_of(session, both_ways, id)
+    }
+
+    // The same of a session that there may be.
+    #[tactic(auto, using(crate::proofs::RawCalls::opens_it, crate::proofs::RawCalls::opens_not))]
+    fn open_stream_of(&mut self, session: StreamId, both_ways: bool, id: &mut u64) -> Told
+        ensures { OpensStreamOf self.old self.new session both_ways result id.old id.new }
+    {
         match self
             .sessions
             .open_session_stream(&mut self.endpoint, session, both_ways)

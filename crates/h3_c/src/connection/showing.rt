@@ -19,7 +19,8 @@ use h3_proto::stream::StreamId;
 impl Connection {
     /// A stream's state. What it tells has no detail.
     pub(crate) fn stream(&self, id: u64, state: &mut StreamState) -> Told
-        ensures shows { OnStream id (number result.number 0) self.now self.now ((number result.number 0 ≡ ok) × ShowsStreamBeside self.now id state.new) }
+        ensures shows { OnStream id (number result.number 0) self.now self.now ((number result.number 0 ≡ ok)
+            × ShowsStreamBeside self.now id state.new) }
         ensures unwritten { 2 ^ 62 ≤ id → state.new ≡ state.old }
     {
         let Ok(id) = StreamId::try_from(id) else {

@@ -1,9 +1,11 @@
 //! A connection is shut down.
 ghost use Rattle.std.specs.Prelude.{◌≡◌};
 ghost use Rattle.h3_connection.specs.Shutdown.{GivesNotice, ShutsDown};
+ghost use Rattle.h3_c.specs.Beside.{DoesBeside};
+ghost use Rattle.h3_c.specs.Does.CallOfC.{IsDrained};
 ghost use Rattle.h3_c.specs.Exported.{Calls};
-ghost use Rattle.h3_c.specs.Numbers.{call_told};
-ghost use Rattle.h3_c.specs.Shutdown.{ShowsIsDrained, ShowsUnseen};
+ghost use Rattle.h3_c.specs.Numbers.{call_told, number};
+ghost use Rattle.h3_c.specs.Shutdown.{ShowsUnseen};
 
 use super::Connection;
 use crate::numbers::{OK, Told, called};
@@ -33,11 +35,11 @@ impl Connection {
         OK
     }
 
-    /// Whether nothing is left to be done.
+    /// Whether nothing is left to be done. What it tells has no detail.
     pub(crate) fn is_drained(&self, drained: &mut u32) -> Told
-        ensures { ShowsIsDrained self.now result drained.new }
+        ensures { DoesBeside (IsDrained drained.new (number result.number 0)) self.now self.now }
     {
-        *drained = self.endpoint.is_drained() as u32;
+        *drained = self.sessions.is_drained(&self.endpoint) as u32;
         OK
     }
 }

@@ -22,8 +22,10 @@ pub extern "C" fn h3_raw_close_stream(
 ) -> u32
     requires { IsSome handle.value }
     ensures there { IsSome out.new.value }
-    ensures goes { StepsAlone handle.value out.new.value (Does (CloseStream id stop_sending.old stop_sending.new reset_stream.old reset_stream.new (number result detail.new))) }
-    ensures beside { StepsBeside handle.value out.new.value (DoesBeside (CloseStream id stop_sending.old stop_sending.new reset_stream.old reset_stream.new (number result detail.new))) }
+    ensures goes { StepsAlone handle.value out.new.value (Does
+        (CloseStream id stop_sending.old stop_sending.new reset_stream.old reset_stream.new (number result detail.new))) }
+    ensures beside { StepsBeside handle.value out.new.value (DoesBeside
+        (CloseStream id stop_sending.old stop_sending.new reset_stream.old reset_stream.new (number result detail.new))) }
 {
     let mut connection = opened(alloc, handle);
     let told = connection.close_stream(id, stop_sending, reset_stream);

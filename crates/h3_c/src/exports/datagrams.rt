@@ -21,7 +21,8 @@ pub extern "C" fn h3_raw_datagram_head(
 ) -> u32
     requires { IsSome handle.value }
     ensures there { IsSome out.new.value }
-    ensures goes { Steps handle.value out.new.value (Does (DatagramHead id buffer.old buffer.new count.old count.new (number result detail.new))) }
+    ensures goes { Steps handle.value out.new.value (Does (DatagramHead id buffer.old buffer.new count.old count.new
+        (number result detail.new))) }
 {
     let connection = opened(alloc, handle);
     let told = connection.datagram_head(id, buffer, count);
@@ -43,7 +44,8 @@ pub extern "C" fn h3_raw_read_datagram(
 ) -> u32
     requires { IsSome handle.value }
     ensures there { IsSome out.new.value }
-    ensures goes { Steps handle.value out.new.value (Does (ReadDatagram bytes.now id.old id.new from.old from.new (number result detail.new))) }
+    ensures goes { Steps handle.value out.new.value (Does (ReadDatagram bytes.now id.old id.new from.old from.new
+        (number result detail.new))) }
 {
     let mut connection = opened(alloc, handle);
     let told = connection.read_datagram(bytes, id, from);

@@ -10,7 +10,8 @@ use crate::handle::{Handle, kept};
 use crate::numbers::{ARGUMENT, OK, Told};
 use std::alloc::Global;
 
-/// Makes an endpoint that announces further settings: numbers that are an id and a value in turn. The handle is written if it returns `H3_OK`.
+/// Makes an endpoint that announces further settings: numbers that are an id and a value in turn. The handle is written if it returns
+/// `H3_OK`.
 #[tactic(auto, using(crate::proofs::MakingWith::given_some_with, crate::proofs::MakingWith::given_none_with))]
 #[unsafe(no_mangle)]
 pub extern "C" fn h3_raw_new_with(
@@ -43,7 +44,8 @@ fn make_paired(alloc: Global, given: &GivenConfig, further: &[u64], out: &mut Ha
 #[tactic(auto, using(crate::proofs::MakingWith::made_with, crate::proofs::MakingWith::unmade_with))]
 fn make_with(alloc: Global, given: &GivenConfig, pairs: &GivenPairs, out: &mut Handle) -> Told
     ensures range { 0x210842108421083 ≤ given.now.grease → (result ≡ argument) × (out.new.value ≡ out.old.value) }
-    ensures made { given.now.grease < 0x210842108421083 → MakesWith given.now (take pairs.now.len pairs.now.pairs) result out.old.value out.new.value }
+    ensures made { given.now.grease < 0x210842108421083
+        → MakesWith given.now (take pairs.now.len pairs.now.pairs) result out.old.value out.new.value }
 {
     match made_with(alloc, given, pairs) {
         Ok(connection) => {

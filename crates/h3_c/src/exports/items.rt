@@ -43,7 +43,8 @@ pub extern "C" fn h3_raw_item_fields(
 ) -> u32
     requires { IsSome handle.value }
     ensures there { IsSome out.new.value }
-    ensures goes { Steps handle.value out.new.value (Does (ItemFields sizes.old sizes.new flags.old flags.new bytes.old bytes.new (number result 0))) }
+    ensures goes { Steps handle.value out.new.value (Does (ItemFields sizes.old sizes.new flags.old flags.new bytes.old bytes.new
+        (number result 0))) }
 {
     let connection = opened(alloc, handle);
     let told = connection.item_fields(sizes, flags, bytes);

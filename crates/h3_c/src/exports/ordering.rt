@@ -106,7 +106,8 @@ pub extern "C" fn h3_raw_priority(
 ) -> u32
     requires { IsSome handle.value }
     ensures there { IsSome out.new.value }
-    ensures goes { Steps handle.value out.new.value (Does (PriorityOf id urgency.old urgency.new incremental.old incremental.new (number result 0))) }
+    ensures goes { Steps handle.value out.new.value (Does (PriorityOf id urgency.old urgency.new incremental.old incremental.new
+        (number result 0))) }
 {
     let connection = opened(alloc, handle);
     let told = connection.priority(id, urgency, incremental);

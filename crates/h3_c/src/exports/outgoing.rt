@@ -23,8 +23,10 @@ pub extern "C" fn h3_raw_outgoing(
 ) -> u32
     requires { IsSome handle.value }
     ensures there { IsSome out.new.value }
-    ensures goes { StepsAlone handle.value out.new.value (Does (Outgoing id buffer.old buffer.new count.old count.new past.old past.new fin.old fin.new (number result 0))) }
-    ensures beside { StepsBeside handle.value out.new.value (DoesBeside (Outgoing id buffer.old buffer.new count.old count.new past.old past.new fin.old fin.new (number result 0))) }
+    ensures goes { StepsAlone handle.value out.new.value (Does
+        (Outgoing id buffer.old buffer.new count.old count.new past.old past.new fin.old fin.new (number result 0))) }
+    ensures beside { StepsBeside handle.value out.new.value (DoesBeside
+        (Outgoing id buffer.old buffer.new count.old count.new past.old past.new fin.old fin.new (number result 0))) }
 {
     let connection = opened(alloc, handle);
     let told = connection.outgoing(id, buffer, count, past, fin);

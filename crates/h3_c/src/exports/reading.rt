@@ -25,8 +25,10 @@ pub extern "C" fn h3_raw_read(
 ) -> u32
     requires { IsSome handle.value }
     ensures there { IsSome out.new.value }
-    ensures goes { StepsAlone handle.value out.new.value (Does (Read id bytes.now fin used.new item.old item.new (number result detail.new))) }
-    ensures beside { StepsBeside handle.value out.new.value (DoesBeside (Read id bytes.now fin used.new item.old item.new (number result detail.new))) }
+    ensures goes { StepsAlone handle.value out.new.value (Does
+        (Read id bytes.now fin used.new item.old item.new (number result detail.new))) }
+    ensures beside { StepsBeside handle.value out.new.value (DoesBeside
+        (Read id bytes.now fin used.new item.old item.new (number result detail.new))) }
 {
     let mut connection = opened(alloc, handle);
     let told = connection.read(alloc, id, bytes, fin, used, item);

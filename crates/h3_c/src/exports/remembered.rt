@@ -55,8 +55,8 @@ pub extern "C" fn h3_raw_settings_kept(
     told.number
 }
 
-/// Makes a client that remembers settings of its server, and announces further ones: numbers that are an id and a value in turn. The handle is
-/// written if it returns `H3_OK`.
+/// Makes a client that remembers settings of its server, and announces further ones: numbers that are an id and a value in turn. The handle
+/// is written if it returns `H3_OK`.
 #[tactic(auto, using(crate::proofs::MakingWith::given_some_resumed, crate::proofs::MakingWith::given_none_resumed))]
 #[unsafe(no_mangle)]
 pub extern "C" fn h3_raw_new_resumed(
@@ -109,7 +109,8 @@ fn resume_with(
     out: &mut Handle,
 ) -> Told
     ensures range { 0x210842108421083 ≤ given.now.grease → (result ≡ argument) × (out.new.value ≡ out.old.value) }
-    ensures made { given.now.grease < 0x210842108421083 → MakesResumed given.now (take pairs.now.len pairs.now.pairs) remembered result out.old.value out.new.value }
+    ensures made { given.now.grease < 0x210842108421083
+        → MakesResumed given.now (take pairs.now.len pairs.now.pairs) remembered result out.old.value out.new.value }
 {
     match made_resumed(alloc, given, pairs, remembered) {
         Ok(connection) => {

@@ -23,7 +23,8 @@ pub extern "C" fn h3_raw_open_session_stream(
 ) -> u32
     requires { IsSome handle.value }
     ensures there { IsSome out.new.value }
-    ensures goes { StepsBeside handle.value out.new.value (λ v w. OpensSession v w session both_ways (number result detail.new) id.old id.new) }
+    ensures goes { StepsBeside handle.value out.new.value (λ v w. OpensSession v w session both_ways
+        (number result detail.new) id.old id.new) }
 {
     let mut connection = opened(alloc, handle);
     let told = connection.open_session_stream(session, both_ways, id);

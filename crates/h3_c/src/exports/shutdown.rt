@@ -1,8 +1,9 @@
 //! What C calls: shutting a connection down.
 ghost use Rattle.std.specs.Prelude.{IsSome};
+ghost use Rattle.h3_c.specs.Beside.{DoesBeside};
 ghost use Rattle.h3_c.specs.Does.{Does};
 ghost use Rattle.h3_c.specs.Does.CallOfC.{FirstUnseen, IsDrained, Shutdown, ShutdownNotice};
-ghost use Rattle.h3_c.specs.Exported.{Steps};
+ghost use Rattle.h3_c.specs.Exported.{Steps, StepsAlone, StepsBeside};
 ghost use Rattle.h3_c.specs.Numbers.{number};
 
 use crate::handle::{Handle, kept, opened};
@@ -74,7 +75,8 @@ pub extern "C" fn h3_raw_is_drained(
 ) -> u32
     requires { IsSome handle.value }
     ensures there { IsSome out.new.value }
-    ensures goes { Steps handle.value out.new.value (Does (IsDrained drained.new (number result 0))) }
+    ensures goes { StepsAlone handle.value out.new.value (Does (IsDrained drained.new (number result 0))) }
+    ensures beside { StepsBeside handle.value out.new.value (DoesBeside (IsDrained drained.new (number result 0))) }
 {
     let connection = opened(alloc, handle);
     let told = connection.is_drained(drained);

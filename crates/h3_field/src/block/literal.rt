@@ -13,7 +13,8 @@ ghost use Rattle.h3_field.specs.IntegerReading.{integer};
 ghost use Rattle.h3_field.specs.Shapes.{begins};
 ghost use Rattle.h3_field.specs.OntoAnswer.{AnswersIndex, named_head, post_base_head};
 ghost use Rattle.h3_field.specs.LineReading.{named, post_base_named, literal};
-ghost use Rattle.h3_field.specs.LineAnswer.{AnswersLine, IsWritable, named_line, named_with, short_named_line, short_post_base_named_line, post_base_named_line, literal_line, field_line};
+ghost use Rattle.h3_field.specs.LineAnswer.{AnswersLine, IsWritable, named_line, named_with, short_named_line, short_post_base_named_line};
+ghost use Rattle.h3_field.specs.LineAnswer.{post_base_named_line, literal_line, field_line};
 ghost use Rattle.h3_field.specs.declared.parse_error.ParseError.TheVariants.{InvalidPrefix};
 ghost use Rattle.h3_field.specs.declared.prefix_string.Error.TheVariants.{OutOfMemory};
 ghost use Rattle.h3_field.specs.declared.block.literal.LiteralWithNameRef.TheVariants as named_ref;
@@ -62,8 +63,8 @@ pub enum LiteralWithNameRef {
 }
 
 impl LiteralWithNameRef {
-    /// The line with the name of that entry of the static table, counted from 0 (RFC 9204, appendix A), and the value, without the bit N. It
-    /// takes any index: `encode` asks for one below 2^62.
+    /// The line with the name of that entry of the static table, counted from 0 (RFC 9204, appendix A), and the value, without the bit N.
+    /// It takes any index: `encode` asks for one below 2^62.
     pub fn new_static(index: usize, value: Vec<u8>) -> LiteralWithNameRef
         ensures { result ≡ named_ref.Static index value false }
     {
@@ -460,8 +461,8 @@ impl Literal {
         }
     }
 
-    /// Takes the line from the front as a field that takes no memory, with the bit N as its flag. None: the field may be long, or the read is refused. Then nothing is
-    /// taken.
+    /// Takes the line from the front as a field that takes no memory, with the bit N as its flag. None: the field may be long, or the read
+    /// is refused. Then nothing is taken.
     pub fn decode_short(buf: &mut SliceCursor<'_>) -> Option<HeaderField>
         ensures some { IfSome result (λ field. AnswersLine field_line AtString (literal buf.old) buf.old buf.new (Ok field)) }
         ensures none { IfNone result (buf.new ≡ buf.old) }

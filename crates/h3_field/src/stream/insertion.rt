@@ -1,5 +1,6 @@
 //! Instructions of an encoder, on its stream to a decoder (RFC 9204, section 4.3).
-ghost use Rattle.std.specs.Prelude.{◌≡◌, ◌<◌, ◌^◌, ◌++◌, true, false, length, slice_index, IfOk, IfNone, IfSome, OnOk, OnErr, Ok, Err, Some};
+ghost use Rattle.std.specs.Prelude.{◌≡◌, ◌<◌, ◌^◌, ◌++◌, true, false, length, slice_index, IfOk, IfNone, IfSome, OnOk, OnErr, Ok, Err};
+ghost use Rattle.std.specs.Prelude.{Some};
 ghost use Rattle.std.specs.Result.{IsOkUnless};
 ghost use Rattle.h3_field.specs.StringLiteral.{coded};
 ghost use Rattle.h3_field.specs.Instruction.{encoder_bytes};
@@ -10,7 +11,8 @@ ghost use Rattle.h3_field.specs.ShapeAnswer.{AtInteger, AtString, behind};
 ghost use Rattle.h3_field.specs.IntegerReading.{integer};
 ghost use Rattle.h3_field.specs.Shapes.{begins};
 ghost use Rattle.h3_field.specs.InstructionReading.{name_reference, literal_name};
-ghost use Rattle.h3_field.specs.InstructionAnswer.{AnswersInstruction, IsSendable, field_insertion, named_insertion, literal_insertion, short_named_insertion};
+ghost use Rattle.h3_field.specs.InstructionAnswer.{AnswersInstruction, IsSendable, field_insertion, named_insertion, literal_insertion};
+ghost use Rattle.h3_field.specs.InstructionAnswer.{short_named_insertion};
 ghost use Rattle.h3_field.specs.declared.parse_error.ParseError.TheVariants.{InvalidPrefix};
 ghost use Rattle.h3_field.specs.declared.prefix_string.Error.TheVariants.{OutOfMemory};
 ghost use Rattle.h3_field.specs.declared.stream.insertion.InsertWithNameRef.TheVariants as named_ref;
@@ -101,7 +103,8 @@ impl InsertWithNameRef {
     /// may be long, or the instruction is not whole, or it is refused. Then nothing is taken.
     pub fn decode_short(buf: &mut SliceCursor<'_>, value: &mut ShortString) -> Option<NameRef>
         ensures some { IfSome result
-            (λ name. AnswersInstruction (short_named_insertion value.new) AtInteger (name_reference buf.old) buf.old buf.new (Ok (Some name))) }
+            (λ name. AnswersInstruction (short_named_insertion value.new) AtInteger (name_reference buf.old) buf.old buf.new
+            (Ok (Some name))) }
         ensures none { IfNone result (buf.new ≡ buf.old) }
     {
         let Some(head) = take_index_and_short(6, buf, value) else {
@@ -211,7 +214,8 @@ impl InsertWithoutNameRef {
     /// Takes the instruction from the front as a field that takes no memory. None: the field may be long, or the instruction is not whole,
     /// or it is refused. Then nothing is taken.
     pub fn decode_short(buf: &mut SliceCursor<'_>) -> Option<HeaderField>
-        ensures some { IfSome result (λ field. AnswersInstruction field_insertion AtString (literal_name buf.old) buf.old buf.new (Ok (Some field))) }
+        ensures some { IfSome result (λ field. AnswersInstruction field_insertion AtString (literal_name buf.old) buf.old buf.new
+            (Ok (Some field))) }
         ensures plain { IfSome result (λ field. field.never_indexed ≡ false) }
         ensures none { IfNone result (buf.new ≡ buf.old) }
     {

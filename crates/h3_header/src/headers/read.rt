@@ -8,7 +8,8 @@ ghost use Rattle.http.specs.StatusCode.{IsCodeText};
 ghost use Rattle.http_uri.specs.Grammar.{IsScheme, IsAuthority, IsPathInput, without_fragment};
 ghost use Rattle.h3_header.specs.ProtocolText.{IsProtocolBy};
 ghost use Rattle.h3_header.specs.declared.headers.kind.FieldKind.TheVariants as field;
-ghost use Rattle.h3_header.specs.Reads.{IsShortMethod, IsValueAt, status_number, RefusesName, RefusesValue, RefusesRegular, RefusesPseudo, Accepts, Refuses, AcceptsAll, RefusesOne, with_field, with_pseudo};
+ghost use Rattle.h3_header.specs.Reads.{IsShortMethod, IsValueAt, status_number, RefusesName, RefusesValue, RefusesRegular, RefusesPseudo};
+ghost use Rattle.h3_header.specs.Reads.{Accepts, Refuses, AcceptsAll, RefusesOne, with_field, with_pseudo};
 ghost use Rattle.h3_header.specs.Parts.{head_of_parts};
 
 use super::authority::{https, root};

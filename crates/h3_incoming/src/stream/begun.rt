@@ -1,7 +1,7 @@
 //! What a frame begins at its place in a message (RFC 9114, sections 4.1 and 7.2).
 ghost use Rattle.std.specs.Prelude.{◌≡◌, ℕ, ◌&&◌, false};
 ghost use Rattle.h3_qpack.specs.DecoderState.{DecoderState};
-ghost use Rattle.h3_wire.specs.MessageFrames.{as_frame};
+ghost use Rattle.h3_frames.specs.MessageFrames.{as_frame};
 ghost use Rattle.h3_connection.specs.Incoming.{Incoming, is_body};
 ghost use Rattle.h3_connection.specs.Pulling.{at_frame};
 ghost use Rattle.h3_connection.specs.Skipping.{is_empty_data};
@@ -11,12 +11,12 @@ ghost use Rattle.h3_incoming.specs.Placing.{promise_code};
 use bytes::Bytes;
 use h3_connection::place::Place;
 use h3_connection::setup::Announced;
+use h3_frames::frame::MessageFrame;
+use h3_frames::proto::frame::{Frame, PayloadLen};
 use h3_messages::Content;
 use h3_proto::error::Code;
 use h3_proto::stream::Side;
 use h3_proto::webtransport::SessionId;
-use h3_wire::frame::MessageFrame;
-use h3_wire::proto::frame::{Frame, PayloadLen};
 
 /// What a frame begins at its place.
 #[derive(Drop)]

@@ -10,9 +10,9 @@ ghost use Rattle.h3_incoming.specs.Placing.{is_session};
 use super::IncomingStream;
 use crate::answer::{Answer, Plain, end, fail, pause};
 use h3_connection::event::{Fault, Malformation};
+use h3_frames::frame::FrameBuffer;
 use h3_proto::error::Code;
 use h3_proto::stream::StreamId;
-use h3_wire::frame::FrameBuffer;
 use std::alloc::Global;
 use std::mem;
 

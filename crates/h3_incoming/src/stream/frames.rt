@@ -1,8 +1,8 @@
 //! A frame at its place in a message (RFC 9114, sections 4.1 and 7.2).
 ghost use Rattle.std.specs.Prelude.{◌≡◌, true, false, [], None};
 ghost use Rattle.std.specs.List.{concat};
-ghost use Rattle.h3_wire.specs.Frames.{frame_by};
-ghost use Rattle.h3_wire.specs.Known.{IsWaiting, refusal};
+ghost use Rattle.h3_frames.specs.Frames.{frame_by};
+ghost use Rattle.h3_frames.specs.Known.{IsWaiting, refusal};
 ghost use Rattle.h3_qpack.specs.DecoderState.{DecoderState};
 ghost use Rattle.h3_connection.specs.Codes.{excessive_load, refusal_code};
 ghost use Rattle.h3_connection.specs.declared.event.Fault.TheVariants.{Connection};
@@ -23,12 +23,12 @@ use crate::answer::{Answer, Plain, fail, pause};
 use h3_connection::event::{Fault, Malformation};
 use h3_connection::place::Place;
 use h3_connection::setup::Announced;
+use h3_frames::frame::{FrameBuffer, FrameProtocolError};
 use h3_proto::error::Code;
 use h3_proto::frame::SettingsError;
 use h3_proto::stream::{Side, StreamId};
 use h3_proto::webtransport::SessionId;
 use h3_qpack::Decoder;
-use h3_wire::frame::{FrameBuffer, FrameProtocolError};
 use std::alloc::Global;
 
 /// A session begins in this place, unless its id is that of no request stream and the endpoint asks for that.
@@ -70,7 +70,8 @@ impl IncomingStream {
         requires message { is_session self.old.place ≡ false }
         requires waits { self.old.waits_for ≡ 0 }
         ensures answer { is_memory (O.told out.new) ≡ false
-            → Gives (between_frames side announced.now id decoder.now self.old) (O.told out.new) self.new replies.old.items replies.new.items }
+            → Gives (between_frames side announced.now id decoder.now self.old)
+            (O.told out.new) self.new replies.old.items replies.new.items }
         ensures memory { is_memory (O.told out.new) ≡ true → Resumes announced.now self.old self.new
             × (replies.new.items ≡ replies.old.items) }
         ensures list { Lists (O.listed out.new) (fields_next announced.now decoder.now self.old) }
@@ -137,8 +138,10 @@ impl IncomingStream {
         replies: &mut Vec<u8>,
         out: &mut O,
     )
-        ensures answer { (side : Side) (own : Announced) (r : DecoderState) → IsWaiting (frame_by (kinds_of own) (concat self.old.unread)) → is_memory (O.told out.new) ≡ false
-            → Gives (next_frame side own id r self.old (concat self.old.unread)) (O.told out.new) self.new replies.old.items replies.new.items }
+        ensures answer { (side : Side) (own : Announced) (r : DecoderState) → IsWaiting (frame_by (kinds_of own) (concat self.old.unread))
+            → is_memory (O.told out.new) ≡ false
+            → Gives (next_frame side own id r self.old (concat self.old.unread))
+            (O.told out.new) self.new replies.old.items replies.new.items }
         ensures memory { is_memory (O.told out.new) ≡ true → (self.new ≡ self.old) × (replies.new.items ≡ replies.old.items) }
         ensures none { O.listed out.new ≡ None }
     {

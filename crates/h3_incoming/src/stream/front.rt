@@ -1,10 +1,10 @@
 //! The next frame of a message that gives something.
 ghost use Rattle.std.specs.Prelude.{◌≡◌, ◌<◌, length, OnErr, IfOk, IfSome, IfNone};
 ghost use Rattle.std.specs.List.{concat};
-ghost use Rattle.h3_wire.specs.Pieces.{IsRest, ending};
-ghost use Rattle.h3_wire.specs.UnreadFrames.{AreBetween};
-ghost use Rattle.h3_wire.specs.ExcessiveFrames.{is_excessive_by};
-ghost use Rattle.h3_wire.specs.Known.{known_by};
+ghost use Rattle.h3_frames.specs.Pieces.{IsRest, ending};
+ghost use Rattle.h3_frames.specs.UnreadFrames.{AreBetween};
+ghost use Rattle.h3_frames.specs.ExcessiveFrames.{is_excessive_by};
+ghost use Rattle.h3_frames.specs.Known.{known_by};
 ghost use Rattle.h3_connection.specs.Incoming.{is_body};
 ghost use Rattle.h3_connection.specs.StrictConnection.{kinds_of};
 ghost use Rattle.h3_incoming.specs.Finding.{Finds, GivesBegun, IsWithin, LeavesBetween, PassesFrames};
@@ -12,9 +12,9 @@ ghost use Rattle.h3_incoming.specs.Finding.{Finds, GivesBegun, IsWithin, LeavesB
 use super::begun::{Begun, begun_by, begun_by_message, is_empty};
 use h3_connection::place::Place;
 use h3_connection::setup::Announced;
+use h3_frames::frame::{FrameBuffer, FrameProtocolError, FrameStreamError};
 use h3_messages::Content;
 use h3_proto::stream::Side;
-use h3_wire::frame::{FrameBuffer, FrameProtocolError, FrameStreamError};
 use std::alloc::{AllocError, Global};
 
 /// What stands after all frames that give nothing.
@@ -34,7 +34,7 @@ pub(super) enum Found {
 /// Reads up to the first frame that gives something, and takes it. Unknown frames are skipped (RFC 9114, section 9), and in a body DATA
 /// frames without a payload. One that says a length above the limit is reported, and not taken.
 #[inline(always)]
-#[tactic(auto, using(crate::proofs::FrontLaws::finds_on, crate::proofs::FrontLaws::within_on, crate::proofs::FrontLaws::passed_then, h3_wire::specs::PieceLaws::rest_same, h3_wire::specs::PieceLaws::rest_then))]
+#[tactic(auto, using(crate::proofs::FrontLaws::finds_on, crate::proofs::FrontLaws::within_on, crate::proofs::FrontLaws::passed_then, h3_frames::specs::PieceLaws::rest_same, h3_frames::specs::PieceLaws::rest_then))]
 pub(super) fn front(
     unread: &mut FrameBuffer,
     alloc: Global,
@@ -64,7 +64,7 @@ pub(super) fn front(
 // RFC 9114 10.5: unfinished_limit of frames
 // Reads one frame. It returns `None` if the frame gives nothing.
 #[inline(always)]
-#[tactic(auto, using(crate::proofs::FrontLaws::finds_unfinished, crate::proofs::FrontLaws::finds_refused, crate::proofs::FrontLaws::finds_frame, crate::proofs::FrontLaws::within_unfinished, crate::proofs::FrontLaws::within_refused, crate::proofs::FrontLaws::within_frame, crate::proofs::FrontLaws::long_stays, crate::proofs::FrontLaws::section_stays, crate::proofs::FrontLaws::passes_empty, crate::proofs::FrontLaws::passes_known, h3_connection::specs::SkippingLaws::rest_shorter, h3_wire::specs::PieceLaws::ending_rest))]
+#[tactic(auto, using(crate::proofs::FrontLaws::finds_unfinished, crate::proofs::FrontLaws::finds_refused, crate::proofs::FrontLaws::finds_frame, crate::proofs::FrontLaws::within_unfinished, crate::proofs::FrontLaws::within_refused, crate::proofs::FrontLaws::within_frame, crate::proofs::FrontLaws::long_stays, crate::proofs::FrontLaws::section_stays, crate::proofs::FrontLaws::passes_empty, crate::proofs::FrontLaws::passes_known, h3_connection::specs::SkippingLaws::rest_shorter, h3_frames::specs::PieceLaws::ending_rest))]
 fn front_one(
     unread: &mut FrameBuffer,
     alloc: Global,

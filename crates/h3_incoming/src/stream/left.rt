@@ -7,8 +7,8 @@ ghost use Rattle.h3_incoming.specs.Left.{is_drained};
 use super::IncomingStream;
 use h3_connection::event::StreamFault;
 use h3_connection::place::Place;
+use h3_frames::frame::FrameBuffer;
 use h3_messages::Content;
-use h3_wire::frame::FrameBuffer;
 use std::alloc::Global;
 
 impl IncomingStream {

@@ -3,14 +3,15 @@ ghost use Rattle.std.specs.Prelude.{◌≡◌, ◌-◌, ◌<◌, ◌≤◌, ◌^
 ghost use Rattle.h3_coding.specs.Varint.{varint_at};
 ghost use Rattle.h3_connection.specs.Incoming.{is_body};
 ghost use Rattle.h3_messages.specs.Content.{left_behind};
-ghost use Rattle.h3_incoming.specs.BodyPlaces.{BeginsData, BeginsPayload, body_place, data_at, keeps_nothing, piece_at, place_behind, ReadsPiece};
+ghost use Rattle.h3_incoming.specs.BodyPlaces.{BeginsData, BeginsPayload, body_place, data_at, keeps_nothing, piece_at, place_behind};
+ghost use Rattle.h3_incoming.specs.BodyPlaces.{ReadsPiece};
 
 use super::IncomingStream;
 use crate::body_place::BodyPlace;
 use h3_coding::coding::BufExt;
 use h3_connection::place::Place;
+use h3_frames::frame::FrameBuffer;
 use h3_messages::Content;
-use h3_wire::frame::FrameBuffer;
 use std::alloc::Global;
 
 impl IncomingStream {
@@ -34,9 +35,9 @@ impl IncomingStream {
         self.begin_payload(alloc, bytes)
     }
 
-    /// Reads the type and length of a DATA frame where they lie in bytes that came and end with them. The stream is then as after a delivery
-    /// of the bytes, and a pull that waits for more of them (`Pending`). Nothing is copied. It is so if nothing of the stream is kept,
-    /// in a body whose content may be as long. Otherwise the answer is `false`, and nothing has changed.
+    /// Reads the type and length of a DATA frame where they lie in bytes that came and end with them. The stream is then as after a
+    /// delivery of the bytes, and a pull that waits for more of them (`Pending`). Nothing is copied. It is so if nothing of the stream is
+    /// kept, in a body whose content may be as long. Otherwise the answer is `false`, and nothing has changed.
     #[tactic(auto, using(crate::proofs::BodyPieces::head_begins))]
     pub fn begin_body(&mut self, alloc: Global, bytes: &[u8]) -> bool
         ensures begins { result ≡ true → BeginsData self.old self.new bytes.now }

@@ -46,7 +46,8 @@ impl IncomingStream {
     )
         requires { is_some self.old.section ≡ true }
         ensures answer { IfSome self.old.section (λ bytes. is_memory (O.told out.new) ≡ false
-            → Gives (at_section side announced.now id decoder.now self.old bytes) (O.told out.new) self.new replies.old.items replies.new.items) }
+            → Gives (at_section side announced.now id decoder.now self.old bytes)
+            (O.told out.new) self.new replies.old.items replies.new.items) }
         ensures memory { is_memory (O.told out.new) ≡ true → (self.new ≡ self.old) × (replies.new.items ≡ replies.old.items) }
         ensures list { IfSome self.old.section (λ bytes. Lists (O.listed out.new) (fields_in decoder.now (Some bytes))) }
     {
@@ -87,9 +88,11 @@ impl IncomingStream {
         out: &mut O,
     )
         requires { is_some self.old.section ≡ true }
-        ensures answer { (r : DecoderState) (count : ℕ) (fields : List Field) → IsBlockWithin (section_of announced.now) (codes ":status") (nat_lt 0 count) fields decoded block
+        ensures answer { (r : DecoderState) (count : ℕ) (fields : List Field)
+            → IsBlockWithin (section_of announced.now) (codes ":status") (nat_lt 0 count) fields decoded block
             → is_memory (O.told out.new) ≡ false
-            → Gives (read_section side announced.now id r (past_section self.old) (acknowledgment id count) fields) (O.told out.new) self.new replies.old.items replies.new.items }
+            → Gives (read_section side announced.now id r (past_section self.old) (acknowledgment id count) fields)
+            (O.told out.new) self.new replies.old.items replies.new.items }
         ensures memory { is_memory (O.told out.new) ≡ true → (self.new ≡ self.old) × (replies.new.items ≡ replies.old.items) }
         ensures list { (dyn_ref : Bool) (fields : List Field)
             → IsBlockWithin (section_of announced.now) (codes ":status") dyn_ref fields decoded block
@@ -125,7 +128,8 @@ impl IncomingStream {
         requires there { is_some self.old.section ≡ true }
         requires item { HasItem judged (O.told out.old) }
         ensures answer { (count : ℕ) → acknowledges ≡ nat_lt 0 count → is_memory (O.told out.new) ≡ false
-            → Gives (judged_as id (past_section self.old) (acknowledgment id count) (O.told out.old) judged) (O.told out.new) self.new replies.old.items replies.new.items }
+            → Gives (judged_as id (past_section self.old) (acknowledgment id count) (O.told out.old) judged)
+            (O.told out.new) self.new replies.old.items replies.new.items }
         ensures memory { is_memory (O.told out.new) ≡ true → (self.new ≡ self.old) × (replies.new.items ≡ replies.old.items) }
         ensures list { (fields : List Field) → HasList judged (O.listed out.old) fields → IfSome (O.listed out.new) (λ l. l ≡ fields) }
     {

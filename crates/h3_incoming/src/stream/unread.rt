@@ -2,7 +2,7 @@
 ghost use Rattle.std.specs.Prelude.{◌≡◌};
 ghost use Rattle.std.specs.Prelude.{if◌then◌else◌, length};
 ghost use Rattle.std.specs.List.{concat};
-ghost use Rattle.h3_wire.specs.UnknownSize.{held_length};
+ghost use Rattle.h3_frames.specs.UnknownSize.{held_length};
 ghost use Rattle.h3_connection.specs.StrictConnection.{kinds_of};
 ghost use Rattle.h3_connection.specs.Unread.{begins_frame, is_message, held_of_request, counted};
 

@@ -1,5 +1,6 @@
 //! A mark of one byte for each request stream, by its id. No call moves more than a page, however many there are.
-ghost use Rattle.std.specs.Prelude.{◌≡◌, ◌<◌, ◌≤◌, ◌/◌, ◌%◌, ◌^◌, ◌==◌, ℕ, [], length, true, false, nat_lt, IfSome, slice_index_or, slice_set, OnOk};
+ghost use Rattle.std.specs.Prelude.{◌≡◌, ◌<◌, ◌≤◌, ◌/◌, ◌%◌, ◌^◌, ◌==◌, ℕ, [], length, true, false, nat_lt, IfSome, slice_index_or};
+ghost use Rattle.std.specs.Prelude.{slice_set, OnOk};
 ghost use Rattle.h3_requests.specs.Greatest.{IsGreatest};
 ghost use Rattle.h3_requests.specs.Marks.{is_last, mark_at, page_marks, AreBelow, HaveSameMarks, IsOneMark};
 

@@ -19,7 +19,11 @@ impl RequestStreams {
     /// answers a CONNECT that was read. Nothing happens if the stream is not there.
     pub fn expect_said(&mut self, id: StreamId, said: ResponseSaid)
         ensures there { (fields : List Field) → said ≡ response_said fields → IfSome (kept_at self.old id) (λ r.
-            Sets self.old self.new id (record r { incoming = having_told Server r.incoming fields; outgoing = is_to_have r.outgoing (content_of_response_to r.incoming.response fields) })) }
+            Sets self.old self.new id (record r {
+              incoming = having_told Server r.incoming fields;
+              outgoing = is_to_have r.outgoing
+                  (content_of_response_to r.incoming.response fields);
+            })) }
         ensures absent { kept_at self.old id ≡ None → AllSame self.old self.new }
     {
         let Some(stream) = self.streams.get_mut(id) else {

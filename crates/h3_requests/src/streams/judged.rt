@@ -10,7 +10,8 @@ ghost use Rattle.h3_connection.specs.declared.event.StreamFault.TheVariants.{Can
 ghost use Rattle.h3_incoming.specs.Replying.{encodings};
 ghost use Rattle.h3_outgoing.specs.Held.{held};
 ghost use Rattle.h3_outgoing.specs.Sent.{has_body, has_ended, was_cut_off};
-ghost use Rattle.h3_requests.specs.Refused.{head_refused_at, body_refused_at, data_refused_at, early_trailer_at, end_refused_at, reset_refused_at, cancel_refused_at};
+ghost use Rattle.h3_requests.specs.Refused.{head_refused_at, body_refused_at, data_refused_at, early_trailer_at, end_refused_at};
+ghost use Rattle.h3_requests.specs.Refused.{reset_refused_at, cancel_refused_at};
 
 use super::RequestStreams;
 use crate::room::SectionRoom;

@@ -87,7 +87,10 @@ impl RequestStreams {
     /// An `Err` changes nothing.
     pub fn hold(&mut self, alloc: Global, id: StreamId, is_held: bool) -> Result<(), Refusal>
         ensures ok { OnOk result (IfSome (kept_at self.old id) (λ r.
-            Sets self.old self.new id (record r { outgoing = preceding (record r.outgoing.precedence { is_held = is_held }) r.outgoing }))) }
+            Sets self.old self.new id (record r {
+              outgoing = preceding
+                  (record r.outgoing.precedence { is_held = is_held }) r.outgoing;
+            }))) }
         ensures taken { OnOk result (IsSome (kept_at self.old id)) }
         ensures why { IfErr result (λ r. r ≡ refused_unless (is_some (kept_at self.old id))) }
         ensures err { OnErr result (AllSame self.old self.new) }

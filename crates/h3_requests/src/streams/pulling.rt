@@ -72,7 +72,8 @@ impl RequestStreams {
             × (replies.new.items ≡ replies.old.items) }
         ensures there { is_some (kept_at self.new id) ≡ is_some (kept_at self.old id) }
         ensures answer { is_memory (O.told out.new) ≡ false → IfSome (kept_at self.old id) (λ before. IfSome (kept_at self.new id) (λ after.
-            PullsWithin side announced.now id decoder.now self.old self.new before after (O.told out.new) replies.old.items replies.new.items)) }
+            PullsWithin side announced.now id decoder.now self.old self.new before after
+            (O.told out.new) replies.old.items replies.new.items)) }
         ensures memory { is_memory (O.told out.new) ≡ true → IfSome (kept_at self.old id) (λ before. IfSome (kept_at self.new id) (λ after.
             ResumesThere announced.now self.old self.new id before after)) × (replies.new.items ≡ replies.old.items) }
         ensures settled { IfSome (kept_at self.old id)
@@ -184,7 +185,8 @@ fn unopened<O: Answer>(side: Side, out: &mut O)
 /// Answers for a stream that was given up, or whose end was returned, and says whether it is one.
 fn answer_settled<O: Answer>(stream: &IncomingStream, out: &mut O) -> bool
     ensures settled { result ≡ true → (is_memory (O.told out.new) ≡ false)
-        × ((side : Side) (own : Announced) (id : ℕ) (r : DecoderState) → pull_stream side own id r stream.now ≡ just (O.told out.new) stream.now) }
+        × ((side : Side) (own : Announced) (id : ℕ) (r : DecoderState)
+        → pull_stream side own id r stream.now ≡ just (O.told out.new) stream.now) }
     ensures open { result ≡ false → is_settled_request (Some stream.now) ≡ false }
     ensures none { result ≡ true → O.listed out.new ≡ None }
 {
@@ -218,7 +220,8 @@ fn within_limit<O: Answer>(
     requires sound { IsSound counts.old }
     requires among { HasCount counts.old stream.old.waits_for }
     ensures limited { (replies : List DecoderInstruction)
-        → if_too_many (nat_lt limit (above inserted counts.old)) (record { answer = O.told out.old; incoming = stream.old; replies = replies })
+        → if_too_many (nat_lt limit (above inserted counts.old))
+        (record { answer = O.told out.old; incoming = stream.old; replies = replies })
         ≡ record { answer = O.told out.new; incoming = stream.new; replies = replies } }
     ensures memory { is_memory (O.told out.old) ≡ false → is_memory (O.told out.new) ≡ false }
     ensures list { (came : Option (List Field)) → Lists (O.listed out.old) came → Lists (O.listed out.new) came }

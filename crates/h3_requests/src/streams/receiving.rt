@@ -230,7 +230,8 @@ impl RequestStreams {
         replies: &mut Vec<u8>,
     ) -> Result<(), AllocError>
         ensures ok { OnOk result (Receives self.old self.new id (λ i. given_up_once (record i { was_reset = true }) (Reset code))) }
-        ensures replies { OnOk result (replies.new.items ≡ replies.old.items ++ encodings (cancellation id (opened_at self.old id).incoming.fault)) }
+        ensures replies { OnOk result (replies.new.items ≡ replies.old.items ++ encodings
+            (cancellation id (opened_at self.old id).incoming.fault)) }
         ensures err { OnErr result (AllSame self.old self.new × (replies.new.items ≡ replies.old.items)) }
     {
         let Ok(was_there) = self.open_absent(alloc, id) else {
@@ -292,7 +293,8 @@ impl RequestStreams {
         id: StreamId,
         bytes: Bytes,
     ) -> Result<(), Bytes>
-        ensures ok { OnOk result (IfSome (kept_at self.old id) (λ r. Sets self.old self.new id (record r { incoming = kept r.incoming bytes }))) }
+        ensures ok { OnOk result (IfSome (kept_at self.old id)
+            (λ r. Sets self.old self.new id (record r { incoming = kept r.incoming bytes }))) }
         ensures back { IfErr result (λ b. b ≡ bytes) }
         ensures err { OnErr result (AllSame self.old self.new) }
     {
@@ -304,7 +306,8 @@ impl RequestStreams {
 
     // An `Err`: the stream is not under way.
     fn end_there(&mut self, id: StreamId) -> Result<(), AllocError>
-        ensures ok { OnOk result (IfSome (kept_at self.old id) (λ r. Sets self.old self.new id (record r { incoming = with_end r.incoming }))) }
+        ensures ok { OnOk result (IfSome (kept_at self.old id)
+            (λ r. Sets self.old self.new id (record r { incoming = with_end r.incoming }))) }
         ensures err { OnErr result (AllSame self.old self.new) }
     {
         let Some(stream) = self.streams.get_mut(id) else {
@@ -325,7 +328,8 @@ impl RequestStreams {
     ) -> Result<(), AllocError>
         ensures ok { OnOk result (IfSome (kept_at self.old id) (λ r.
             Sets self.old self.new id (record r { incoming = given_up_once (record r.incoming { was_reset = true }) (Reset code) }))) }
-        ensures replies { OnOk result (IfSome (kept_at self.old id) (λ r. replies.new.items ≡ replies.old.items ++ encodings (cancellation id r.incoming.fault))) }
+        ensures replies { OnOk result (IfSome (kept_at self.old id)
+            (λ r. replies.new.items ≡ replies.old.items ++ encodings (cancellation id r.incoming.fault))) }
         ensures err { OnErr result (AllSame self.old self.new × (replies.new.items ≡ replies.old.items)) }
     {
         let Some(stream) = self.streams.get_mut(id) else {

@@ -11,11 +11,11 @@ ghost use Rattle.h3_requests.specs.Refused.{known_in};
 
 use super::RequestStreams;
 use h3_connection::event::Refusal;
+use h3_frames::frame::FrameBuffer;
 use h3_incoming::IncomingStream;
 use h3_messages::Content;
 use h3_outgoing::OutgoingStream;
 use h3_proto::stream::{Side, StreamId};
-use h3_wire::frame::FrameBuffer;
 
 impl RequestStreams {
     /// Whether the stream is there.

@@ -23,7 +23,8 @@ impl RequestStreams {
         section: EncodedSection,
         place: SendPlace,
     ) -> Result<(), EncodedSection>
-        ensures ok { OnOk result (IfSome (kept_at self.old room) (λ r. Sets self.old self.new room (record r { outgoing = has_section r.outgoing section place }))) }
+        ensures ok { OnOk result (IfSome (kept_at self.old room)
+            (λ r. Sets self.old self.new room (record r { outgoing = has_section r.outgoing section place }))) }
         ensures there { OnOk result (IsSome (kept_at self.old room)) }
         ensures err { IfErr result (λ b. (b ≡ section) × AllSame self.old self.new) }
     {

@@ -35,9 +35,11 @@ impl Endpoint {
     fn read_at_once(&mut self, id: StreamId, bytes: &[u8]) -> Option<BodyPlace>
         ensures rest { self.new ≡ record self.old { requests = self.new.requests } }
         ensures place { (receivers : Streams Incoming) → AreReceivers receivers self.old.requests
-            → result ≡ place_unless (are_too_many self.old.announced.limits.blocked self.old.decoding.decoder.table.inserted receivers) (kept_at self.old.requests id) bytes.now }
+            → result ≡ place_unless (are_too_many self.old.announced.limits.blocked self.old.decoding.decoder.table.inserted receivers)
+            (kept_at self.old.requests id) bytes.now }
         ensures reads { IfSome result (λ p.
-            ReadsPieceAt self.old.announced.limits.blocked self.old.decoding.decoder.table.inserted self.old.requests self.new.requests id bytes.now p) }
+            ReadsPieceAt self.old.announced.limits.blocked self.old.decoding.decoder.table.inserted self.old.requests self.new.requests id
+            bytes.now p) }
         ensures none { IsNone result → AllSame self.old.requests self.new.requests }
     {
         let limit = self.announced.limits.blocked;
@@ -46,7 +48,8 @@ impl Endpoint {
             .read_body(self.alloc, limit, inserted, id, bytes)
     }
 
-    /// Reads the type and length of a DATA frame where they lie in bytes that came on a stream and end with them. The endpoint is left as by
+    /// Reads the type and length of a DATA frame where they lie in bytes that came on a stream and end with them. The endpoint is left as
+    /// by
     /// `deliver` of the bytes and a `pull`, which waits for more of them (`Pending`). Nothing is copied, nothing of the bytes is kept, and
     /// no memory is taken. It is so on a request stream of which nothing is kept, if a DATA frame may come next. `false` changes nothing:
     /// then the bytes are to be delivered.
@@ -65,7 +68,8 @@ impl Endpoint {
     fn begin_at_once(&mut self, id: StreamId, bytes: &[u8]) -> bool
         ensures rest { self.new ≡ record self.old { requests = self.new.requests } }
         ensures begins { result ≡ true →
-            BeginsDataAt self.old.announced.limits.blocked self.old.decoding.decoder.table.inserted self.old.requests self.new.requests id bytes.now }
+            BeginsDataAt self.old.announced.limits.blocked self.old.decoding.decoder.table.inserted self.old.requests self.new.requests id
+            bytes.now }
         ensures none { result ≡ false → AllSame self.old.requests self.new.requests }
     {
         let limit = self.announced.limits.blocked;

@@ -3,7 +3,8 @@ ghost use Rattle.std.specs.Prelude.{◌≡◌, ◌&&◌, ◌%◌, IfNone, IfSome
 ghost use Rattle.h3_connection.specs.Remembering.{settings_known};
 ghost use Rattle.h3_connection.specs.State.{kept_at};
 ghost use Rattle.h3_outgoing.specs.Sent.{is_open};
-ghost use Rattle.h3_session.specs.Datagrams.{announces, datagram_at, datagram_refused, if_known, is_late, is_off, peer_announces, ReadsDatagram, ShowsDatagramHead};
+ghost use Rattle.h3_session.specs.Datagrams.{announces, datagram_at, datagram_refused, if_known, is_late, is_off, peer_announces};
+ghost use Rattle.h3_session.specs.Datagrams.{ReadsDatagram, ShowsDatagramHead};
 ghost use Rattle.h3_session.specs.Refused.{sender_in};
 
 use super::Endpoint;
@@ -111,7 +112,8 @@ impl Endpoint {
 
     // Whether both sides announced datagrams.
     fn sends_datagrams(&self) -> bool
-        ensures { result ≡ (announces self.now.announced.settings && peer_announces (settings_known self.now.announced self.now.peer.settings)) }
+        ensures { result ≡ (announces self.now.announced.settings && peer_announces
+            (settings_known self.now.announced self.now.peer.settings)) }
     {
         if !announces(&self.announced.settings) {
             return false;

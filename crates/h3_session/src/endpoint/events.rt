@@ -45,10 +45,10 @@ impl EventsSeen {
 }
 
 impl Endpoint {
-    /// What happened on the connection and was not reported yet: first the peer's settings (RFC 9114, section 7.2.4), then the id of its last
-    /// GOAWAY (section 5.2). `None` if all was reported. `seen` has what was reported, this event among it. Of several GOAWAY frames the last
-    /// one alone is reported, and not if the same id was before. Ask after each delivery on a unidirectional stream until it answers `None`:
-    /// at most two events come. It takes no memory.
+    /// What happened on the connection and was not reported yet: first the peer's settings (RFC 9114, section 7.2.4), then the id of its
+    /// last GOAWAY (section 5.2). `None` if all was reported. `seen` has what was reported, this event among it. Of several GOAWAY frames
+    /// the last one alone is reported, and not if the same id was before. Ask after each delivery on a unidirectional stream until it
+    /// answers `None`: at most two events come. It takes no memory.
     #[tactic(auto, using(crate::proofs::Events::shows_next))]
     pub fn next_event(&self, seen: &mut EventsSeen) -> Option<ConnectionEvent>
         ensures { ReportsNext self.now seen.old seen.new result }

@@ -20,9 +20,10 @@ use h3_streams::streams::ConnectionStreams;
 use std::alloc::{AllocError, Global};
 
 impl Endpoint {
-    /// An endpoint as `new` makes it, whose SETTINGS frame has these pairs of an id and a value after the other settings, at most eight. They are
-    /// for an extension that the caller speaks. What `new` refuses comes first. Then the first pair is refused whose id is one of HTTP/2's or is
-    /// announced already, as each id that has a meaning is, or came before; then a ninth one, and an id or a value of 2^62 or more.
+    /// An endpoint as `new` makes it, whose SETTINGS frame has these pairs of an id and a value after the other settings, at most eight.
+    /// They are for an extension that the caller speaks. What `new` refuses comes first. Then the first pair is refused whose id is one of
+    /// HTTP/2's or is announced already, as each id that has a meaning is, or came before; then a ninth one, and an id or a value of 2^62
+    /// or more.
     pub fn new_with(
         alloc: Global,
         side: Side,
@@ -41,9 +42,9 @@ impl Endpoint {
         Endpoint::beginning_with(alloc, side, announced, further)
     }
 
-    /// A client as `new_with` makes it, that remembers these settings of its server from an earlier connection, for what it sends before the
-    /// server's settings come (RFC 9114, section 7.2.4.2). It keeps to their limit of field sections and, if strict, sends `:protocol` if they
-    /// allow it; so it sends datagrams. Its encoder uses no table until the server's settings come (RFC 9204, section 3.2.3).
+    /// A client as `new_with` makes it, that remembers these settings of its server from an earlier connection, for what it sends before
+    /// the server's settings come (RFC 9114, section 7.2.4.2). It keeps to their limit of field sections and, if strict, sends `:protocol`
+    /// if they allow it; so it sends datagrams. Its encoder uses no table until the server's settings come (RFC 9204, section 3.2.3).
     pub fn new_resumed(
         alloc: Global,
         config: Config,
@@ -53,7 +54,8 @@ impl Endpoint {
         remembered: Settings,
     ) -> Result<Endpoint, NewError>
         requires { grease < 0x210842108421083 }
-        ensures { CreatesWith Client (remembering (announced_by (announced config grease) limits config.choices) remembered) further.now result }
+        ensures { CreatesWith Client (remembering (announced_by
+            (announced config grease) limits config.choices) remembered) further.now result }
     {
         let mut announced = match Announced::new(config, limits, grease) {
             Ok(announced) => announced,
@@ -89,7 +91,8 @@ impl Endpoint {
 
     // A new endpoint announces these settings too.
     fn begin_with(&mut self, further: &Settings) -> Result<(), AllocError>
-        ensures { OnOk result ((side : Side) (announced : Announced) → StandsFor self.old (new_endpoint side announced) → StandsFor self.new (new_endpoint_with side announced further.now)) }
+        ensures { OnOk result ((side : Side) (announced : Announced) → StandsFor self.old (new_endpoint side announced)
+            → StandsFor self.new (new_endpoint_with side announced further.now)) }
     {
         write_start(
             &mut self.streams,

@@ -50,16 +50,6 @@ const MANY_FIELDS: usize = 64;
 /// No section of so many bytes fits into memory.
 const SIZE_LIMIT: u64 = 1 << 62;
 
-/// The one that comes first.
-fn first_refusal(first: Option<Refusal>, later: Option<Refusal>) -> Option<Refusal>
-    ensures { result ≡ or_later first later }
-{
-    match first {
-        Some(refusal) => Some(refusal),
-        None => later,
-    }
-}
-
 impl Endpoint {
     /// Sends a header section on a stream: an encoded field section in a HEADERS frame (RFC 9114, section 4.3), and its insertions on the
     /// encoder stream. One with a status from 100 to 199 is not the last one. Refused are first every call after a connection fault, then a
@@ -74,35 +64,27 @@ impl Endpoint {
         if let Some(code) = self.closed {
             return Err(Refusal::Closed(code));
         }
-        let later = head_refusal(&self.announced, self.side, head);
-        let room = match self.reserve_head(id, later) {
-            Ok(room) => room,
-            Err(refusal) => return Err(refusal),
-        };
+        if let Some(later) = head_refusal(&self.announced, self.side, head) {
+            return Err(self.refusal_of_head(id, later));
+        }
         let Ok(fields) = head.fields(self.alloc) else {
-            return Err(Refusal::OutOfMemory);
+            return Err(self.refusal_of_head(id, Refusal::OutOfMemory));
         };
         let list = fields.as_slice();
         let read = self.read_head(&Fields::of(list));
-        self.send_head_section(room, list, place_behind(head), &read)
+        self.send_head_at(id, list, place_behind(head), &read)
     }
 
-    // Room for the frame of a header section on a stream that takes one, unless the peer is going away or `later` refuses it. The streams
-    // are found as they were.
-    #[tactic(auto, using(crate::proofs::SendingRefusals::later_twice))]
-    pub(super) fn reserve_head(
-        &mut self,
-        id: StreamId,
-        later: Option<Refusal>,
-    ) -> Result<SectionRoom, Refusal>
+    // Room for the frame of a header section on a stream that takes one, unless the peer is going away. The streams are found as they were.
+    pub(super) fn reserve_head(&mut self, id: StreamId) -> Result<SectionRoom, Refusal>
         ensures room { IfOk result (λ room. room ≡ id) }
         ensures rest { self.new ≡ record self.old { requests = self.new.requests } }
-        ensures taken { OnOk result (or_later (head_refused_in self.old id) later ≡ None) }
-        ensures why { IfErr result (λ r. r ≡ unwrap_or (or_later (head_refused_in self.old id) later) OutOfMemory) }
+        ensures taken { OnOk result (head_refused_in self.old id ≡ None) }
+        ensures why { IfErr result (λ r. r ≡ unwrap_or (head_refused_in self.old id) OutOfMemory) }
         ensures same { AllSame self.old.requests self.new.requests }
     {
-        let behind = first_refusal(self.going_refusal(), later);
-        self.requests.reserve_head(id, behind)
+        let going = self.going_refusal();
+        self.requests.reserve_head(id, going)
     }
 
     /// Sends a trailer on a stream, as `send_head` sends a header section, and ends the message's fields. Refused are first every call

@@ -23,7 +23,7 @@ use h3_connection::event::{Malformation, Refusal};
 use h3_connection::place::SendPlace;
 use h3_field::{Fields, HeaderField};
 use h3_header::MOST_NAMES;
-use h3_incoming::malformed::{malformation_by, malformation_in};
+use h3_incoming::malformed::malformation_in;
 use h3_messages::{ListError, Outline, Seen, Survey, invalid_field, read_list};
 use h3_proto::stream::{Side, StreamId};
 use std::alloc::Global;
@@ -95,7 +95,8 @@ impl Endpoint {
     }
 
     // The place of the message after a list that is sent as a header section, and what the rules make of it, or why the list is not one of
-    // this side. If the endpoint asks for strict messages one walk tells both.
+    // this side. If the endpoint asks for strict messages one walk tells both. If a field is malformed, or the list has more fields than a
+    // map has names for, other walks find what it says.
     fn judge_head(&self, fields: &[HeaderField]) -> Result<(SendPlace, SentRead), Refusal>
         ensures ok { IfOk result
             (λ judged. IsHeadAt self.now.side (head_by self.now.announced.choices.extensions.any_protocol fields.now) judged.0) }
@@ -104,41 +105,25 @@ impl Endpoint {
             (head_by self.now.announced.choices.extensions.any_protocol fields.now) ≡ Some e) }
         ensures memory { IfErr result (λ e. e ≡ refusal.OutOfMemory → 24576 < length fields.now) }
     {
-        if self.announced.choices.strict_messages && fields.len() <= MOST_NAMES {
-            return self.judge_once(fields);
-        }
         let any = self.announced.choices.extensions.any_protocol;
-        match judge_place(self.alloc, self.side, fields, any) {
-            Ok(place) => Ok((place, self.read_head(&Fields::of(fields)))),
-            Err(e) => Err(e),
-        }
-    }
-
-    // The same by one walk, of a list of so few fields that a map has room for all their names.
-    fn judge_once(&self, fields: &[HeaderField]) -> Result<(SendPlace, SentRead), Refusal>
-        requires strict { self.now.announced.choices.strict_messages ≡ true }
-        requires few { length fields.now ≤ 24576 }
-        ensures ok { IfOk result
-            (λ judged. IsHeadAt self.now.side (head_by self.now.announced.choices.extensions.any_protocol fields.now) judged.0) }
-        ensures read { IfOk result (λ judged. IsReadAt judged.0 self.now fields.now judged.1) }
-        ensures err { IfErr result (λ e. e ≢ refusal.OutOfMemory → head_list_refusal self.now.side
-            (head_by self.now.announced.choices.extensions.any_protocol fields.now) ≡ Some e) }
-        ensures memory { IfErr result (λ e. e ≡ refusal.OutOfMemory → 24576 < length fields.now) }
-    {
         let list = Fields::of(fields);
-        let mut seen = Seen::new();
-        let outline = match seen.take_good(&list, self.announced.choices.extensions.any_protocol) {
-            Ok(outline) => outline,
-            Err(part) => return Err(Refusal::Malformed(malformation_by(part))),
-        };
-        match place_behind(self.side, &outline) {
-            Ok(place) => Ok((place, self.read_survey(&Survey::of(&list, &seen)))),
+        if self.announced.choices.strict_messages && fields.len() <= MOST_NAMES {
+            let mut seen = Seen::new();
+            if let Ok(outline) = seen.take_good(&list, any) {
+                return match place_behind(self.side, &outline) {
+                    Ok(place) => Ok((place, self.read_survey(&Survey::of(&list, &seen)))),
+                    Err(e) => Err(e),
+                };
+            }
+        }
+        match judge_place(self.alloc, self.side, fields, any) {
+            Ok(place) => Ok((place, self.read_head(&list))),
             Err(e) => Err(e),
         }
     }
 
     // Why a list is refused as a header section that is refused by itself: the stream's own refusal comes first.
-    fn refusal_of_head(&self, id: StreamId, later: Refusal) -> Refusal
+    pub(super) fn refusal_of_head(&self, id: StreamId, later: Refusal) -> Refusal
         ensures { result ≡ refusal_after (head_refused_in self.now id) later }
     {
         match self.head_order_refusal(id) {
@@ -158,7 +143,7 @@ impl Endpoint {
     }
 
     // A list that reads as a header section of this side goes out, and the message is at this place after it.
-    fn send_head_at(
+    pub(super) fn send_head_at(
         &mut self,
         id: StreamId,
         fields: &[HeaderField],
@@ -173,7 +158,7 @@ impl Endpoint {
         ensures names { (head : Head) → head_by self.old.announced.choices.extensions.any_protocol fields.now ≡ IsHead head
             → place ≢ SendPlace.TrailerSent → NamesField (call_refused result) self.old.announced.choices fields.now }
     {
-        let room = match self.reserve_head(id, None) {
+        let room = match self.reserve_head(id) {
             Ok(room) => room,
             Err(refusal) => return Err(self.judged_or(id, refusal, fields, place, read)),
         };

@@ -88,8 +88,8 @@ impl Endpoint {
         }
     }
 
-    /// A request stream has this priority at its sender from now on, whatever its client says: what a server knows better (RFC 9218, section
-    /// 8). Refused are, in this order, a connection with a fault, a stream that is no request stream, one that is not open, and
+    /// A request stream has this priority at its sender from now on, whatever its client says: what a server knows better (RFC 9218,
+    /// section 8). Refused are, in this order, a connection with a fault, a stream that is no request stream, one that is not open, and
     /// last a failed allocation. An `Err` changes nothing.
     pub fn set_priority(&mut self, id: StreamId, priority: Priority) -> Result<(), Refusal>
         ensures { SetsPriority self.old self.new id priority result }
@@ -109,7 +109,10 @@ impl Endpoint {
     ) -> Result<(), Refusal>
         ensures rest { self.new ≡ record self.old { requests = self.new.requests } }
         ensures ok { OnOk result (IfSome (kept_at self.old.requests id) (λ r.
-            Sets self.old.requests self.new.requests id (record r { outgoing = preceding (saying r.outgoing.precedence source priority) r.outgoing }))) }
+            Sets self.old.requests self.new.requests id (record r {
+              outgoing = preceding
+                  (saying r.outgoing.precedence source priority) r.outgoing;
+            }))) }
         ensures taken { OnOk result (IsSome (kept_at self.old.requests id)) }
         ensures why { IfErr result (λ r. r ≡ refused_unless (is_some (kept_at self.old.requests id))) }
         ensures err { OnErr result (AllSame self.old.requests self.new.requests) }
@@ -147,7 +150,10 @@ impl Endpoint {
     fn hold_request(&mut self, id: StreamId, is_held: bool) -> Result<(), Refusal>
         ensures rest { self.new ≡ record self.old { requests = self.new.requests } }
         ensures ok { OnOk result (IfSome (kept_at self.old.requests id) (λ r.
-            Sets self.old.requests self.new.requests id (record r { outgoing = preceding (record r.outgoing.precedence { is_held = is_held }) r.outgoing }))) }
+            Sets self.old.requests self.new.requests id (record r {
+              outgoing = preceding
+                  (record r.outgoing.precedence { is_held = is_held }) r.outgoing;
+            }))) }
         ensures why { IfErr result (λ r. r ≡ refused_unless (is_some (kept_at self.old.requests id))) }
         ensures err { OnErr result (AllSame self.old.requests self.new.requests) }
     {

@@ -2,7 +2,8 @@
 ghost use Rattle.std.specs.Prelude.{if◌then◌else◌, ◌≡◌, ◌<◌, ◌+◌, ◌^◌, ◌++◌, ℕ, None, Some, length, remove, slice_get, IfErr, OnErr, OnOk};
 ghost use Rattle.h3_connection.specs.OwnUpdates.{update_encoding};
 ghost use Rattle.h3_connection.specs.Prioritizing.{SendsPriority, SetsInitialPriority, ShowsPriority, UsesUpdates};
-ghost use Rattle.h3_session.specs.Prioritized.{counting_in, having_waiting, judged_in, send_refused, ChangesTurns, IsSaid, LooksAt, UsesOne};
+ghost use Rattle.h3_session.specs.Prioritized.{counting_in, having_waiting, judged_in, send_refused, ChangesTurns, IsSaid, LooksAt};
+ghost use Rattle.h3_session.specs.Prioritized.{UsesOne};
 
 use super::Endpoint;
 use super::sending::is_server;
@@ -59,8 +60,8 @@ impl Endpoint {
         }
     }
 
-    /// What PRIORITY_UPDATE frames said is used of the streams that are open, and dropped of those on which sending has ended. What they said
-    /// of others waits on. If an allocation fails, so does what was not looked at.
+    /// What PRIORITY_UPDATE frames said is used of the streams that are open, and dropped of those on which sending has ended. What they
+    /// said of others waits on. If an allocation fails, so does what was not looked at.
     #[inline(never)]
     #[tactic(auto, using(crate::proofs::LookingAtUpdates::room_left))]
     pub(super) fn use_updates(&mut self)
@@ -145,8 +146,8 @@ impl Endpoint {
     }
 
     /// The priority that counts of a request stream at its sender: what the endpoint set (`set_priority`), else what the last
-    /// PRIORITY_UPDATE frame said, else what the request said (`set_initial_priority`), else urgency 3, not incremental. `None` if it is not
-    /// open.
+    /// PRIORITY_UPDATE frame said, else what the request said (`set_initial_priority`), else urgency 3, not incremental. `None` if it is
+    /// not open.
     pub fn priority(&self, id: StreamId) -> Option<Priority>
         ensures { ShowsPriority self.now id result }
     {
@@ -215,7 +216,10 @@ fn counting(update: Option<Priority>, is_sent: bool, there: &Precedence) -> Prio
 fn remove_update(streams: &mut ConnectionStreams, place: usize)
     requires { place < length streams.old.peer.updates.waiting }
     ensures { streams.new ≡ record streams.old {
-      peer = record streams.old.peer { updates = record streams.old.peer.updates { waiting = remove streams.old.peer.updates.waiting place } };
+      peer = record streams.old.peer {
+        updates = record streams.old.peer.updates
+            { waiting = remove streams.old.peer.updates.waiting place };
+      };
     } }
 {
     streams.peer.remove_update(place);

@@ -13,7 +13,7 @@ ghost use Rattle.h3_requests.specs.Refused.{cancel_refused_at};
 ghost use Rattle.h3_session.specs.Canceling.{CancelsAt};
 ghost use Rattle.h3_incoming.specs.Answering.{Lists, fault_told};
 ghost use Rattle.h3_connection.specs.declared.event.Pull.{Pull};
-ghost use Rattle.h3_incoming.specs.FieldsPulls.{list_of, pull_of};
+ghost use Rattle.h3_connection.specs.Lists.{list_of, pull_of};
 ghost use Rattle.h3_requests.specs.Coming.{fields_at};
 ghost use Rattle.h3_session.specs.Listing.{ListsItem, ListsNext};
 ghost use Rattle.h3_requests.specs.Limited.{PullsWithin, ResumesThere, unopened_answer};
@@ -22,9 +22,10 @@ ghost use Rattle.h3_session.specs.Changes.{ChangesRequests};
 
 use super::Endpoint;
 use h3_connection::event::{Fault, Pull, Refusal};
+use h3_connection::lists::ListPull;
 use h3_connection::setup::Announced;
 use h3_incoming::answer::{fail, give_made, no_messages};
-use h3_incoming::{Answer, BlockPull, FieldsPull};
+use h3_incoming::{Answer, BlockPull};
 use h3_proto::error::Code;
 use h3_proto::stream::{Side, StreamId};
 use h3_requests::RequestStreams;
@@ -68,9 +69,12 @@ fn pull_stream<O: Answer>(
     ensures absent { kept_at requests.old id ≡ None → (O.told out.new ≡ unopened_answer side) × (requests.new ≡ requests.old)
         × (streams.new.own.decoder ≡ streams.old.own.decoder) }
     ensures there { is_some (kept_at requests.new id) ≡ is_some (kept_at requests.old id) }
-    ensures answer { is_memory (O.told out.new) ≡ false → IfSome (kept_at requests.old id) (λ before. IfSome (kept_at requests.new id) (λ after.
-        PullsWithin side announced.now id streams.old.decoding.decoder requests.old requests.new before after (O.told out.new) streams.old.own.decoder streams.new.own.decoder)) }
-    ensures memory { is_memory (O.told out.new) ≡ true → IfSome (kept_at requests.old id) (λ before. IfSome (kept_at requests.new id) (λ after.
+    ensures answer { is_memory (O.told out.new) ≡ false
+        → IfSome (kept_at requests.old id) (λ before. IfSome (kept_at requests.new id) (λ after.
+        PullsWithin side announced.now id streams.old.decoding.decoder requests.old requests.new before after
+        (O.told out.new) streams.old.own.decoder streams.new.own.decoder)) }
+    ensures memory { is_memory (O.told out.new) ≡ true
+        → IfSome (kept_at requests.old id) (λ before. IfSome (kept_at requests.new id) (λ after.
         ResumesThere announced.now requests.old requests.new id before after)) × (streams.new.own.decoder ≡ streams.old.own.decoder) }
     ensures rest { streams.new ≡ record streams.old { own = record streams.old.own { decoder = streams.new.own.decoder } } }
     ensures settled { IfSome (kept_at requests.old id)
@@ -122,7 +126,7 @@ impl Endpoint {
     /// What comes next on a stream, as `pull` answers it, but with each header section and trailer as the list of its fields. The fields
     /// are as they came, in the order in which they came, and no header is made of them. The endpoint is left as `pull` leaves it, and
     /// `Fault::Memory` loses nothing. It makes a header only of a list of more than 24,576 fields, to judge it.
-    pub fn pull_fields(&mut self, id: StreamId) -> FieldsPull
+    pub fn pull_fields(&mut self, id: StreamId) -> ListPull
         ensures pulls { PullsNext self.old self.new id (pull_of result) }
         ensures list { ListsNext self.old id (list_of result) }
     {
@@ -168,7 +172,7 @@ impl Endpoint {
 
     // Whether the answer to each further pull is settled.
     #[tactic(auto, using(crate::proofs::PullingStreams::settled_is))]
-    fn is_settled(&self, id: StreamId) -> bool
+    pub(super) fn is_settled(&self, id: StreamId) -> bool
         ensures { (e : EndpointHistory) → StandsFor self.now e → result ≡ settles e id }
     {
         self.is_settled_here(id)
@@ -244,10 +248,14 @@ impl Endpoint {
         ensures absent { kept_at self.old.requests id ≡ None → (O.told out.new ≡ unopened_answer self.old.side)
             × (self.new.requests ≡ self.old.requests) × (self.new.own.decoder ≡ self.old.own.decoder) }
         ensures there { is_some (kept_at self.new.requests id) ≡ is_some (kept_at self.old.requests id) }
-        ensures answer { is_memory (O.told out.new) ≡ false → IfSome (kept_at self.old.requests id) (λ before. IfSome (kept_at self.new.requests id) (λ after.
-            PullsWithin self.old.side self.old.announced id self.old.decoding.decoder self.old.requests self.new.requests before after (O.told out.new) self.old.own.decoder self.new.own.decoder)) }
-        ensures memory { is_memory (O.told out.new) ≡ true → IfSome (kept_at self.old.requests id) (λ before. IfSome (kept_at self.new.requests id) (λ after.
-            ResumesThere self.old.announced self.old.requests self.new.requests id before after)) × (self.new.own.decoder ≡ self.old.own.decoder) }
+        ensures answer { is_memory (O.told out.new) ≡ false
+            → IfSome (kept_at self.old.requests id) (λ before. IfSome (kept_at self.new.requests id) (λ after.
+            PullsWithin self.old.side self.old.announced id self.old.decoding.decoder self.old.requests self.new.requests before after
+            (O.told out.new) self.old.own.decoder self.new.own.decoder)) }
+        ensures memory { is_memory (O.told out.new) ≡ true
+            → IfSome (kept_at self.old.requests id) (λ before. IfSome (kept_at self.new.requests id) (λ after.
+            ResumesThere self.old.announced self.old.requests self.new.requests id before after))
+            × (self.new.own.decoder ≡ self.old.own.decoder) }
         ensures settled { IfSome (kept_at self.old.requests id)
             (λ before. is_settled_request (Some before.incoming) ≡ true → is_memory (O.told out.new) ≡ false) }
         ensures list { Lists (O.listed out.new) (fields_at self.old.announced self.old.decoding.decoder (kept_at self.old.requests id)) }

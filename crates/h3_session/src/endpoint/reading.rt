@@ -153,7 +153,7 @@ impl Endpoint {
         self.streams.end(self.alloc, id)
     }
 
-    fn read_reset(&mut self, id: StreamId, code: u64) -> Result<Option<Code>, AllocError>
+    pub(super) fn read_reset(&mut self, id: StreamId, code: u64) -> Result<Option<Code>, AllocError>
         ensures rest { SameRequests self.old self.new }
         ensures ok { IfOk result
             (λ fault. (e : EndpointHistory) → StandsFor self.old e → Finds fault self.new (reset_at e id code PeerUnidirectional)) }

@@ -1,5 +1,6 @@
 //! What an endpoint sends.
-ghost use Rattle.std.specs.Prelude.{◌≡◌, ◌≤◌, ◌+◌, ◌^◌, ◌++◌, true, false, None, length, not, unwrap_or, IfErr, IfNone, IfSome, OnOk, OnErr, option_copied};
+ghost use Rattle.std.specs.Prelude.{◌≡◌, ◌≤◌, ◌+◌, ◌^◌, ◌++◌, true, false, None, length, not, unwrap_or, IfErr, IfNone, IfSome, OnOk};
+ghost use Rattle.std.specs.Prelude.{OnErr, option_copied};
 ghost use Rattle.h3_connection.specs.Answers.{call_refused};
 ghost use Rattle.h3_connection.specs.Calls.{AllSame, Sets};
 ghost use Rattle.h3_connection.specs.Endpoint.{goaway_encoding};

@@ -1,15 +1,17 @@
 //! What can be read of an endpoint.
 ghost use Rattle.std.specs.Prelude.{◌≡◌, option_copied};
 ghost use Rattle.h3_connection.specs.OwnIds.{is_own};
-ghost use Rattle.h3_connection.specs.ReadingContracts.{ShowsOutgoing, ShowsFinished, ShowsReset, ShowsSettings, ShowsPeerSetting, ShowsGoaways, ShowsSizes, ShowsHeads, HeadsAreBounded, ShowsSent, ShowsTries, TriesAreBounded, ShowsLimits};
+ghost use Rattle.h3_connection.specs.ReadingContracts.{ShowsOutgoing, ShowsFinished, ShowsReset, ShowsSettings, ShowsPeerSetting};
+ghost use Rattle.h3_connection.specs.ReadingContracts.{ShowsGoaways, ShowsSizes, ShowsHeads, HeadsAreBounded, ShowsSent, ShowsTries};
+ghost use Rattle.h3_connection.specs.ReadingContracts.{TriesAreBounded, ShowsLimits};
 ghost use Rattle.h3_session.specs.Frames.{LendsFrames};
 
 use super::Endpoint;
 use h3_coding::varint::VarInt;
 use h3_connection::event::{PeerLimits, TableSizes};
+use h3_frames::frame::FrameBuffer;
 use h3_proto::frame::{SettingId, Settings};
 use h3_proto::stream::{Side, StreamId};
-use h3_wire::frame::FrameBuffer;
 
 impl Endpoint {
     /// Whether anything can be sent on a stream: it is a local unidirectional one, or a request stream that was opened.

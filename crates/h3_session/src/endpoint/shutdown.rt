@@ -3,7 +3,9 @@ ghost use Rattle.std.specs.Prelude.{◌≡◌, ◌<◌, ◌^◌, is_some, IfSome
 ghost use Rattle.h3_connection.specs.Answers.{call_refused};
 ghost use Rattle.h3_connection.specs.ReadingContracts.{Shows};
 ghost use Rattle.h3_connection.specs.SendingContracts.{DoesOrRefuses};
-ghost use Rattle.h3_connection.specs.Shutdown.{above_greatest, are_done, are_seen_below, bounded, goaway_once, is_control_taken, is_named, is_rejected_in, last_taken, notice_id, takes_no_more, GivesNotice, ShowsDrained, ShowsFirstUnseen, ShowsRejected, ShutsDown};
+ghost use Rattle.h3_connection.specs.Shutdown.{above_greatest, are_done, are_seen_below, bounded, goaway_once, is_control_taken, is_named};
+ghost use Rattle.h3_connection.specs.Shutdown.{is_rejected_in, last_taken, notice_id, takes_no_more, GivesNotice, ShowsDrained};
+ghost use Rattle.h3_connection.specs.Shutdown.{ShowsFirstUnseen, ShowsRejected, ShutsDown};
 ghost use Rattle.h3_connection.specs.State.{kept_at};
 
 use super::Endpoint;
@@ -71,8 +73,8 @@ impl Endpoint {
     /// request is to come: a server saw each request below the last id that it named, and to a client its server sent a GOAWAY. Each
     /// stream was pulled to its end or given up; sending on it has ended, all bytes were taken, and `end_taken` said so of its end. And the
     /// GOAWAY was taken. A caller that never calls `end_taken` (it goes by `next_waiting` alone) sees no connection drained on which a
-    /// message was finished. What is drained stays so until another GOAWAY is sent, if a server's caller leaves out what `is_rejected` names
-    /// (law `drained_stays`). It takes no memory, and looks at the streams under way alone.
+    /// message was finished. What is drained stays so until another GOAWAY is sent, if a server's caller leaves out what `is_rejected`
+    /// names (law `drained_stays`). It takes no memory, and looks at the streams under way alone.
     pub fn is_drained(&self) -> bool
         ensures { ShowsDrained self.now result }
     {

@@ -51,8 +51,8 @@ impl Endpoint {
     /// `u64`. It takes no memory, and one look-up; after a `Kept` also a pass over what is kept.
     ///
     /// It is proved that this is what the definitions hold of all that came (`held_at`). No clause here says what memory has of it. Of a
-    /// frame of an unknown type `FrameBytes` of `h3_wire` says that its bytes are freed (`AreSpared`), and tests measure that nothing else
-    /// stays.
+    /// frame of an unknown type `FrameBytes` of `h3_frames` says that its bytes are freed (`AreSpared`), and tests measure that nothing
+    /// else stays.
     #[tactic(auto, using(crate::proofs::Held::shows_none, crate::proofs::Held::shows_unread))]
     pub fn unread(&self, id: StreamId) -> u64
         ensures { ShowsUnread self.now id result }

@@ -6,7 +6,6 @@ ghost use Rattle.h3_session.specs.Acting.{Acts, ByOne, Tells};
 ghost use Rattle.h3_session.specs.Running.{Shown, opened_answer, done_answer, body_answer};
 
 use super::carrying::{carry_bytes, carry_end, carry_reset};
-use super::listing::listed;
 use crate::endpoint::Endpoint;
 use bytes::Bytes;
 use h3_coding::varint::VarInt;
@@ -245,8 +244,8 @@ fn pull_fields(client: &mut Endpoint, server: &mut Endpoint, side: Side, id: Str
     ensures { Acts (does.PullFields side id) client.old server.old result client.new server.new }
 {
     match side {
-        Side::Client => Answer::Listed(listed(client.pull_fields(id))),
-        Side::Server => Answer::Listed(listed(server.pull_fields(id))),
+        Side::Client => Answer::Listed(client.pull_fields(id)),
+        Side::Server => Answer::Listed(server.pull_fields(id)),
     }
 }
 

@@ -7,7 +7,8 @@ use bytes::Buf;
 
 impl UnidirectionalStream {
     /// How many bytes of it came and are held. These are those of its type, or of the id after that, while they are not whole, and those
-    /// of a session, or of a stream of another type, that were not pulled. What came for another reader is that reader's, and what came for none was thrown away.
+    /// of a session, or of a stream of another type, that were not pulled. What came for another reader is that reader's, and what came for
+    /// none was thrown away.
     pub fn held(&self) -> usize
         ensures { result ≡ held_of_role self.now self.now.role }
     {

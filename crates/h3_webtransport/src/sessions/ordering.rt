@@ -1,7 +1,7 @@
 //! Which stream sends next, those of sessions among them.
 ghost use Rattle.std.specs.Prelude.{◌≡◌, ◌==◌, ◌&&◌, true, false, not, if◌then◌else◌};
 ghost use Rattle.h3_proto.specs.StreamIds.{is_request_stream};
-ghost use Rattle.h3_webtransport.specs.Ordering.{lower_of, turn_of, AdvancesOn, HoldsOn, SendsInTurn, SendsLowest};
+ghost use Rattle.h3_webtransport.specs.Ordering.{lower_of, turn_of, AdvancesOn, DrainsOn, HoldsOn, SendsInTurn, SendsLowest};
 
 use super::Sessions;
 use h3_connection::event::Refusal;
@@ -10,6 +10,7 @@ use h3_session::endpoint::Endpoint;
 
 impl Sessions {
     /// Takes the first bytes that wait on a stream, at most all.
+    #[inline(always)]
     #[tactic(auto, using(crate::proofs::Parting::part_here, crate::proofs::Parting::part_elsewhere))]
     pub fn advance(&mut self, endpoint: &mut Endpoint, id: StreamId, count: usize)
         ensures { AdvancesOn endpoint.old endpoint.new self.old self.new id count }
@@ -24,6 +25,7 @@ impl Sessions {
     }
 
     /// The first stream from this id on on which bytes wait to be sent, or an end.
+    #[inline(always)]
     #[tactic(auto, using(crate::proofs::Turning::lowest_off, crate::proofs::Turning::lowest_on))]
     pub fn next_to_send(&self, endpoint: &Endpoint, from: u64) -> Option<u64>
         ensures { SendsLowest endpoint.now self.now from result }
@@ -37,6 +39,7 @@ impl Sessions {
 
     /// The stream that sends next. If a request's and one of a session send, they take turns: a stream of a session is next once bytes of a
     /// request's were taken, and the other way round.
+    #[inline(always)]
     #[tactic(auto, using(crate::proofs::Turning::turn_off, crate::proofs::Turning::turn_on))]
     pub fn next_by_priority(&self, endpoint: &mut Endpoint) -> Option<u64>
         ensures { SendsInTurn endpoint.old endpoint.new self.now result }
@@ -46,6 +49,20 @@ impl Sessions {
             return first;
         }
         turn(self.is_next, first, self.streams.next_in_turn())
+    }
+
+    /// Whether nothing is left to be done, so that the connection can be closed without losing a request or what waits on a stream of a
+    /// session.
+    #[tactic(auto, using(crate::proofs::Turning::drains_off, crate::proofs::Turning::drains_on))]
+    pub fn is_drained(&self, endpoint: &Endpoint) -> bool
+        ensures { DrainsOn endpoint.now self.now result }
+    {
+        let is_drained = endpoint.is_drained();
+        if !self.is_on {
+            return is_drained;
+        }
+        let raw = self.streams.next_to_send(0);
+        is_drained && raw.is_none()
     }
 
     /// QUIC has no credit for a stream, or has it again.

@@ -1,17 +1,19 @@
 //! What comes on streams, those of sessions among them.
-ghost use Rattle.std.specs.Prelude.{◌≡◌, Some, None, true, false, length, unwrap_or};
+ghost use Rattle.std.specs.Prelude.{◌≡◌, ℕ, Some, None, true, false, unwrap_or};
 ghost use Rattle.h3_proto.specs.StreamIds.{is_request_stream};
 ghost use Rattle.h3_connection.specs.declared.event.DeliverError.TheVariants.{Refused};
-ghost use Rattle.h3_connection.specs.declared.event.Refusal.TheVariants.{Connection};
-ghost use Rattle.h3_webtransport.specs.Parts.{StreamsAlone};
-ghost use Rattle.std.specs.List.{concat};
+ghost use Rattle.h3_connection.specs.declared.event.Refusal.TheVariants.{Connection, NotOpen};
+ghost use Rattle.h3_connection.specs.Answers.{call_refused};
+ghost use Rattle.h3_webtransport.specs.Parts.{ActsHere, StreamsAlone, UnlessClosed};
+ghost use Rattle.h3_webtransport_streams.specs.Receiver.{canceled};
 ghost use Rattle.h3_connection.specs.Unread.{ShowsUnread};
-ghost use Rattle.h3_incoming.specs.FieldsPulls.{list_of, plain_answer, pull_of};
+ghost use Rattle.h3_connection.specs.Lists.{list_of, pull_of};
+ghost use Rattle.h3_incoming.specs.BlockPulls.{plain_answer};
 ghost use Rattle.h3_session.specs.Listing.{ListsNext};
-ghost use Rattle.h3_webtransport_streams.specs.Begun.{stream_or_unseen};
-ghost use Rattle.h3_webtransport_streams.specs.SessionStream.{entered, unread_of};
+ghost use Rattle.h3_webtransport_streams.specs.SessionStream.{entered, receiving};
 ghost use Rattle.h3_webtransport.specs.Joint.{is_read, may_begin, stored_at};
-ghost use Rattle.h3_webtransport.specs.Receiving.{Arrives, BeginsAt, CancelsOn, DeliversOn, EndsOn, Enters, ListsAgain, PullsFirst, PullsOn, PullsThere, RefusesDeliveriesOn, session_of};
+ghost use Rattle.h3_webtransport.specs.Receiving.{Arrives, BeginsAt, CancelsOn, CancelsOneWay, DeliversOn, EndsOn, Enters, ListsAgain, PullsFirst};
+ghost use Rattle.h3_webtransport.specs.Receiving.{PullsOn, PullsThere, RefusesDeliveriesOn, raw_unread, session_of};
 
 use super::Sessions;
 use bytes::Bytes;
@@ -66,20 +68,10 @@ fn is_session(session: SessionId) -> bool
     session.into_inner() % 4 == 0
 }
 
-// A stream of a session that the endpoint reads as a request has no message of this side.
-fn send_no_message(endpoint: &mut Endpoint, id: StreamId)
-    ensures { Enters endpoint.old endpoint.new id (is_request_stream id) }
-{
-    if !id.is_request() {
-        return;
-    }
-    // (refused only if it was reset before)
-    let _reset = endpoint.reset(id);
-}
-
 impl Sessions {
-    /// Bytes came on a stream. On one both ways that a server opened its client refuses other first bytes than those of a session's stream as a fault of
-    /// the connection, H3_STREAM_CREATION_ERROR, and the id of no session as H3_ID_ERROR.
+    /// Bytes came on a stream. On one both ways that a server opened its client refuses other first bytes than those of a session's stream
+    /// as a fault of the connection, H3_STREAM_CREATION_ERROR, and the id of no session as H3_ID_ERROR.
+    #[inline(always)]
     #[tactic(auto, using(crate::proofs::Parting::part_here, crate::proofs::Parting::part_elsewhere, crate::proofs::Parting::is_faulty, crate::proofs::Parting::is_sound))]
     pub fn deliver(
         &mut self,
@@ -118,6 +110,7 @@ impl Sessions {
     }
 
     /// The end of a stream came.
+    #[inline(always)]
     #[tactic(auto, using(crate::proofs::Parting::part_here, crate::proofs::Parting::part_elsewhere, crate::proofs::Parting::is_faulty, crate::proofs::Parting::is_sound))]
     pub fn deliver_end(&mut self, endpoint: &mut Endpoint, id: StreamId) -> Result<(), DeliverError>
         ensures { EndsOn endpoint.old endpoint.new self.old self.new id None result }
@@ -151,6 +144,7 @@ impl Sessions {
     }
 
     /// Why bytes on a stream are refused.
+    #[inline(always)]
     #[tactic(auto, using(crate::proofs::Refusing::refuses_other, crate::proofs::Refusing::refuses_closed, crate::proofs::Refusing::refuses_here))]
     pub fn bytes_refusal(&self, endpoint: &Endpoint, id: StreamId) -> Option<Refusal>
         ensures { RefusesDeliveriesOn endpoint.now self.now id result }
@@ -164,19 +158,25 @@ impl Sessions {
         }
     }
 
-    /// How many bytes of a stream came and are held.
+    /// How many bytes of a stream came and are held. None count after a connection fault.
+    #[inline(always)]
+    #[tactic(auto, using(crate::proofs::Refusing::counts_none, crate::proofs::Refusing::counts_unread))]
     pub fn unread(&self, endpoint: &Endpoint, id: StreamId) -> u64
-        ensures own { is_read self.now id ≡ true → result ≡ length (concat (unread_of (stream_or_unseen self.now.sessions.streams id).receiver)) }
+        ensures own { is_read self.now id ≡ true → result ≡ raw_unread endpoint.now.closed self.now id }
         ensures other { is_read self.now id ≡ false → ShowsUnread endpoint.now id result }
     {
-        if self.reads(id) {
-            return self.streams.unread(id) as u64;
+        if !self.reads(id) {
+            return endpoint.unread(id);
         }
-        endpoint.unread(id)
+        match endpoint.fault() {
+            Some(_) => 0,
+            None => self.streams.unread(id) as u64,
+        }
     }
 
-    /// What comes next on a stream. A stream that the endpoint reads is one of a session from the answer on that tells the session; it is answered if it
-    /// goes both ways. With sessions on, an id that no session has is a fault of the connection, H3_ID_ERROR.
+    /// What comes next on a stream. A stream that the endpoint reads is one of a session from the answer on that tells the session; it is
+    /// answered if it goes both ways. With sessions on, an id that no session has is a fault of the connection, H3_ID_ERROR.
+    #[inline(always)]
     #[tactic(auto, using(crate::proofs::Pulling::pulls_begun, crate::proofs::Pulling::pulls_elsewhere, crate::proofs::Pulling::pulls_faulty, crate::proofs::Pulling::pulls_own))]
     pub fn pull_block(&mut self, endpoint: &mut Endpoint, id: StreamId, out: &mut BlockPull)
         ensures pulls { PullsOn endpoint.old endpoint.new self.old self.new id (pull_of out.new) }
@@ -223,8 +223,8 @@ impl Sessions {
         }
     }
 
-    // The stream is of this session. What is sent on it is no message.
-    #[tactic(auto, using(crate::proofs::Pulling::begins_taken, crate::proofs::Pulling::begins_wrong))]
+    // The stream is of this session.
+    #[tactic(auto, using(crate::proofs::Pulling::begins_taken, crate::proofs::Pulling::begins_wrong, crate::proofs::Pulling::then_alone))]
     fn begin(
         &mut self,
         endpoint: &mut Endpoint,
@@ -233,7 +233,8 @@ impl Sessions {
         out: &mut BlockPull,
     )
         requires { stored_at self.old id ≡ Some (entered id (is_request_stream id)) }
-        ensures begins { BeginsAt (is_request_stream session) endpoint.old endpoint.new self.old self.new id session (pull_of out.old) (pull_of out.new) }
+        ensures begins { BeginsAt (is_request_stream session) endpoint.old endpoint.new self.old self.new id session (pull_of out.old)
+            (pull_of out.new) }
         ensures list { ListsAgain (is_request_stream session) (list_of out.old) (list_of out.new) }
         ensures rest { StreamsAlone self.old self.new }
     {
@@ -243,20 +244,63 @@ impl Sessions {
             return fail(out, Fault::Connection(code));
         }
         self.streams.set_session(id, session);
-        send_no_message(endpoint, id);
+        self.begin_sending(endpoint, id);
     }
 
-    /// Nothing more of a stream is needed.
-    #[tactic(auto, using(crate::proofs::Parting::part_here, crate::proofs::Parting::part_elsewhere, crate::proofs::Parting::is_closed, crate::proofs::Parting::is_open))]
+    // On a stream of a session that the endpoint reads as a request no message is sent. If sending there has ended before, it has ended here.
+    #[tactic(auto, using(crate::proofs::Pulling::sends_none, crate::proofs::Pulling::sends_on, crate::proofs::Pulling::sends_no_more))]
+    fn begin_sending(&mut self, endpoint: &mut Endpoint, id: StreamId)
+        ensures begins { (session : ℕ) → stored_at self.old id ≡ Some (entered session (is_request_stream id))
+            → Enters endpoint.old endpoint.new self.old.sessions.streams self.new.sessions.streams id session (is_request_stream id) }
+        ensures rest { StreamsAlone self.old self.new }
+    {
+        if !id.is_request() {
+            return;
+        }
+        if endpoint.reset(id).is_ok() {
+            return;
+        }
+        // (not refused: nothing was sent yet)
+        let _reset = self.streams.reset(id);
+    }
+
+    /// Nothing more of a stream is needed. What comes on a stream of the peer that goes one way is read here from then on, and thrown away.
+    #[tactic(auto, using(crate::proofs::Canceling::cancels_own, crate::proofs::Canceling::cancels_one_way, crate::proofs::Canceling::cancels_other))]
     pub fn cancel(&mut self, endpoint: &mut Endpoint, id: StreamId) -> Result<(), Refusal>
         ensures { CancelsOn endpoint.old endpoint.new self.old self.new id result }
     {
-        if !self.reads(id) {
-            return endpoint.cancel(id);
+        if self.reads(id) {
+            return self.cancel_here(endpoint, id);
         }
+        if self.is_one_way(id) {
+            return self.cancel_one_way(endpoint, id);
+        }
+        endpoint.cancel(id)
+    }
+
+    // The same of a stream that is read here.
+    #[tactic(auto, using(crate::proofs::Parting::is_closed, crate::proofs::Parting::is_open))]
+    fn cancel_here(&mut self, endpoint: &Endpoint, id: StreamId) -> Result<(), Refusal>
+        ensures { UnlessClosed endpoint.now.closed self.old self.new (call_refused result)
+            (ActsHere (Some NotOpen) (receiving (Some NotOpen) canceled) self.old self.new id (call_refused result)) }
+    {
         match endpoint.fault() {
             Some(code) => Err(Refusal::Closed(code)),
             None => self.streams.cancel(id),
+        }
+    }
+
+    // The same of one that the endpoint reads as a stream that goes one way.
+    fn cancel_one_way(&mut self, endpoint: &mut Endpoint, id: StreamId) -> Result<(), Refusal>
+        ensures { CancelsOneWay endpoint.old endpoint.new self.old self.new id result }
+    {
+        let ended = endpoint.has_ended(id);
+        match endpoint.drop_session(id, Code::H3_REQUEST_CANCELLED) {
+            Ok(()) => {
+                self.streams.give_up(id, ended);
+                Ok(())
+            }
+            Err(refusal) => Err(refusal),
         }
     }
 }

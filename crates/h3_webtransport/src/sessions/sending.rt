@@ -1,21 +1,65 @@
 //! What is sent on streams, those of sessions among them.
 ghost use Rattle.std.specs.Prelude.{◌≡◌, ◌≤◌, ◌+◌, ◌==◌, ◌&&◌, [], length, is_some, true, false};
 ghost use Rattle.h3_webtransport_streams.specs.SessionStream.{receiver_of, sender_of};
+ghost use Rattle.h3_connection.specs.Answers.{call_refused};
 ghost use Rattle.h3_connection.specs.ReadingContracts.{ShowsFinished, ShowsOutgoing, ShowsReset, ShowsWaiting};
 ghost use Rattle.h3_session.specs.Copied.{CopiesTo, TellsEnd};
-ghost use Rattle.h3_webtransport.specs.Closing.{ClosesOn, ClosesRaw, Forgets, Stops, resets_raw};
+ghost use Rattle.h3_webtransport.specs.Closing.{ClosesOn, ClosesRaw, Forgets, Stops, StopsOneWay, StopsRequest, lacks, resets_raw};
 ghost use Rattle.h3_webtransport.specs.Joint.{has_stream, stored_at};
-ghost use Rattle.h3_webtransport.specs.Sending.{raw_finished, raw_refusal, raw_reset, raw_waiting, CopiesRaw, FinishesOn, ResetsOn, SendsRaw, TakesEndOn};
+ghost use Rattle.h3_webtransport.specs.Sending.{raw_finished, raw_refusal, raw_reset, raw_waiting, CopiesRaw, FinishesOn, ResetsOn};
+ghost use Rattle.h3_webtransport.specs.Sending.{SendsRaw, TakesEndOn};
 
 use super::Sessions;
 use bytes::Bytes;
 use h3_connection::event::Refusal;
+use h3_proto::error::Code;
 use h3_proto::stream::StreamId;
 use h3_session::endpoint::{ClosedStream, Endpoint};
 
+// What comes on a stream that the endpoint reads as a request is given up. Nothing more of it is delivered, so it ends there.
+#[tactic(auto, using(crate::proofs::GivingUp::stops_not, crate::proofs::GivingUp::stops_ended, crate::proofs::GivingUp::stops_open))]
+fn stop_request(endpoint: &mut Endpoint, id: StreamId) -> Result<bool, Refusal>
+    ensures { StopsRequest endpoint.old endpoint.new id result }
+{
+    let frames = match endpoint.close_stream(id) {
+        Ok(frames) => frames,
+        Err(refusal) => return Err(refusal),
+    };
+    if !frames.stop_sending {
+        return Ok(false);
+    }
+    // (without memory a little of it is kept)
+    let _reset = endpoint.deliver_reset(id, Code::H3_REQUEST_CANCELLED.value());
+    Ok(true)
+}
+
+// What comes on a stream that goes one way is given up, if the endpoint reads it.
+fn stop_one_way(endpoint: &mut Endpoint, id: StreamId) -> Result<bool, Refusal>
+    ensures { StopsOneWay endpoint.old endpoint.new id result }
+{
+    let why = endpoint.bytes_refusal(id);
+    let dropped = endpoint.drop_session(id, Code::H3_REQUEST_CANCELLED);
+    if lacks_memory(&dropped) {
+        return Err(Refusal::OutOfMemory);
+    }
+    // (else there was nothing to drop, or it was dropped)
+    Ok(why.is_none())
+}
+
+// Whether a call ran out of memory.
+fn lacks_memory(call: &Result<(), Refusal>) -> bool
+    ensures { result ≡ lacks (call_refused call.now) }
+{
+    match call {
+        Ok(()) => false,
+        Err(refusal) => matches!(refusal, Refusal::OutOfMemory),
+    }
+}
+
 impl Sessions {
-    /// Sends bytes on a stream of a session, as they are. Refused are first every call after a connection fault, then a stream of no session, and one
-    /// that this side did not open and that goes one way. Next is one that was finished or reset. `OutOfMemory` comes last. Refused bytes come back.
+    /// Sends bytes on a stream of a session, as they are. Refused are first every call after a connection fault, then a stream of no
+    /// session, and one that this side did not open and that goes one way. Next is one that was finished or reset. `OutOfMemory` comes
+    /// last. Refused bytes come back.
     #[tactic(auto, using(crate::proofs::Parting::sends_closed, crate::proofs::Parting::sends_here))]
     pub fn send_raw(
         &mut self,
@@ -69,8 +113,9 @@ impl Sessions {
         self.streams.reset(id)
     }
 
-    /// Gives a stream up both ways, as that of the endpoint does. Nothing is kept of a stream of a session then: also call it when QUIC has closed such
-    /// a stream.
+    /// Gives a stream up both ways, as that of the endpoint does. Nothing is kept of a stream of a session then: also call it when QUIC has
+    /// closed such a stream. What came on it and was not pulled is dropped, and so is a FIN that QUIC did not take: RESET_STREAM is to be
+    /// sent then.
     #[tactic(auto, using(crate::proofs::Parting::part_here, crate::proofs::Parting::part_elsewhere, crate::proofs::Parting::is_closed, crate::proofs::Parting::is_open))]
     pub fn close_stream(
         &mut self,
@@ -104,18 +149,19 @@ impl Sessions {
         })
     }
 
-    // Nothing is kept of a stream. Answers whether anything was still to be sent on it.
-    #[tactic(auto, using(crate::proofs::GivingUp::resets_here, crate::proofs::GivingUp::forgets_all, crate::proofs::Pulling::twice_alone))]
+    // Nothing is kept of a stream. Answers whether RESET_STREAM is to be sent: what waits is dropped, and a FIN that QUIC did not take.
+    #[tactic(auto, using(crate::proofs::GivingUp::cuts_here, crate::proofs::GivingUp::forgets_all, crate::proofs::Pulling::twice_alone))]
     fn give_up(&mut self, id: StreamId) -> bool
         ensures is { result ≡ resets_raw self.old id }
         ensures forgets { Forgets self.old self.new id }
     {
+        let end_waits = self.streams.end_taken(id);
         let reset = self.streams.reset(id);
         self.streams.forget(id);
-        reset.is_ok()
+        end_waits || reset.is_ok()
     }
 
-    // What comes on a stream of a session is given up, by the endpoint if it reads it as a request. Answers whether the end or a reset is still to come.
+    // What comes on a stream of a session is given up, by the endpoint if it reads it. Answers whether the end or a reset is still to come.
     #[tactic(auto, using(crate::proofs::GivingUp::stops_here, crate::proofs::GivingUp::stops_request, crate::proofs::GivingUp::stops_one_way))]
     fn stop(&self, endpoint: &mut Endpoint, id: StreamId) -> Result<bool, Refusal>
         ensures { Stops (receiver_of (stored_at self.now id)) endpoint.old endpoint.new id result }
@@ -124,12 +170,9 @@ impl Sessions {
             return Ok(self.streams.arrival_refusal(id).is_none());
         }
         if !id.is_request() {
-            return Ok(endpoint.bytes_refusal(id).is_none());
+            return stop_one_way(endpoint, id);
         }
-        match endpoint.close_stream(id) {
-            Ok(frames) => Ok(frames.stop_sending),
-            Err(refusal) => Err(refusal),
-        }
+        stop_request(endpoint, id)
     }
 
     /// Whether anything can be sent on a stream.
@@ -166,6 +209,7 @@ impl Sessions {
     }
 
     /// How many bytes wait on a stream.
+    #[inline(always)]
     pub fn waiting(&self, endpoint: &Endpoint, id: StreamId) -> usize
         ensures own { has_stream self.now id ≡ true → result ≡ length (raw_waiting self.now id) }
         ensures other { has_stream self.now id ≡ false → ShowsWaiting endpoint.now id result }
@@ -177,6 +221,7 @@ impl Sessions {
     }
 
     /// Copies the first bytes that wait on a stream to the front of `out`, as that of the endpoint does.
+    #[inline(always)]
     pub fn copy_with_end(
         &self,
         endpoint: &Endpoint,
@@ -184,7 +229,8 @@ impl Sessions {
         out: &mut [u8],
     ) -> (usize, usize, bool)
         ensures own { has_stream self.now id ≡ true → CopiesRaw self.now id out.old out.new result.0 result.1 result.2 }
-        ensures other { has_stream self.now id ≡ false → CopiesTo endpoint.now id result.0 result.1 out.old out.new × TellsEnd endpoint.now id (result.0 + result.1) result.2 }
+        ensures other { has_stream self.now id ≡ false → CopiesTo endpoint.now id result.0 result.1 out.old out.new
+            × TellsEnd endpoint.now id (result.0 + result.1) result.2 }
         ensures within { result.0 ≤ length out.old }
     {
         if !self.has(id) {
@@ -205,6 +251,7 @@ impl Sessions {
     }
 
     /// QUIC took the FIN of a stream.
+    #[inline(always)]
     #[tactic(auto, using(crate::proofs::Parting::part_here, crate::proofs::Parting::part_elsewhere))]
     pub fn end_taken(&mut self, endpoint: &mut Endpoint, id: StreamId) -> bool
         ensures { TakesEndOn endpoint.old endpoint.new self.old self.new id result }

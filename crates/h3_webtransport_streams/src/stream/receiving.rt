@@ -7,10 +7,10 @@ ghost use Rattle.h3_connection.specs.declared.event.Refusal.TheVariants.{NotOpen
 ghost use Rattle.h3_webtransport_streams.specs.Begun.{begun_by, refusal_of};
 ghost use Rattle.h3_webtransport_streams.specs.Closing.{closing};
 ghost use Rattle.h3_webtransport_streams.specs.Receiver.{came, canceled, pulled};
-ghost use Rattle.h3_webtransport_streams.specs.SessionStream.{receiving, told_by, unread_of};
+ghost use Rattle.h3_webtransport_streams.specs.SessionStream.{gives_up, receiving, told_by, unread_of};
 
 use super::StoredStream;
-use crate::receiver::Begun;
+use crate::receiver::{Begun, ReceivingHalf};
 use crate::sender::SendingHalf;
 use bytes::Bytes;
 use h3_connection::event::{Pull, Refusal};
@@ -55,7 +55,8 @@ impl StoredStream {
     pub(crate) fn arrive(&mut self, alloc: Global, bytes: Bytes) -> Result<Begun, Bytes>
         requires there { IsSome self.old.receiver }
         requires fits { length (concat (unread_of self.old.receiver)) + length bytes < 2 ^ 64 }
-        ensures ok { IfOk result (λ begun. IfSome self.old.receiver (λ r. (begun ≡ begun_by (came r bytes)) × (self.new ≡ told_by self.old (came r bytes)))) }
+        ensures ok { IfOk result (λ begun. IfSome self.old.receiver (λ r. (begun ≡ begun_by (came r bytes))
+            × (self.new ≡ told_by self.old (came r bytes)))) }
         ensures err { IfErr result (λ back. (back ≡ bytes) × (self.new ≡ self.old)) }
     {
         let Some(receiver) = &mut self.receiver else {
@@ -103,5 +104,12 @@ impl StoredStream {
             Some(receiver) => receiver.cancel(alloc),
             None => Err(Refusal::NotOpen),
         }
+    }
+
+    /// Nothing more of it is needed, which another part read, and whose end came there or not: what comes is read here from now on.
+    pub(crate) fn give_up(&mut self, alloc: Global, ended: bool)
+        ensures { self.new ≡ gives_up self.old ended }
+    {
+        self.receiver = Some(ReceivingHalf::given_up(alloc, ended));
     }
 }

@@ -1,6 +1,7 @@
 //! The streams in a map by their ids.
 ghost use Rattle.std.specs.List.{concat};
-ghost use Rattle.std.specs.Prelude.{◌≡◌, ◌≢◌, ℕ, ◌+◌, ◌<◌, ◌^◌, length, unwrap_or, true, false, is_none, Some, None, IfErr, IfNone, IfOk, IfSome, IsSome, OnErr, OnOk};
+ghost use Rattle.std.specs.Prelude.{◌≡◌, ◌≢◌, ℕ, ◌+◌, ◌<◌, ◌^◌, length, unwrap_or, true, false, is_none, Some, None, IfErr, IfNone, IfOk};
+ghost use Rattle.std.specs.Prelude.{IfSome, IsSome, OnErr, OnOk};
 ghost use Rattle.h3_connection.specs.Answers.{call_refused};
 ghost use Rattle.h3_connection.specs.Calls.{AllSame, Sets};
 ghost use Rattle.h3_connection.specs.NextWaiting.{IsLeast};
@@ -11,8 +12,9 @@ ghost use Rattle.h3_webtransport_streams.specs.Begun.{Delivers, TakesBytes, refu
 ghost use Rattle.h3_webtransport_streams.specs.Closing.{Closes, closing};
 ghost use Rattle.h3_webtransport_streams.specs.Receiver.{canceled, pulled};
 ghost use Rattle.h3_webtransport_streams.specs.Sender.{cut_off, end_told, finished, held, sent};
-ghost use Rattle.h3_webtransport_streams.specs.SessionStream.{Acts, Changes, answer_at, passes, receiving, sending, takes, unread_of};
-ghost use Rattle.h3_webtransport_streams.specs.Sought.{is_next, is_sought, lesser_of};
+ghost use Rattle.h3_webtransport_streams.specs.SessionStream.{Acts, Changes, answer_at, gives_up, passes, receiving, sending, takes, takes_turns, unread_of};
+ghost use Rattle.h3_webtransport_streams.specs.Sessions.{IsLast, IsTurn};
+ghost use Rattle.h3_webtransport_streams.specs.Sought.{greater_of, has_turn, is_sought};
 
 use crate::receiver::Begun;
 use crate::stream::{Sought, StoredStream};
@@ -59,6 +61,20 @@ pub(super) fn set_session(
     }
 }
 
+/// Nothing more is needed of the stream of this id, which another part read, and whose end came there or not.
+pub(super) fn give_up(
+    streams: &mut BTreeMap<u64, StoredStream>,
+    alloc: Global,
+    id: StreamId,
+    ended: bool,
+)
+    ensures { Changes (λ s. gives_up s ended) streams.old.entries streams.new.entries id }
+{
+    if let Some(stream) = streams.get_mut(&id.into_inner()) {
+        stream.give_up(alloc, ended);
+    }
+}
+
 /// Takes the stream of this id out, if there is one.
 pub(super) fn take_out(streams: &mut BTreeMap<u64, StoredStream>, id: StreamId)
     ensures here { kept_at streams.new.entries id ≡ None }
@@ -73,8 +89,10 @@ pub(super) fn send(
     id: StreamId,
     bytes: Bytes,
 ) -> Result<(), (Refusal, Bytes)>
-    ensures ok { OnOk result (Acts (Some NotOpen) (sending (Some NotOpen) (λ s. sent s bytes)) streams.old.entries streams.new.entries id None) }
-    ensures why { IfErr result (λ e. e.0 ≡ unwrap_or (answer_at (Some NotOpen) (sending (Some NotOpen) (λ s. sent s bytes)) (kept_at streams.old.entries id)) OutOfMemory) }
+    ensures ok { OnOk result (Acts (Some NotOpen) (sending (Some NotOpen)
+        (λ s. sent s bytes)) streams.old.entries streams.new.entries id None) }
+    ensures why { IfErr result (λ e. e.0 ≡ unwrap_or (answer_at (Some NotOpen) (sending (Some NotOpen) (λ s. sent s bytes))
+        (kept_at streams.old.entries id)) OutOfMemory) }
     ensures err { IfErr result (λ e. (e.1 ≡ bytes) × AllSame streams.old.entries streams.new.entries) }
 {
     let Some(stream) = streams.get_mut(&id.into_inner()) else {
@@ -215,7 +233,8 @@ fn arrive_there(
     requires there { IsSome (kept_at streams.old.entries id) }
     requires takes { refusal_of (stream_or_unseen streams.old.entries id).receiver ≡ None }
     requires fits { length (concat (unread_of (stream_or_unseen streams.old.entries id).receiver)) + length bytes < 2 ^ 64 }
-    ensures ok { IfOk result (TakesBytes streams.old.entries streams.new.entries id bytes (stream_or_unseen streams.old.entries id) (stream_or_unseen streams.old.entries id).receiver) }
+    ensures ok { IfOk result (TakesBytes streams.old.entries streams.new.entries id bytes (stream_or_unseen streams.old.entries id)
+        (stream_or_unseen streams.old.entries id).receiver) }
     ensures err { IfErr result (λ back. (back ≡ bytes) × AllSame streams.old.entries streams.new.entries) }
 {
     let Some(stream) = streams.get_mut(&id.into_inner()) else {
@@ -275,41 +294,65 @@ pub(super) fn close(
     Ok(())
 }
 
-// Whether the stream of this id is there, is not before `from`, and is looked for.
-fn is_next(streams: &BTreeMap<u64, StoredStream>, id: u64, sought: Sought, from: u64) -> bool
-    ensures { result ≡ is_next sought from id (kept_at streams.now.entries id) }
-{
-    if id < from {
-        return false;
-    }
-    match streams.get(&id) {
-        Some(stream) => stream.is_sought(sought),
-        None => false,
-    }
-}
-
-/// The least id from `from` on of a stream that is looked for. It goes over all streams.
+/// The least id from `from` on of a stream that is looked for. It looks at those from `from` on, up to that one.
 pub(super) fn next(streams: &BTreeMap<u64, StoredStream>, sought: Sought, from: u64) -> Option<u64>
     ensures value { IsLeast (λ id. passes (is_sought sought) (kept_at streams.now.entries id)) from result }
     ensures fits { IfSome result (λ id. id < 2 ^ 64) }
 {
+    for (id, stream) in streams.range(from..) {
+        if stream.is_sought(sought) {
+            return Some(*id);
+        }
+    }
+    None
+}
+
+// Whether the stream of this id is there, is below a place, if there is one, and takes turns.
+fn has_turn(streams: &BTreeMap<u64, StoredStream>, id: u64, below: Option<u64>) -> bool
+    ensures { result ≡ has_turn below id (kept_at streams.now.entries id) }
+{
+    if let Some(place) = below {
+        if id >= place {
+            return false;
+        }
+    }
+    match streams.get(&id) {
+        Some(stream) => stream.takes_turns(),
+        None => false,
+    }
+}
+
+// The greatest id of a stream that takes turns, below a place, if there is one. It goes over all streams.
+#[tactic(auto, using(crate::proofs::Greatest::is_last))]
+fn last_turn(streams: &BTreeMap<u64, StoredStream>, below: Option<u64>) -> Option<u64>
+    ensures { IsLast (λ id. passes takes_turns (kept_at streams.now.entries id)) below result }
+{
     let mut found = None;
     // (the label names the loop in its proof)
     'ids: for id in streams.keys() {
-        if is_next(streams, *id, sought, from) {
-            found = lesser(found, Some(*id));
+        if has_turn(streams, *id, below) {
+            found = greater(found, *id);
         }
     }
     found
 }
 
-// The lesser of both, or the one that is there.
-fn lesser(one: Option<u64>, other: Option<u64>) -> Option<u64>
-    ensures { result ≡ lesser_of one other }
+// The greater of both.
+fn greater(one: Option<u64>, other: u64) -> Option<u64>
+    ensures { result ≡ Some (greater_of one other) }
 {
-    match (one, other) {
-        (Some(first), Some(second)) => { if second < first { other } else { one } }
-        (Some(_), None) => one,
-        (None, _) => other,
+    match one {
+        Some(first) if other < first => one,
+        _ => Some(other),
+    }
+}
+
+/// The stream whose turn it is. It goes over all streams.
+pub(super) fn next_turn(streams: &BTreeMap<u64, StoredStream>, from: u64) -> Option<u64>
+    ensures { IsTurn (λ id. passes takes_turns (kept_at streams.now.entries id)) from result }
+{
+    match last_turn(streams, Some(from)) {
+        Some(id) => Some(id),
+        None => last_turn(streams, None),
     }
 }

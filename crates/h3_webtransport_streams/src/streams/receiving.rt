@@ -8,7 +8,7 @@ ghost use Rattle.h3_connection.specs.declared.event.Refusal.TheVariants.{NotOpen
 ghost use Rattle.h3_webtransport_streams.specs.Begun.{Delivers, refusal_of, stream_or_unseen};
 ghost use Rattle.h3_webtransport_streams.specs.Closing.{Closes};
 ghost use Rattle.h3_webtransport_streams.specs.Receiver.{canceled, pulled};
-ghost use Rattle.h3_webtransport_streams.specs.SessionStream.{Acts, receiving, unread_of};
+ghost use Rattle.h3_webtransport_streams.specs.SessionStream.{Acts, Changes, gives_up, receiving, unread_of};
 
 use super::{SessionStreams, map};
 use crate::receiver::Begun;
@@ -77,5 +77,15 @@ impl SessionStreams {
     {
         let alloc = self.alloc;
         map::cancel(&mut self.streams, alloc, id)
+    }
+
+    /// Nothing more is needed of a stream that is read elsewhere, and whose end came there or not. What comes is read here from now on: it
+    /// is thrown away, and each pull says that the stream was given up. It takes no memory.
+    pub fn give_up(&mut self, id: StreamId, ended: bool)
+        ensures acts { Changes (λ s. gives_up s ended) self.old.streams self.new.streams id }
+        ensures rest { self.new ≡ record self.old { streams = self.new.streams } }
+    {
+        let alloc = self.alloc;
+        map::give_up(&mut self.streams, alloc, id, ended);
     }
 }

@@ -5,7 +5,8 @@ ghost use Rattle.h3_connection.specs.Calls.{AllSame};
 ghost use Rattle.h3_connection.specs.State.{kept_at};
 ghost use Rattle.h3_connection.specs.declared.event.Refusal.TheVariants.{NotOpen, OutOfMemory};
 ghost use Rattle.h3_webtransport_streams.specs.Sender.{cut_off, end_told, finished, goes_on, held, sent};
-ghost use Rattle.h3_webtransport_streams.specs.SessionStream.{Acts, Changes, answer_at, passes, sender_of, sending, takes, takes_turns, waiting_of};
+ghost use Rattle.h3_webtransport_streams.specs.SessionStream.{Acts, Changes, answer_at, passes, sender_of, sending, takes, takes_turns};
+ghost use Rattle.h3_webtransport_streams.specs.SessionStream.{waiting_of};
 ghost use Rattle.h3_webtransport_streams.specs.Sessions.{IsTurn, turn_over};
 
 use super::{SessionStreams, map};
@@ -90,8 +91,10 @@ impl SessionStreams {
     /// Sends bytes on a stream as they are. Refused are first a stream on which this side does not send, then one that was finished or
     /// reset. `OutOfMemory` comes last. Refused bytes come back.
     pub fn send(&mut self, id: StreamId, bytes: Bytes) -> Result<(), (Refusal, Bytes)>
-        ensures ok { OnOk result (Acts (Some NotOpen) (sending (Some NotOpen) (λ s. sent s bytes)) self.old.streams self.new.streams id None) }
-        ensures why { IfErr result (λ e. e.0 ≡ unwrap_or (answer_at (Some NotOpen) (sending (Some NotOpen) (λ s. sent s bytes)) (kept_at self.old.streams id)) OutOfMemory) }
+        ensures ok { OnOk result (Acts (Some NotOpen) (sending (Some NotOpen)
+            (λ s. sent s bytes)) self.old.streams self.new.streams id None) }
+        ensures why { IfErr result (λ e. e.0 ≡ unwrap_or (answer_at (Some NotOpen) (sending (Some NotOpen) (λ s. sent s bytes))
+            (kept_at self.old.streams id)) OutOfMemory) }
         ensures err { IfErr result (λ e. (e.1 ≡ bytes) × AllSame self.old.streams self.new.streams) }
         ensures rest { self.new ≡ record self.old { streams = self.new.streams } }
     {
@@ -121,9 +124,7 @@ impl SessionStreams {
         ensures acts { Changes (λ s. takes s count) self.old.streams self.new.streams id }
         ensures rest { self.new ≡ record self.old { streams = self.new.streams; from = turn_over self.old.from id count } }
     {
-        if count > 0 {
-            self.from = id.into_inner() + 1;
-        }
+        self.from = turn_over(self.from, id, count);
         map::advance(&mut self.streams, id, count);
     }
 
@@ -143,13 +144,21 @@ impl SessionStreams {
         map::hold(&mut self.streams, id, is_held)
     }
 
-    /// The stream whose turn it is, of those on which bytes or an end wait and which are not held. They take turns by their ids.
+    /// The stream whose turn it is, of those on which bytes or an end wait and which are not held. They take turns from the greatest id down:
+    /// one that is opened with a greater id waits for the next round, so each that waits has its turn. It goes over all streams.
     pub fn next_in_turn(&self) -> Option<u64>
         ensures { IsTurn (λ id. passes takes_turns (kept_at self.now.streams id)) self.now.from result }
     {
-        match self.next_turn(self.from) {
-            Some(id) => Some(id),
-            None => self.next_turn(0),
-        }
+        map::next_turn(&self.streams, self.from)
     }
+}
+
+// The next turn is below this stream, if bytes of it were taken.
+fn turn_over(from: u64, id: StreamId, count: usize) -> u64
+    ensures { result ≡ turn_over from id count }
+{
+    if count == 0 {
+        return from;
+    }
+    id.into_inner()
 }

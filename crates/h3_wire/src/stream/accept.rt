@@ -4,7 +4,7 @@ ghost use Rattle.std.specs.Borrow.{Lends, sem};
 ghost use Rattle.h3_wire.specs.contracts.stream.accept.AcceptRecvStream.{the_row};
 ghost use Rattle.std.specs.List.{concat};
 ghost use Rattle.h3_wire.specs.Given.{AddsPieces, LeavesPieces, PassesPieces};
-ghost use Rattle.h3_wire.specs.Pieces.{IsRest};
+ghost use Rattle.h3_frames.specs.Pieces.{IsRest};
 ghost use Rattle.h3_wire.specs.Source.{Asked};
 ghost use Rattle.h3_wire.specs.Streams.{Adds, EndIsTold, Tells};
 ghost use Rattle.h3_wire.specs.Accepting.{has_id, start_from, all_left, stream_of, resolved, Short, PollsType, type_error};
@@ -13,11 +13,12 @@ ghost use Rattle.h3_wire.specs.Asking.{Asks};
 ghost use Rattle.h3_wire.specs.Starting.{Starts, StartRounds, type_read, behind_type_read, id_read, behind_id_read};
 
 use super::{BufRecvStream, Received};
-use crate::frame::{FrameStream, FrameStreamError};
-use crate::proto::stream::{StreamId, StreamType};
-use crate::proto::webtransport::SessionId;
+use crate::frame::FrameStream;
 use crate::quic::{Poll, RecvStream, StreamErrorIncoming};
 use h3_coding::varint::VarInt;
+use h3_frames::frame::FrameStreamError;
+use h3_frames::proto::stream::{StreamId, StreamType};
+use h3_frames::proto::webtransport::SessionId;
 use std::alloc::Global;
 use std::marker::Model;
 
@@ -130,7 +131,9 @@ impl<S> AcceptRecvStream<S> {
 
     // Takes what was read of type and id, and answers whether both are there.
     fn take_start(&mut self) -> bool
-        ensures same { (more : List ℕ) → start_from self.new.kind self.new.id (concat self.new.pieces ++ more) ≡ start_from self.old.kind self.old.id (concat self.old.pieces ++ more) }
+        ensures same { (more : List ℕ)
+            → start_from self.new.kind self.new.id (concat self.new.pieces ++ more) ≡ start_from self.old.kind self.old.id
+            (concat self.old.pieces ++ more) }
         ensures resolved { result ≡ resolved self.new.kind self.new.id }
         ensures short { result ≡ false → start_from self.new.kind self.new.id (concat self.new.pieces) ≡ Short }
         ensures fewer { length (concat self.new.pieces) ≤ length (concat self.old.pieces) }
@@ -143,7 +146,9 @@ impl<S> AcceptRecvStream<S> {
     }
 
     fn take_type_and_id(&mut self) -> bool
-        ensures same { (more : List ℕ) → start_from self.new.kind self.new.id (concat self.new.pieces ++ more) ≡ start_from self.old.kind self.old.id (concat self.old.pieces ++ more) }
+        ensures same { (more : List ℕ)
+            → start_from self.new.kind self.new.id (concat self.new.pieces ++ more) ≡ start_from self.old.kind self.old.id
+            (concat self.old.pieces ++ more) }
         ensures resolved { result ≡ resolved self.new.kind self.new.id }
         ensures short { result ≡ false → start_from self.new.kind self.new.id (concat self.new.pieces) ≡ Short }
         ensures fewer { length (concat self.new.pieces) ≤ length (concat self.old.pieces) }
@@ -152,7 +157,8 @@ impl<S> AcceptRecvStream<S> {
         ensures is_eos { self.new.is_eos ≡ self.old.is_eos }
         ensures kind { self.new.kind ≡ type_read self.old.kind (concat self.old.pieces) }
         ensures id { self.new.id ≡ id_read self.new.kind self.old.id (behind_type_read self.old.kind (concat self.old.pieces)) }
-        ensures buffered { concat self.new.pieces ≡ behind_id_read self.new.kind self.old.id (behind_type_read self.old.kind (concat self.old.pieces)) }
+        ensures buffered { concat self.new.pieces ≡ behind_id_read self.new.kind self.old.id
+            (behind_type_read self.old.kind (concat self.old.pieces)) }
     {
         if !self.take_type() {
             return false;
@@ -161,11 +167,14 @@ impl<S> AcceptRecvStream<S> {
     }
 
     // Takes the type, if it was not read, and answers whether it is there.
-    #[tactic(auto, using(crate::specs::PieceLaws::rest_same))]
+    #[tactic(auto, using(h3_frames::specs::PieceLaws::rest_same))]
     fn take_type(&mut self) -> bool
-        ensures same { (more : List ℕ) → start_from self.new.kind self.new.id (concat self.new.pieces ++ more) ≡ start_from self.old.kind self.old.id (concat self.old.pieces ++ more) }
+        ensures same { (more : List ℕ)
+            → start_from self.new.kind self.new.id (concat self.new.pieces ++ more) ≡ start_from self.old.kind self.old.id
+            (concat self.old.pieces ++ more) }
         ensures typed { result ≡ true → IsSome self.new.kind }
-        ensures short { result ≡ false → (resolved self.new.kind self.new.id ≡ false) × (start_from self.new.kind self.new.id (concat self.new.pieces) ≡ Short) }
+        ensures short { result ≡ false → (resolved self.new.kind self.new.id ≡ false)
+            × (start_from self.new.kind self.new.id (concat self.new.pieces) ≡ Short) }
         ensures fewer { length (concat self.new.pieces) ≤ length (concat self.old.pieces) }
         ensures rest { IsRest self.old.pieces self.new.pieces }
         ensures source { self.new.source ≡ self.old.source }
@@ -186,10 +195,12 @@ impl<S> AcceptRecvStream<S> {
     }
 
     // Takes the id if the type, which was read, has one.
-    #[tactic(auto, using(crate::specs::PieceLaws::rest_same))]
+    #[tactic(auto, using(h3_frames::specs::PieceLaws::rest_same))]
     fn take_id(&mut self) -> bool
         requires { IsSome self.old.kind }
-        ensures same { (more : List ℕ) → start_from self.new.kind self.new.id (concat self.new.pieces ++ more) ≡ start_from self.old.kind self.old.id (concat self.old.pieces ++ more) }
+        ensures same { (more : List ℕ)
+            → start_from self.new.kind self.new.id (concat self.new.pieces ++ more) ≡ start_from self.old.kind self.old.id
+            (concat self.old.pieces ++ more) }
         ensures resolved { result ≡ resolved self.new.kind self.new.id }
         ensures short { result ≡ false → start_from self.new.kind self.new.id (concat self.new.pieces) ≡ Short }
         ensures fewer { length (concat self.new.pieces) ≤ length (concat self.old.pieces) }
@@ -237,7 +248,8 @@ impl<S: RecvStream> AcceptRecvStream<S> {
         ensures asked { Asked S.answers self.old.source self.new.source }
         ensures ended { EndIsTold S.answers self.new.source self.old.is_eos self.new.is_eos }
         ensures fewer { length (all_left S.rest self.new) ≤ length (all_left S.rest self.old) }
-        ensures pieces { LeavesPieces S.answers (length (concat self.new.pieces)) self.old.source self.old.pieces self.new.source self.new.pieces }
+        ensures pieces { LeavesPieces S.answers
+            (length (concat self.new.pieces)) self.old.source self.old.pieces self.new.source self.new.pieces }
     {
         self.poll_start()
     }

@@ -2,13 +2,14 @@
 ghost use Rattle.std.specs.Prelude.{◌≡◌, ◌≤◌, ◌++◌, length, OnOk, OnErr};
 ghost use Rattle.h3_coding.specs.Writing.{AppendsFront, UsesRoom};
 ghost use Rattle.h3_coding.specs.Encodings.{encoding};
-ghost use Rattle.h3_wire.specs.StreamHeaders.{uni_encoding, bidi_encoding, control_encoding};
+ghost use Rattle.h3_wire.specs.StreamHeaders.{uni_encoding, bidi_encoding};
+ghost use Rattle.h3_frames.specs.ControlStreams.{control_encoding};
 
-use crate::proto::frame::{Settings, write_numbers, write_settings};
-use crate::proto::stream::StreamType;
-use crate::proto::webtransport::SessionId;
 use bytes::BufMut;
 use h3_coding::coding::{BufMutExt, Encode, WriteRefused};
+use h3_frames::proto::frame::{Settings, write_numbers, write_settings};
+use h3_frames::proto::stream::StreamType;
+use h3_frames::proto::webtransport::SessionId;
 
 /// What a one-way stream begins with: its type, and what must come next (RFC 9114, section 6.2).
 #[derive(Drop)]

@@ -2,17 +2,17 @@
 ghost use Rattle.std.specs.Prelude.{◌≡◌, ◌-◌, ◌<◌, ◌≤◌, ◌++◌, [], length, drop};
 ghost use Rattle.bytes.specs.Unread.{IsChunkOf};
 ghost use Rattle.h3_coding.specs.Encodings.{encoding};
-ghost use Rattle.h3_wire.specs.Encoded.{HasLength};
-ghost use Rattle.h3_wire.specs.Outgoing.{all_of, first_part, IsHead, IsFrameBehind};
+ghost use Rattle.h3_frames.specs.Encoded.{HasLength};
+ghost use Rattle.h3_frames.specs.Outgoing.{all_of, first_part, IsHead, IsFrameBehind};
 ghost use Rattle.h3_wire.specs.StreamHeaders.{uni_encoding, bidi_encoding};
 
-use super::head::Head;
 use super::headers::{BidiStreamHeader, UniStreamHeader, write_type};
-use crate::buf::Piece;
-use crate::proto::frame::{Frame, Lent};
-use crate::proto::stream::StreamType;
 use bytes::Buf;
 use h3_coding::coding::Encode;
+use h3_frames::buf::Piece;
+use h3_frames::proto::frame::{Frame, Lent};
+use h3_frames::proto::stream::StreamType;
+use h3_frames::stream::Head;
 use std::marker::Model;
 
 // A stream type, and the longest front of a frame: type, length and eight settings.
@@ -30,8 +30,8 @@ pub struct WriteBuf<B: Buf> {
 
 impl<B: Buf> Model for WriteBuf<B> {
     ghost use Rattle.std.specs.Prelude.{◌<◌, ◌≤◌, ◌^◌, length, drop};
-    ghost use Rattle.h3_wire.specs.Outgoing.{Outgoing};
-    ghost use Rattle.h3_wire.specs.Lent.{lent_left};
+    ghost use Rattle.h3_frames.specs.Outgoing.{Outgoing};
+    ghost use Rattle.h3_frames.specs.Lent.{lent_left};
 
     ghost Value = { Outgoing };
 

@@ -3,9 +3,9 @@ use Rattle.std.proofs.Common.{◌≡◌, ℕ, zero, suc, ◌&&◌, ◌||◌, if�
 use Rattle.std.specs.Prelude.{filter, nat_lt}
 use Rattle.h3_coding.specs.Varint.{varint_at}
 use Rattle.h3_proto.specs.Config.{is_limit}
-use Rattle.h3_wire.specs.ExcessiveFrames.{is_excessive, says_long_update}
-use Rattle.h3_wire.specs.Frames.{Front, frame_of, update_frame}
-use Rattle.h3_wire.specs.Update.{is_update_type}
+use Rattle.h3_frames.specs.ExcessiveFrames.{is_excessive, says_long_update}
+use Rattle.h3_frames.specs.Frames.{Front, frame_of, update_frame}
+use Rattle.h3_frames.specs.Update.{is_update_type}
 use Rattle.h3_connection.specs.Endpoint.{EndpointHistory}
 use Rattle.h3_connection.specs.Prioritizing.{is_unopened, used, with_waiting}
 use Rattle.h3_connection.proofs.laws.without_updates_nothing_of_them_is_read.Goals as goal

@@ -3,8 +3,8 @@ use Rattle.h3_coding.specs.Varint.{varint_at}
 use Rattle.h3_proto.specs.Pairs.{split_of}
 use Rattle.h3_huffman.specs.Huffman.{bits, code_word, octets, huffman}
 use Rattle.h3_field.specs.StaticTable.{static_table, static_field, static_name}
-use Rattle.h3_wire.specs.Frames.{frame_by, frame_of}
-use Rattle.h3_wire.specs.Known.{known_by}
+use Rattle.h3_frames.specs.Frames.{frame_by, frame_of}
+use Rattle.h3_frames.specs.Known.{known_by}
 use Rattle.http_header.specs.Token.{is_token_byte}
 use Rattle.std.specs.Str.{is_utf8, chars}
 use lib.Utf8.{encode}

@@ -1,8 +1,8 @@
 use Rattle.h3_coding.specs.Encodings.{encoding}
 use Rattle.h3_coding.specs.Varint.{varint_at}
-use Rattle.h3_wire.specs.Frames.{frame_by, frame_of}
-use Rattle.h3_wire.specs.Known.{known_by}
-use Rattle.h3_wire.specs.UnknownSize.{unknown_size}
+use Rattle.h3_frames.specs.Frames.{frame_by, frame_of}
+use Rattle.h3_frames.specs.Known.{known_by}
+use Rattle.h3_frames.specs.UnknownSize.{unknown_size}
 use Rattle.h3_connection.specs.PeerReading.{read_peer}
 use Rattle.h3_connection.specs.ExcessiveInstructions.{listen_up_to}
 use Rattle.h3_proto.specs.Pairs.{split_of}

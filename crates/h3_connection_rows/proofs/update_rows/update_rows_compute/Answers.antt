@@ -5,9 +5,9 @@ use Rattle.h3_priority.specs.Dictionary.{listed_at, inner_list_at, value_at, mem
 use Rattle.h3_priority.specs.Items.{key_at, number_of, number_at, string_from, byte_sequence_at, boolean_at, bare_item_at, parameter_at, parameters_at, item_at}
 use Rattle.h3_priority.specs.Priority.{priority_of}
 use Rattle.h3_priority.specs.Reading.{all_rounds}
-use Rattle.h3_wire.specs.Frames.{frame_by, frame_of}
-use Rattle.h3_wire.specs.Known.{known_by}
-use Rattle.h3_wire.specs.UnknownSize.{unknown_size}
+use Rattle.h3_frames.specs.Frames.{frame_by, frame_of}
+use Rattle.h3_frames.specs.Known.{known_by}
+use Rattle.h3_frames.specs.UnknownSize.{unknown_size}
 use Rattle.h3_connection.specs.PeerReading.{read_peer}
 use Rattle.h3_connection.specs.ExcessiveInstructions.{listen_up_to}
 use Rattle.h3_proto.specs.Pairs.{split_of}

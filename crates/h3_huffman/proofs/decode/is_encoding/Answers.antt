@@ -4,7 +4,7 @@ use Rattle.h3_huffman.specs.PayloadLaws.{All_from}
 use Rattle.h3_huffman.proofs.Steps.{long_end, last_long_refused}
 use Rattle.h3_huffman.proofs.Judging.{judged_begin, judged_byte, judged_inside, judged_last, judged_none, judged_some}
 use Rattle.h3_huffman.proofs.decode.is_encoding.Goals as goal
-use Rattle.h3_huffman.proofs.decode.is_encoding.Goals.{then-first-eq256-2-via-then-first-eq256-2, then-first-eq256-2-via-else-first-eq256-2+then-first-count}
+use Rattle.h3_huffman.proofs.decode.is_encoding.Goals.{then-first-eq-END-2-via-then-first-eq-END-2, then-first-eq-END-2-via-else-first-eq-END-2+then-first-count}
 
 pub reading-init : goal.reading-init
 reading-init c = record { judged = judged_begin _; few = lit< tt }
@@ -16,25 +16,25 @@ symbols-init c =
       few = omega (arith, c.reading.invariant.few);
     }
 
-pub returns-then-first-eq256 : goal.returns-then-first-eq256
-returns-then-first-eq256 c =
+pub returns-then-first-eq-END : goal.returns-then-first-eq-END
+returns-then-first-eq-END c =
     let first = c.first_word-first.ensures in
-    judged_none _ (long_end _ _ _ _ _ _ _ _ c.symbols.invariant.judged.standing c.symbols-test.true first.word first.most c.if-first-eq256.true)
+    judged_none _ (long_end _ _ _ _ _ _ _ _ c.symbols.invariant.judged.standing c.symbols-test.true first.word first.most c.if-first-eq-END.true)
 
 pub symbols-preserved : goal.symbols-preserved
 symbols-preserved c =
     let first = c.first_word-first.ensures in
     record {
-      judged = judged_inside _ _ _ _ _ _ c.symbols.invariant.judged c.symbols-test.true first.word (omega (arith, first.symbol, c.if-first-eq256.false)) first.least first.most;
+      judged = judged_inside _ _ _ _ _ _ c.symbols.invariant.judged c.symbols-test.true first.word (omega (arith, first.symbol, c.if-first-eq-END.false)) first.least first.most;
       few = omega (arith, c.symbols.invariant.few);
     }
 
-pub returns-then-first-eq256-2 : goal.returns-then-first-eq256-2
-returns-then-first-eq256-2 c =
+pub returns-then-first-eq-END-2 : goal.returns-then-first-eq-END-2
+returns-then-first-eq-END-2 c =
     let first = c.first_word-first-in-ending in
-    let why : (first.result.symbol ≡ 256) ⊎ (c.ending.count < first.result.length) = elim c.then-first-eq256-2.branch [
-      | then-first-eq256-2-via-then-first-eq256-2 w ↦ inl w.if-first-eq256-2.true
-      | then-first-eq256-2-via-else-first-eq256-2+then-first-count w ↦ inr w.if-first-count.true
+    let why : (first.result.symbol ≡ 256) ⊎ (c.ending.count < first.result.length) = elim c.then-first-eq-END-2.branch [
+      | then-first-eq-END-2-via-then-first-eq-END-2 w ↦ inl w.if-first-eq-END-2.true
+      | then-first-eq-END-2-via-else-first-eq-END-2+then-first-count w ↦ inr w.if-first-count.true
     ] in
     judged_none _ (last_long_refused _ _ _ _ _ _ _ _ c.ending.invariant.judged.standing c.ending.invariant.all c.ending.invariant.few first.ensures.word first.ensures.symbol first.ensures.most why (λ p. false≢true (c.ending-test.ensures.1 p)))
 
@@ -42,7 +42,7 @@ pub ending-preserved : goal.ending-preserved
 ending-preserved c =
     let first = c.first_word-first-in-ending.ensures in
     record {
-      judged = judged_last _ _ _ _ _ _ c.ending.invariant.judged c.ending.invariant.few first.word (omega (arith, first.symbol, c.if-first-eq256-2.false)) first.least first.most c.if-first-count.false;
+      judged = judged_last _ _ _ _ _ _ c.ending.invariant.judged c.ending.invariant.few first.word (omega (arith, first.symbol, c.if-first-eq-END-2.false)) first.least first.most c.if-first-count.false;
       few = omega (arith, c.ending.invariant.few);
       all = c.ending.invariant.all;
       wide = refl;

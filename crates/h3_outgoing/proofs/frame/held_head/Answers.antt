@@ -1,5 +1,5 @@
 use Rattle.std.proofs.Common.{ap, sym, ◌∙◌}
-use Rattle.h3_wire.specs.Outgoing.{first_of_both}
+use Rattle.h3_frames.specs.Outgoing.{first_of_both}
 use Rattle.h3_outgoing.specs.Held.{front_of, held}
 use Rattle.h3_outgoing.proofs.HeldFronts.{lent_head}
 use Rattle.h3_outgoing.proofs.frame.held_head.Goals as goal

@@ -1,6 +1,6 @@
 use Rattle.std.proofs.Common.{◌≡◌, ◌≤◌, ◌<◌, length}
 use Rattle.std.specs.Prelude.{All}
-use Rattle.h3_wire.specs.Outgoing.{all_of}
+use Rattle.h3_frames.specs.Outgoing.{all_of}
 use Rattle.h3_connection.specs.WaitingPieces.{bytes_of, without_front}
 use Rattle.h3_outgoing.proofs.frames.take_later.Given as goal
 

@@ -1,8 +1,8 @@
 use Rattle.std.proofs.Common.{rules, ◌≡◌, ◌++◌, subst, sym}
 use Rattle.std.specs.List.{concat}
-use Rattle.h3_wire.specs.Frames.{plain_frames}
-use Rattle.h3_wire.specs.Tries.{Expects}
-use Rattle.h3_wire.specs.TryLaws.{Awaits-more}
+use Rattle.h3_frames.specs.Frames.{plain_frames}
+use Rattle.h3_frames.specs.Tries.{Expects}
+use Rattle.h3_frames.specs.TryLaws.{Awaits-more}
 use Rattle.h3_bench.proofs.frames.Reader.push.Goals as goal
 
 pub invariant_of-self-2 : goal.invariant_of-self-2

@@ -1,6 +1,6 @@
 use Rattle.std.proofs.Common.{◌≡◌, subst}
 use Rattle.std.specs.Prelude.{IfSome}
-use Rattle.h3_incoming.specs.FieldsPulls.{list_of}
+use Rattle.h3_connection.specs.Lists.{list_of}
 use Rattle.h3_incoming.proofs.BlockPullLaws.{block_kept}
 use Rattle.h3_incoming.proofs.block.BlockPull.block.Goals as goal
 

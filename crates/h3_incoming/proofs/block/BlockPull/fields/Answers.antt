@@ -1,7 +1,7 @@
 use Rattle.std.proofs.Common.{◌≡◌, subst, sym}
 use Rattle.std.specs.Prelude.{IfSome}
 use Rattle.h3_incoming.specs.BlockPulls.{told_with}
-use Rattle.h3_incoming.specs.FieldsPulls.{list_of}
+use Rattle.h3_connection.specs.Lists.{list_of}
 use Rattle.h3_incoming.proofs.BlockPullLaws.{block_kept}
 use Rattle.h3_incoming.proofs.block.BlockPull.fields.Goals as goal
 

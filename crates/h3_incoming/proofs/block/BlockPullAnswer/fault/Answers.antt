@@ -1,6 +1,6 @@
 use Rattle.std.proofs.Common.{◌∙◌, ap}
 use Rattle.h3_incoming.specs.Answering.{fault_told}
-use Rattle.h3_incoming.specs.FieldsPulls.{pull_of}
+use Rattle.h3_connection.specs.Lists.{pull_of}
 use Rattle.h3_incoming.proofs.block.BlockPullAnswer.fault.Goals as goal
 
 pub returns : goal.returns

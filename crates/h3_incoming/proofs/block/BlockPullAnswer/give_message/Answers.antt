@@ -1,10 +1,11 @@
 use Rattle.std.proofs.Common.{◌≡◌, ap, sym, ◌∙◌}
 use Rattle.h3_header.specs.Reads.{head_of_fields}
 use Rattle.h3_connection.specs.declared.event.Pull.TheVariants as pull
+use Rattle.h3_connection.specs.Lists.{list_of}
+use Rattle.h3_connection.specs.declared.lists.ListPull.TheVariants as answer
 use Rattle.h3_incoming.specs.Answering.{item_of}
-use Rattle.h3_incoming.specs.FieldsPulls.{list_of, listed_as}
-use Rattle.h3_incoming.specs.declared.fields.FieldsPull.TheVariants as answer
-use Rattle.h3_incoming.proofs.FieldsPullLaws.{is_this, listed_of, status_is, told_of}
+use Rattle.h3_incoming.specs.BlockPulls.{listed_as}
+use Rattle.h3_incoming.proofs.BlockPullLaws.{is_this, listed_of, status_is, told_of}
 use Rattle.h3_incoming.proofs.block.BlockPullAnswer.give_message.Goals as goal
 
 pub invariant_of-self : goal.invariant_of-self

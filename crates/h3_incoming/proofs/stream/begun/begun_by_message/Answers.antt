@@ -1,6 +1,6 @@
 use Rattle.std.proofs.Common.{sym, subst}
-use Rattle.h3_wire.specs.declared.frame.decoder.MessageFrame.{MessageFrame}
-use Rattle.h3_wire.specs.MessageFrames.{as_frame}
+use Rattle.h3_frames.specs.declared.frame.decoder.MessageFrame.{MessageFrame}
+use Rattle.h3_frames.specs.MessageFrames.{as_frame}
 use Rattle.h3_incoming.specs.Beginning.{IsBegunBy}
 use Rattle.h3_incoming.proofs.stream.begun.begun_by_message.Goals as goal
 

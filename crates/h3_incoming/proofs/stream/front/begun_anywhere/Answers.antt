@@ -2,8 +2,8 @@ use Rattle.std.proofs.Common.{refl, subst}
 use Rattle.h3_connection.specs.StrictConnection.{kinds_of}
 use Rattle.std.specs.Prelude.{Err}
 use Rattle.std.specs.List.{concat}
-use Rattle.h3_wire.specs.Known.{Gives}
-use Rattle.h3_wire.specs.PieceLaws.{rest_is, rest_same}
+use Rattle.h3_frames.specs.Known.{Gives}
+use Rattle.h3_frames.specs.PieceLaws.{rest_is, rest_same}
 use Rattle.h3_incoming.proofs.FrontLaws.{error_gives}
 use Rattle.h3_incoming.proofs.stream.front.begun_anywhere.Goals as goal
 

@@ -1,4 +1,4 @@
-use Rattle.h3_wire.specs.PieceLaws.{rest_then}
+use Rattle.h3_frames.specs.PieceLaws.{rest_then}
 use Rattle.std.specs.List.{concat}
 use Rattle.h3_connection.specs.Incoming.{is_body}
 use Rattle.h3_connection.specs.StrictConnection.{kinds_of}

@@ -1,6 +1,6 @@
 use Rattle.std.proofs.Common.{length}
 use Rattle.std.specs.List.{concat}
-use Rattle.h3_wire.specs.Pieces.{IsRest}
+use Rattle.h3_frames.specs.Pieces.{IsRest}
 use Rattle.h3_connection.specs.Incoming.{is_body}
 use Rattle.h3_connection.specs.StrictConnection.{kinds_of}
 use Rattle.h3_incoming.specs.Finding.{PassesFrames}

@@ -1,5 +1,5 @@
 use Rattle.std.proofs.Common.{refl, sym, ◌∙◌}
-use Rattle.h3_wire.specs.PieceLaws.{ending_rest, rest_same}
+use Rattle.h3_frames.specs.PieceLaws.{ending_rest, rest_same}
 use Rattle.h3_connection.specs.SkippingLaws.{rest_shorter}
 use Rattle.h3_connection.specs.StrictConnection.{kinds_of}
 use Rattle.h3_incoming.proofs.FrontLaws.{error_passes, finds_frame, passes_empty, within_refused}

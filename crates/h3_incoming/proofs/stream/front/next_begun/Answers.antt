@@ -1,5 +1,5 @@
 use Rattle.h3_connection.specs.StrictConnection.{kinds_of}
-use Rattle.h3_wire.specs.MessageFrames.{as_frame}
+use Rattle.h3_frames.specs.MessageFrames.{as_frame}
 use Rattle.h3_incoming.proofs.stream.front.next_begun.Goals as goal
 
 pub returns-in-Some-Some-clause-gives : goal.returns-in-Some-Some-clause-gives

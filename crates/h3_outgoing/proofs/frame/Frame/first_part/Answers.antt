@@ -1,5 +1,5 @@
 use Rattle.std.proofs.Common.{ap, sym, ◌∙◌}
-use Rattle.h3_wire.specs.Outgoing.{first_part}
+use Rattle.h3_frames.specs.Outgoing.{first_part}
 use Rattle.h3_outgoing.specs.FrameForm.{frame_in}
 use Rattle.h3_outgoing.specs.Held.{front_of}
 use Rattle.h3_outgoing.specs.HeldLaws.{front_bytes}

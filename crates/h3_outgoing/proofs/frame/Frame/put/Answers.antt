@@ -1,5 +1,5 @@
 use Rattle.std.proofs.Common.{rules}
-use Rattle.h3_wire.specs.Outgoing.{all_of}
+use Rattle.h3_frames.specs.Outgoing.{all_of}
 use Rattle.h3_outgoing.proofs.HeldFronts.{put_else}
 use Rattle.h3_outgoing.proofs.frame.Frame.put.Goals as goal
 

@@ -1,5 +1,5 @@
 use Rattle.std.proofs.Common.{ap, sym, ◌∙◌, subst}
-use Rattle.h3_wire.specs.Outgoing.{all_of}
+use Rattle.h3_frames.specs.Outgoing.{all_of}
 use Rattle.h3_outgoing.specs.FrameForm.{frame_in}
 use Rattle.h3_outgoing.specs.Held.{Fronts}
 use Rattle.h3_outgoing.proofs.frame.Frame.put_front.Goals as goal

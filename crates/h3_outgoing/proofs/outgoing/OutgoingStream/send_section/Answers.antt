@@ -1,5 +1,5 @@
 use Rattle.std.proofs.Common.{arith, ◌<◌, length, subst, sym}
-use Rattle.h3_wire.specs.Outgoing.{all_of}
+use Rattle.h3_frames.specs.Outgoing.{all_of}
 use Rattle.h3_outgoing.proofs.Queues.{framed}
 use Rattle.h3_outgoing.proofs.outgoing.OutgoingStream.send_section.Goals as goal
 

@@ -1,5 +1,5 @@
 use Rattle.std.proofs.Common.{rules, ◌∙◌, ap}
-use Rattle.h3_wire.specs.Outgoing.{all_of}
+use Rattle.h3_frames.specs.Outgoing.{all_of}
 use Rattle.h3_outgoing.proofs.Headers.{left_is}
 use Rattle.h3_outgoing.proofs.section.HeadersFrame.bytes.Goals as goal
 

@@ -1,5 +1,5 @@
 use Rattle.std.proofs.Common.{rules, ◌∙◌, ap}
-use Rattle.h3_wire.specs.Outgoing.{first_part}
+use Rattle.h3_frames.specs.Outgoing.{first_part}
 use Rattle.h3_outgoing.proofs.Headers.{head_is}
 use Rattle.h3_outgoing.proofs.section.HeadersFrame.first_part.Goals as goal
 

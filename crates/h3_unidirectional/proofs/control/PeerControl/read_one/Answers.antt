@@ -1,6 +1,6 @@
 use Rattle.std.proofs.Common.{refl, ap, sym, ◌∙◌}
 use Rattle.std.specs.List.{concat}
-use Rattle.h3_wire.specs.UnreadFrames.{UnreadFrames}
+use Rattle.h3_frames.specs.UnreadFrames.{UnreadFrames}
 use Rattle.h3_unidirectional.proofs.PeerLaws.{peer_refused}
 use Rattle.h3_unidirectional.specs.contracts.control.PeerControl.{the_view}
 use Rattle.h3_unidirectional.proofs.FirstReads.{no_goaway_first, no_push_first, no_update_first}

@@ -2,10 +2,10 @@ use Rattle.std.proofs.Common.{sym, subst}
 use Rattle.std.specs.List.{concat}
 use Rattle.h3_wire.specs.Asking.{Asks}
 use Rattle.h3_wire.specs.Streams.{Framing, stream_part}
-use Rattle.h3_wire.specs.Tries.{Expects}
-use Rattle.h3_wire.specs.TryLaws.{Awaits-more}
+use Rattle.h3_frames.specs.Tries.{Expects}
+use Rattle.h3_frames.specs.TryLaws.{Awaits-more}
 use Rattle.h3_wire.proofs.frame.FrameStream.ask.Goals as goal
-use Rattle.h3_wire.specs.Frames.{plain_frames}
+use Rattle.h3_frames.specs.Frames.{plain_frames}
 
 pub invariant_of-self : goal.invariant_of-self
 invariant_of-self g c =

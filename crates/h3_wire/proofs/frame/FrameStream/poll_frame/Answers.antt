@@ -3,7 +3,7 @@ use Rattle.h3_wire.specs.Asking.{goes_on}
 use Rattle.h3_wire.specs.Source.{done}
 use Rattle.h3_wire.proofs.Asking.{asked_then}
 use Rattle.h3_wire.proofs.GivenPieces.{passes_then, rest_passes}
-use Rattle.h3_wire.specs.PieceLaws.{rest_same}
+use Rattle.h3_frames.specs.PieceLaws.{rest_same}
 use Rattle.h3_wire.specs.Streams.{AsksFirst, poll_error}
 use Rattle.h3_wire.proofs.Reading.{no_error_first}
 use Rattle.h3_wire.proofs.frame.FrameStream.poll_frame.Goals as goal

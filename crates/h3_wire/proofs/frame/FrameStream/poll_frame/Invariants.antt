@@ -1,12 +1,12 @@
 use Rattle.std.proofs.Common.{◌≡◌, ◌≤◌, ◌⊎◌, length, false, Option, None, Result}
 use Rattle.h3_wire.specs.declared.quic.Poll.{Poll}
-use Rattle.h3_wire.specs.declared.proto.frame.PayloadLen.{PayloadLen}
-use Rattle.h3_wire.specs.declared.proto.frame.Frame.{Frame}
-use Rattle.h3_wire.specs.declared.frame.errors.FrameStreamError.{FrameStreamError}
+use Rattle.h3_frames.specs.declared.proto.frame.PayloadLen.{PayloadLen}
+use Rattle.h3_frames.specs.declared.proto.frame.Frame.{Frame}
+use Rattle.h3_frames.specs.declared.frame.errors.FrameStreamError.{FrameStreamError}
 use Rattle.h3_wire.specs.Asking.{Rounds}
 use Rattle.h3_wire.specs.Source.{Asked, coming}
 use Rattle.h3_wire.specs.Given.{PassesPieces}
-use Rattle.h3_wire.specs.Known.{known}
+use Rattle.h3_frames.specs.Known.{known}
 use Rattle.h3_wire.specs.Streams.{Framing, left, AsksFirst}
 use Rattle.h3_wire.proofs.frame.FrameStream.poll_frame.Given as goal
 

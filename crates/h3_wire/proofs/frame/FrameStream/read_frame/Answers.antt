@@ -4,18 +4,18 @@ use Rattle.std.proofs.lemmas.List.{nil_from_length}
 use Rattle.h3_wire.specs.Source.{coming}
 use Rattle.h3_wire.specs.Given.{AddsPieces}
 use Rattle.h3_wire.proofs.GivenPieces.{adds_passes, passes_then, rest_passes}
-use Rattle.h3_wire.specs.PieceLaws.{ending_rest}
-use Rattle.h3_wire.specs.Tries.{Expects}
-use Rattle.h3_wire.specs.TryLaws.{Awaits-more}
+use Rattle.h3_frames.specs.PieceLaws.{ending_rest}
+use Rattle.h3_frames.specs.Tries.{Expects}
+use Rattle.h3_frames.specs.TryLaws.{Awaits-more}
 use Rattle.h3_wire.specs.Streams.{Framing}
 use Rattle.h3_wire.specs.declared.quic.Poll.TheVariants.{Ready, Pending}
-use Rattle.h3_wire.specs.declared.frame.errors.FrameStreamError.TheVariants as stream
+use Rattle.h3_frames.specs.declared.frame.errors.FrameStreamError.TheVariants as stream
 use Rattle.h3_wire.specs.declared.stream.Received.TheVariants as received
 use Rattle.h3_wire.specs.Asking.{answers_with}
 use Rattle.h3_wire.proofs.Rounds.{round, round_fails, some_at_end, none_at_end}
 use Rattle.h3_wire.proofs.TakenFrames.{taken, taken_fewer, polls_end, polls_error, polls_frame, polls_same}
 use Rattle.h3_wire.proofs.frame.FrameStream.read_frame.Goals as goal
-use Rattle.h3_wire.specs.Frames.{plain_frames}
+use Rattle.h3_frames.specs.Frames.{plain_frames}
 
 pub invariant_of-self : goal.invariant_of-self
 invariant_of-self g c =

@@ -1,7 +1,7 @@
 use Rattle.std.proofs.Common.{length, subst}
 use Rattle.std.specs.List.{concat}
-use Rattle.h3_wire.specs.PieceLaws.{ending_rest}
-use Rattle.h3_wire.specs.Pieces.{IsRest}
+use Rattle.h3_frames.specs.PieceLaws.{ending_rest}
+use Rattle.h3_frames.specs.Pieces.{IsRest}
 use Rattle.h3_wire.specs.Streams.{Buffered}
 use Rattle.h3_wire.proofs.stream.BufRecvStream.take_number.Goals as goal
 

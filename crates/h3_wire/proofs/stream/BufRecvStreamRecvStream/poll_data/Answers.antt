@@ -1,7 +1,7 @@
 use Rattle.std.proofs.Common.{refl, subst, Ok, Some}
 use Rattle.h3_wire.specs.declared.quic.Poll.TheVariants.{Ready}
 use Rattle.h3_wire.specs.Streams.{Buffered}
-use Rattle.h3_wire.proofs.PieceLemmas.{first_is}
+use Rattle.h3_frames.specs.PieceLaws.{first_is}
 use Rattle.h3_wire.specs.Buffering.{AnswersFrom, buffered}
 use Rattle.h3_wire.proofs.stream.BufRecvStreamRecvStream.poll_data.Goals as goal
 

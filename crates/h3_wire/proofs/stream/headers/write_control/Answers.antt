@@ -1,10 +1,9 @@
 use Rattle.std.proofs.Common.{◌≤◌, refl, length, length-append, arith, subst}
 use Rattle.h3_coding.specs.Encodings.{encoding}
 use Rattle.h3_proto.specs.Pairs.{payload_of}
-use Rattle.h3_wire.specs.Encoded.{frame_encoding, head_encoding}
-use Rattle.h3_wire.proofs.Writes.{on_err, on_err_then, begins_with, begins_behind}
-use Rattle.h3_wire.specs.EncodedLaws.{length-encoding}
-use Rattle.h3_wire.proofs.WrittenFrames.{length-head}
+use Rattle.h3_frames.specs.Encoded.{frame_encoding, head_encoding}
+use Rattle.h3_frames.specs.WritesLaws.{on_err, on_err_then, begins_with, begins_behind}
+use Rattle.h3_frames.specs.EncodedLaws.{length-encoding, length-head}
 use Rattle.h3_wire.proofs.stream.headers.write_control.Goals as goal
 
 pub returns-in_err-write_type-clause-err : goal.returns-in_err-write_type-clause-err

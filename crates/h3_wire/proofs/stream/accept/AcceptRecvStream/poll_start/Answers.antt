@@ -1,12 +1,12 @@
 use Rattle.std.proofs.Common.{length, arith, refl, rules, sym, ◌∙◌, ap, inl, inr, Ok, Err, Some}
 use Rattle.h3_wire.specs.declared.quic.Poll.TheVariants.{Ready, Pending}
-use Rattle.h3_wire.specs.declared.frame.errors.FrameStreamError.TheVariants as stream
+use Rattle.h3_frames.specs.declared.frame.errors.FrameStreamError.TheVariants as stream
 use Rattle.h3_wire.specs.declared.stream.Received.TheVariants as received
 use Rattle.h3_wire.specs.declared.stream.accept.PollTypeError.TheVariants as failed
 use Rattle.h3_wire.specs.Starting.{starts, stops, reads_on}
 use Rattle.h3_wire.specs.Source.{done}
 use Rattle.h3_wire.proofs.GivenPieces.{passes_then, rest_passes, adds_passes}
-use Rattle.h3_wire.specs.PieceLaws.{rest_same}
+use Rattle.h3_frames.specs.PieceLaws.{rest_same}
 use Rattle.h3_wire.proofs.Accepts.{takes_on, takes_no_more, asks_on, asked_on}
 use Rattle.h3_wire.proofs.stream.accept.AcceptRecvStream.poll_start.Goals as goal
 

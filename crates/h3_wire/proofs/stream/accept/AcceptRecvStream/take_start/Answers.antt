@@ -1,5 +1,5 @@
 use Rattle.std.proofs.Common.{refl}
-use Rattle.h3_wire.specs.PieceLaws.{rest_is}
+use Rattle.h3_frames.specs.PieceLaws.{rest_is}
 use Rattle.h3_wire.proofs.stream.accept.AcceptRecvStream.take_start.Goals as goal
 
 pub returns-clause-starts : goal.returns-clause-starts

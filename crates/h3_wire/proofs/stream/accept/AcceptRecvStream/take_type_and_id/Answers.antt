@@ -1,4 +1,4 @@
-use Rattle.h3_wire.specs.PieceLaws.{rest_then}
+use Rattle.h3_frames.specs.PieceLaws.{rest_then}
 use Rattle.h3_wire.proofs.stream.accept.AcceptRecvStream.take_type_and_id.Goals as goal
 
 pub returns-clause-rest : goal.returns-clause-rest

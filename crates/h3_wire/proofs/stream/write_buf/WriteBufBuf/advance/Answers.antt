@@ -1,7 +1,7 @@
 use Rattle.std.proofs.Common.{◌≡◌, ◌+◌, ◌-◌, ◌++◌, min, length, drop, ◌∙◌, ap}
-use Rattle.h3_wire.specs.Lent.{lent_left}
-use Rattle.h3_wire.specs.Outgoing.{Outgoing, all_of}
-use Rattle.h3_wire.proofs.Passing.{pass, pass_first, pass_second}
+use Rattle.h3_frames.specs.Lent.{lent_left}
+use Rattle.h3_frames.specs.Outgoing.{Outgoing, all_of}
+use Rattle.h3_frames.specs.PassingLaws.{pass, pass_first, pass_second}
 use Rattle.h3_wire.proofs.stream.write_buf.WriteBufBuf.advance.Goals as goal
 
 pub returns-clause-value : goal.returns-clause-value

@@ -1,0 +1,37 @@
+use Rattle.std.proofs.Common.{◌≡◌, ◌++◌, ◌≤◌, length, arith, ap, sym, subst, ◌∙◌}
+use Rattle.std.specs.List.{concat}
+use Rattle.h3_frames.specs.ExcessiveFrames.{begins_section}
+use Rattle.h3_frames.specs.Known.{known_by}
+use Rattle.h3_frames.specs.UnknownSize.{IsPassing, Sparing, suits}
+use Rattle.h3_frames.proofs.SessionFrames.{under_way_begins, unsuited}
+use Rattle.h3_frames.proofs.SparedExcess.{left_behind}
+use Rattle.h3_frames.proofs.SparedPieces.{is_passing, size_of_both}
+use Rattle.h3_frames.proofs.frame.sparing.FrameBytes.begins_section.Goals as goal
+
+pub returns-then-len-self : goal.returns-then-len-self
+returns-then-len-self c =
+    let i = c.self.inside in
+    let is = subst IsPassing c.self.view_is (is_passing i.known_to i.passing i.gone i.let_go.pieces i.kept.pieces c.self.invariant.0) in
+    let size : i.passing ≡ c.args.self.now.passing = ap (λ (s : Sparing). s.passing) c.self.view_is in
+    sym (under_way_begins c.args.self.now c.args.kinds is (omega (arith, size, c.len.ensures, c.if-len-self.true)))
+
+pub returns-then-not-suits : goal.returns-then-not-suits
+returns-then-not-suits c =
+    let i = c.self.inside in
+    let is = subst IsPassing c.self.view_is (is_passing i.known_to i.passing i.gone i.let_go.pieces i.kept.pieces c.self.invariant.0) in
+    sym (unsuited c.args.self.now c.args.kinds is (sym c.suits.ensures ∙ c.if-not-suits.true)).begins
+
+pub begins_section-requires : goal.begins_section-requires
+begins_section-requires c =
+    let i = c.self.inside in
+    let all : length (concat (i.let_go.pieces ++ i.kept.pieces)) ≡ length (concat c.args.self.now.pieces) = ap (λ (s : Sparing). length (concat s.pieces)) c.self.view_is in
+    record { there = omega (arith, c.self.invariant.0.gone_is, size_of_both i.let_go.pieces i.kept.pieces, all, c.len.ensures, c.if-len-self.false) }
+
+pub returns : goal.returns
+returns c =
+    let i = c.self.inside in
+    let there : length (concat (i.let_go.pieces ++ i.kept.pieces)) ≡ length (concat c.args.self.now.pieces) = ap (λ (s : Sparing). length (concat s.pieces)) c.self.view_is in
+    let whole : i.passing ≤ length (concat (i.let_go.pieces ++ i.kept.pieces)) = omega (arith, there, c.len.ensures, c.if-len-self.false) in
+    c.begins_section.ensures
+    ∙ ap begins_section (left_behind c.args.kinds i.known_to i.let_go.pieces i.kept.pieces i.passing i.gone (ap (λ (s : Sparing). suits s.known_to c.args.kinds) c.self.view_is ∙ sym c.suits.ensures ∙ c.if-not-suits.false) c.self.invariant.0 whole)
+    ∙ ap (λ (s : Sparing). begins_section (known_by c.args.kinds (concat s.pieces))) c.self.view_is

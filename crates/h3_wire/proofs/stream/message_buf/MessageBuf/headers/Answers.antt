@@ -1,4 +1,0 @@
-use Rattle.h3_wire.proofs.stream.message_buf.MessageBuf.headers.Goals as goal
-
-pub returns-clause-head : goal.returns-clause-head
-returns-clause-head g c = search
