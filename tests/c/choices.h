@@ -9,6 +9,8 @@ namespace {
 // Which way a program goes: a number below the count, of those that the caller of this header chooses by.
 uint32_t below(uint32_t count);
 
+bool is_chosen_out(); // no further choices are left: the program ends
+
 bool one_in(uint32_t count) { return below(count) == 0; }
 template <class T, size_t n>
 const T &one_of(const T (&choices)[n]) {
@@ -36,7 +38,4 @@ void *__wrap_malloc(size_t size) { return refuses() ? nullptr : __real_malloc(si
 void *__wrap_realloc(void *block, size_t size) { return refuses() ? nullptr : __real_realloc(block, size); }
 }
 
-namespace {
-
-} // namespace
 #endif

@@ -11,7 +11,6 @@
 
 namespace {
 
-bool is_chosen_out(); // no further choices are left: the program ends
 
 // ---- lists ----
 

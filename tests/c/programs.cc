@@ -2,26 +2,11 @@
 //
 //     programs FIRST_SEED COUNT
 #include "program.h"
+#include "seeds.h"
 
 namespace {
 
-uint64_t random_state;
-unsigned steps_left;
-
-uint32_t below(uint32_t count) {
-  random_state ^= random_state << 13;
-  random_state ^= random_state >> 7;
-  random_state ^= random_state << 17;
-  return static_cast<uint32_t>((random_state >> 11) % count);
-}
-
-bool is_chosen_out() { return steps_left-- == 0; }
-
-void begin(uint64_t seed) {
-  random_state = seed * 0x9e3779b97f4a7c15u + 1;
-  for (int i = 0; i < 10; i++) below(2);
-  steps_left = 60 + below(one_in(8) ? 1500 : 160);
-}
+unsigned steps() { return 60 + below(one_in(8) ? 1500 : 160); }
 
 void tell() {
   printf("%s programs: %lu pairs, %lu calls, %lu allocations refused: %lu sends in order, ", counts.violations ? "failed" : "ok",
@@ -41,12 +26,7 @@ void tell() {
 } // namespace
 
 int main(int count, char **arguments) {
-  if (count != 3) return 2;
-  uint64_t first = strtoull(arguments[1], nullptr, 10), last = first + strtoull(arguments[2], nullptr, 10);
-  for (uint64_t seed = first; seed < last; seed++) {
-    begin(seed);
-    Program(seed).run();
-  }
+  if (!run_seeds<Program>(count, arguments, steps)) return 2;
   tell();
   return counts.violations != 0;
 }
