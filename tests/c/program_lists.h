@@ -11,7 +11,6 @@
 
 namespace {
 
-
 // ---- lists ----
 
 struct Field {

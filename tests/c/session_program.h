@@ -25,7 +25,6 @@
 
 namespace {
 
-
 // of those that there are
 uint64_t one_of_all(const std::vector<uint64_t> &all) { return all[below(static_cast<uint32_t>(all.size()))]; }
 
