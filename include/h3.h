@@ -116,7 +116,9 @@
  *                            library that keeps no copy of what it sends (ngtcp2, msquic) needs the
  *                            bytes until they are acknowledged: keep the buffer that h3_outgoing
  *                            filled until then. One that copies (quic-go) needs nothing.
- *   the stream is closed     nothing to call
+ *   the stream is closed     h3_close_stream(id) of a stream of a WebTransport session, and at a
+ *                            client of each bidirectional stream that its server opened (id % 4 is
+ *                            1); of a request nothing to call
  *   the connection closes    h3_free
  *
  * Read in the same way at a client and at a server. A server learns of a request by data on a new
@@ -152,11 +154,12 @@
  *
  *   h3_new, h3_new_with, h3_new_resumed     the local control, encoder and decoder stream
  *   h3_send_head, h3_send_trailer           that stream, and the local encoder stream
- *   h3_send_body, h3_send_body_of           that stream
+ *   h3_send_body, h3_send_body_of,          that stream
+ *   h3_send_raw, h3_open_session_stream
  *   h3_finish                               no bytes; the end of that stream (h3_outgoing then says
  *                                           fin, with 0 bytes if none wait)
  *   h3_goaway, h3_shutdown_notice,          the local control stream
- *   h3_shutdown
+ *   h3_shutdown, h3_send_priority
  *   h3_read, h3_deliver, h3_deliver_end,    the local encoder stream (the peer's settings came),
  *   h3_deliver_reset, h3_pull               the local decoder stream (the peer's encoder stream was
  *                                           read, a section was decoded, a stream was canceled)
