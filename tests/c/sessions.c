@@ -548,6 +548,34 @@ static uint64_t next_by_priority(int side) {
   return id;
 }
 
+/* a half that was finished before: its FIN waits on, if QUIC did not take it */
+static void of_finished_before(void) {
+  for (int taken = 0; taken < 2; taken++) {
+    uint8_t bytes[64];
+    size_t n = 0;
+    uint32_t fin = 0;
+    make_both(1);
+    HOLDS(begin() == 0);
+    uint64_t id = opened(CLIENT, 0, 1);
+    carry(CLIENT, id);
+    send_head(SERVER, id, OKAY, 1);
+    IS(h3_finish(&ends[SERVER], id, NULL), H3_OK);
+    IS(h3_outgoing(&ends[SERVER], id, bytes, sizeof bytes, &n, NULL, &fin), H3_OK);
+    HOLDS(n > 0 && fin == 1);
+    IS(h3_advance(&ends[SERVER], id, n), H3_OK);
+    if (taken) IS(h3_end_taken(&ends[SERVER], id), H3_OK);
+    tells(SERVER, id, 0);
+    HOLDS(next_by_priority(SERVER) == (taken ? 99 : id));
+    IS(h3_send_raw(&ends[SERVER], id, "x", 1, NULL), H3_OUT_OF_ORDER);
+    IS(h3_outgoing(&ends[SERVER], id, bytes, sizeof bytes, &n, NULL, &fin), H3_OK);
+    HOLDS(n == 0 && fin == (uint32_t)!taken);
+    IS(h3_end_taken(&ends[SERVER], id), taken ? H3_NONE : H3_OK);
+    HOLDS(next_by_priority(SERVER) == 99 && next_to_send(SERVER, 0) == 99);
+    closes(SERVER, id, 1, 0);
+    drop();
+  }
+}
+
 static void of_turns(void) {
   static const uint64_t turns[] = {14, 8, 12, 8, 4, 8, 14, 8, 12, 8}; /* bytes of a request were taken before */
   make_both(1);
@@ -713,6 +741,7 @@ int main(void) {
   of_unread();
   of_over();
   of_reset_before();
+  of_finished_before();
   of_turns();
   of_codes();
   of_memory();

@@ -10,6 +10,7 @@ use Rattle.h3_connection.specs.Answers.{call_refused}
 use Rattle.h3_connection.specs.Calls.{AllSame, Sets}
 use Rattle.h3_connection.specs.Codes.{id_error}
 use Rattle.h3_connection.specs.Coming.{fields_behind}
+use Rattle.h3_connection.specs.EndsWaiting.{TakesEnd}
 use Rattle.h3_connection.specs.ReceivingContracts.{PullsNext}
 use Rattle.h3_connection.specs.SendingContracts.{Resets}
 use Rattle.h3_connection.specs.State.{EndpointState, kept_at}
@@ -22,13 +23,13 @@ use Rattle.h3_connection.specs.declared.event.Refusal.TheVariants.{NotOpen}
 use Rattle.h3_incoming.specs.Answering.{Lists, has_header}
 use Rattle.h3_session.specs.Listing.{ListsNext}
 use Rattle.h3_webtransport_streams.specs.Receiver.{Receiver, pulled, raw, told_or_raw, unless_reset}
-use Rattle.h3_webtransport_streams.specs.Sender.{cut_off}
+use Rattle.h3_webtransport_streams.specs.Sender.{cut_off, finished}
 use Rattle.h3_webtransport_streams.specs.SessionStream.{SessionStream, Acts, ActsOn, Changes, ChangesOn, entered, on_receiver, receiver_of, sending}
 use Rattle.h3_webtransport_streams.specs.Sessions.{SessionsState}
 use Rattle.h3_webtransport.specs.Closing.{Forgets}
 use Rattle.h3_webtransport.specs.Joint.{Joint, is_begun_by_peer, is_read, is_server_opened, may_begin, stored_at}
 use Rattle.h3_webtransport.specs.Parts.{ActsHere, StreamsAlone}
-use Rattle.h3_webtransport.specs.Receiving.{Begins, BeginsAt, BeginsIf, Enters, ListsAgain, PullsFirst, PullsOn, PullsRaw, PullsThere, joined, pulls_raw, session_of}
+use Rattle.h3_webtransport.specs.Receiving.{Begins, BeginsAt, BeginsIf, Enters, ListsAgain, PullsFirst, PullsOn, PullsRaw, PullsThere, TakesWaiting, joined, pulls_raw, session_of}
 use Rattle.h3_webtransport.specs.Receiving.PullsFirst.{pulls}
 
 -- no stream of a session has such an id yet
@@ -88,26 +89,62 @@ sends_none e s id is session at =
     (refl, record { here = subst (λ b. stored_at s id ≡ Some (entered session b)) is at; others = λ q differs. refl })
 
 -- or no message,
-module _ (e f : EndpointState) (s : Joint) (id : ℕ) where
-  pub sends_on : (result : Result Unit Refusal) → is_request_stream id ≡ true → is_ok result ≡ true → Resets e f id result → (session : ℕ)
-      → stored_at s id ≡ Some (entered session (is_request_stream id)) → Enters e f s.sessions.streams s.sessions.streams id session (is_request_stream id)
-  sends_on result is ok resets session at =
-      let here : stored_at s id ≡ Some (entered session true) = subst (λ b. stored_at s id ≡ Some (entered session b)) is at in
-      subst (Enters e f s.sessions.streams s.sessions.streams id session) (sym is)
-      (result, (resets, record { here = here ∙ ap (λ b. Some (joined session b)) (sym ok); others = λ q differs. refl }))
+module _ (e mid f : EndpointState) (s : Joint) (id : ℕ) (result : Result Unit Refusal) where
+  entered_there : is_request_stream id ≡ true → (session : ℕ) → stored_at s id ≡ Some (entered session (is_request_stream id)) → stored_at s id ≡ Some (entered session true)
+  entered_there is session at = subst (λ b. stored_at s id ≡ Some (entered session b)) is at
+
+  pub sends_on : is_request_stream id ≡ true → is_ok result ≡ true → Resets e mid id result → (session : ℕ)
+      → stored_at s id ≡ Some (entered session (is_request_stream id)) → Enters e mid s.sessions.streams s.sessions.streams id session (is_request_stream id)
+  sends_on is ok resets session at =
+      subst (Enters e mid s.sessions.streams s.sessions.streams id session) (sym is)
+      (record {
+        result = result;
+        mid = mid;
+        waited = false;
+        resets = resets;
+        takes = subst (λ b. TakesWaiting b mid mid id false) (sym ok) (refl, refl);
+        sets = record { here = entered_there is session at ∙ ap (λ b. Some (joined session b false)) (sym ok); others = λ q differs. refl };
+      })
+
+  enters_with : (v : SessionsState) (waited : Bool) → is_request_stream id ≡ true → is_ok result ≡ false → Resets e mid id result → TakesEnd mid f id waited → (session : ℕ)
+      → Sets s.sessions.streams v.streams id (joined session false waited) → Enters e f s.sessions.streams v.streams id session (is_request_stream id)
+  enters_with v waited is ok resets takes session sets =
+      subst (Enters e f s.sessions.streams v.streams id session) (sym is)
+      (record {
+        result = result;
+        mid = mid;
+        waited = waited;
+        resets = resets;
+        takes = subst (λ b. TakesWaiting b mid f id waited) (sym ok) takes;
+        sets = subst (λ b. Sets s.sessions.streams v.streams id (joined session b waited)) (sym ok) sets;
+      })
+
+  -- or the end alone,
+  pub sends_the_end : (v : SessionsState) (waited : Bool) (again : Result Unit Refusal) → is_request_stream id ≡ true → is_ok result ≡ false → Resets e mid id result → TakesEnd mid f id waited → waited ≡ true
+      → Acts (Some NotOpen) (sending (Some NotOpen) finished) s.sessions.streams v.streams id (call_refused again) → (session : ℕ)
+      → stored_at s id ≡ Some (entered session (is_request_stream id)) → Enters e f s.sessions.streams v.streams id session (is_request_stream id)
+  sends_the_end v waited again is ok resets takes ends acts session at =
+      let sets = (subst (ActsOn (Some NotOpen) (sending (Some NotOpen) finished) s.sessions.streams v.streams id (call_refused again)) (entered_there is session at) acts).1 in
+      enters_with v waited is ok resets takes session (subst (λ b. Sets s.sessions.streams v.streams id (joined session false b)) (sym ends) sets)
 
   -- or nothing more
-  pub sends_no_more : (v : SessionsState) (result again : Result Unit Refusal) → is_request_stream id ≡ true → is_ok result ≡ false → Resets e f id result
+  pub sends_no_more : (v : SessionsState) (waited : Bool) (again : Result Unit Refusal) → is_request_stream id ≡ true → is_ok result ≡ false → Resets e mid id result → TakesEnd mid f id waited → waited ≡ false
       → Acts (Some NotOpen) (sending (Some NotOpen) cut_off) s.sessions.streams v.streams id (call_refused again) → (session : ℕ)
       → stored_at s id ≡ Some (entered session (is_request_stream id)) → Enters e f s.sessions.streams v.streams id session (is_request_stream id)
-  sends_no_more v result again is ok resets acts session at =
-      let here : stored_at s id ≡ Some (entered session true) = subst (λ b. stored_at s id ≡ Some (entered session b)) is at in
-      let sets = (subst (ActsOn (Some NotOpen) (sending (Some NotOpen) cut_off) s.sessions.streams v.streams id (call_refused again)) here acts).1 in
-      subst (Enters e f s.sessions.streams v.streams id session) (sym is)
-      (result, (resets, subst (λ b. Sets s.sessions.streams v.streams id (joined session b)) (sym ok) sets))
+  sends_no_more v waited again is ok resets takes ends acts session at =
+      let sets = (subst (ActsOn (Some NotOpen) (sending (Some NotOpen) cut_off) s.sessions.streams v.streams id (call_refused again)) (entered_there is session at) acts).1 in
+      enters_with v waited is ok resets takes session (subst (λ b. Sets s.sessions.streams v.streams id (joined session false b)) (sym ends) sets)
 
 enters_again : (e f : EndpointState) (a b c : Streams SessionStream) (id session : ℕ) (x : SessionStream) (both : Bool) → Sets a b id x → Enters e f b c id session both → Enters e f a c id session both
-enters_again e f a b c id session x true first (result, (resets, sets)) = (result, (resets, sets_again a b c id x (joined session (is_ok result)) first sets))
+enters_again e f a b c id session x true first enters =
+    record {
+      result = enters.result;
+      mid = enters.mid;
+      waited = enters.waited;
+      resets = enters.resets;
+      takes = enters.takes;
+      sets = sets_again a b c id x (joined session (is_ok enters.result) enters.waited) first enters.sets;
+    }
 enters_again e f a b c id session x false first (same, sets) = (same, sets_again a b c id x (entered session false) first sets)
 
 -- a stream that was entered is one of a session

@@ -6,6 +6,7 @@ use Rattle.h3_proto.specs.StreamIds.{is_request_stream}
 use Rattle.h3_connection.specs.Answers.{call_refused}
 use Rattle.h3_connection.specs.Calls.{AllSame, Sets}
 use Rattle.h3_connection.specs.Codes.{id_error, stream_creation_error}
+use Rattle.h3_connection.specs.EndsWaiting.{TakesEnd}
 use Rattle.h3_connection.specs.ReceivingContracts.{Delivers, DeliversEnd, DeliversReset, PullsNext}
 use Rattle.h3_connection.specs.SendingContracts.{Cancels, Resets}
 use Rattle.h3_connection.specs.State.{EndpointState}
@@ -23,7 +24,7 @@ use Rattle.h3_session.specs.Lacking.{delivery_error}
 use Rattle.h3_webtransport_streams.specs.Begun.{Delivers as DeliversRaw, stream_or_unseen}
 use Rattle.h3_webtransport_streams.specs.Closing.{Closes}
 use Rattle.h3_webtransport_streams.specs.Receiver.{canceled, pulled}
-use Rattle.h3_webtransport_streams.specs.Sender.{cut_off}
+use Rattle.h3_webtransport_streams.specs.Sender.{cut_off, finished}
 use Rattle.h3_webtransport_streams.specs.SessionStream.{SessionStream, Changes, entered, gives_up, receiving, sending, unread_of}
 use Rattle.h3_webtransport_streams.specs.declared.receiver.Begun.{Begun}
 use Rattle.h3_webtransport_streams.specs.declared.receiver.Begun.TheVariants as begun
@@ -117,17 +118,28 @@ abbrev pub session_of : Pull → Option ℕ
 session_of (pull.Item (item.Session session)) = Some session
 session_of _ = None
 
--- it goes both ways, and this side sends on it, unless sending there has ended before
-abbrev pub joined : ℕ → Bool → SessionStream
-joined session true = entered session true
-joined session false = (sending (Some NotOpen) cut_off (entered session true)).1
+-- It goes both ways, and this side sends on it. Where sending there has ended before it has ended here, and an end that waited there waits here.
+abbrev pub joined : ℕ → Bool → Bool → SessionStream
+joined session true waited = entered session true
+joined session false true = (sending (Some NotOpen) finished (entered session true)).1
+joined session false false = (sending (Some NotOpen) cut_off (entered session true)).1
+
+-- where sending has ended before: whether its end waits, which is taken there
+abbrev pub TakesWaiting : Bool → EndpointState → EndpointState → ℕ → Bool → Type 0
+TakesWaiting true e f id waited = (waited ≡ false) × (f ≡ e)
+TakesWaiting false e f id waited = TakesEnd e f id waited
 
 -- it is entered, and no message goes out on it
-abbrev pub EntersBothWays : EndpointState → EndpointState → Streams SessionStream → Streams SessionStream → ℕ → ℕ → Result Unit Refusal → Type 0
-EntersBothWays e f old new id session result = Resets e f id result × Sets old new id (joined session (is_ok result))
+pub record EntersBothWays (e f : EndpointState) (old new : Streams SessionStream) (id session : ℕ) : Type 0 where
+  pub result : Result Unit Refusal
+  pub mid : EndpointState
+  pub waited : Bool
+  pub resets : Resets e mid id result
+  pub takes : TakesWaiting (is_ok result) mid f id waited
+  pub sets : Sets old new id (joined session (is_ok result) waited)
 
 abbrev pub Enters : EndpointState → EndpointState → Streams SessionStream → Streams SessionStream → ℕ → ℕ → Bool → Type 0
-Enters e f old new id session true = (result : Result Unit Refusal) × EntersBothWays e f old new id session result
+Enters e f old new id session true = EntersBothWays e f old new id session
 Enters e f old new id session false = (f ≡ e) × Sets old new id (entered session false)
 
 abbrev pub Begins : Bool → EndpointState → EndpointState → Joint → Joint → ℕ → ℕ → Pull → Pull → Type 0

@@ -247,8 +247,9 @@ impl Sessions {
         self.begin_sending(endpoint, id);
     }
 
-    // On a stream of a session that the endpoint reads as a request no message is sent. If sending there has ended before, it has ended here.
-    #[tactic(auto, using(crate::proofs::Pulling::sends_none, crate::proofs::Pulling::sends_on, crate::proofs::Pulling::sends_no_more))]
+    // On a stream of a session that the endpoint reads as a request no message is sent. If sending there has ended before, it has ended here:
+    // an end that QUIC did not take there waits here.
+    #[tactic(auto, using(crate::proofs::Pulling::sends_none, crate::proofs::Pulling::sends_on, crate::proofs::Pulling::sends_the_end, crate::proofs::Pulling::sends_no_more))]
     fn begin_sending(&mut self, endpoint: &mut Endpoint, id: StreamId)
         ensures begins { (session : ℕ) → stored_at self.old id ≡ Some (entered session (is_request_stream id))
             → Enters endpoint.old endpoint.new self.old.sessions.streams self.new.sessions.streams id session (is_request_stream id) }
@@ -260,8 +261,12 @@ impl Sessions {
         if endpoint.reset(id).is_ok() {
             return;
         }
-        // (not refused: nothing was sent yet)
-        let _reset = self.streams.reset(id);
+        // (neither is refused: nothing was sent yet)
+        if endpoint.end_taken(id) {
+            let _finished = self.streams.finish(id);
+        } else {
+            let _reset = self.streams.reset(id);
+        }
     }
 
     /// Nothing more of a stream is needed. What comes on a stream of the peer that goes one way is read here from then on, and thrown away.
