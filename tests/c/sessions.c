@@ -658,6 +658,80 @@ static void of_memory(void) {
   }
 }
 
+/* what came on a stream is still there, and its call again ends it */
+static void still_closes(int side, uint64_t id, uint32_t stop, uint32_t reset) {
+  HOLDS(unread(side, id) == 11 && next_of_session(side, 0, 0) == id);
+  IS(pull(side, id).kind, H3_RAW);
+  closes(side, id, stop, reset);
+}
+
+/* nothing of a stream that was closed comes any more, so its end is not waited for */
+static void is_over(int side, uint64_t id, uint32_t both) {
+  HOLDS(pull(side, id).kind != H3_RAW && unread(side, id) == 0 && next_of_session(side, 0, 0) == 99);
+  if (side == SERVER || !both) IS(h3_deliver(&ends[side], id, "more", 4, NULL), H3_AFTER_END);
+}
+
+/* an allocation that fails closes no stream: the frames that are due are those that the call names once there is memory. So many others are closed before */
+static int closes_later(int side, uint32_t both, uint32_t end, int others) {
+  uint32_t stop = 99, reset = 99;
+  make_both(1);
+  HOLDS(begin() == 0);
+  for (int i = 0; i < others; i++) closes(side, comes(side, both, BYTES("other")), 1, both);
+  uint64_t id = comes(side, both, BYTES("all of this"));
+  if (end) IS(h3_deliver_end(&ends[side], id, NULL), H3_OK);
+  left = 0;
+  uint32_t n = h3_close_stream(&ends[side], id, &stop, &reset, NULL);
+  left = -1;
+  if (n == H3_MEMORY) {
+    HOLDS(stop == 99 && reset == 99);
+    still_closes(side, id, !end, both);
+  } else {
+    IS(n, H3_OK);
+    HOLDS(stop == !end && reset == both);
+  }
+  is_over(side, id, both);
+  drop();
+  return n == H3_MEMORY;
+}
+
+/* the same while something else is kept, since an allocation failed: a reset that is kept too is read before what comes later */
+static int closes_behind(uint32_t both, uint32_t end, int64_t reads, int64_t fails) {
+  uint32_t stop = 99, reset = 99;
+  make_both(1);
+  HOLDS(begin() == 0);
+  uint64_t id = comes(SERVER, both, BYTES("all of this"));
+  if (end) IS(h3_deliver_end(&ends[SERVER], id, NULL), H3_OK);
+  left = reads;
+  uint32_t kept = h3_deliver(&ends[SERVER], 2, "\x07\x04\x00", 3, NULL);
+  left = fails;
+  uint32_t n = h3_close_stream(&ends[SERVER], id, &stop, &reset, NULL);
+  left = -1;
+  if (n == H3_MEMORY) {
+    HOLDS(stop == 99 && reset == 99);
+    still_closes(SERVER, id, !end, both);
+  } else {
+    IS(n, H3_OK);
+    HOLDS(stop == !end && reset == both);
+  }
+  is_over(SERVER, id, both);
+  drop();
+  return kept == H3_KEPT ? 1 + (n == H3_MEMORY) : 0;
+}
+
+static void of_closed_later(void) {
+  int later = 0, times[3] = {0};
+  for (int side = 0; side < 2; side++)
+    for (uint32_t both = 0; both < 2; both++)
+      for (uint32_t end = 0; end < 2; end++)
+        for (int others = 0; others < 40; others++) later += closes_later(side, both, end, others);
+  for (uint32_t both = 0; both < 2; both++)
+    for (uint32_t end = 0; end < 2; end++)
+      for (int64_t reads = 0; reads < 4; reads++)
+        for (int64_t fails = 0; fails < 4; fails++) times[closes_behind(both, end, reads, fails)]++;
+  printf("later %d, kept %d %d %d\n", later, times[0], times[1], times[2]);
+  HOLDS(later > 0 && times[1] > 0 && times[2] > 0);
+}
+
 /* with the choice off a server reads what it read before, and answers nothing */
 static void of_choice_off(void) {
   uint64_t id = 99;
@@ -716,6 +790,7 @@ int main(void) {
   of_turns();
   of_codes();
   of_memory();
+  of_closed_later();
   of_choice_off();
   if (!bad) printf("ok " TEST "\n");
   return bad;

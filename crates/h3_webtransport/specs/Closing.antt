@@ -3,10 +3,12 @@ use Rattle.std.specs.Prelude.{◌≡◌, ◌≢◌, ◌||◌, ℕ, Bool, true, f
 use Rattle.h3_proto.specs.StreamIds.{is_request_stream}
 use Rattle.h3_connection.specs.Answers.{call_refused}
 use Rattle.h3_connection.specs.ReceivingContracts.{DeliversReset}
+use Rattle.h3_connection.specs.SendingContracts.{Resets}
 use Rattle.h3_connection.specs.State.{EndpointState}
 use Rattle.h3_connection.specs.declared.event.DeliverError.{DeliverError}
+use Rattle.h3_connection.specs.declared.event.DeliverError.TheVariants as deliver_error
 use Rattle.h3_connection.specs.declared.event.Refusal.{Refusal}
-use Rattle.h3_connection.specs.declared.event.Refusal.TheVariants.{Closed, OutOfMemory}
+use Rattle.h3_connection.specs.declared.event.Refusal.TheVariants.{Closed, Connection, OutOfMemory}
 use Rattle.h3_session.specs.Beside.{DropsSession}
 use Rattle.h3_session.specs.Closing.{ClosesStream}
 use Rattle.h3_session.specs.Lacking.{RefusesDeliveries}
@@ -27,21 +29,45 @@ stop_of (Err refusal) = Err refusal
 abbrev pub given_up_code : ℕ
 given_up_code = 0x10c
 
--- Nothing more of it is delivered, so where its end is still to come it ends as if its sender had reset it.
-abbrev pub EndsThere : Bool → EndpointState → EndpointState → ℕ → Type 0
-EndsThere true e f id = (result : Result Unit DeliverError) × DeliversReset e f id given_up_code result
-EndsThere false e f id = f ≡ e
+-- What this call answers by that of a delivered reset: a fault that was found in what was kept before closes the connection, and a reset that is kept
+-- is stored, so that nothing but it comes of the stream.
+abbrev pub closed_as : Refusal → Refusal
+closed_as (Connection code) = Closed code
+closed_as r = r
 
-abbrev pub EndsIf : Result Bool Refusal → EndpointState → EndpointState → ℕ → Type 0
-EndsIf (Ok stop) e f id = EndsThere stop e f id
-EndsIf (Err refusal) e f id = f ≡ e
+abbrev pub ended_as : Result Unit DeliverError → Result Bool Refusal
+ended_as (Ok done) = Ok true
+ended_as (Err (deliver_error.Refused r)) = Err (closed_as r)
+ended_as (Err (deliver_error.OutOfMemory bytes)) = Err OutOfMemory
+ended_as (Err deliver_error.Kept) = Ok true
+
+-- no message goes out on it
+abbrev pub ResetsIf : Result Bool Refusal → EndpointState → EndpointState → ℕ → Type 0
+ResetsIf (Ok stop) e f id = (result : Result Unit Refusal) × Resets e f id result
+ResetsIf (Err refusal) e f id = f ≡ e
+
+-- Nothing more of it is delivered, so where its end is still to come it ends as if its sender had reset it; for want of memory nothing is done,
+pub record EndsRequest (e f : EndpointState) (id : ℕ) (result : Result Bool Refusal) : Type 0 where
+  pub reset : Result Unit DeliverError
+  pub mid : EndpointState
+  pub delivers : DeliversReset e mid id given_up_code reset
+  pub resets : ResetsIf result mid f id
+  pub is : result ≡ ended_as reset
+
+-- and else it is given up as by the endpoint's own call.
+pub record GivesUpRequest (e f : EndpointState) (id : ℕ) (result : Result Bool Refusal) : Type 0 where
+  pub inner : Result ClosedStream Refusal
+  pub closes : ClosesStream e f id inner
+  pub is : result ≡ stop_of inner
+
+abbrev pub EndsUnless : Option Refusal → EndpointState → EndpointState → ℕ → Result Bool Refusal → Type 0
+EndsUnless None e f id result = EndsRequest e f id result
+EndsUnless (Some refusal) e f id result = GivesUpRequest e f id result
 
 pub record StopsRequest (e f : EndpointState) (id : ℕ) (result : Result Bool Refusal) : Type 0 where
-  pub inner : Result ClosedStream Refusal
-  pub mid : EndpointState
-  pub closes : ClosesStream e mid id inner
-  pub ends : EndsIf result mid f id
-  pub is : result ≡ stop_of inner
+  pub why : Option Refusal
+  pub shows : RefusesDeliveries e id why
+  pub ends : EndsUnless why e f id result
 
 abbrev pub lacks : Option Refusal → Bool
 lacks (Some OutOfMemory) = true
