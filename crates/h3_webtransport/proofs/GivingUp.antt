@@ -15,8 +15,9 @@ use Rattle.h3_webtransport_streams.specs.Begun.{refusal_of}
 use Rattle.h3_webtransport_streams.specs.Receiver.{Receiver}
 use Rattle.h3_webtransport_streams.specs.Sender.{Sender, cut_off, end_told, is_end_next, is_sent_off}
 use Rattle.h3_webtransport_streams.specs.SessionStream.{SessionStream, ActsOn, answer_at, on_sender, passes, receiver_of, sender_of, sending, unseen}
-use Rattle.h3_webtransport.specs.Closing.{ClosesRaw, EndsRequest, EndsUnless, Forgets, GivesUpRequest, ResetsIf, Stops, StopsAt, StopsOneWay, StopsRequest, ended_as, given_up_code, is_cut, resets_raw}
+use Rattle.h3_webtransport.specs.Closing.{ClosesRaw, EndsRequest, EndsUnless, Forgets, GivesUpRequest, ResetsIf, Stops, StopsAt, StopsBehind, StopsOneWay, StopsRequest, ended_as, is_cut, resets_raw}
 use Rattle.h3_webtransport.specs.Joint.{Joint, stored_at}
+use Rattle.h3_webtransport.specs.Keeping.{ReadsKept, given_up_code}
 
 -- what comes on it: it is read here,
 stops_own : (e : EndpointState) (id : ℕ) (r : Option Receiver) (why : Option Refusal) → is_some r ≡ true → why ≡ refusal_of r → Stops r e e id (Ok (is_none why))
@@ -37,13 +38,20 @@ module _ (e f : EndpointState) (id : ℕ) (r : Option Receiver) (result : Result
       at None none = stops
       at (Some x) none = absurd (cc)
 
-  pub stops_request : is_some r ≡ false → is_request_stream id ≡ true → StopsRequest e f id result → Stops r e f id result
+  pub stops_request : is_some r ≡ false → is_request_stream id ≡ true → StopsBehind e f id result → Stops r e f id result
   stops_request there is stops = stops_other there (rw is stops)
 
   pub stops_one_way : is_some r ≡ false → is_request_stream id ≡ false → StopsOneWay e f id result → Stops r e f id result
   stops_one_way there is stops = stops_other there (rw is stops)
 
--- a request ends now, or is refused, or its end came before
+-- a request: what was kept is read first,
+pub stops_behind : (e mid f : EndpointState) (id : ℕ) (result : Result Bool Refusal) → ReadsKept e mid (Ok tt) → StopsRequest mid f id result → StopsBehind e f id result
+stops_behind e mid f id result reads stops = record { read = Ok tt; mid = mid; reads = reads; stops = stops }
+
+pub stops_not : (e mid : EndpointState) (id : ℕ) (refusal : Refusal) → ReadsKept e mid (Err refusal) → StopsBehind e mid id (Err refusal)
+stops_not e mid id refusal reads = record { read = Err refusal; mid = mid; reads = reads; stops = (refl, refl) }
+
+-- and it ends now, or is refused, or its end came before
 module _ (e mid f : EndpointState) (id : ℕ) (result : Result Bool Refusal) (reset : Result Unit DeliverError) where
   pub ends_it : (done : Result Unit Refusal) → DeliversReset e mid id given_up_code reset → result ≡ ended_as reset → is_ok result ≡ true → Resets mid f id done → EndsRequest e f id result
   ends_it done delivers is ok resets = record { reset = reset; mid = mid; delivers = delivers; resets = at result ok; is = is }

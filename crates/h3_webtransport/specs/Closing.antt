@@ -9,7 +9,6 @@ use Rattle.h3_connection.specs.declared.event.DeliverError.{DeliverError}
 use Rattle.h3_connection.specs.declared.event.DeliverError.TheVariants as deliver_error
 use Rattle.h3_connection.specs.declared.event.Refusal.{Refusal}
 use Rattle.h3_connection.specs.declared.event.Refusal.TheVariants.{Closed, Connection, OutOfMemory}
-use Rattle.h3_session.specs.Beside.{DropsSession}
 use Rattle.h3_session.specs.Closing.{ClosesStream}
 use Rattle.h3_session.specs.Lacking.{RefusesDeliveries}
 use Rattle.h3_session.specs.declared.endpoint.closing.ClosedStream.{ClosedStream}
@@ -18,16 +17,13 @@ use Rattle.h3_webtransport_streams.specs.Receiver.{Receiver}
 use Rattle.h3_webtransport_streams.specs.Sender.{Sender, is_end_next, is_sent_off}
 use Rattle.h3_webtransport_streams.specs.SessionStream.{passes, receiver_of, sender_of}
 use Rattle.h3_webtransport.specs.Joint.{Joint, has_stream, stored_at}
+use Rattle.h3_webtransport.specs.Keeping.{Drops, ReadsKept, given_up_code}
 use Rattle.h3_webtransport.specs.Parts.{Parts, StreamsAlone}
 
 -- whether STOP_SENDING is to be sent, as the endpoint's own call says of a request
 abbrev pub stop_of : Result ClosedStream Refusal → Result Bool Refusal
 stop_of (Ok frames) = Ok frames.stop_sending
 stop_of (Err refusal) = Err refusal
-
--- the code that stands for what this side gave up
-abbrev pub given_up_code : ℕ
-given_up_code = 0x10c
 
 -- What this call answers by that of a delivered reset: a fault that was found in what was kept before closes the connection, and a reset that is kept
 -- is stored, so that nothing but it comes of the stream.
@@ -69,20 +65,32 @@ pub record StopsRequest (e f : EndpointState) (id : ℕ) (result : Result Bool R
   pub shows : RefusesDeliveries e id why
   pub ends : EndsUnless why e f id result
 
-abbrev pub lacks : Option Refusal → Bool
-lacks (Some OutOfMemory) = true
-lacks _ = false
+-- What was kept is read first, so that no reset is kept.
+abbrev pub StopsIf : Result Unit Refusal → EndpointState → EndpointState → ℕ → Result Bool Refusal → Type 0
+StopsIf (Ok done) e f id result = StopsRequest e f id result
+StopsIf (Err refusal) e f id result = (result ≡ Err refusal) × (f ≡ e)
 
--- as what refuses bytes says of one that goes one way, and what came on it is dropped; for want of memory nothing is done
+pub record StopsBehind (e f : EndpointState) (id : ℕ) (result : Result Bool Refusal) : Type 0 where
+  pub read : Result Unit Refusal
+  pub mid : EndpointState
+  pub reads : ReadsKept e mid read
+  pub stops : StopsIf read mid f id result
+
+-- as what refuses bytes says of one that goes one way, unless what came on it could not be dropped
+abbrev pub dropped_as : Option Refusal → Option Refusal → Result Bool Refusal
+dropped_as (Some OutOfMemory) why = Err OutOfMemory
+dropped_as (Some (Closed code)) why = Err (Closed code)
+dropped_as dropped why = Ok (is_none why)
+
 pub record StopsOneWay (e f : EndpointState) (id : ℕ) (result : Result Bool Refusal) : Type 0 where
   pub why : Option Refusal
   pub dropped : Result Unit Refusal
   pub shows : RefusesDeliveries e id why
-  pub drops : DropsSession e f id given_up_code dropped
-  pub is : result ≡ (if lacks (call_refused dropped) then Err OutOfMemory else Ok (is_none why))
+  pub drops : Drops e f id dropped
+  pub is : result ≡ dropped_as (call_refused dropped) why
 
 abbrev pub StopsAt : Bool → EndpointState → EndpointState → ℕ → Result Bool Refusal → Type 0
-StopsAt true e f id result = StopsRequest e f id result
+StopsAt true e f id result = StopsBehind e f id result
 StopsAt false e f id result = StopsOneWay e f id result
 
 -- What comes on a stream of a session is given up: where it is read here nothing is left to be done, and the endpoint gives up what it reads.
