@@ -81,9 +81,9 @@
  * call. A sum of bytes past 2^56 counts as out of memory too. After H3_KEPT the next delivery reads
  * what was taken, or the next pull of a stream that may still deliver something: not of one whose
  * pull returns H3_END or a fault of the stream again. If there is no such stream, pull
- * h3_control_id, which delivers nothing. Until then h3_cancel and h3_close_stream of a stream of a
- * session may be H3_MEMORY. h3_finish, h3_reset, h3_advance, h3_end_taken,
- * h3_outgoing, h3_next_to_send, h3_priority, h3_next_request_id, h3_next_unblocked, h3_next_event,
+ * h3_control_id, which delivers nothing. h3_close_stream and h3_cancel of a stream of a session read
+ * it too, if they need that. h3_finish, h3_reset, h3_advance, h3_end_taken, h3_outgoing,
+ * h3_next_to_send, h3_priority, h3_next_request_id, h3_next_unblocked, h3_next_event,
  * h3_first_unseen, h3_is_drained, the calls for datagrams and capsules, the states and h3_free take
  * no memory.
  *
@@ -163,7 +163,7 @@
  *   h3_read, h3_deliver, h3_deliver_end,    the local encoder stream (the peer's settings came),
  *   h3_deliver_reset, h3_pull               the local decoder stream (the peer's encoder stream was
  *                                           read, a section was decoded, a stream was canceled)
- *   h3_cancel, h3_close_stream              the local decoder stream
+ *   h3_cancel, h3_close_stream              the local decoder stream; of a session's stream as above
  *   all others                              none
  *
  * If QUIC has no room for all, send the local control, encoder and decoder stream before request
@@ -718,7 +718,8 @@ static inline uint32_t h3_cancel(h3_endpoint *endpoint, uint64_t id, uint64_t *d
  * *reset_stream is 1 if it is to send RESET_STREAM, else 0: both with a code of your choice. Of a
  * stream of a session nothing is kept then: *reset_stream is 1 also if only its FIN waits, which it
  * does until h3_end_taken. Refused, and neither is written, in this order: H3_ARGUMENT (id not
- * below 2^62), H3_CLOSED, H3_CRITICAL, H3_NOT_OPEN, H3_MEMORY. */
+ * below 2^62), H3_CLOSED, H3_CRITICAL, H3_NOT_OPEN, H3_MEMORY: the stream is as it was, and the
+ * call again writes what it would have written. */
 static inline uint32_t h3_close_stream(h3_endpoint *endpoint, uint64_t id, uint32_t *stop_sending,
                                        uint32_t *reset_stream, uint64_t *detail);
 

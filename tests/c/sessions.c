@@ -686,6 +686,98 @@ static void of_memory(void) {
   }
 }
 
+/* a call that closes a stream while allocations fail from this one on: whether it is out of memory. Then nothing has changed, and the call again answers what is due */
+static int closes_at_last(int side, uint64_t id, int64_t fails, uint32_t stop_is, uint32_t reset_is) {
+  uint32_t stop = 99, reset = 99;
+  left = fails;
+  uint32_t n = h3_close_stream(&ends[side], id, &stop, &reset, NULL);
+  left = -1;
+  if (n == H3_MEMORY) {
+    HOLDS(stop == 99 && reset == 99 && unread(side, id) == 11 && next_of_session(side, 0, 0) == id);
+    IS(pull(side, id).kind, H3_RAW);
+    closes(side, id, stop_is, reset_is);
+  } else {
+    IS(n, H3_OK);
+    HOLDS(stop == stop_is && reset == reset_is);
+  }
+  HOLDS(unread(side, id) == 0 && next_of_session(side, 0, 0) == 99 && pull(side, id).kind != H3_RAW);
+  if (side == SERVER || reset_is == 0) IS(h3_deliver(&ends[side], id, "more", 4, NULL), H3_AFTER_END); /* its end is not waited for */
+  return n == H3_MEMORY;
+}
+
+/* the first allocation fails; so many other streams were closed before, so that each list of bytes that wait is full once */
+static void of_closed_later(void) {
+  int later[2] = {0};
+  for (int side = 0; side < 2; side++)
+    for (uint32_t both = 0; both < 2; both++)
+      for (uint32_t end = 0; end < 2; end++)
+        for (int others = 0; others < 18; others++) {
+          make_both(1);
+          HOLDS(begin() == 0);
+          for (int i = 0; i < others; i++) closes(side, comes(side, both, BYTES("other")), 1, both);
+          uint64_t id = comes(side, both, BYTES("all of this"));
+          if (end) IS(h3_deliver_end(&ends[side], id, NULL), H3_OK);
+          later[end] += closes_at_last(side, id, 0, !end, both);
+          drop();
+        }
+  HOLDS(later[0] > 0 && later[1] > 0);
+}
+
+/* bytes of another stream are kept at the server, as an allocation failed, and so many resets of others */
+static void keep(int more) {
+  uint32_t n = H3_MEMORY;
+  for (uint64_t id = 402; id < 482 && n != H3_KEPT; id += 4) {
+    n = H3_MEMORY;
+    for (int64_t fails = 0; fails < 9 && n == H3_MEMORY; fails++) {
+      left = fails;
+      n = h3_deliver(&ends[SERVER], id, BYTES("\x40\x54\x00raw"), NULL);
+      left = -1;
+    }
+  }
+  IS(n, H3_KEPT);
+  for (int i = 0; i < more; i++) {
+    left = 0;
+    n = h3_deliver_reset(&ends[SERVER], 802 + 4 * (uint64_t)i, 7, NULL);
+    left = -1;
+    HOLDS(n == H3_KEPT || n == H3_MEMORY);
+  }
+}
+
+/* what is kept is read first: no other call has to */
+static void of_closed_behind(void) {
+  int later[2] = {0}, canceled = 0;
+  for (uint32_t both = 0; both < 2; both++)
+    for (uint32_t end = 0; end < 2; end++)
+      for (int more = 0; more < 8; more++)
+        for (int64_t fails = -1; fails < 3; fails++) {
+          make_both(1);
+          HOLDS(begin() == 0);
+          uint64_t id = comes(SERVER, both, BYTES("all of this"));
+          if (end) IS(h3_deliver_end(&ends[SERVER], id, NULL), H3_OK);
+          keep(more);
+          int is_later = closes_at_last(SERVER, id, fails, !end, both);
+          HOLDS(fails >= 0 || !is_later);
+          later[both] += is_later;
+          drop();
+        }
+  for (int64_t fails = -1; fails < 3; fails++) {
+    make_both(1);
+    HOLDS(begin() == 0);
+    uint64_t id = comes(SERVER, 0, BYTES("all of this"));
+    keep(0);
+    left = fails;
+    uint32_t n = h3_cancel(&ends[SERVER], id, NULL);
+    left = -1;
+    HOLDS(n == H3_OK || (n == H3_MEMORY && fails >= 0 && unread(SERVER, id) == 11));
+    if (n == H3_MEMORY) IS(h3_cancel(&ends[SERVER], id, NULL), H3_OK);
+    canceled += n == H3_MEMORY;
+    HOLDS(unread(SERVER, id) == 0);
+    IS(pull(SERVER, id).kind, H3_FAULT_CANCELED);
+    drop();
+  }
+  HOLDS(later[0] > 0 && later[1] > 0 && canceled > 0);
+}
+
 /* with the choice off a server reads what it read before, and answers nothing */
 static void of_choice_off(void) {
   uint64_t id = 99;
@@ -745,6 +837,8 @@ int main(void) {
   of_turns();
   of_codes();
   of_memory();
+  of_closed_later();
+  of_closed_behind();
   of_choice_off();
   if (!bad) printf("ok " TEST "\n");
   return bad;

@@ -5,18 +5,19 @@ use Rattle.h3_proto.specs.StreamIds.{is_request_stream}
 use Rattle.h3_connection.specs.Answers.{call_refused}
 use Rattle.h3_connection.specs.State.{EndpointState, kept_at}
 use Rattle.h3_connection.specs.ReceivingContracts.{DeliversReset}
+use Rattle.h3_connection.specs.SendingContracts.{Resets}
 use Rattle.h3_connection.specs.StreamSets.{Streams}
 use Rattle.h3_connection.specs.declared.event.DeliverError.{DeliverError}
 use Rattle.h3_connection.specs.declared.event.Refusal.{Refusal}
 use Rattle.h3_connection.specs.declared.event.Refusal.TheVariants.{Ended, NotOpen}
-use Rattle.h3_session.specs.Closing.{ClosesStream}
-use Rattle.h3_session.specs.declared.endpoint.closing.ClosedStream.{ClosedStream}
+use Rattle.h3_session.specs.Lacking.{RefusesDeliveries}
 use Rattle.h3_webtransport_streams.specs.Begun.{refusal_of}
 use Rattle.h3_webtransport_streams.specs.Receiver.{Receiver}
 use Rattle.h3_webtransport_streams.specs.Sender.{Sender, cut_off, end_told, is_end_next, is_sent_off}
 use Rattle.h3_webtransport_streams.specs.SessionStream.{SessionStream, ActsOn, answer_at, on_sender, passes, receiver_of, sender_of, sending, unseen}
-use Rattle.h3_webtransport.specs.Closing.{ClosesRaw, Forgets, Stops, StopsAt, StopsOneWay, StopsRequest, given_up_code, is_cut, resets_raw}
+use Rattle.h3_webtransport.specs.Closing.{ClosesRaw, EndsRequest, EndsUnless, Forgets, GivesUpRequest, ResetsIf, Stops, StopsAt, StopsBehind, StopsOneWay, StopsRequest, ended_as, is_cut, resets_raw}
 use Rattle.h3_webtransport.specs.Joint.{Joint, stored_at}
+use Rattle.h3_webtransport.specs.Keeping.{ReadsKept, given_up_code}
 
 -- what comes on it: it is read here,
 stops_own : (e : EndpointState) (id : ℕ) (r : Option Receiver) (why : Option Refusal) → is_some r ≡ true → why ≡ refusal_of r → Stops r e e id (Ok (is_none why))
@@ -37,22 +38,50 @@ module _ (e f : EndpointState) (id : ℕ) (r : Option Receiver) (result : Result
       at None none = stops
       at (Some x) none = absurd (cc)
 
-  pub stops_request : is_some r ≡ false → is_request_stream id ≡ true → StopsRequest e f id result → Stops r e f id result
+  pub stops_request : is_some r ≡ false → is_request_stream id ≡ true → StopsBehind e f id result → Stops r e f id result
   stops_request there is stops = stops_other there (rw is stops)
 
   pub stops_one_way : is_some r ≡ false → is_request_stream id ≡ false → StopsOneWay e f id result → Stops r e f id result
   stops_one_way there is stops = stops_other there (rw is stops)
 
--- a request is refused, or its end came, or it ends now
-pub stops_not : (e mid : EndpointState) (id : ℕ) (r : Refusal) → ClosesStream e mid id (Err r) → StopsRequest e mid id (Err r)
-stops_not e mid id r closes = record { inner = Err r; mid = mid; closes = closes; ends = refl; is = refl }
+-- a request: what was kept is read first,
+pub stops_behind : (e mid f : EndpointState) (id : ℕ) (result : Result Bool Refusal) → ReadsKept e mid (Ok tt) → StopsRequest mid f id result → StopsBehind e f id result
+stops_behind e mid f id result reads stops = record { read = Ok tt; mid = mid; reads = reads; stops = stops }
 
-pub stops_ended : (e mid : EndpointState) (id : ℕ) (frames : ClosedStream) → ClosesStream e mid id (Ok frames) → frames.stop_sending ≡ false → StopsRequest e mid id (Ok false)
-stops_ended e mid id frames closes is = record { inner = Ok frames; mid = mid; closes = closes; ends = refl; is = ap Ok (sym is) }
+pub stops_not : (e mid : EndpointState) (id : ℕ) (refusal : Refusal) → ReadsKept e mid (Err refusal) → StopsBehind e mid id (Err refusal)
+stops_not e mid id refusal reads = record { read = Err refusal; mid = mid; reads = reads; stops = (refl, refl) }
 
-pub stops_open : (e mid f : EndpointState) (id : ℕ) (frames : ClosedStream) (reset : Result Unit DeliverError) → ClosesStream e mid id (Ok frames) → frames.stop_sending ≡ true
-    → DeliversReset mid f id given_up_code reset → StopsRequest e f id (Ok true)
-stops_open e mid f id frames reset closes is delivers = record { inner = Ok frames; mid = mid; closes = closes; ends = (reset, delivers); is = ap Ok (sym is) }
+-- and it ends now, or is refused, or its end came before
+module _ (e mid f : EndpointState) (id : ℕ) (result : Result Bool Refusal) (reset : Result Unit DeliverError) where
+  pub ends_it : (done : Result Unit Refusal) → DeliversReset e mid id given_up_code reset → result ≡ ended_as reset → is_ok result ≡ true → Resets mid f id done → EndsRequest e f id result
+  ends_it done delivers is ok resets = record { reset = reset; mid = mid; delivers = delivers; resets = at result ok; is = is }
+    where
+      at : (r : Result Bool Refusal) → is_ok r ≡ true → ResetsIf r mid f id
+      at (Ok stop) goes = (done, resets)
+      at (Err refusal) goes = absurd (cc)
+
+pub ends_not : (e mid : EndpointState) (id : ℕ) (result : Result Bool Refusal) (reset : Result Unit DeliverError) → DeliversReset e mid id given_up_code reset → result ≡ ended_as reset → is_ok result ≡ false
+    → EndsRequest e mid id result
+ends_not e mid id result reset delivers is not_ok = record { reset = reset; mid = mid; delivers = delivers; resets = at result not_ok; is = is }
+  where
+    at : (r : Result Bool Refusal) → is_ok r ≡ false → ResetsIf r mid mid id
+    at (Ok stop) goes = absurd (cc)
+    at (Err refusal) goes = refl
+
+module _ (e f : EndpointState) (id : ℕ) (result : Result Bool Refusal) (why : Option Refusal) where
+  pub ends_now : RefusesDeliveries e id why → is_none why ≡ true → EndsRequest e f id result → StopsRequest e f id result
+  ends_now shows still ends = record { why = why; shows = shows; ends = at why still }
+    where
+      at : (o : Option Refusal) → is_none o ≡ true → EndsUnless o e f id result
+      at None none = ends
+      at (Some r) none = absurd (cc)
+
+  pub ended_before : RefusesDeliveries e id why → is_none why ≡ false → GivesUpRequest e f id result → StopsRequest e f id result
+  ended_before shows over gives = record { why = why; shows = shows; ends = at why over }
+    where
+      at : (o : Option Refusal) → is_none o ≡ false → EndsUnless o e f id result
+      at None some = absurd (cc)
+      at (Some r) some = gives
 
 -- what is sent on it
 ok_is : (result : Result Unit Refusal) → is_ok result ≡ is_none (call_refused result)

@@ -4,6 +4,7 @@ pub mod Pulling
 pub mod Opened
 pub mod Telling
 pub mod GivingUp
+pub mod Keeping
 pub mod Parting
 pub mod Arriving
 pub mod Canceling

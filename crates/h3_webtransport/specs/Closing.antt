@@ -3,11 +3,12 @@ use Rattle.std.specs.Prelude.{◌≡◌, ◌≢◌, ◌||◌, ℕ, Bool, true, f
 use Rattle.h3_proto.specs.StreamIds.{is_request_stream}
 use Rattle.h3_connection.specs.Answers.{call_refused}
 use Rattle.h3_connection.specs.ReceivingContracts.{DeliversReset}
+use Rattle.h3_connection.specs.SendingContracts.{Resets}
 use Rattle.h3_connection.specs.State.{EndpointState}
 use Rattle.h3_connection.specs.declared.event.DeliverError.{DeliverError}
+use Rattle.h3_connection.specs.declared.event.DeliverError.TheVariants as deliver_error
 use Rattle.h3_connection.specs.declared.event.Refusal.{Refusal}
-use Rattle.h3_connection.specs.declared.event.Refusal.TheVariants.{Closed, OutOfMemory}
-use Rattle.h3_session.specs.Beside.{DropsSession}
+use Rattle.h3_connection.specs.declared.event.Refusal.TheVariants.{Closed, Connection, OutOfMemory}
 use Rattle.h3_session.specs.Closing.{ClosesStream}
 use Rattle.h3_session.specs.Lacking.{RefusesDeliveries}
 use Rattle.h3_session.specs.declared.endpoint.closing.ClosedStream.{ClosedStream}
@@ -16,6 +17,7 @@ use Rattle.h3_webtransport_streams.specs.Receiver.{Receiver}
 use Rattle.h3_webtransport_streams.specs.Sender.{Sender, is_end_next, is_sent_off}
 use Rattle.h3_webtransport_streams.specs.SessionStream.{passes, receiver_of, sender_of}
 use Rattle.h3_webtransport.specs.Joint.{Joint, has_stream, stored_at}
+use Rattle.h3_webtransport.specs.Keeping.{Drops, ReadsKept, given_up_code}
 use Rattle.h3_webtransport.specs.Parts.{Parts, StreamsAlone}
 
 -- whether STOP_SENDING is to be sent, as the endpoint's own call says of a request
@@ -23,40 +25,72 @@ abbrev pub stop_of : Result ClosedStream Refusal → Result Bool Refusal
 stop_of (Ok frames) = Ok frames.stop_sending
 stop_of (Err refusal) = Err refusal
 
--- the code that stands for what this side gave up
-abbrev pub given_up_code : ℕ
-given_up_code = 0x10c
+-- What this call answers by that of a delivered reset: a fault that was found in what was kept before closes the connection, and a reset that is kept
+-- is stored, so that nothing but it comes of the stream.
+abbrev pub closed_as : Refusal → Refusal
+closed_as (Connection code) = Closed code
+closed_as r = r
 
--- Nothing more of it is delivered, so where its end is still to come it ends as if its sender had reset it.
-abbrev pub EndsThere : Bool → EndpointState → EndpointState → ℕ → Type 0
-EndsThere true e f id = (result : Result Unit DeliverError) × DeliversReset e f id given_up_code result
-EndsThere false e f id = f ≡ e
+abbrev pub ended_as : Result Unit DeliverError → Result Bool Refusal
+ended_as (Ok done) = Ok true
+ended_as (Err (deliver_error.Refused r)) = Err (closed_as r)
+ended_as (Err (deliver_error.OutOfMemory bytes)) = Err OutOfMemory
+ended_as (Err deliver_error.Kept) = Ok true
 
-abbrev pub EndsIf : Result Bool Refusal → EndpointState → EndpointState → ℕ → Type 0
-EndsIf (Ok stop) e f id = EndsThere stop e f id
-EndsIf (Err refusal) e f id = f ≡ e
+-- no message goes out on it
+abbrev pub ResetsIf : Result Bool Refusal → EndpointState → EndpointState → ℕ → Type 0
+ResetsIf (Ok stop) e f id = (result : Result Unit Refusal) × Resets e f id result
+ResetsIf (Err refusal) e f id = f ≡ e
 
-pub record StopsRequest (e f : EndpointState) (id : ℕ) (result : Result Bool Refusal) : Type 0 where
-  pub inner : Result ClosedStream Refusal
+-- Nothing more of it is delivered, so where its end is still to come it ends as if its sender had reset it; for want of memory nothing is done,
+pub record EndsRequest (e f : EndpointState) (id : ℕ) (result : Result Bool Refusal) : Type 0 where
+  pub reset : Result Unit DeliverError
   pub mid : EndpointState
-  pub closes : ClosesStream e mid id inner
-  pub ends : EndsIf result mid f id
+  pub delivers : DeliversReset e mid id given_up_code reset
+  pub resets : ResetsIf result mid f id
+  pub is : result ≡ ended_as reset
+
+-- and else it is given up as by the endpoint's own call.
+pub record GivesUpRequest (e f : EndpointState) (id : ℕ) (result : Result Bool Refusal) : Type 0 where
+  pub inner : Result ClosedStream Refusal
+  pub closes : ClosesStream e f id inner
   pub is : result ≡ stop_of inner
 
-abbrev pub lacks : Option Refusal → Bool
-lacks (Some OutOfMemory) = true
-lacks _ = false
+abbrev pub EndsUnless : Option Refusal → EndpointState → EndpointState → ℕ → Result Bool Refusal → Type 0
+EndsUnless None e f id result = EndsRequest e f id result
+EndsUnless (Some refusal) e f id result = GivesUpRequest e f id result
 
--- as what refuses bytes says of one that goes one way, and what came on it is dropped; for want of memory nothing is done
+pub record StopsRequest (e f : EndpointState) (id : ℕ) (result : Result Bool Refusal) : Type 0 where
+  pub why : Option Refusal
+  pub shows : RefusesDeliveries e id why
+  pub ends : EndsUnless why e f id result
+
+-- What was kept is read first, so that no reset is kept.
+abbrev pub StopsIf : Result Unit Refusal → EndpointState → EndpointState → ℕ → Result Bool Refusal → Type 0
+StopsIf (Ok done) e f id result = StopsRequest e f id result
+StopsIf (Err refusal) e f id result = (result ≡ Err refusal) × (f ≡ e)
+
+pub record StopsBehind (e f : EndpointState) (id : ℕ) (result : Result Bool Refusal) : Type 0 where
+  pub read : Result Unit Refusal
+  pub mid : EndpointState
+  pub reads : ReadsKept e mid read
+  pub stops : StopsIf read mid f id result
+
+-- as what refuses bytes says of one that goes one way, unless what came on it could not be dropped
+abbrev pub dropped_as : Option Refusal → Option Refusal → Result Bool Refusal
+dropped_as (Some OutOfMemory) why = Err OutOfMemory
+dropped_as (Some (Closed code)) why = Err (Closed code)
+dropped_as dropped why = Ok (is_none why)
+
 pub record StopsOneWay (e f : EndpointState) (id : ℕ) (result : Result Bool Refusal) : Type 0 where
   pub why : Option Refusal
   pub dropped : Result Unit Refusal
   pub shows : RefusesDeliveries e id why
-  pub drops : DropsSession e f id given_up_code dropped
-  pub is : result ≡ (if lacks (call_refused dropped) then Err OutOfMemory else Ok (is_none why))
+  pub drops : Drops e f id dropped
+  pub is : result ≡ dropped_as (call_refused dropped) why
 
 abbrev pub StopsAt : Bool → EndpointState → EndpointState → ℕ → Result Bool Refusal → Type 0
-StopsAt true e f id result = StopsRequest e f id result
+StopsAt true e f id result = StopsBehind e f id result
 StopsAt false e f id result = StopsOneWay e f id result
 
 -- What comes on a stream of a session is given up: where it is read here nothing is left to be done, and the endpoint gives up what it reads.

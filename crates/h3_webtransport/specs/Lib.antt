@@ -4,4 +4,5 @@ pub mod Sending
 pub mod Ordering
 pub mod Opening
 pub mod Receiving
+pub mod Keeping
 pub mod Closing

@@ -19,7 +19,7 @@ use Rattle.h3_connection.specs.declared.event.Pull.{Pull}
 use Rattle.h3_connection.specs.declared.event.Pull.TheVariants as pull
 use Rattle.h3_connection.specs.declared.event.Refusal.{Refusal}
 use Rattle.h3_connection.specs.declared.event.Refusal.TheVariants.{Connection, NotOpen}
-use Rattle.h3_session.specs.Beside.{DropsSession, ShowsEnd}
+use Rattle.h3_session.specs.Beside.{ShowsEnd}
 use Rattle.h3_session.specs.Lacking.{delivery_error}
 use Rattle.h3_webtransport_streams.specs.Begun.{Delivers as DeliversRaw, stream_or_unseen}
 use Rattle.h3_webtransport_streams.specs.Closing.{Closes}
@@ -28,8 +28,9 @@ use Rattle.h3_webtransport_streams.specs.Sender.{cut_off, finished}
 use Rattle.h3_webtransport_streams.specs.SessionStream.{SessionStream, Changes, entered, gives_up, receiving, sending, unread_of}
 use Rattle.h3_webtransport_streams.specs.declared.receiver.Begun.{Begun}
 use Rattle.h3_webtransport_streams.specs.declared.receiver.Begun.TheVariants as begun
-use Rattle.h3_webtransport.specs.Closing.{Forgets, given_up_code}
+use Rattle.h3_webtransport.specs.Closing.{Forgets}
 use Rattle.h3_webtransport.specs.Joint.{Joint, is_one_way, is_read, may_begin, stored_at}
+use Rattle.h3_webtransport.specs.Keeping.{Drops}
 use Rattle.h3_webtransport.specs.Parts.{Parts, ActsHere, StreamsAlone, UnlessClosed}
 
 -- bytes that are no front of a session's stream, or whose front names no session, are a fault of the connection
@@ -91,7 +92,7 @@ GivesUp (Some r) s t id ended = t ≡ s
 pub record CancelsOneWay (e f : EndpointState) (s t : Joint) (id : ℕ) (result : Result Unit Refusal) : Type 0 where
   pub ended : Bool
   pub shows : ShowsEnd e id ended
-  pub drops : DropsSession e f id given_up_code result
+  pub drops : Drops e f id result
   pub gives_up : GivesUp (call_refused result) s t id ended
 
 -- `cancel`

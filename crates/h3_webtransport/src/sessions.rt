@@ -11,6 +11,7 @@ use h3_webtransport_streams::streams::SessionStreams;
 use std::alloc::Global;
 use std::marker::Model;
 
+mod keeping;
 mod ordering;
 mod receiving;
 mod sending;

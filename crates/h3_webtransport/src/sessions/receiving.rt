@@ -16,6 +16,7 @@ ghost use Rattle.h3_webtransport.specs.Receiving.{Arrives, BeginsAt, CancelsOn, 
 ghost use Rattle.h3_webtransport.specs.Receiving.{PullsOn, PullsThere, RefusesDeliveriesOn, raw_unread, session_of};
 
 use super::Sessions;
+use super::keeping::drop_one_way;
 use bytes::Bytes;
 use h3_connection::event::{DeliverError, Fault, Refusal};
 use h3_incoming::answer::{Plain, fail, give_made, pause};
@@ -270,6 +271,7 @@ impl Sessions {
     }
 
     /// Nothing more of a stream is needed. What comes on a stream of the peer that goes one way is read here from then on, and thrown away.
+    /// If something was kept, as an allocation failed before, that is read first. After `OutOfMemory` the stream is as it was.
     #[tactic(auto, using(crate::proofs::Canceling::cancels_own, crate::proofs::Canceling::cancels_one_way, crate::proofs::Canceling::cancels_other))]
     pub fn cancel(&mut self, endpoint: &mut Endpoint, id: StreamId) -> Result<(), Refusal>
         ensures { CancelsOn endpoint.old endpoint.new self.old self.new id result }
@@ -300,7 +302,7 @@ impl Sessions {
         ensures { CancelsOneWay endpoint.old endpoint.new self.old self.new id result }
     {
         let ended = endpoint.has_ended(id);
-        match endpoint.drop_session(id, Code::H3_REQUEST_CANCELLED) {
+        match drop_one_way(endpoint, id) {
             Ok(()) => {
                 self.streams.give_up(id, ended);
                 Ok(())

@@ -4,33 +4,89 @@ ghost use Rattle.h3_webtransport_streams.specs.SessionStream.{receiver_of, sende
 ghost use Rattle.h3_connection.specs.Answers.{call_refused};
 ghost use Rattle.h3_connection.specs.ReadingContracts.{ShowsFinished, ShowsOutgoing, ShowsReset, ShowsWaiting};
 ghost use Rattle.h3_session.specs.Copied.{CopiesTo, TellsEnd};
-ghost use Rattle.h3_webtransport.specs.Closing.{ClosesOn, ClosesRaw, Forgets, Stops, StopsOneWay, StopsRequest, lacks, resets_raw};
+ghost use Rattle.h3_webtransport.specs.Closing.{ClosesOn, ClosesRaw, EndsRequest, Forgets, GivesUpRequest, Stops, StopsBehind, StopsOneWay};
+ghost use Rattle.h3_webtransport.specs.Closing.{StopsRequest, closed_as, dropped_as, ended_as, resets_raw};
 ghost use Rattle.h3_webtransport.specs.Joint.{has_stream, stored_at};
 ghost use Rattle.h3_webtransport.specs.Sending.{raw_finished, raw_refusal, raw_reset, raw_waiting, CopiesRaw, FinishesOn, ResetsOn};
 ghost use Rattle.h3_webtransport.specs.Sending.{SendsRaw, TakesEndOn};
 
 use super::Sessions;
+use super::keeping::{drop_one_way, read_kept};
 use bytes::Bytes;
-use h3_connection::event::Refusal;
+use h3_connection::event::{DeliverError, Refusal};
 use h3_proto::error::Code;
 use h3_proto::stream::StreamId;
 use h3_session::endpoint::{ClosedStream, Endpoint};
 
-// What comes on a stream that the endpoint reads as a request is given up. Nothing more of it is delivered, so it ends there.
-#[tactic(auto, using(crate::proofs::GivingUp::stops_not, crate::proofs::GivingUp::stops_ended, crate::proofs::GivingUp::stops_open))]
+// What comes on a stream that the endpoint reads as a request is given up. What was kept is read first, so that nothing of it is kept.
+#[tactic(auto, using(crate::proofs::GivingUp::stops_behind, crate::proofs::GivingUp::stops_not))]
+fn stop_behind(endpoint: &mut Endpoint, id: StreamId) -> Result<bool, Refusal>
+    ensures { StopsBehind endpoint.old endpoint.new id result }
+{
+    match read_kept(endpoint) {
+        Ok(()) => stop_request(endpoint, id),
+        Err(refusal) => Err(refusal),
+    }
+}
+
+// Nothing more of it is delivered, so it ends there.
+#[tactic(auto, using(crate::proofs::GivingUp::ends_now, crate::proofs::GivingUp::ended_before))]
 fn stop_request(endpoint: &mut Endpoint, id: StreamId) -> Result<bool, Refusal>
     ensures { StopsRequest endpoint.old endpoint.new id result }
 {
-    let frames = match endpoint.close_stream(id) {
-        Ok(frames) => frames,
-        Err(refusal) => return Err(refusal),
-    };
-    if !frames.stop_sending {
-        return Ok(false);
+    let why = endpoint.bytes_refusal(id);
+    if why.is_none() {
+        return end_request(endpoint, id);
     }
-    // (without memory a little of it is kept)
-    let _reset = endpoint.deliver_reset(id, Code::H3_REQUEST_CANCELLED.value());
-    Ok(true)
+    give_up_request(endpoint, id)
+}
+
+// Its end is still to come: it ends as if its sender had reset it.
+#[tactic(auto, using(crate::proofs::GivingUp::ends_it, crate::proofs::GivingUp::ends_not))]
+fn end_request(endpoint: &mut Endpoint, id: StreamId) -> Result<bool, Refusal>
+    ensures { EndsRequest endpoint.old endpoint.new id result }
+{
+    let reset = endpoint.deliver_reset(id, Code::H3_REQUEST_CANCELLED.value());
+    let ended = ended_as(&reset);
+    if ended.is_ok() {
+        // (refused if no message goes out on it)
+        let _reset = endpoint.reset(id);
+    }
+    ended
+}
+
+// What this call answers by that of the reset. One that is kept is stored: nothing but it comes of the stream.
+fn ended_as(reset: &Result<(), DeliverError>) -> Result<bool, Refusal>
+    ensures { result ≡ ended_as reset.now }
+{
+    match reset {
+        Ok(()) => Ok(true),
+        Err(error) => match error {
+            DeliverError::Refused(refusal) => Err(closed_as(*refusal)),
+            DeliverError::OutOfMemory(_) => Err(Refusal::OutOfMemory),
+            DeliverError::Kept => Ok(true),
+        },
+    }
+}
+
+// A fault that a delivery found has closed the connection.
+fn closed_as(refusal: Refusal) -> Refusal
+    ensures { result ≡ closed_as refusal }
+{
+    match refusal {
+        Refusal::Connection(code) => Refusal::Closed(code),
+        other => other,
+    }
+}
+
+// Its end came, or nothing comes: what was not pulled is dropped.
+fn give_up_request(endpoint: &mut Endpoint, id: StreamId) -> Result<bool, Refusal>
+    ensures { GivesUpRequest endpoint.old endpoint.new id result }
+{
+    match endpoint.close_stream(id) {
+        Ok(frames) => Ok(frames.stop_sending),
+        Err(refusal) => Err(refusal),
+    }
 }
 
 // What comes on a stream that goes one way is given up, if the endpoint reads it.
@@ -38,21 +94,21 @@ fn stop_one_way(endpoint: &mut Endpoint, id: StreamId) -> Result<bool, Refusal>
     ensures { StopsOneWay endpoint.old endpoint.new id result }
 {
     let why = endpoint.bytes_refusal(id);
-    let dropped = endpoint.drop_session(id, Code::H3_REQUEST_CANCELLED);
-    if lacks_memory(&dropped) {
-        return Err(Refusal::OutOfMemory);
-    }
-    // (else there was nothing to drop, or it was dropped)
-    Ok(why.is_none())
+    let dropped = drop_one_way(endpoint, id);
+    dropped_as(&dropped, why)
 }
 
-// Whether a call ran out of memory.
-fn lacks_memory(call: &Result<(), Refusal>) -> bool
-    ensures { result ≡ lacks (call_refused call.now) }
+// What this call answers by that of the drop: any other refusal says that there was nothing to drop.
+fn dropped_as(dropped: &Result<(), Refusal>, why: Option<Refusal>) -> Result<bool, Refusal>
+    ensures { result ≡ dropped_as (call_refused dropped.now) why }
 {
-    match call {
-        Ok(()) => false,
-        Err(refusal) => matches!(refusal, Refusal::OutOfMemory),
+    match dropped {
+        Ok(()) => Ok(why.is_none()),
+        Err(refusal) => match refusal {
+            Refusal::OutOfMemory => Err(Refusal::OutOfMemory),
+            Refusal::Closed(code) => Err(Refusal::Closed(*code)),
+            _ => Ok(why.is_none()),
+        },
     }
 }
 
@@ -115,7 +171,8 @@ impl Sessions {
 
     /// Gives a stream up both ways, as that of the endpoint does. Nothing is kept of a stream of a session then: also call it when QUIC has
     /// closed such a stream. What came on it and was not pulled is dropped, and so is a FIN that QUIC did not take: RESET_STREAM is to be
-    /// sent then.
+    /// sent then. What was kept, as an allocation failed before, is read first. After `OutOfMemory` the stream is as it was: the same call
+    /// again does what this one would have done.
     #[tactic(auto, using(crate::proofs::Parting::part_here, crate::proofs::Parting::part_elsewhere, crate::proofs::Parting::is_closed, crate::proofs::Parting::is_open))]
     pub fn close_stream(
         &mut self,
@@ -172,7 +229,7 @@ impl Sessions {
         if !id.is_request() {
             return stop_one_way(endpoint, id);
         }
-        stop_request(endpoint, id)
+        stop_behind(endpoint, id)
     }
 
     /// Whether anything can be sent on a stream.
