@@ -622,7 +622,8 @@ void Program::close(int side, uint64_t id) {
   Stream &s = streams_[id];
   Half &own = s.halves[side], &in = s.halves[!side];
   if (!is_known(side, id, s)) return;
-  bool receives = s.opener != side || s.both_ways, sends = has_sender(side, id, s);
+  // (on a stream that a server opened nothing is sent while its client knows no session of it, which is to be reset, too)
+  bool receives = s.opener != side || s.both_ways, sends = has_sender(side, id, s) || (side == 0 && id % 4 == 1);
   uint32_t stop = 9, resets = 9;
   uint32_t answer = call([&] { return h3_close_stream(end(side), id, &stop, &resets, nullptr); });
   if (!answers(id, "h3_close_stream", answer, H3_OK)) {

@@ -576,6 +576,21 @@ static void of_finished_before(void) {
   }
 }
 
+/* a stream that a server opened ends without a session: its client has sent nothing there, and QUIC is to end that half, too */
+static void of_unheard(void) {
+  for (int whole = 0; whole < 2; whole++) {
+    uint32_t stop = 99, reset = 99;
+    make_both(1);
+    HOLDS(begin() == 0);
+    IS(h3_deliver(&ends[CLIENT], 1, "\x40\x41\x00", whole ? 3 : 2, NULL), H3_OK);
+    if (!whole) IS(h3_deliver_reset(&ends[CLIENT], 1, 7), H3_OK);
+    HOLDS(pull(CLIENT, 1).kind == (whole ? H3_SESSION : H3_FAULT_RESET));
+    IS(h3_close_stream(&ends[CLIENT], 1, &stop, &reset, NULL), H3_OK);
+    HOLDS(stop == (uint32_t)whole && reset == 1);
+    drop();
+  }
+}
+
 static void of_turns(void) {
   static const uint64_t turns[] = {14, 8, 12, 8, 4, 8, 14, 8, 12, 8}; /* bytes of a request were taken before */
   make_both(1);
@@ -834,6 +849,7 @@ int main(void) {
   of_over();
   of_reset_before();
   of_finished_before();
+  of_unheard();
   of_turns();
   of_codes();
   of_memory();

@@ -132,7 +132,7 @@ ended_is old new id waited (Some s) is acts = acts.1.here
 
 module _ (s : Joint) (mid new : Streams SessionStream) (id : ℕ) (waited : Bool) (result : Result Unit Refusal) where
   pub cuts_here : ActsOn false (sending false end_told) s.sessions.streams mid id waited (stored_at s id)
-      → ActsOn (Some NotOpen) (sending (Some NotOpen) cut_off) mid new id (call_refused result) (kept_at mid id) → (waited || is_ok result) ≡ resets_raw s id
+      → ActsOn (Some NotOpen) (sending (Some NotOpen) cut_off) mid new id (call_refused result) (kept_at mid id) → (waited || is_ok result) ≡ passes is_cut (sender_of (stored_at s id))
   cuts_here first next =
       ap (λ w. w || is_ok result) (answer_is false (sending false end_told) s.sessions.streams mid id waited (stored_at s id) first)
       ∙ ap (λ b. answer_at false (sending false end_told) (stored_at s id) || b) (ok_is result ∙ ap is_none (answer_is (Some NotOpen) (sending (Some NotOpen) cut_off) mid new id (call_refused result) (kept_at mid id) next))

@@ -1,5 +1,5 @@
 -- Giving a stream up both ways, with sessions beside an endpoint.
-use Rattle.std.specs.Prelude.{◌≡◌, ◌≢◌, ◌||◌, ℕ, Bool, true, false, not, if◌then◌else◌, Option, Some, None, is_none, Result, Ok, Err}
+use Rattle.std.specs.Prelude.{◌≡◌, ◌≢◌, ◌||◌, ℕ, Bool, true, false, not, if◌then◌else◌, Option, Some, None, is_none, Result, Ok, Err, ◌&&◌, is_some}
 use Rattle.h3_proto.specs.StreamIds.{is_request_stream}
 use Rattle.h3_connection.specs.Answers.{call_refused}
 use Rattle.h3_connection.specs.ReceivingContracts.{DeliversReset}
@@ -16,7 +16,7 @@ use Rattle.h3_webtransport_streams.specs.Begun.{refusal_of}
 use Rattle.h3_webtransport_streams.specs.Receiver.{Receiver}
 use Rattle.h3_webtransport_streams.specs.Sender.{Sender, is_end_next, is_sent_off}
 use Rattle.h3_webtransport_streams.specs.SessionStream.{passes, receiver_of, sender_of}
-use Rattle.h3_webtransport.specs.Joint.{Joint, has_stream, stored_at}
+use Rattle.h3_webtransport.specs.Joint.{Joint, has_stream, is_server_opened, stored_at}
 use Rattle.h3_webtransport.specs.Keeping.{Drops, ReadsKept, given_up_code}
 use Rattle.h3_webtransport.specs.Parts.{Parts, StreamsAlone}
 
@@ -106,8 +106,12 @@ Forgets s t id = (stored_at t id ≡ None) × ((q : ℕ) → q ≢ id → stored
 abbrev pub is_cut : Sender → Bool
 is_cut x = is_end_next x || not (is_sent_off x)
 
+-- and so of one that a server opened of which no session is known yet: its client has sent nothing there
+abbrev pub is_unheard : Joint → ℕ → Bool
+is_unheard s id = is_server_opened s.side id && not (is_some (sender_of (stored_at s id)))
+
 abbrev pub resets_raw : Joint → ℕ → Bool
-resets_raw s id = passes is_cut (sender_of (stored_at s id))
+resets_raw s id = is_unheard s id || passes is_cut (sender_of (stored_at s id))
 
 abbrev pub Gives : Result Bool Refusal → Joint → Joint → ℕ → Result ClosedStream Refusal → Type 0
 Gives (Ok stop) s t id result = (result ≡ Ok (record { stop_sending = stop; reset_stream = resets_raw s id })) × Forgets s t id

@@ -1,11 +1,11 @@
 //! What is sent on streams, those of sessions among them.
 ghost use Rattle.std.specs.Prelude.{◌≡◌, ◌≤◌, ◌+◌, ◌==◌, ◌&&◌, [], length, is_some, true, false};
-ghost use Rattle.h3_webtransport_streams.specs.SessionStream.{receiver_of, sender_of};
+ghost use Rattle.h3_webtransport_streams.specs.SessionStream.{passes, receiver_of, sender_of};
 ghost use Rattle.h3_connection.specs.Answers.{call_refused};
 ghost use Rattle.h3_connection.specs.ReadingContracts.{ShowsFinished, ShowsOutgoing, ShowsReset, ShowsWaiting};
 ghost use Rattle.h3_session.specs.Copied.{CopiesTo, TellsEnd};
 ghost use Rattle.h3_webtransport.specs.Closing.{ClosesOn, ClosesRaw, EndsRequest, Forgets, GivesUpRequest, Stops, StopsBehind, StopsOneWay};
-ghost use Rattle.h3_webtransport.specs.Closing.{StopsRequest, closed_as, dropped_as, ended_as, resets_raw};
+ghost use Rattle.h3_webtransport.specs.Closing.{StopsRequest, closed_as, dropped_as, ended_as, is_cut, resets_raw};
 ghost use Rattle.h3_webtransport.specs.Joint.{has_stream, stored_at};
 ghost use Rattle.h3_webtransport.specs.Sending.{raw_finished, raw_refusal, raw_reset, raw_waiting, CopiesRaw, FinishesOn, ResetsOn};
 ghost use Rattle.h3_webtransport.specs.Sending.{SendsRaw, TakesEndOn};
@@ -206,10 +206,21 @@ impl Sessions {
         })
     }
 
-    // Nothing is kept of a stream. Answers whether RESET_STREAM is to be sent: what waits is dropped, and a FIN that QUIC did not take.
-    #[tactic(auto, using(crate::proofs::GivingUp::cuts_here, crate::proofs::GivingUp::forgets_all, crate::proofs::Pulling::twice_alone))]
+    // Nothing is kept of a stream. Answers whether RESET_STREAM is to be sent: what waits is dropped, and a FIN that QUIC did not take. On a
+    // stream that a server opened its client has sent nothing while no session of it is known.
     fn give_up(&mut self, id: StreamId) -> bool
         ensures is { result ≡ resets_raw self.old id }
+        ensures forgets { Forgets self.old self.new id }
+    {
+        let is_unheard = self.is_server_opened(id) && !self.streams.has_sender(id);
+        let is_cut = self.cut(id);
+        is_unheard || is_cut
+    }
+
+    // Nothing is kept of a stream. Answers whether bytes or an end waited on it, or it could have gone on.
+    #[tactic(auto, using(crate::proofs::GivingUp::cuts_here, crate::proofs::GivingUp::forgets_all, crate::proofs::Pulling::twice_alone))]
+    fn cut(&mut self, id: StreamId) -> bool
+        ensures is { result ≡ passes is_cut (sender_of (stored_at self.old id)) }
         ensures forgets { Forgets self.old self.new id }
     {
         let end_waits = self.streams.end_taken(id);
