@@ -242,11 +242,13 @@
  *   h3_send_raw(&e, id, bytes, len, NULL);                       // and h3_finish, h3_reset
  * On such a stream every call is as on a request's, but header sections, bodies and trailer
  * sections. h3_read and h3_pull return H3_SESSION first, if the peer opened it, and then H3_RAW and
- * H3_END. A stream of the peer both ways is answered with h3_send_raw after its H3_SESSION. It may
- * come before the request of its session: keep it, or end it with
+ * H3_END. A stream of the peer both ways is answered with h3_send_raw after its H3_SESSION. Before,
+ * a server takes it for a request: a response that waits there is dropped then, but for its FIN, and
+ * h3_hold no longer counts. It may come before the request of its session: keep it, or end it with
  * H3_CODE_WEBTRANSPORT_BUFFERED_STREAM_REJECTED.
  * When QUIC has closed a stream of a session call h3_close_stream: what came on it and was not
- * pulled is dropped, nothing is kept of it, and nothing more of it may be delivered. A client also
+ * pulled is dropped, and nothing more of it may be delivered. Nothing is kept of it, but some 400
+ * bytes of a peer's stream that goes one way, until the connection closes. A client also
  * calls it for each other stream both ways that its server opened (id % 4 is 1): no H3_SESSION came
  * of one that ended before. A session is over once one side ends or resets its request's stream.
  * Then end all its streams:
@@ -716,8 +718,8 @@ static inline uint32_t h3_cancel(h3_endpoint *endpoint, uint64_t id, uint64_t *d
 /* Ends a request stream both ways, as h3_cancel and then h3_reset do. A half that has ended stays
  * as it is, and is no refusal. *stop_sending is 1 if QUIC is to send STOP_SENDING, else 0, and
  * *reset_stream is 1 if it is to send RESET_STREAM, else 0: both with a code of your choice. Of a
- * stream of a session nothing is kept then: *reset_stream is 1 also if only its FIN waits, which it
- * does until h3_end_taken. Refused, and neither is written, in this order: H3_ARGUMENT (id not
+ * stream of a session *reset_stream is 1 also if only its FIN waits, which it does until
+ * h3_end_taken, and at a client if its server opened it and no session of it is known. Refused, and neither is written, in this order: H3_ARGUMENT (id not
  * below 2^62), H3_CLOSED, H3_CRITICAL, H3_NOT_OPEN, H3_MEMORY: the stream is as it was, and the
  * call again writes what it would have written. */
 static inline uint32_t h3_close_stream(h3_endpoint *endpoint, uint64_t id, uint32_t *stop_sending,
