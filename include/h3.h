@@ -719,9 +719,10 @@ static inline uint32_t h3_cancel(h3_endpoint *endpoint, uint64_t id, uint64_t *d
  * as it is, and is no refusal. *stop_sending is 1 if QUIC is to send STOP_SENDING, else 0, and
  * *reset_stream is 1 if it is to send RESET_STREAM, else 0: both with a code of your choice. Of a
  * stream of a session *reset_stream is 1 also if only its FIN waits, which it does until
- * h3_end_taken, and at a client if its server opened it and no session of it is known. Refused, and neither is written, in this order: H3_ARGUMENT (id not
- * below 2^62), H3_CLOSED, H3_CRITICAL, H3_NOT_OPEN, H3_MEMORY: the stream is as it was, and the
- * call again writes what it would have written. */
+ * h3_end_taken, and at a client if its server opened it and no session of it is known. Refused, and
+ * neither is written, in this order: H3_ARGUMENT (id not below 2^62), H3_CLOSED, H3_CRITICAL,
+ * H3_NOT_OPEN, H3_MEMORY: the stream is as it was, and the call again writes what it would have
+ * written. */
 static inline uint32_t h3_close_stream(h3_endpoint *endpoint, uint64_t id, uint32_t *stop_sending,
                                        uint32_t *reset_stream, uint64_t *detail);
 
