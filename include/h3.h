@@ -81,8 +81,8 @@
  * call. A sum of bytes past 2^56 counts as out of memory too. After H3_KEPT the next delivery reads
  * what was taken, or the next pull of a stream that may still deliver something: not of one whose
  * pull returns H3_END or a fault of the stream again. If there is no such stream, pull
- * h3_control_id, which delivers nothing. h3_close_stream and h3_cancel of a stream of a session read
- * it too, if they need that. h3_finish, h3_reset, h3_advance, h3_end_taken, h3_outgoing,
+ * h3_control_id, which delivers nothing. h3_close_stream and h3_cancel of a session's stream read it
+ * too, if they need that. h3_finish, h3_reset, h3_advance, h3_end_taken, h3_outgoing,
  * h3_next_to_send, h3_priority, h3_next_request_id, h3_next_unblocked, h3_next_event,
  * h3_first_unseen, h3_is_drained, the calls for datagrams and capsules, the states and h3_free take
  * no memory.
@@ -163,7 +163,8 @@
  *   h3_read, h3_deliver, h3_deliver_end,    the local encoder stream (the peer's settings came),
  *   h3_deliver_reset, h3_pull               the local decoder stream (the peer's encoder stream was
  *                                           read, a section was decoded, a stream was canceled)
- *   h3_cancel, h3_close_stream              the local decoder stream; of a session's stream as above
+ *   h3_cancel, h3_close_stream              the local decoder stream; of a session's stream as
+ *                                           after h3_pull
  *   all others                              none
  *
  * If QUIC has no room for all, send the local control, encoder and decoder stream before request
@@ -243,9 +244,9 @@
  * On such a stream every call is as on a request's, but header sections, bodies and trailer
  * sections. h3_read and h3_pull return H3_SESSION first, if the peer opened it, and then H3_RAW and
  * H3_END. A stream of the peer both ways is answered with h3_send_raw after its H3_SESSION. Before,
- * a server takes it for a request: a response that waits there is dropped then, but for its FIN, and
- * h3_hold no longer counts. It may come before the request of its session: keep it, or end it with
- * H3_CODE_WEBTRANSPORT_BUFFERED_STREAM_REJECTED.
+ * a server takes it for a request: a response that waits there is dropped then, but for its FIN,
+ * and h3_hold no longer counts. It may come before the request of its session: keep it, or end it
+ * with H3_CODE_WEBTRANSPORT_BUFFERED_STREAM_REJECTED.
  * When QUIC has closed a stream of a session call h3_close_stream: what came on it and was not
  * pulled is dropped, and nothing more of it may be delivered. Nothing is kept of it, but some 400
  * bytes of a peer's stream that goes one way, until the connection closes. A client also
