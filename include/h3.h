@@ -81,8 +81,8 @@
  * call. A sum of bytes past 2^56 counts as out of memory too. After H3_KEPT the next delivery reads
  * what was taken, or the next pull of a stream that may still deliver something: not of one whose
  * pull returns H3_END or a fault of the stream again. If there is no such stream, pull
- * h3_control_id, which delivers nothing. h3_close_stream and h3_cancel of a session's stream read it
- * too, if they need that. h3_finish, h3_reset, h3_advance, h3_end_taken, h3_outgoing,
+ * h3_control_id, which delivers nothing. h3_close_stream and h3_cancel of a session's stream read
+ * it too, if they need that. h3_finish, h3_reset, h3_advance, h3_end_taken, h3_outgoing,
  * h3_next_to_send, h3_priority, h3_next_request_id, h3_next_unblocked, h3_next_event,
  * h3_first_unseen, h3_is_drained, the calls for datagrams and capsules, the states and h3_free take
  * no memory.
@@ -250,9 +250,9 @@
  * When QUIC has closed a stream of a session call h3_close_stream: what came on it and was not
  * pulled is dropped, and nothing more of it may be delivered. Nothing is kept of it, but some 400
  * bytes of a peer's stream that goes one way, until the connection closes. A client also
- * calls it for each other stream both ways that its server opened (id % 4 is 1): no H3_SESSION came
- * of one that ended before. A session is over once one side ends or resets its request's stream.
- * Then end all its streams:
+ * calls it for each other stream both ways that its server opened (id % 4 is 1), which ended before
+ * its H3_SESSION: it is H3_NOT_OPEN if nothing came of it. A session is over once one side ends or
+ * resets its request's stream. Then end all its streams:
  *   for (uint64_t s = 0; !h3_next_of_session(&e, session, s, &s); s++)
  *     if (!h3_close_stream(&e, s, &stop_sending, &reset_stream, NULL)) .. send these frames with
  *       H3_CODE_WEBTRANSPORT_SESSION_GONE ..
@@ -317,8 +317,8 @@ enum h3_answer {
                                 (RFC 9114, section 4.2.2) */
   H3_CRITICAL = 14,          /* the connection needs this stream */
   H3_ENDED = 15,             /* the stream has ended */
-  H3_NOT_REQUEST_ID = 16,    /* a server's GOAWAY, a datagram and h3_open_request_at name a request
-                                stream: a multiple of 4 */
+  H3_NOT_REQUEST_ID = 16,    /* a server's GOAWAY, a datagram, a priority that is sent, a session and
+                                h3_open_request_at name a request stream: a multiple of 4 */
   H3_RAISED = 17,            /* an earlier GOAWAY had a lower id; detail: that id */
   H3_MEMORY = 18,            /* out of memory: nothing is lost */
   /* of h3_new */
@@ -712,8 +712,8 @@ static inline uint32_t h3_reset(h3_endpoint *endpoint, uint64_t id, uint64_t *de
  * came on it is dropped, and so is what still comes; send STOP_SENDING. Every later pull of it
  * returns H3_FAULT_CANCELED. Refused, in this order: H3_ARGUMENT, H3_CLOSED, H3_CRITICAL,
  * H3_NOT_OPEN (also a stream of a session on which only this side sends, or one of the peer that
- * goes one way before its H3_SESSION), H3_ENDED (its end was pulled, its reset was delivered, or it
- * was canceled), H3_MEMORY. */
+ * goes one way before its H3_SESSION), H3_ENDED (its end was pulled, its reset was delivered, its
+ * message was malformed, or it was canceled), H3_MEMORY. */
 static inline uint32_t h3_cancel(h3_endpoint *endpoint, uint64_t id, uint64_t *detail);
 
 /* Ends a request stream both ways, as h3_cancel and then h3_reset do. A half that has ended stays
@@ -779,9 +779,10 @@ static inline uint32_t h3_next_to_send(h3_endpoint *endpoint, uint64_t from, uin
  * this order. Of the request streams that h3_next_to_send names one of the least urgency is next.
  * Within an urgency the incremental streams and the first of the others take turns. A turn is over
  * when h3_advance takes bytes, so send as much at a time as you like. A stream that is held
- * (h3_hold) is skipped. If no priority was said, the lowest id is next. What PRIORITY_UPDATE frames
- * said (`priority_updates`) counts as soon as their stream is open. If there is no memory for that,
- * the next call tries once more. To send while QUIC takes bytes:
+ * (h3_hold) is skipped. If no priority was said, the lowest id is next. A stream of a session has
+ * no priority: it takes turns with requests, and with others of sessions from the greatest id down.
+ * What PRIORITY_UPDATE frames said (`priority_updates`) counts as soon as their stream is open. If
+ * there is no memory for that, the next call tries once more. To send while QUIC takes bytes:
  *   while (h3_next_by_priority(&e, &id) == H3_OK) ..
  * with h3_outgoing, h3_advance and h3_end_taken, and h3_hold(&e, id, 1, NULL) if QUIC takes nothing
  * of this stream. */
@@ -815,9 +816,10 @@ static inline uint32_t h3_send_priority(h3_endpoint *endpoint, uint64_t id, uint
                                         uint32_t incremental, uint64_t *detail);
 
 /* QUIC has no credit for a stream (`held` 1), so that h3_next_by_priority skips it, or it has
- * credit again (`held` 0). A request stream that is open, or the local control, encoder or decoder
- * stream. h3_next_to_send names a stream that is held as any. Refused, in this order: H3_ARGUMENT
- * (id not below 2^62, held above 1), H3_CLOSED, H3_NOT_OPEN, H3_MEMORY. */
+ * credit again (`held` 0). A request stream that is open, one of a session on which this side
+ * sends, or the local control, encoder or decoder stream. h3_next_to_send names a stream that is
+ * held as any. Refused, in this order: H3_ARGUMENT (id not below 2^62, held above 1), H3_CLOSED,
+ * H3_NOT_OPEN, H3_MEMORY. */
 static inline uint32_t h3_hold(h3_endpoint *endpoint, uint64_t id, uint32_t held, uint64_t *detail);
 
 /* Copies the first bytes that wait on a stream, as many as fit; *n says how many. If the next ones
@@ -1124,8 +1126,8 @@ static inline uint32_t h3_send_raw(h3_endpoint *endpoint, uint64_t id, const voi
 
 /* The lowest id, `from` or above, of a stream of this session: each that was opened here, and each
  * of the peer's of which H3_SESSION was returned (at a client a stream both ways of its server once
- * its first bytes came), until h3_close_stream. Refused, in this order: H3_ARGUMENT (session not
- * below 2^62), H3_NONE. Takes no memory. */
+ * its type and session came), until h3_close_stream. Refused, in this order: H3_ARGUMENT (session
+ * not below 2^62), H3_NONE. Takes no memory. */
 static inline uint32_t h3_next_of_session(h3_endpoint *endpoint, uint64_t session, uint64_t from,
                                           uint64_t *id);
 

@@ -240,8 +240,8 @@ class Endpoint:
         """Opens a stream of the WebTransport session whose request has this id: both ways, or from this side alone. QUIC opens the stream of
         the id that it returns.
 
-        Raises `Answer.CLOSED`, `NO_SESSIONS`, `NOT_REQUEST_ID`, `NOT_OPEN` (no header section was sent on the session's request, or sending
-        there has ended), `GOING_AWAY`, `IDS_USED_UP`, `MEMORY`."""
+        Raises `Answer.CLOSED`, `NO_SESSIONS`, `NOT_REQUEST_ID`, `NOT_OPEN` (no header section was sent on the session's request, sending
+        there has ended, or the peer's end or reset of it came), `GOING_AWAY`, `IDS_USED_UP`, `MEMORY`."""
         found = c_uint64()
         self._call("h3_raw_open_session_stream", _number(session), int(both_ways), byref(found))
         return found.value

@@ -279,7 +279,7 @@ impl Endpoint {
     /// # Errors
     ///
     /// [`Error::Closed`], [`Error::NoSessions`], [`Error::NotRequestId`], [`Error::NotOpen`] (no header section was sent on the session's
-    /// request, or sending there has ended), [`Error::GoingAway`], [`Error::IdsUsedUp`], [`Error::Argument`] (the id is 2^62 or more),
+    /// request, sending there has ended, or the peer's end or reset of it came), [`Error::GoingAway`], [`Error::IdsUsedUp`], [`Error::Argument`] (the id is 2^62 or more),
     /// [`Error::Memory`].
     pub fn open_session_stream(&mut self, session: u64, both_ways: bool) -> Result<u64, Error> {
         let mut id = 0;
