@@ -6,20 +6,24 @@ use Rattle.h3_connection.specs.Answers.{call_refused}
 use Rattle.h3_connection.specs.State.{EndpointState}
 use Rattle.h3_connection.specs.declared.event.Refusal.{Refusal}
 use Rattle.h3_session.specs.Beside.{DropsSession}
-use Rattle.h3_webtransport.specs.Keeping.{Drops, ReadsKept, given_up_code, lacks}
+use Rattle.h3_webtransport.specs.Keeping.{Drops, DropsBehind, ReadsKept, given_up_code, lacks}
 use Rattle.h3_webtransport.specs.Keeping.Drops.{at_once, behind}
 
 -- 1 is an id
 pub never_far : (e f : EndpointState) (result : Result Unit Refusal) → 2 ^ 62 ≤ 1 → ReadsKept e f result
 never_far e f result far = absurd (let never : false ≡ true = le-leb (2 ^ 62) 1 far in cc)
 
-module _ (e mid : EndpointState) (id : ℕ) (first : Result Unit Refusal) where
-  pub drops_now : DropsSession e mid id given_up_code first → lacks (call_refused first) ≡ false → Drops e mid id first
-  drops_now drops done = at_once drops done
+-- then what came is dropped
+pub drops_read : (e mid f : EndpointState) (id : ℕ) (result : Result Unit Refusal) → ReadsKept e mid (Ok tt) → DropsSession mid f id given_up_code result → DropsBehind e f id result
+drops_read e mid f id result reads drops = record { read = Ok tt; mid = mid; reads = reads; drops = drops }
 
-  pub drops_behind : (next f : EndpointState) (result : Result Unit Refusal) → DropsSession e mid id given_up_code first → lacks (call_refused first) ≡ true → ReadsKept mid next (Ok tt)
-      → DropsSession next f id given_up_code result → Drops e f id result
-  drops_behind next f result drops lacking reads again = behind first mid next (Ok tt) drops lacking reads again
+pub drops_not : (e mid : EndpointState) (id : ℕ) (refusal : Refusal) → ReadsKept e mid (Err refusal) → DropsBehind e mid id (Err refusal)
+drops_not e mid id refusal reads = record { read = Err refusal; mid = mid; reads = reads; drops = (refl, refl) }
 
-  pub drops_not : (next : EndpointState) (refusal : Refusal) → DropsSession e mid id given_up_code first → lacks (call_refused first) ≡ true → ReadsKept mid next (Err refusal) → Drops e next id (Err refusal)
-  drops_not next refusal drops lacking reads = behind first mid next (Err refusal) drops lacking reads (refl, refl)
+-- unless it was dropped at once
+pub drops_now : (e f : EndpointState) (id : ℕ) (result : Result Unit Refusal) → DropsSession e f id given_up_code result → lacks (call_refused result) ≡ false → Drops e f id result
+drops_now e f id result drops done = at_once drops done
+
+pub drops_later : (e mid f : EndpointState) (id : ℕ) (first result : Result Unit Refusal) → DropsSession e mid id given_up_code first → lacks (call_refused first) ≡ true → DropsBehind mid f id result
+    → Drops e f id result
+drops_later e mid f id first result drops lacking again = behind first mid drops lacking again

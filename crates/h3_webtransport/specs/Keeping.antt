@@ -37,8 +37,13 @@ abbrev pub DropsIf : Result Unit Refusal → EndpointState → EndpointState →
 DropsIf (Ok done) e f id result = DropsSession e f id given_up_code result
 DropsIf (Err refusal) e f id result = (result ≡ Err refusal) × (f ≡ e)
 
+pub record DropsBehind (e f : EndpointState) (id : ℕ) (result : Result Unit Refusal) : Type 0 where
+  pub read : Result Unit Refusal
+  pub mid : EndpointState
+  pub reads : ReadsKept e mid read
+  pub drops : DropsIf read mid f id result
+
 -- What came on a stream that goes one way is dropped at once, or once what was kept was read.
 pub data Drops (e f : EndpointState) (id : ℕ) (result : Result Unit Refusal) : Type 0 where
   at_once : DropsSession e f id given_up_code result → lacks (call_refused result) ≡ false → Drops e f id result
-  behind : (first : Result Unit Refusal) (mid next : EndpointState) (read : Result Unit Refusal) → DropsSession e mid id given_up_code first → lacks (call_refused first) ≡ true → ReadsKept mid next read
-      → DropsIf read next f id result → Drops e f id result
+  behind : (first : Result Unit Refusal) (mid : EndpointState) → DropsSession e mid id given_up_code first → lacks (call_refused first) ≡ true → DropsBehind mid f id result → Drops e f id result

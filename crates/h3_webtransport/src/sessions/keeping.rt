@@ -1,7 +1,7 @@
 //! What an endpoint kept, as an allocation failed before, is read before it gives up a stream of a session.
 ghost use Rattle.std.specs.Prelude.{◌≡◌};
 ghost use Rattle.h3_connection.specs.Answers.{call_refused};
-ghost use Rattle.h3_webtransport.specs.Keeping.{Drops, ReadsKept, lacks, read_as};
+ghost use Rattle.h3_webtransport.specs.Keeping.{Drops, DropsBehind, ReadsKept, lacks, read_as};
 
 use h3_connection::event::{Fault, Pull, Refusal};
 use h3_proto::error::Code;
@@ -36,14 +36,22 @@ fn read_as(pull: &Pull) -> Result<(), Refusal>
 }
 
 // What came on a stream that goes one way is dropped. If something is kept, that is read first.
-#[tactic(auto, using(crate::proofs::Keeping::drops_behind, crate::proofs::Keeping::drops_not))]
+#[tactic(auto, using(crate::proofs::Keeping::drops_now, crate::proofs::Keeping::drops_later))]
 pub(super) fn drop_one_way(endpoint: &mut Endpoint, id: StreamId) -> Result<(), Refusal>
     ensures { Drops endpoint.old endpoint.new id result }
 {
     let dropped = endpoint.drop_session(id, Code::H3_REQUEST_CANCELLED);
-    if !lacks_memory(&dropped) {
-        return dropped;
+    if lacks_memory(&dropped) {
+        return drop_behind(endpoint, id);
     }
+    dropped
+}
+
+// The same behind what is kept.
+#[tactic(auto, using(crate::proofs::Keeping::drops_read, crate::proofs::Keeping::drops_not))]
+fn drop_behind(endpoint: &mut Endpoint, id: StreamId) -> Result<(), Refusal>
+    ensures { DropsBehind endpoint.old endpoint.new id result }
+{
     match read_kept(endpoint) {
         Ok(()) => endpoint.drop_session(id, Code::H3_REQUEST_CANCELLED),
         Err(refusal) => Err(refusal),
