@@ -583,7 +583,7 @@ static void of_unheard(void) {
     make_both(1);
     HOLDS(begin() == 0);
     IS(h3_deliver(&ends[CLIENT], 1, "\x40\x41\x00", whole ? 3 : 2, NULL), H3_OK);
-    if (!whole) IS(h3_deliver_reset(&ends[CLIENT], 1, 7), H3_OK);
+    if (!whole) IS(h3_deliver_reset(&ends[CLIENT], 1, 7, NULL), H3_OK);
     HOLDS(pull(CLIENT, 1).kind == (whole ? H3_SESSION : H3_FAULT_RESET));
     IS(h3_close_stream(&ends[CLIENT], 1, &stop, &reset, NULL), H3_OK);
     HOLDS(stop == (uint32_t)whole && reset == 1);
