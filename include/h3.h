@@ -81,8 +81,8 @@
  * call. A sum of bytes past 2^56 counts as out of memory too. After H3_KEPT the next delivery reads
  * what was taken, or the next pull of a stream that may still deliver something: not of one whose
  * pull returns H3_END or a fault of the stream again. If there is no such stream, pull
- * h3_control_id, which delivers nothing. h3_close_stream and h3_cancel of a stream of a session read
- * it too, if they need that. h3_finish, h3_reset, h3_advance, h3_end_taken, h3_outgoing,
+ * h3_control_id, which delivers nothing. h3_close_stream and h3_cancel of a stream of a session
+ * read it too, if they need that. h3_finish, h3_reset, h3_advance, h3_end_taken, h3_outgoing,
  * h3_next_to_send, h3_priority, h3_next_request_id, h3_next_unblocked, h3_next_event,
  * h3_first_unseen, h3_is_drained, the calls for datagrams and capsules, the states and h3_free take
  * no memory.
@@ -160,7 +160,7 @@
  *   h3_read, h3_deliver, h3_deliver_end,    the local encoder stream (the peer's settings came),
  *   h3_deliver_reset, h3_pull               the local decoder stream (the peer's encoder stream was
  *                                           read, a section was decoded, a stream was canceled)
- *   h3_cancel, h3_close_stream              the local decoder stream; of a session's stream as above
+ *   h3_cancel, h3_close_stream              the local decoder stream; of a session's as above
  *   all others                              none
  *
  * If QUIC has no room for all, send the local control, encoder and decoder stream before request
