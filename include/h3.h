@@ -163,8 +163,7 @@
  *   h3_read, h3_deliver, h3_deliver_end,    the local encoder stream (the peer's settings came),
  *   h3_deliver_reset, h3_pull               the local decoder stream (the peer's encoder stream was
  *                                           read, a section was decoded, a stream was canceled)
- *   h3_cancel, h3_close_stream              the local decoder stream; of a session's stream as
- *                                           after h3_pull
+ *   h3_cancel, h3_close_stream              the local decoder stream; of a session's as above
  *   all others                              none
  *
  * If QUIC has no room for all, send the local control, encoder and decoder stream before request

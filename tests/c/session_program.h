@@ -145,7 +145,7 @@ class Program {
   Side sides_[2];
   std::map<uint64_t, Stream> streams_;
   std::vector<uint64_t> sessions_, over_; // requests on which both sides send, and those on which one has ended
-  bool lacked_ = false, is_over_ = false, goes_away_ = false, is_kept_ = false; // lacked_: memory was refused in the last call
+  bool lacked_ = false, is_over_ = false, goes_away_ = false; // lacked_: memory was refused in the last call
 };
 
 Program::Program(uint64_t seed) : seed_(seed) {
@@ -175,9 +175,9 @@ void Program::violated(uint64_t id, const char *what, const char *more) {
       static_cast<unsigned long long>(id), what, more);
 }
 
-// Memory may be refused, also in a call before that kept bytes, and nothing else may be other.
+// Memory may be refused in this call, and nothing else may be other.
 bool Program::answers(uint64_t id, const char *what, uint32_t answer, uint32_t wanted) {
-  if (answer == H3_MEMORY && (lacked_ || is_kept_) && wanted == H3_OK) return counts.memory++, false;
+  if (answer == H3_MEMORY && lacked_ && wanted == H3_OK) return counts.memory++, false;
   if (answer != wanted) violated(id, what, h3_answer_text(answer));
   if (answer != H3_OK) counts.refusals++;
   return answer == H3_OK && wanted == H3_OK;
@@ -351,7 +351,7 @@ void Program::deliver(int to, uint64_t id, size_t most) {
   uint64_t code = 0;
   uint32_t answer = call([&] { return h3_deliver(end(to), id, bytes.data(), n, &code); });
   bool is_kept = answer == H3_KEPT && lacked_;
-  s.was_kept = s.was_kept || is_kept, is_kept_ = is_kept_ || is_kept;
+  s.was_kept = s.was_kept || is_kept;
   if (is_kept || answers(id, "h3_deliver", answer, H3_OK)) in.came += n;
 }
 
@@ -362,7 +362,7 @@ void Program::deliver_end(int to, uint64_t id) {
   if (s.closed[to] || in.end_came || in.reset_came || !(in.reset || is_whole)) return;
   uint32_t answer = call([&] { return in.reset ? h3_deliver_reset(end(to), id, in.code, nullptr) : h3_deliver_end(end(to), id, nullptr); });
   bool is_kept = answer == H3_KEPT && lacked_;
-  s.was_kept = s.was_kept || is_kept, is_kept_ = is_kept_ || is_kept;
+  s.was_kept = s.was_kept || is_kept;
   if (!is_kept && !answers(id, "an end", answer, H3_OK)) return;
   (in.reset ? in.reset_came : in.end_came) = true;
 }
@@ -378,7 +378,7 @@ void Program::read(int to, uint64_t id, size_t most) {
   uint32_t answer = call([&] { return h3_read(end(to), id, bytes.data(), n, is_last, &used, &item, nullptr); });
   if (used > n) return violated(id, "more is read than came");
   in.came += used;
-  if (answer == H3_KEPT && lacked_) return void(s.was_kept = is_kept_ = true);
+  if (answer == H3_KEPT && lacked_) return void(s.was_kept = true);
   if (answer == H3_AFTER_END && is_last) return void(in.end_came = true);
   if (!answers(id, "h3_read", answer, H3_OK)) return;
   if (is_last && used == n) in.end_came = true;

@@ -36,7 +36,7 @@ fn read_as(pull: &Pull) -> Result<(), Refusal>
 }
 
 // What came on a stream that goes one way is dropped. If something is kept, that is read first.
-#[tactic(auto, using(crate::proofs::Keeping::drops_now, crate::proofs::Keeping::drops_later))]
+#[tactic(auto, using(crate::proofs::Keeping::drops_now))]
 pub(super) fn drop_one_way(endpoint: &mut Endpoint, id: StreamId) -> Result<(), Refusal>
     ensures { Drops endpoint.old endpoint.new id result }
 {
@@ -47,7 +47,7 @@ pub(super) fn drop_one_way(endpoint: &mut Endpoint, id: StreamId) -> Result<(), 
     dropped
 }
 
-// The same behind what is kept.
+// The same after what is kept.
 #[tactic(auto, using(crate::proofs::Keeping::drops_read, crate::proofs::Keeping::drops_not))]
 fn drop_behind(endpoint: &mut Endpoint, id: StreamId) -> Result<(), Refusal>
     ensures { DropsBehind endpoint.old endpoint.new id result }
