@@ -316,8 +316,8 @@ enum h3_answer {
                                 (RFC 9114, section 4.2.2) */
   H3_CRITICAL = 14,          /* the connection needs this stream */
   H3_ENDED = 15,             /* the stream has ended */
-  H3_NOT_REQUEST_ID = 16,    /* a server's GOAWAY, a datagram, a priority that is sent, a session and
-                                h3_open_request_at name a request stream: a multiple of 4 */
+  H3_NOT_REQUEST_ID = 16,    /* a server's GOAWAY, a datagram, a priority that is sent, a session
+                                and h3_open_request_at name a request stream: a multiple of 4 */
   H3_RAISED = 17,            /* an earlier GOAWAY had a lower id; detail: that id */
   H3_MEMORY = 18,            /* out of memory: nothing is lost */
   /* of h3_new */
