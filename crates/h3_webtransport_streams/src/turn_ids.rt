@@ -95,7 +95,7 @@ impl TurnIds {
     }
 }
 
-// Where an id stands, or would stand.
+// The place of an id, or else the one between others that it would have.
 #[tactic(auto, using(crate::proofs::Rising::place_is))]
 fn place_of(ids: &[u64], id: u64) -> Result<usize, usize>
     requires { Rises ids.now }

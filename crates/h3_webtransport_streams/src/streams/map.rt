@@ -315,7 +315,7 @@ fn tells_session(begun: &Begun) -> bool
 }
 
 // The same, in the index too.
-#[tactic(auto, using(crate::proofs::Indexing::taken_but, crate::proofs::Indexing::taken_indexed, crate::proofs::Indexing::again_indexed))]
+#[tactic(auto, using(crate::proofs::Indexing::taken_but, crate::proofs::Indexing::again_indexed))]
 fn arrive_there(
     turns: &mut TurnIds,
     streams: &mut BTreeMap<u64, StoredStream>,
