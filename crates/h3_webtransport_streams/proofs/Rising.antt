@@ -1,5 +1,5 @@
 -- Lists of ids in rising order.
-use Rattle.std.proofs.Common.{◌≡◌, ◌≢◌, ◌⊎◌, inl, inr, ◌<◌, ◌≤◌, ◌+◌, ◌-◌, ℕ, zero, suc, Bool, true, false, ◌||◌, ◌==◌, List, [], ◌∷◌, ◌++◌, length, take, drop, insert, remove, get_or, refl, sym, ap, subst, ◌∙◌, arith, nat_cmp, nat_lt, cond, Less}
+use Rattle.std.proofs.Common.{◌≡◌, ◌≢◌, ◌<◌, ◌≤◌, ◌-◌, ℕ, zero, suc, Bool, true, false, ◌||◌, ◌==◌, List, [], ◌∷◌, ◌++◌, length, take, drop, insert, remove, get_or, refl, sym, ap, subst, ◌∙◌, arith, nat_cmp, nat_lt, Less}
 use Rattle.std.proofs.Common.{Option, Some, None, Result, Ok, Err, take-append-drop}
 use Rattle.std.proofs.lemmas.Bool.{eq-eqb, ne_eqb}
 use Rattle.std.proofs.lemmas.Grind.{common_steps}

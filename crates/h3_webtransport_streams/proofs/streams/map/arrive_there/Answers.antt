@@ -1,5 +1,5 @@
 -- The index changes where a session is told.
-use Rattle.std.proofs.Common.{rules, subst, sym}
+use Rattle.std.proofs.Common.{rules}
 use Rattle.h3_webtransport_streams.specs.Indexed.{AreIndexed}
 use Rattle.h3_webtransport_streams.proofs.Indexing.{taken_indexed}
 use Rattle.h3_webtransport_streams.proofs.streams.map.arrive_there.Goals.{then-tells_session, else-tells_session}

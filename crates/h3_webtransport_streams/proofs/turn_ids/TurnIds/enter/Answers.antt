@@ -1,6 +1,5 @@
 -- There is room for it.
-use Rattle.std.proofs.Common.{arith, rules, ◌<◌, length}
-use Rattle.h3_webtransport_streams.specs.Indexed.{IsPlace}
+use Rattle.std.proofs.Common.{rules, ◌<◌, length}
 use Rattle.h3_webtransport_streams.proofs.Rising.{has_room}
 use Rattle.h3_webtransport_streams.proofs.turn_ids.TurnIds.enter.Goals as goal
 

@@ -1,5 +1,5 @@
 -- The others stay.
-use Rattle.std.proofs.Common.{◌∙◌, ap, sym, rules}
+use Rattle.std.proofs.Common.{◌∙◌, ap, rules}
 use Rattle.h3_webtransport_streams.specs.Indexed.{has_id}
 use Rattle.h3_webtransport_streams.proofs.Rising.{left_others}
 use Rattle.h3_webtransport_streams.proofs.turn_ids.TurnIds.leave.Goals as goal
