@@ -5,5 +5,6 @@ pub mod Sent
 pub mod CodesBack
 pub mod RowsHold
 pub mod Reading
-pub mod Greatest
+pub mod Rising
+pub mod Indexing
 pub mod Turns

@@ -1,6 +1,5 @@
 -- What bytes did that came on a stream, by what its receiving half answers.
-use Rattle.std.specs.Prelude.{◌≡◌, ◌+◌, ◌<◌, ◌^◌, ℕ, List, length, drop, Option, Some, None, unwrap_or, Result, Ok, Err}
-use Rattle.std.specs.List.{concat}
+use Rattle.std.specs.Prelude.{◌≡◌, ℕ, Bool, false, List, drop, Option, Some, None, is_some, unwrap_or, Result, Ok, Err}
 use Rattle.h3_connection.specs.Calls.{AllSame, Sets}
 use Rattle.h3_connection.specs.State.{kept_at}
 use Rattle.h3_connection.specs.StreamSets.{Streams}
@@ -39,6 +38,12 @@ abbrev pub begun_by : Arrived → Begun
 begun_by (Taken session receiver) = begun.Taken session
 begun_by NoFront = begun.NoFront
 begun_by NoSession = begun.NoSession
+
+-- they told a session
+abbrev pub tells_session : Begun → Bool
+tells_session (begun.Taken session) = is_some session
+tells_session begun.NoFront = false
+tells_session begun.NoSession = false
 
 -- a stream of the peer, of which perhaps nothing came
 abbrev pub stream_or_unseen : Streams SessionStream → ℕ → SessionStream

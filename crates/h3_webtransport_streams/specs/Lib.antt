@@ -5,6 +5,7 @@ pub mod Sought
 pub mod Begun
 pub mod Closing
 pub mod Sessions
+pub mod Indexed
 pub mod Codes
 pub mod Carrying
 pub mod Sent

@@ -9,5 +9,6 @@ mod receiver;
 mod sender;
 mod stream;
 pub mod streams;
+mod turn_ids;
 
 pub use receiver::Begun;

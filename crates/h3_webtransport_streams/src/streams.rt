@@ -8,6 +8,7 @@ ghost use Rattle.h3_webtransport_streams.specs.SessionStream.{receiver_of, sessi
 ghost use Rattle.h3_webtransport_streams.specs.Sessions.{OpensNext, no_streams};
 
 use crate::stream::{Sought, StoredStream};
+use crate::turn_ids::TurnIds;
 use h3_connection::event::Refusal;
 use h3_proto::stream::{Side, StreamId};
 use h3_proto::webtransport::SessionId;
@@ -24,21 +25,26 @@ mod sending;
 pub struct SessionStreams {
     alloc: Global,
     streams: BTreeMap<u64, StoredStream>,
+    turns: TurnIds,
     next_both: u64,
     next_one: u64,
     from: u64,
 }
 
 impl Model for SessionStreams {
+    ghost use Rattle.h3_webtransport_streams.specs.Indexed.{AreIndexed};
     ghost use Rattle.h3_webtransport_streams.specs.Sessions.{SessionsState};
 
     ghost Value = { SessionsState };
 
     ghost view = { λ s. record { streams = s.streams.entries; next_both = s.next_both; next_one = s.next_one; from = s.from } };
+
+    ghost invariant = { λ s. AreIndexed s.turns s.streams.entries };
 }
 
 impl SessionStreams {
     /// No stream. It takes no memory.
+    #[tactic(auto, using(crate::proofs::Indexing::none_indexed))]
     pub fn new(alloc: Global, side: Side) -> SessionStreams
         ensures { result ≡ no_streams side }
     {
@@ -49,6 +55,7 @@ impl SessionStreams {
         SessionStreams {
             alloc,
             streams: BTreeMap::new(alloc),
+            turns: TurnIds::new(alloc),
             next_both: 1,
             next_one,
             from: 0,
@@ -91,7 +98,7 @@ impl SessionStreams {
         let Ok(stream) = StoredStream::both_ways(self.alloc, session) else {
             return Err(AllocError);
         };
-        map::put(&mut self.streams, id, stream)
+        map::put(&mut self.turns, &mut self.streams, id, stream)
     }
 
     /// Opens the next stream both ways of a session at a server. An `Err` changes nothing: there are no further ids, or an allocation
@@ -123,7 +130,7 @@ impl SessionStreams {
         let Ok(stream) = StoredStream::one_way(self.alloc, session) else {
             return Err(Refusal::OutOfMemory);
         };
-        let Ok(()) = map::put(&mut self.streams, id, stream) else {
+        let Ok(()) = map::put(&mut self.turns, &mut self.streams, id, stream) else {
             return Err(Refusal::OutOfMemory);
         };
         self.next_one += 4;
@@ -143,7 +150,7 @@ impl SessionStreams {
         ensures err { OnErr result (AllSame self.old.streams self.new.streams) }
     {
         let stream = StoredStream::entered(self.alloc, session, answers);
-        map::put(&mut self.streams, id, stream)
+        map::put(&mut self.turns, &mut self.streams, id, stream)
     }
 
     /// A stream that was entered is of this session.
@@ -160,7 +167,7 @@ impl SessionStreams {
         ensures others { (q : ℕ) → q ≢ id → kept_at self.new.streams q ≡ kept_at self.old.streams q }
         ensures rest { self.new ≡ record self.old { streams = self.new.streams } }
     {
-        map::take_out(&mut self.streams, id);
+        map::take_out(&mut self.turns, &mut self.streams, id);
     }
 
     /// The least id from `from` on of a stream on which bytes or an end wait. It goes over the streams from `from` on, up to that one.

@@ -1,6 +1,6 @@
 //! The streams in a map by their ids.
 ghost use Rattle.std.specs.List.{concat};
-ghost use Rattle.std.specs.Prelude.{◌≡◌, ◌≢◌, ℕ, ◌+◌, ◌<◌, ◌^◌, length, unwrap_or, true, false, is_none, Some, None, IfErr, IfNone, IfOk};
+ghost use Rattle.std.specs.Prelude.{◌≡◌, ◌≢◌, ℕ, ◌+◌, ◌<◌, ◌^◌, length, unwrap_or, true, false, is_none, is_some, Some, None, IfErr, IfNone, IfOk};
 ghost use Rattle.std.specs.Prelude.{IfSome, IsSome, OnErr, OnOk};
 ghost use Rattle.h3_connection.specs.Answers.{call_refused};
 ghost use Rattle.h3_connection.specs.Calls.{AllSame, Sets};
@@ -8,16 +8,17 @@ ghost use Rattle.h3_connection.specs.NextWaiting.{IsLeast};
 ghost use Rattle.h3_connection.specs.State.{kept_at};
 ghost use Rattle.h3_connection.specs.declared.event.Pull.TheVariants.{NoMessages};
 ghost use Rattle.h3_connection.specs.declared.event.Refusal.TheVariants.{NotOpen, OutOfMemory};
-ghost use Rattle.h3_webtransport_streams.specs.Begun.{Delivers, TakesBytes, refusal_of, stream_or_unseen};
+ghost use Rattle.h3_webtransport_streams.specs.Begun.{Delivers, TakesBytes, refusal_of, stream_or_unseen, tells_session};
 ghost use Rattle.h3_webtransport_streams.specs.Closing.{Closes, closing};
+ghost use Rattle.h3_webtransport_streams.specs.Indexed.{AreAtMost, AreIndexed, AreIndexedBut};
 ghost use Rattle.h3_webtransport_streams.specs.Receiver.{canceled, pulled};
 ghost use Rattle.h3_webtransport_streams.specs.Sender.{cut_off, end_told, finished, held, sent};
 ghost use Rattle.h3_webtransport_streams.specs.SessionStream.{Acts, Changes, answer_at, gives_up, passes, receiving, sending, takes, takes_turns, unread_of};
-ghost use Rattle.h3_webtransport_streams.specs.Sessions.{IsLast, IsTurn};
-ghost use Rattle.h3_webtransport_streams.specs.Sought.{greater_of, has_turn, is_sought};
+ghost use Rattle.h3_webtransport_streams.specs.Sought.{is_sought};
 
 use crate::receiver::Begun;
 use crate::stream::{Sought, StoredStream};
+use crate::turn_ids::TurnIds;
 use bytes::Bytes;
 use h3_connection::event::{DeliverError, Pull, Refusal};
 use h3_proto::stream::StreamId;
@@ -33,18 +34,69 @@ pub(super) fn get(streams: &BTreeMap<u64, StoredStream>, id: StreamId) -> Option
     streams.get(&id.into_inner())
 }
 
-/// Puts a stream there. An `Err` changes nothing: an allocation failed.
-pub(super) fn put(
+// Whether the stream of this id is there and takes turns.
+fn takes_turns(streams: &BTreeMap<u64, StoredStream>, id: StreamId) -> bool
+    ensures { result ≡ passes takes_turns (kept_at streams.now.entries id) }
+{
+    match streams.get(&id.into_inner()) {
+        Some(stream) => stream.takes_turns(),
+        None => false,
+    }
+}
+
+/// The stream of this id has changed, and no other one: its id enters the index, or leaves it. It takes no memory.
+#[tactic(auto, using(crate::proofs::Indexing::entered_indexed, crate::proofs::Indexing::left_indexed, crate::proofs::Indexing::has_room))]
+pub(super) fn settle(turns: &mut TurnIds, streams: &BTreeMap<u64, StoredStream>, id: StreamId)
+    requires { AreIndexedBut id turns.old streams.now.entries }
+    ensures { AreIndexed turns.new streams.now.entries }
+{
+    if takes_turns(streams, id) {
+        turns.enter(id.into_inner());
+    } else {
+        turns.leave(id.into_inner());
+    }
+}
+
+// Puts a stream there, and makes room for its id. An `Err` changes nothing: an allocation failed.
+#[tactic(auto, using(crate::proofs::Indexing::same_room))]
+fn insert(
+    turns: &mut TurnIds,
     streams: &mut BTreeMap<u64, StoredStream>,
     id: StreamId,
     stream: StoredStream,
 ) -> Result<(), AllocError>
+    requires { AreIndexed turns.old streams.old.entries }
     ensures ok { OnOk result (Sets streams.old.entries streams.new.entries id stream) }
     ensures err { OnErr result (AllSame streams.old.entries streams.new.entries) }
+    ensures ids { turns.new.ids ≡ turns.old.ids }
+    ensures room { AreAtMost (λ q. is_some (kept_at streams.new.entries q)) turns.new.room }
 {
+    let Ok(()) = turns.reserve(streams.len()) else {
+        return Err(AllocError);
+    };
     let Ok(_) = streams.insert(id.into_inner(), stream) else {
         return Err(AllocError);
     };
+    Ok(())
+}
+
+/// Puts a stream there. An `Err` changes nothing: an allocation failed.
+#[tactic(auto, using(crate::proofs::Indexing::put_but, crate::proofs::Indexing::same_indexed))]
+pub(super) fn put(
+    turns: &mut TurnIds,
+    streams: &mut BTreeMap<u64, StoredStream>,
+    id: StreamId,
+    stream: StoredStream,
+) -> Result<(), AllocError>
+    requires { AreIndexed turns.old streams.old.entries }
+    ensures ok { OnOk result (Sets streams.old.entries streams.new.entries id stream) }
+    ensures err { OnErr result (AllSame streams.old.entries streams.new.entries) }
+    ensures indexed { AreIndexed turns.new streams.new.entries }
+{
+    let Ok(()) = insert(turns, streams, id, stream) else {
+        return Err(AllocError);
+    };
+    settle(turns, streams, id);
     Ok(())
 }
 
@@ -76,11 +128,15 @@ pub(super) fn give_up(
 }
 
 /// Takes the stream of this id out, if there is one.
-pub(super) fn take_out(streams: &mut BTreeMap<u64, StoredStream>, id: StreamId)
+#[tactic(auto, using(crate::proofs::Indexing::gone_indexed))]
+pub(super) fn take_out(turns: &mut TurnIds, streams: &mut BTreeMap<u64, StoredStream>, id: StreamId)
+    requires { AreIndexed turns.old streams.old.entries }
     ensures here { kept_at streams.new.entries id ≡ None }
     ensures others { (q : ℕ) → q ≢ id → kept_at streams.new.entries q ≡ kept_at streams.old.entries q }
+    ensures indexed { AreIndexed turns.new streams.new.entries }
 {
     drop(streams.remove(&id.into_inner()));
+    turns.leave(id.into_inner());
 }
 
 /// Sends bytes on the stream of this id.
@@ -182,19 +238,23 @@ pub(super) fn cancel(
 }
 
 /// Puts a stream there of which nothing came, if there is none, and returns whether there was none. An `Err` changes nothing.
+#[tactic(auto, using(crate::proofs::Indexing::unseen_indexed, crate::proofs::Indexing::same_indexed))]
 fn open(
+    turns: &mut TurnIds,
     streams: &mut BTreeMap<u64, StoredStream>,
     alloc: Global,
     id: StreamId,
 ) -> Result<bool, AllocError>
+    requires { AreIndexed turns.old streams.old.entries }
     ensures ok { OnOk result (Sets streams.old.entries streams.new.entries id (stream_or_unseen streams.old.entries id)) }
     ensures absent { IfOk result (λ is_new. is_new ≡ is_none (kept_at streams.old.entries id)) }
     ensures err { OnErr result (AllSame streams.old.entries streams.new.entries) }
+    ensures indexed { AreIndexed turns.new streams.new.entries }
 {
     if streams.contains_key(&id.into_inner()) {
         return Ok(false);
     }
-    let Ok(_) = streams.insert(id.into_inner(), StoredStream::unseen(alloc)) else {
+    let Ok(()) = insert(turns, streams, id, StoredStream::unseen(alloc)) else {
         return Err(AllocError);
     };
     Ok(true)
@@ -223,8 +283,8 @@ pub(super) fn unread_len(streams: &BTreeMap<u64, StoredStream>, id: StreamId) ->
     }
 }
 
-/// Bytes come on a stream that is there, and takes them.
-fn arrive_there(
+// Bytes come on a stream that is there, and takes them.
+fn arrive(
     streams: &mut BTreeMap<u64, StoredStream>,
     alloc: Global,
     id: StreamId,
@@ -243,14 +303,56 @@ fn arrive_there(
     stream.arrive(alloc, bytes)
 }
 
+// Whether the bytes told a session: their stream is answered from then on.
+fn tells_session(begun: &Begun) -> bool
+    ensures { result ≡ tells_session begun.now }
+{
+    match begun {
+        Begun::Taken(session) => session.is_some(),
+        Begun::NoFront => false,
+        Begun::NoSession => false,
+    }
+}
+
+// The same, in the index too.
+#[tactic(auto, using(crate::proofs::Indexing::taken_but, crate::proofs::Indexing::again_indexed))]
+fn arrive_there(
+    turns: &mut TurnIds,
+    streams: &mut BTreeMap<u64, StoredStream>,
+    alloc: Global,
+    id: StreamId,
+    bytes: Bytes,
+) -> Result<Begun, Bytes>
+    requires indexed { AreIndexed turns.old streams.old.entries }
+    requires there { IsSome (kept_at streams.old.entries id) }
+    requires takes { refusal_of (stream_or_unseen streams.old.entries id).receiver ≡ None }
+    requires fits { length (concat (unread_of (stream_or_unseen streams.old.entries id).receiver)) + length bytes < 2 ^ 64 }
+    ensures ok { IfOk result (TakesBytes streams.old.entries streams.new.entries id bytes (stream_or_unseen streams.old.entries id)
+        (stream_or_unseen streams.old.entries id).receiver) }
+    ensures err { IfErr result (λ back. (back ≡ bytes) × AllSame streams.old.entries streams.new.entries) }
+    ensures indexed { AreIndexed turns.new streams.new.entries }
+{
+    let begun = match arrive(streams, alloc, id, bytes) {
+        Ok(begun) => begun,
+        Err(back) => return Err(back),
+    };
+    if tells_session(&begun) {
+        settle(turns, streams, id);
+    }
+    Ok(begun)
+}
+
 /// Bytes come, and open the stream if it is not there. An `Err` changes nothing.
 pub(super) fn deliver(
+    turns: &mut TurnIds,
     streams: &mut BTreeMap<u64, StoredStream>,
     alloc: Global,
     id: StreamId,
     bytes: Bytes,
 ) -> Result<Begun, DeliverError>
-    ensures { Delivers streams.old.entries streams.new.entries id bytes result }
+    requires { AreIndexed turns.old streams.old.entries }
+    ensures delivers { Delivers streams.old.entries streams.new.entries id bytes result }
+    ensures indexed { AreIndexed turns.new streams.new.entries }
 {
     if let Some(refusal) = arrival_refusal(streams, id) {
         return Err(DeliverError::Refused(refusal));
@@ -258,39 +360,57 @@ pub(super) fn deliver(
     if unread_len(streams, id).checked_add(bytes.len()).is_none() {
         return Err(DeliverError::OutOfMemory(bytes));
     }
-    let Ok(is_new) = open(streams, alloc, id) else {
+    let Ok(is_new) = open(turns, streams, alloc, id) else {
         return Err(DeliverError::OutOfMemory(bytes));
     };
-    match arrive_there(streams, alloc, id, bytes) {
+    match arrive_there(turns, streams, alloc, id, bytes) {
         Ok(begun) => Ok(begun),
         Err(back) => {
             if is_new {
-                take_out(streams, id);
+                take_out(turns, streams, id);
             }
             Err(DeliverError::OutOfMemory(back))
         }
     }
 }
 
+// The end of a stream that is there comes (no code), or its reset.
+fn close_there(
+    streams: &mut BTreeMap<u64, StoredStream>,
+    alloc: Global,
+    id: StreamId,
+    code: Option<u64>,
+)
+    requires { IsSome (kept_at streams.old.entries id) }
+    ensures { Sets streams.old.entries streams.new.entries id (closing code (stream_or_unseen streams.old.entries id)
+        (stream_or_unseen streams.old.entries id).receiver) }
+{
+    let Some(stream) = streams.get_mut(&id.into_inner()) else {
+        unreachable!()
+    };
+    stream.close(alloc, code);
+}
+
 /// The end of a stream comes (no code), or its reset, and opens it if it is not there. An `Err` changes nothing.
+#[tactic(auto, using(crate::proofs::Indexing::closed_indexed))]
 pub(super) fn close(
+    turns: &mut TurnIds,
     streams: &mut BTreeMap<u64, StoredStream>,
     alloc: Global,
     id: StreamId,
     code: Option<u64>,
 ) -> Result<(), DeliverError>
-    ensures { Closes streams.old.entries streams.new.entries id code result }
+    requires { AreIndexed turns.old streams.old.entries }
+    ensures closes { Closes streams.old.entries streams.new.entries id code result }
+    ensures indexed { AreIndexed turns.new streams.new.entries }
 {
     if let Some(refusal) = arrival_refusal(streams, id) {
         return Err(DeliverError::Refused(refusal));
     }
-    let Ok(_) = open(streams, alloc, id) else {
+    let Ok(_) = open(turns, streams, alloc, id) else {
         return Err(DeliverError::OutOfMemory(Bytes::new()));
     };
-    let Some(stream) = streams.get_mut(&id.into_inner()) else {
-        unreachable!()
-    };
-    stream.close(alloc, code);
+    close_there(streams, alloc, id, code);
     Ok(())
 }
 
@@ -305,54 +425,4 @@ pub(super) fn next(streams: &BTreeMap<u64, StoredStream>, sought: Sought, from: 
         }
     }
     None
-}
-
-// Whether the stream of this id is there, is below a place, if there is one, and takes turns.
-fn has_turn(streams: &BTreeMap<u64, StoredStream>, id: u64, below: Option<u64>) -> bool
-    ensures { result ≡ has_turn below id (kept_at streams.now.entries id) }
-{
-    if let Some(place) = below {
-        if id >= place {
-            return false;
-        }
-    }
-    match streams.get(&id) {
-        Some(stream) => stream.takes_turns(),
-        None => false,
-    }
-}
-
-// The greatest id of a stream that takes turns, below a place, if there is one. It goes over all streams.
-#[tactic(auto, using(crate::proofs::Greatest::is_last))]
-fn last_turn(streams: &BTreeMap<u64, StoredStream>, below: Option<u64>) -> Option<u64>
-    ensures { IsLast (λ id. passes takes_turns (kept_at streams.now.entries id)) below result }
-{
-    let mut found = None;
-    // (the label names the loop in its proof)
-    'ids: for id in streams.keys() {
-        if has_turn(streams, *id, below) {
-            found = greater(found, *id);
-        }
-    }
-    found
-}
-
-// The greater of both.
-fn greater(one: Option<u64>, other: u64) -> Option<u64>
-    ensures { result ≡ Some (greater_of one other) }
-{
-    match one {
-        Some(first) if other < first => one,
-        _ => Some(other),
-    }
-}
-
-/// The stream whose turn it is. It goes over all streams.
-pub(super) fn next_turn(streams: &BTreeMap<u64, StoredStream>, from: u64) -> Option<u64>
-    ensures { IsTurn (λ id. passes takes_turns (kept_at streams.now.entries id)) from result }
-{
-    match last_turn(streams, Some(from)) {
-        Some(id) => Some(id),
-        None => last_turn(streams, None),
-    }
 }

@@ -39,7 +39,7 @@ impl SessionStreams {
         ensures rest { self.new ≡ record self.old { streams = self.new.streams } }
     {
         let alloc = self.alloc;
-        map::deliver(&mut self.streams, alloc, id, bytes)
+        map::deliver(&mut self.turns, &mut self.streams, alloc, id, bytes)
     }
 
     /// The end of a stream came. It is refused as bytes are.
@@ -48,7 +48,7 @@ impl SessionStreams {
         ensures rest { self.new ≡ record self.old { streams = self.new.streams } }
     {
         let alloc = self.alloc;
-        map::close(&mut self.streams, alloc, id, None)
+        map::close(&mut self.turns, &mut self.streams, alloc, id, None)
     }
 
     /// A stream was reset by its sender, with this code. What was not pulled is thrown away.
@@ -57,7 +57,7 @@ impl SessionStreams {
         ensures rest { self.new ≡ record self.old { streams = self.new.streams } }
     {
         let alloc = self.alloc;
-        map::close(&mut self.streams, alloc, id, Some(code))
+        map::close(&mut self.turns, &mut self.streams, alloc, id, Some(code))
     }
 
     /// What comes next on a stream: its session, unless this side opened it, the bytes that came, in pieces, and its end. A stream that is

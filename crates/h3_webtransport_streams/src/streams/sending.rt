@@ -90,6 +90,7 @@ impl SessionStreams {
 
     /// Sends bytes on a stream as they are. Refused are first a stream on which this side does not send, then one that was finished or
     /// reset. `OutOfMemory` comes last. Refused bytes come back.
+    #[tactic(auto, using(crate::proofs::Indexing::sent_but))]
     pub fn send(&mut self, id: StreamId, bytes: Bytes) -> Result<(), (Refusal, Bytes)>
         ensures ok { OnOk result (Acts (Some NotOpen) (sending (Some NotOpen)
             (λ s. sent s bytes)) self.old.streams self.new.streams id None) }
@@ -98,7 +99,9 @@ impl SessionStreams {
         ensures err { IfErr result (λ e. (e.1 ≡ bytes) × AllSame self.old.streams self.new.streams) }
         ensures rest { self.new ≡ record self.old { streams = self.new.streams } }
     {
-        map::send(&mut self.streams, id, bytes)
+        let sent = map::send(&mut self.streams, id, bytes);
+        map::settle(&mut self.turns, &self.streams, id);
+        sent
     }
 
     /// All was sent on a stream. Refused are first one on which this side does not send, then one that was finished or reset.
@@ -106,7 +109,9 @@ impl SessionStreams {
         ensures acts { Acts (Some NotOpen) (sending (Some NotOpen) finished) self.old.streams self.new.streams id (call_refused result) }
         ensures rest { self.new ≡ record self.old { streams = self.new.streams } }
     {
-        map::finish(&mut self.streams, id)
+        let finished = map::finish(&mut self.streams, id);
+        map::settle(&mut self.turns, &self.streams, id);
+        finished
     }
 
     /// Sending on a stream ends here, and what waits is dropped. Refused are first one on which this side does not send, then one of which
@@ -116,40 +121,52 @@ impl SessionStreams {
         ensures rest { self.new ≡ record self.old { streams = self.new.streams } }
     {
         let alloc = self.alloc;
-        map::reset(&mut self.streams, alloc, id)
+        let reset = map::reset(&mut self.streams, alloc, id);
+        map::settle(&mut self.turns, &self.streams, id);
+        reset
     }
 
     /// Takes the first bytes that wait on a stream, at most all. Its turn is over then.
+    #[tactic(auto, using(crate::proofs::Indexing::changes_but))]
     pub fn advance(&mut self, id: StreamId, count: usize)
         ensures acts { Changes (λ s. takes s count) self.old.streams self.new.streams id }
         ensures rest { self.new ≡ record self.old { streams = self.new.streams; from = turn_over self.old.from id count } }
     {
         self.from = turn_over(self.from, id, count);
         map::advance(&mut self.streams, id, count);
+        map::settle(&mut self.turns, &self.streams, id);
     }
 
     /// QUIC took the end of a stream, if that was next: it answers whether it was.
+    #[tactic(auto, using(crate::proofs::Indexing::acts_but))]
     pub fn end_taken(&mut self, id: StreamId) -> bool
         ensures acts { Acts false (sending false end_told) self.old.streams self.new.streams id result }
         ensures rest { self.new ≡ record self.old { streams = self.new.streams } }
     {
-        map::end_taken(&mut self.streams, id)
+        let is_taken = map::end_taken(&mut self.streams, id);
+        map::settle(&mut self.turns, &self.streams, id);
+        is_taken
     }
 
     /// QUIC has no credit for a stream, or has it again. It answers whether this side sends on it.
+    #[tactic(auto, using(crate::proofs::Indexing::acts_but))]
     pub fn hold(&mut self, id: StreamId, is_held: bool) -> bool
         ensures acts { Acts false (sending false (λ s. (true, held s is_held))) self.old.streams self.new.streams id result }
         ensures rest { self.new ≡ record self.old { streams = self.new.streams } }
     {
-        map::hold(&mut self.streams, id, is_held)
+        let sends = map::hold(&mut self.streams, id, is_held);
+        map::settle(&mut self.turns, &self.streams, id);
+        sends
     }
 
     /// The stream whose turn it is, of those on which bytes or an end wait and which are not held. They take turns from the greatest id down:
-    /// one that is opened with a greater id waits for the next round, so each that waits has its turn. It goes over all streams.
+    /// one that is opened with a greater id waits for the next round, so each that waits has its turn. It goes over none of the others: it
+    /// is found by binary search.
+    #[tactic(auto, using(crate::proofs::Indexing::same_turn))]
     pub fn next_in_turn(&self) -> Option<u64>
         ensures { IsTurn (λ id. passes takes_turns (kept_at self.now.streams id)) self.now.from result }
     {
-        map::next_turn(&self.streams, self.from)
+        self.turns.next(self.from)
     }
 }
 
