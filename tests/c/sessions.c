@@ -793,6 +793,29 @@ static void of_closed_behind(void) {
   HOLDS(later[0] > 0 && later[1] > 0 && canceled > 0);
 }
 
+/* a fault in what is kept closes the connection, and the call says so: a second control stream */
+static void of_closed_faulty(void) {
+  for (uint32_t both = 0; both < 2; both++)
+    for (int cancels = 0; cancels < 2 - (int)both; cancels++) {
+      uint32_t stop = 99, reset = 99, n = H3_MEMORY;
+      uint64_t code = 0;
+      make_both(1);
+      HOLDS(begin() == 0);
+      uint64_t id = comes(SERVER, both, BYTES("all of this"));
+      keep(0);
+      for (int64_t fails = 0; fails < 9 && n == H3_MEMORY; fails++) {
+        left = fails;
+        n = h3_deliver(&ends[SERVER], 602, "", 1, NULL);
+        left = -1;
+      }
+      IS(n, H3_KEPT);
+      IS(cancels ? h3_cancel(&ends[SERVER], id, &code) : h3_close_stream(&ends[SERVER], id, &stop, &reset, &code), H3_CLOSED);
+      HOLDS(code == H3_CODE_STREAM_CREATION_ERROR && stop == 99 && reset == 99);
+      IS(pull(SERVER, id).kind, H3_FAULT_CONNECTION);
+      drop();
+    }
+}
+
 /* with the choice off a server reads what it read before, and answers nothing */
 static void of_choice_off(void) {
   uint64_t id = 99;
@@ -855,6 +878,7 @@ int main(void) {
   of_memory();
   of_closed_later();
   of_closed_behind();
+  of_closed_faulty();
   of_choice_off();
   if (!bad) printf("ok " TEST "\n");
   return bad;
