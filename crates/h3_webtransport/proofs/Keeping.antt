@@ -1,7 +1,6 @@
 -- What was kept is read before a stream is given up.
-use Rattle.std.proofs.Common.{◌≡◌, ◌≤◌, ◌^◌, ℕ, true, false, Ok, Err, refl}
+use Rattle.std.proofs.Common.{◌≡◌, ℕ, true, false, Ok, Err, refl}
 use Rattle.std.specs.Prelude.{Result}
-use Rattle.std.proofs.lemmas.Bool.{le-leb}
 use Rattle.h3_connection.specs.Answers.{call_refused}
 use Rattle.h3_connection.specs.State.{EndpointState}
 use Rattle.h3_connection.specs.declared.event.Refusal.{Refusal}
@@ -9,11 +8,7 @@ use Rattle.h3_session.specs.Beside.{DropsSession}
 use Rattle.h3_webtransport.specs.Keeping.{Drops, DropsBehind, ReadsKept, given_up_code, lacks}
 use Rattle.h3_webtransport.specs.Keeping.Drops.{at_once, behind}
 
--- 1 is an id
-pub never_far : (e f : EndpointState) (result : Result Unit Refusal) → 2 ^ 62 ≤ 1 → ReadsKept e f result
-never_far e f result far = absurd (let never : false ≡ true = le-leb (2 ^ 62) 1 far in cc)
-
--- then what came is dropped
+-- what came is dropped then
 pub drops_read : (e mid f : EndpointState) (id : ℕ) (result : Result Unit Refusal) → ReadsKept e mid (Ok tt) → DropsSession mid f id given_up_code result → DropsBehind e f id result
 drops_read e mid f id result reads drops = record { read = Ok tt; mid = mid; reads = reads; drops = drops }
 

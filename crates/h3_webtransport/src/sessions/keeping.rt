@@ -10,12 +10,11 @@ use h3_session::endpoint::Endpoint;
 
 // What was kept is read. Each pull does that first, and one of this stream delivers nothing: an endpoint reads none that a server opens both
 // ways.
-#[tactic(auto, using(crate::proofs::Keeping::never_far))]
 pub(super) fn read_kept(endpoint: &mut Endpoint) -> Result<(), Refusal>
     ensures { ReadsKept endpoint.old endpoint.new result }
 {
     let Ok(silent) = StreamId::try_from(1) else {
-        return Err(Refusal::OutOfMemory);
+        unreachable!()
     };
     let pull = endpoint.pull(silent);
     read_as(&pull)
