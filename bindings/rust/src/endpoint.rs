@@ -279,8 +279,8 @@ impl Endpoint {
     /// # Errors
     ///
     /// [`Error::Closed`], [`Error::NoSessions`], [`Error::NotRequestId`], [`Error::NotOpen`] (no header section was sent on the session's
-    /// request, sending there has ended, or the peer's end or reset of it came), [`Error::GoingAway`], [`Error::IdsUsedUp`], [`Error::Argument`] (the id is 2^62 or more),
-    /// [`Error::Memory`].
+    /// request, sending there has ended, or the peer's end or reset of it came), [`Error::GoingAway`], [`Error::IdsUsedUp`],
+    /// [`Error::Argument`] (the id is 2^62 or more), [`Error::Memory`].
     pub fn open_session_stream(&mut self, session: u64, both_ways: bool) -> Result<u64, Error> {
         let mut id = 0;
         self.call(|handle, detail, out| unsafe { raw::h3_raw_open_session_stream(handle, session, both_ways.into(), &mut id, detail, out) })?;
