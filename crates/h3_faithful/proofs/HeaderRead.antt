@@ -212,18 +212,17 @@ none_mapped g (Some x) h = h
 pub has_none : (h : Head) → list_any is_pseudo (head_fields h) ≡ false → has_pseudo h ≡ false
 has_none h none =
     let pseudo = (none_in is_pseudo (pseudo_fields h.method h.scheme h.authority h.path h.status h.protocol) (regular_fields h.regular) none).0 in
-    let from_protocol = optional_field (codes ":protocol") h.protocol in
-    let from_status = optional_field (codes ":status") (option_map code_digits h.status) ++ from_protocol in
-    let from_path = optional_field (codes ":path") (option_map or_slash h.path) ++ from_status in
-    let from_authority = optional_field (codes ":authority") h.authority ++ from_path in
-    let from_scheme = optional_field (codes ":scheme") h.scheme ++ from_authority in
-    let a = none_in is_pseudo (optional_field (codes ":method") h.method) from_scheme pseudo in
-    let b = none_in is_pseudo (optional_field (codes ":scheme") h.scheme) from_authority a.1 in
-    let c = none_in is_pseudo (optional_field (codes ":authority") h.authority) from_path b.1 in
-    let d = none_in is_pseudo (optional_field (codes ":path") (option_map or_slash h.path)) from_status c.1 in
-    let e = none_in is_pseudo (optional_field (codes ":status") (option_map code_digits h.status)) from_protocol d.1 in
+    let to_scheme = optional_field (codes ":method") h.method ++ optional_field (codes ":scheme") h.scheme in
+    let to_authority = to_scheme ++ optional_field (codes ":authority") h.authority in
+    let to_path = to_authority ++ optional_field (codes ":path") (option_map or_slash h.path) in
+    let to_status = to_path ++ optional_field (codes ":status") (option_map code_digits h.status) in
+    let e = none_in is_pseudo to_status (optional_field (codes ":protocol") h.protocol) pseudo in
+    let d = none_in is_pseudo to_path (optional_field (codes ":status") (option_map code_digits h.status)) e.0 in
+    let c = none_in is_pseudo to_authority (optional_field (codes ":path") (option_map or_slash h.path)) d.0 in
+    let b = none_in is_pseudo to_scheme (optional_field (codes ":authority") h.authority) c.0 in
+    let a = none_in is_pseudo (optional_field (codes ":method") h.method) (optional_field (codes ":scheme") h.scheme) b.0 in
     six_none (is_some h.method) (is_some h.scheme) (is_some h.authority) (is_some h.path) (is_some h.status) (is_some h.protocol)
-    (none_optional (codes ":method") h.method (λ v. refl) a.0) (none_optional (codes ":scheme") h.scheme (λ v. refl) b.0) (none_optional (codes ":authority") h.authority (λ v. refl) c.0)
-    (none_mapped or_slash h.path (none_optional (codes ":path") (option_map or_slash h.path) (λ v. refl) d.0))
-    (none_mapped code_digits h.status (none_optional (codes ":status") (option_map code_digits h.status) (λ v. refl) e.0))
+    (none_optional (codes ":method") h.method (λ v. refl) a.0) (none_optional (codes ":scheme") h.scheme (λ v. refl) a.1) (none_optional (codes ":authority") h.authority (λ v. refl) b.1)
+    (none_mapped or_slash h.path (none_optional (codes ":path") (option_map or_slash h.path) (λ v. refl) c.1))
+    (none_mapped code_digits h.status (none_optional (codes ":status") (option_map code_digits h.status) (λ v. refl) d.1))
     (none_optional (codes ":protocol") h.protocol (λ v. refl) e.1)
