@@ -32,7 +32,6 @@ AcceptsNext setup before given (e ∷ later) (a ∷ others) =
     → IsAccepted (may_be_unread setup e || (announced_at setup side).choices.strict_messages) (begins_late setup before given e) a
 AcceptsNext setup before given later others = Unit {0}
 
--- the side pulls from the stream, and the pull pauses
 abbrev pub pauses_on : Side → ℕ → Event → Answer → Bool
 pauses_on side id (event.Pull acting i) (answer.Pulled pull.Pending) = is_on side id acting i
 pauses_on side id (event.Pull acting i) (answer.Pulled (pull.Waiting count)) = is_on side id acting i
@@ -53,9 +52,8 @@ pub record HoldsAt (setup : Setup) (before : List Event) (given : List Answer) (
   -- with the end it is all of it, and there is no end before the other side has finished
   pub ends : (side : Side) (id : ℕ) → any_of (λ e a. pulls_on side id e && is_end_of a) before given ≡ true →
       (length (pulled side id before given) ≡ length (sent (other side) id before given)) × (any_of (finished_in (other side) id) before given ≡ true)
-  -- what may be sent is sent
   pub accepts : AcceptsNext setup before given later others
-  -- and comes out: with nothing left to deliver a pull pauses after all that was sent
+  -- what is sent comes out: with nothing left to deliver a pull pauses after all that was sent
   pub comes_out : (side : Side) (id : ℕ) → any_of (resets_on (other side) id) before given ≡ false → PausesDelivered side id later others →
       length (pulled side id before given) ≡ length (sent (other side) id before given)
 

@@ -18,14 +18,17 @@ use Rattle.h3_headline.specs.Messages.MessageContent.{Byte, FieldSection, TooLar
 
 -- a field of one of these names, and no regular one (RFC 9114, section 4.3; RFC 8441, section 4)
 abbrev pub is_pseudo : Field → Bool
-is_pseudo f = list_any (bytes_eq f.name)
-    (codes ":method" ∷ codes ":scheme" ∷ codes ":authority" ∷ codes ":path" ∷ codes ":status" ∷ codes ":protocol" ∷ [])
+is_pseudo f = list_any (bytes_eq f.name) (codes ":method" ∷ codes ":scheme" ∷ codes ":authority" ∷ codes ":path" ∷ codes ":status" ∷ codes ":protocol" ∷ [])
 
 -- The header that a list of fields is: of each pseudo-header field the last value, and the map of the others.
 abbrev pub header_in : List Field → Head
 header_in fields = record {
-  method = last_value (codes ":method") fields; scheme = last_value (codes ":scheme") fields; authority = last_value (codes ":authority") fields;
-  path = option_map without_fragment (last_value (codes ":path") fields); status = status_in fields; protocol = last_value (codes ":protocol") fields;
+  method = last_value (codes ":method") fields;
+  scheme = last_value (codes ":scheme") fields;
+  authority = last_value (codes ":authority") fields;
+  path = option_map without_fragment (last_value (codes ":path") fields);
+  status = status_in fields;
+  protocol = last_value (codes ":protocol") fields;
   regular = fold (λ m f. if is_pseudo f then m else append m f.name (plain_value f.value)) [] fields;
 }
 

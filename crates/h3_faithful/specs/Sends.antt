@@ -42,7 +42,6 @@ is_trailer_section _ = false
 abbrev pub takes_size : Setup → Side → List Field → Bool
 takes_size setup side fields = nat_le (section_size fields) (section_of (announced_at setup (other side)))
 
--- these contents end between the header section and the trailer
 abbrev pub is_between : List MessageContent → Bool
 is_between before = list_any is_head_section before && not (list_any is_trailer_section before)
 
