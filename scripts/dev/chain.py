@@ -65,6 +65,7 @@ def waits_behind(listed):
 def prove_one(name):
     """proves a crate over the libraries that are there: the status for the process that asked for it"""
     rt, listed = crates()
+    rt.rtlib.guarded()  # takes signals, which only the main thread may
     crate = next(it for it in listed if it.name == name)
     crate.out = sys.stdout
     os.makedirs(f"{crate.folder}/out", exist_ok=True)
