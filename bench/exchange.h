@@ -11,8 +11,8 @@ typedef struct {
   const field_lists *requests, *responses;
   size_t request_body, response_body; /* bytes; 0: none */
   size_t exchanges, under_way;        /* how many in all, and how many at once */
-  size_t piece;                       /* the most bytes that are carried at once, at most MOST_CARRIED; 0 (not through C): each piece that an end lends
-                                         is carried in a block of its own, and what comes out is counted and not copied */
+  size_t piece;                       /* the most bytes that are carried at once, at most MOST_CARRIED; 0 (not through C): no piece of a body is copied,
+                                         every other piece that an end lends is copied into a block of its own, and what comes out is counted and not copied */
   size_t table, blocked;              /* what both sides announce for QPACK */
   int in_place;                       /* what an end gives is read where it lies, `piece` bytes at once, and what comes out is counted and not copied */
   int in_turn;                        /* the streams' pieces come in turn: the first of each, then the second of each */

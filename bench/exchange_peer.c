@@ -81,16 +81,25 @@ static size_t read_gathered(side *to, int64_t id, const nghttp3_vec *pieces, siz
   return len;
 }
 
-/* Reads each piece from a block of its own. Answers how many bytes were read. */
+/* Reads a piece from a block of its own. */
+static void read_block(side *to, int64_t id, nghttp3_vec piece, int fin) {
+  uint8_t *block = malloc(piece.len);
+  if (!block) stop("no memory", (long)piece.len);
+  memcpy(block, piece.base, piece.len);
+  read_piece(to, (uint64_t)id, block, piece.len, fin);
+  free(block);
+}
+
+static int is_of_body(nghttp3_vec piece) { return (uintptr_t)piece.base - (uintptr_t)exchange_body < sizeof exchange_body; }
+
+/* Reads a piece of a body where it lies, and every other piece from a block of its own. Answers how many bytes were read. */
 static size_t read_blocks(side *to, int64_t id, const nghttp3_vec *pieces, size_t count, int fin) {
   size_t len = 0;
-  if (!count) done("nghttp3_conn_read_stream", nghttp3_conn_read_stream(to->end, id, NULL, 0, fin));
+  if (!count) read_piece(to, (uint64_t)id, NULL, 0, fin);
   for (size_t i = 0; i < count; i++) {
-    uint8_t *block = malloc(pieces[i].len);
-    if (!block) stop("no memory", (long)pieces[i].len);
-    memcpy(block, pieces[i].base, pieces[i].len);
-    done("nghttp3_conn_read_stream", nghttp3_conn_read_stream(to->end, id, block, pieces[i].len, fin && i + 1 == count));
-    free(block);
+    const int is_last = fin && i + 1 == count;
+    if (is_of_body(pieces[i])) read_piece(to, (uint64_t)id, pieces[i].base, pieces[i].len, is_last);
+    else read_block(to, id, pieces[i], is_last);
     len += pieces[i].len;
   }
   return len;

@@ -1,4 +1,5 @@
-/* Whole exchanges of two endpoints with no C between, beside nghttp3's. */
+/* Whole exchanges of two endpoints with no C between, beside nghttp3's. Neither side copies a piece of a body; every other piece is copied into a block of its
+ * own. */
 #include "exchange.h"
 #include "measure.h"
 #include "rows.h"

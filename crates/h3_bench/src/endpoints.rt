@@ -75,11 +75,17 @@ impl Messages {
     }
 
     fn send_body(&self, from: &mut Endpoint, id: StreamId) -> Result<(), Failure> {
-        let Ok(body) = self.body.clone() else {
-            return Err(Failure::Memory);
-        };
+        let body = shared(&self.body)?;
         done(from.send_body(id, body).is_ok())
     }
+}
+
+/// The same bytes once more, of which none is copied.
+fn shared(bytes: &Bytes) -> Result<Bytes, Failure> {
+    let Ok(again) = bytes.clone() else {
+        return Err(Failure::Memory);
+    };
+    Ok(again)
 }
 
 fn done(is_done: bool) -> Result<(), Failure> {
@@ -258,7 +264,7 @@ impl Exchanges<'_> {
         Ok(())
     }
 
-    /// Carries the first piece of what waits, in a block of its own, and says whether there was one.
+    /// Carries the first piece of what waits whole, and says whether there was one.
     fn carry_piece(
         &self,
         from: &mut Endpoint,
@@ -266,16 +272,26 @@ impl Exchanges<'_> {
         id: StreamId,
     ) -> Result<bool, Failure> {
         let waits = from.outgoing(id);
-        let count = waits.len();
-        if count == 0 {
+        if waits.is_empty() {
             return Ok(false);
+        }
+        let piece = self.piece(from.outgoing_body(id), waits)?;
+        let count = piece.len();
+        delivered(to.deliver(id, piece))?;
+        from.advance(id, count);
+        Ok(true)
+    }
+
+    /// What waits first, as it is carried. A piece of a body is a clone, which copies nothing: a copy would take most of the time of a long
+    /// body, and measure no call of an endpoint. Any other piece is copied into a block of its own, as a program does that only borrows it.
+    fn piece(&self, body: Option<&Bytes>, waits: &[u8]) -> Result<Bytes, Failure> {
+        if let Some(body) = body {
+            return shared(body);
         }
         let Ok(piece) = Bytes::copy_from_slice(self.alloc, waits) else {
             return Err(Failure::Memory);
         };
-        delivered(to.deliver(id, piece))?;
-        from.advance(id, count);
-        Ok(true)
+        Ok(piece)
     }
 }
 
