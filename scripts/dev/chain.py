@@ -49,7 +49,11 @@ def digest(crate):
 def wanted(listed):
     """for each crate what stands if it does: its digest with those of all crates below it"""
     own = {it.name: digest(it) for it in listed}
-    return {it.name: hashlib.sha256("".join([own[it.name], *(own[name] for name in sorted(low.name for low in it.below()))]).encode()).hexdigest() for it in listed}
+    made = {}
+    for it in listed:
+        below = sorted(low.name for low in it.below())
+        made[it.name] = hashlib.sha256("".join(own[name] for name in (it.name, *below)).encode()).hexdigest()
+    return made
 
 
 def waits_behind(listed):
@@ -66,11 +70,22 @@ def prove_one(name):
     """proves a crate over the libraries that are there: the status for the process that asked for it"""
     rt, listed = crates()
     rt.rtlib.guarded()  # takes signals, which only the main thread may
+    keep_static(rt)
     crate = next(it for it in listed if it.name == name)
     crate.out = sys.stdout
     os.makedirs(f"{crate.folder}/out", exist_ok=True)
     rt.rtlib.stop_on_text(crate, "verdict")
     return crate.ci(["--jobs", "1"], False)
+
+
+def keep_static(rt):
+    """has the check of a static library keep its work, over which `make lib` and `make bench-build` then build"""
+    words = rt.Crate.words
+
+    def kept(self, flags, *given, **named):
+        return words(self, flags, *given, **({**named, "keeps": True} if self.is_static else named))
+
+    rt.Crate.words = kept
 
 
 def free_kib():
@@ -126,8 +141,8 @@ class Chain:
         _, listed = crates()
         wants, longest = wanted(listed), waits_behind(listed)
         stands = {name for name, want in wants.items() if self.stands.get(name) == want}
-        ready = [it.name for it in listed if it.name not in stands and it.name not in self.running and self.failed.get(it.name) != wants[it.name]
-                 and all(low.name in stands for low in it.below())]
+        waits = {name for name, want in wants.items() if name in stands or name in self.running or self.failed.get(name) == want}
+        ready = [it.name for it in listed if it.name not in waits and all(low.name in stands for low in it.below())]
         for name in sorted(ready, key=lambda it: -longest[it]):
             if len(self.running) < self.jobs and (not self.running or free_kib() > FREE_KIB):
                 self.begin(name, wants[name])
