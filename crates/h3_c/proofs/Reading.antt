@@ -1,13 +1,16 @@
 -- What a read of bytes comes to with sessions of WebTransport beside an endpoint, by the calls that it makes.
 use Rattle.std.proofs.Common.{◌≡◌, ℕ, ◌<◌, ◌==◌, ◌&&◌, Bool, true, false, List, [], ◌∷◌, length, take, refl, sym, ap, subst, ◌∙◌, arith}
 use Rattle.std.specs.Prelude.{nat_lt, ◌^◌, Result, Ok, Option, Some, None}
-use Rattle.std.proofs.lemmas.Bool.{eqb-true}
+use Rattle.std.proofs.lemmas.Bool.{eqb-true, ltb-true}
+use Rattle.std.proofs.lemmas.List.{length-take-le, take-take}
 use Rattle.h3_connection.specs.Calls.{AllSame, IsSame}
 use Rattle.h3_connection.specs.Endpoint.{EndpointHistory}
 use Rattle.h3_connection.specs.ReceivingContracts.{Delivers, PullsNext}
 use Rattle.h3_connection.specs.Shutdown.{is_rejected_in}
 use Rattle.h3_connection.specs.State.{EndpointState, StandsFor}
 use Rattle.h3_connection.specs.StreamSets.{Streams}
+use Rattle.h3_field.specs.Field.{Field}
+use Rattle.h3_connection.specs.declared.event.Pull.{Pull}
 use Rattle.h3_connection.specs.declared.event.Pull.TheVariants as pull
 use Rattle.h3_connection.specs.declared.event.DeliverError.{DeliverError}
 use Rattle.h3_connection.specs.declared.event.Refusal.{Refusal}
@@ -18,14 +21,14 @@ use Rattle.h3_connection.specs.declared.lists.ListPull.TheVariants as answer
 use Rattle.h3_incoming.specs.declared.body_place.BodyPlace.{BodyPlace}
 use Rattle.h3_session.specs.Listing.{ListsNext}
 use Rattle.h3_session.specs.Lacking.{delivery_error}
-use Rattle.h3_session.specs.ReadingBodies.{BeginsBody}
+use Rattle.h3_session.specs.ReadingBodies.{BeginsBody, ReadsHeaders}
 use Rattle.h3_webtransport.specs.Receiving.{DeliversOn, RefusesDeliveriesOn}
 use Rattle.h3_c.specs.Exported.{OnStream, UnlessRejected}
 use Rattle.h3_c.specs.Items.{plain, shown}
 use Rattle.h3_c.specs.Numbers.{ok, told_or_memory}
 use Rattle.h3_c.specs.PullsBeside.{PullsBeside}
 use Rattle.h3_c.specs.Reads.{ends_with, ReadsPlaced}
-use Rattle.h3_c.specs.ReadsBeside.{ReadsAtBeside, ReadsCopiedBeside, ReadsNextBeside, RefusesEndBeside, StopsAtBeside, TakesBytesBeside, TakesEndBeside}
+use Rattle.h3_c.specs.ReadsBeside.{ReadsAtBeside, ReadsCopiedBeside, ReadsNextBeside, ReadsOtherBeside, RefusesEndBeside, StopsAtBeside, TakesBytesBeside, TakesEndBeside}
 use Rattle.h3_c.specs.ReadsBeside.ReadsCopiedBeside.{pulled_beside}
 use Rattle.h3_c.specs.Seen.{Seen}
 use Rattle.h3_c.specs.declared.connection.reading.Stop.{Stop}
@@ -248,3 +251,56 @@ begun_reads v w id bytes fin before given off sessions no_fin b last events is =
             (is ∙ ap shown (sym last)) events),
       );
     }
+
+-- A field section was read where it lies, where sessions are off: its frame is delivered, and pulled.
+pub section_read : (v w : Seen) (id : ℕ) (bytes : List ℕ) (fin count : ℕ) (before given : PulledItem) → v.sessions.is_on ≡ false → w.sessions ≡ v.sessions → ends_with fin bytes count ≡ false
+    → ReadsHeaders v.endpoint w.endpoint id bytes count (pull_of w.last) (list_of w.last) → w.events ≡ v.events → given ≡ shown w.last → ReadsOtherBeside v w id bytes fin ok before given count
+section_read v w id bytes fin count before given off sessions no_end r events is =
+    let mid : Seen = record v { endpoint = r.middle } in
+    let front_some : 0 < length (take count bytes) = omega (arith, r.some, length-take-le count bytes r.within) in
+    (
+      v.endpoint,
+      same_itself v.endpoint,
+      pulled_beside mid mid r.within (λ some. r.some) (delivers_off v r.middle id (take count bytes) off front_some r.delivers)
+          (subst (λ b. TakesEndBeside b (length bytes == 0) mid mid id) (sym no_end) refl)
+          (pulls_off mid w id given off sessions r.pulls r.lists is events),
+    )
+
+-- or what came was copied, of an endpoint at which nothing has changed
+pub other_copied : (v u w : Seen) (id : ℕ) (bytes : List ℕ) (fin : ℕ) (n : Told) (before given : PulledItem) (used : ℕ) → IsSame v.endpoint u.endpoint → u.sessions ≡ v.sessions → u.last ≡ v.last → u.events ≡ v.events
+    → ReadsCopiedBeside u w id bytes fin n before given used → ReadsOtherBeside v w id bytes fin n before given used
+other_copied v u w id bytes fin n before given used same sessions last events r =
+    let start_is : u ≡ record v { endpoint = u.endpoint } =
+    ap (λ j. let x : Seen = record { endpoint = u.endpoint; sessions = j; last = u.last; events = u.events } in x) sessions
+    ∙ ap (λ l. let x : Seen = record { endpoint = u.endpoint; sessions = v.sessions; last = l; events = u.events } in x) last
+    ∙ ap (λ l. let x : Seen = record { endpoint = u.endpoint; sessions = v.sessions; last = v.last; events = l } in x) events in
+    (u.endpoint, same, subst (λ s. ReadsCopiedBeside s w id bytes fin n before given used) start_is r)
+
+-- behind a call that changed nothing either
+pub other_behind : (v : Seen) (start : EndpointState) (w : Seen) (id : ℕ) (bytes : List ℕ) (fin : ℕ) (n : Told) (before given : PulledItem) (used : ℕ) → IsSame v.endpoint start
+    → ReadsOtherBeside (record v { endpoint = start }) w id bytes fin n before given used → ReadsOtherBeside v w id bytes fin n before given used
+other_behind v start w id bytes fin n before given used same r = (r.0, same_twice v.endpoint start r.0 same r.1, r.2)
+
+-- a section that lies in a front of the bytes lies in the bytes
+pub section_within : (s t : EndpointState) (id : ℕ) (bytes : List ℕ) (whole n : ℕ) (given : Pull) (fields : Option (List Field)) → whole ≤ length bytes → ReadsHeaders s t id (take whole bytes) n given fields
+    → ReadsHeaders s t id bytes n given fields
+section_within s t id bytes whole n given fields few r =
+    let size = length-take-le whole bytes few in
+    let front : take n (take whole bytes) ≡ take n bytes = take-take n whole bytes (omega (arith, size, r.within)) in
+    record {
+      middle = r.middle;
+      within = omega (arith, size, r.within, few);
+      some = r.some;
+      delivers = subst (λ l. Delivers s r.middle id l (Ok tt)) front r.delivers;
+      pulls = r.pulls;
+      lists = r.lists;
+    }
+
+-- and no end comes right after it
+pub no_end : (fin n whole : ℕ) (bytes : List ℕ) → n ≤ whole → (0 < fin → whole < length bytes) → ends_with fin bytes n ≡ false
+no_end fin n whole bytes few short = by_tests (nat_lt 0 fin) (n == length bytes) refl refl
+  where
+    by_tests : (a b : Bool) → nat_lt 0 fin ≡ a → (n == length bytes) ≡ b → (a && b) ≡ false
+    by_tests false b some is = refl
+    by_tests true false some is = refl
+    by_tests true true some is = absurd (omega (arith, few, short (ltb-true 0 fin some), eqb-true n (length bytes) is))

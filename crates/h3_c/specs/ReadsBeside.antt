@@ -60,10 +60,14 @@ pub data ReadsCopiedBeside (v w : Seen) (id : ℕ) (bytes : List ℕ) (fin : ℕ
   unended_beside : (mid : Seen) → ends_with fin bytes used ≡ true → TakesBytesBeside v mid id bytes → RefusesEndBeside (length bytes == 0) mid w id n → StaysShown v w → given ≡ before
       → ReadsCopiedBeside v w id bytes fin n before given used
 
+-- the same of an endpoint at which nothing has changed
+abbrev pub ReadsOtherBeside : Seen → Seen → ℕ → List ℕ → ℕ → Told → PulledItem → PulledItem → ℕ → Type 0
+ReadsOtherBeside v w id bytes fin n before given used =
+    (start : EndpointState) × IsSame v.endpoint start × ReadsCopiedBeside (record v { endpoint = start }) w id bytes fin n before given used
+
 abbrev pub ReadsAtBeside : Option BodyPlace → Seen → Seen → ℕ → List ℕ → ℕ → Told → PulledItem → PulledItem → ℕ → Type 0
 ReadsAtBeside (Some p) v w id bytes fin n before given used = ReadsPlaced v w id bytes p n given used × (w.sessions ≡ v.sessions)
-ReadsAtBeside None v w id bytes fin n before given used =
-    (start : EndpointState) × IsSame v.endpoint start × ReadsCopiedBeside (record v { endpoint = start }) w id bytes fin n before given used
+ReadsAtBeside None v w id bytes fin n before given used = ReadsOtherBeside v w id bytes fin n before given used
 
 pub record ReadsNextBeside (v w : Seen) (id : ℕ) (bytes : List ℕ) (fin : ℕ) (n : Told) (before given : PulledItem) (used : ℕ) : Type 0 where
   pub place : Option BodyPlace

@@ -45,13 +45,13 @@ pub nothing_behind : (bytes : List ℕ) (size count : ℕ) → data_at bytes ≡
 nothing_behind bytes size count at past = at ∙ ap (λ l. Some (size, l)) (drop_all count bytes past)
 
 -- What a receiver is of which nothing is kept.
-record IsClear (i : Incoming) : Type 0 where
-  section : i.section ≡ None
-  fault : i.fault ≡ None
-  goes_on : i.is_over ≡ false
-  open_still : i.ended ≡ false
-  message : is_session i.place ≡ false
-  within : is_exceeded i.content ≡ false
+pub record IsClear (i : Incoming) : Type 0 where
+  pub section : i.section ≡ None
+  pub fault : i.fault ≡ None
+  pub goes_on : i.is_over ≡ false
+  pub open_still : i.ended ≡ false
+  pub message : is_session i.place ≡ false
+  pub within : is_exceeded i.content ≡ false
 
 not_so : (b : Bool) → not b ≡ true → b ≡ false
 not_so true e = absurd (cc)
@@ -61,7 +61,7 @@ first_not : (a b : Bool) → not (a || b) ≡ true → a ≡ false
 first_not true b e = absurd (cc)
 first_not false b e = refl
 
-clear_is : (i : Incoming) → keeps_nothing i ≡ true → IsClear i
+pub clear_is : (i : Incoming) → keeps_nothing i ≡ true → IsClear i
 clear_is i e =
     let last = and_parts _ (not (is_exceeded i.content)) e in
     let session = and_parts _ (not (is_session i.place)) last.0 in
@@ -82,7 +82,7 @@ with_one : (bytes : List ℕ) → 0 < length bytes → with_piece [] bytes ≡ b
 with_one [] some = absurd (omega (arith, some))
 with_one (byte ∷ bytes) some = refl
 
-kept_is : (i : Incoming) (bytes : List ℕ) → i.fault ≡ None → i.unread ≡ [] → 0 < length bytes → kept i bytes ≡ record i { unread = bytes ∷ [] }
+pub kept_is : (i : Incoming) (bytes : List ℕ) → i.fault ≡ None → i.unread ≡ [] → 0 < length bytes → kept i bytes ≡ record i { unread = bytes ∷ [] }
 kept_is i bytes fault none some =
     ap (λ u. let x : Incoming = record i { unread = u } in x)
     (ap {A = Option StreamFault} (λ f. if is_some f then [] else with_piece i.unread bytes) fault ∙ ap (λ u. with_piece u bytes) none ∙ with_one bytes some)

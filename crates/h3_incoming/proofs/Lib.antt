@@ -6,5 +6,6 @@ pub mod JudgeLaws
 pub mod ListLaws
 pub mod NextFrame
 pub mod BlockPullLaws
+pub mod SectionPieces
 pub mod SomePieces
 pub mod BodyPieces

@@ -2,6 +2,7 @@ pub mod Finding
 pub mod Replying
 pub mod Judging
 pub mod Left
+pub mod SectionPlaces
 pub mod Trying
 pub mod Placing
 pub mod Gives

@@ -24,6 +24,7 @@ mod begun;
 mod body;
 mod frames;
 mod front;
+mod given;
 mod left;
 mod pull;
 mod reading;

@@ -6,12 +6,18 @@ use Rattle.h3_blocked.specs.declared.counts.Blocked.{Blocked}
 use Rattle.h3_connection.specs.Incoming.{Incoming}
 use Rattle.h3_connection.specs.State.{RequestState, kept_at}
 use Rattle.h3_connection.specs.StreamSets.{Streams}
+use Rattle.h3_connection.specs.declared.event.Pull.{Pull}
+use Rattle.h3_connection.specs.declared.setup.Announced.{Announced}
+use Rattle.h3_field.specs.Field.{Field}
+use Rattle.h3_proto.specs.declared.stream.Side.{Side}
+use Rattle.h3_qpack.specs.DecoderState.{DecoderState}
+use Rattle.h3_incoming.specs.SectionPlaces.{ReadsSection}
 use Rattle.h3_incoming.specs.BodyPlaces.{BeginsData, body_place, ReadsPiece}
 use Rattle.h3_incoming.specs.declared.body_place.BodyPlace.{BodyPlace}
 use Rattle.h3_requests.specs.Counted.{AreCounted}
 use Rattle.h3_requests.specs.Lending.{Writes}
 use Rattle.h3_requests.specs.Limited.{AreReceivers}
-use Rattle.h3_requests.specs.ReadingBodies.{are_too_many, BeginsDataAt, place_at, place_unless, ReadsPieceAt}
+use Rattle.h3_requests.specs.ReadingBodies.{are_too_many, BeginsDataAt, place_at, place_unless, ReadsPieceAt, ReadsSectionAt}
 use Rattle.h3_requests.proofs.Counts.{kept_there, waits, waits_then}
 
 -- too many streams wait, by the counts and by the receivers of a history
@@ -67,4 +73,24 @@ begins_there counts model s n limit inserted id before after bytes b same h writ
       begins = begins is;
       sets = writes.0 (ap is_some found);
       few = λ receivers are. ap (nat_lt limit) (waits_then counts counts s receivers id before after h are there replaces inserted) ∙ few;
+    })
+
+pub section_there : {under_way : Option RequestState} (counts : Blocked) (model s n : Streams RequestState) (side : Side) (own : Announced) (r : DecoderState) (inserted id : ℕ) (before : RequestState) (after : Incoming) (bytes : List ℕ)
+    (answer : Pull) (listed : Option (List Field)) (replies written : List ℕ) (o : Option ℕ) → s ≡ model → AreCounted counts s → Writes s n under_way id (record before { incoming = after }) → under_way ≡ Some before
+    → inserted ≡ r.table.inserted → nat_lt own.limits.blocked (above inserted counts) ≡ false
+    → IfSome o (λ k. ReadsSection side own id r before.incoming after bytes k answer listed replies written) → after.waits_for ≡ before.incoming.waits_for
+    → IfSome o (λ k. ReadsSectionAt side own id r model n bytes k answer listed replies written)
+section_there counts model s n side own r inserted id before after bytes answer listed replies written None same h writes found are few reads waits_so = reads
+section_there counts model s n side own r inserted id before after bytes answer listed replies written (Some k) same h writes found are few reads waits_so =
+    let there : kept_at s id ≡ Some before = kept_there s n id before (record before { incoming = after }) writes found in
+    let replaces : Replaces counts counts before.incoming.waits_for after.waits_for = subst (λ w. Replaces counts counts before.incoming.waits_for w) (sym waits_so) (λ m. refl) in
+    let now_few : nat_lt own.limits.blocked (above r.table.inserted counts) ≡ false = ap (λ m. nat_lt own.limits.blocked (above m counts)) (sym are) ∙ few in
+    subst (λ l. ReadsSectionAt side own id r l n bytes k answer listed replies written) same
+    (record {
+      before = before;
+      after = after;
+      there = there;
+      reads = reads;
+      sets = writes.0 (ap is_some found);
+      few = λ receivers are. ap (nat_lt own.limits.blocked) (waits_then counts counts s receivers id before after h are there replaces r.table.inserted) ∙ now_few;
     })

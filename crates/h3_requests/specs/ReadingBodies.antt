@@ -1,10 +1,16 @@
 -- A piece of a body that is read where it lies, among the streams of a connection.
 use Rattle.std.specs.Prelude.{◌≡◌, ℕ, Bool, false, List, Option, Some, None, count_by, if◌then◌else◌, nat_lt}
+use Rattle.h3_field.specs.Field.{Field}
+use Rattle.h3_proto.specs.declared.stream.Side.{Side}
+use Rattle.h3_qpack.specs.DecoderState.{DecoderState}
 use Rattle.h3_connection.specs.Calls.{Sets}
 use Rattle.h3_connection.specs.Incoming.{Incoming}
 use Rattle.h3_connection.specs.State.{RequestState, kept_at}
 use Rattle.h3_connection.specs.StreamSets.{Streams, set_stream}
+use Rattle.h3_connection.specs.declared.event.Pull.{Pull}
+use Rattle.h3_connection.specs.declared.setup.Announced.{Announced}
 use Rattle.h3_incoming.specs.BodyPlaces.{BeginsData, body_place, ReadsPiece}
+use Rattle.h3_incoming.specs.SectionPlaces.{ReadsSection}
 use Rattle.h3_incoming.specs.declared.body_place.BodyPlace.{BodyPlace}
 use Rattle.h3_requests.specs.Limited.{AreReceivers}
 
@@ -38,3 +44,12 @@ pub record BeginsDataAt (limit inserted : ℕ) (old new : Streams RequestState) 
   pub begins : BeginsData before.incoming after bytes
   pub sets : Sets old new id (record before { incoming = after })
   pub few : (receivers : Streams Incoming) → AreReceivers receivers old → are_too_many limit inserted (set_stream receivers id after) ≡ false
+
+-- The field section of a HEADERS frame is read of the stream, the other streams stay, and not too many wait.
+pub record ReadsSectionAt (side : Side) (own : Announced) (id : ℕ) (r : DecoderState) (old new : Streams RequestState) (bytes : List ℕ) (n : ℕ) (answer : Pull) (listed : Option (List Field)) (replies written : List ℕ) : Type 0 where
+  pub before : RequestState
+  pub after : Incoming
+  pub there : kept_at old id ≡ Some before
+  pub reads : ReadsSection side own id r before.incoming after bytes n answer listed replies written
+  pub sets : Sets old new id (record before { incoming = after })
+  pub few : (receivers : Streams Incoming) → AreReceivers receivers old → are_too_many own.limits.blocked r.table.inserted (set_stream receivers id after) ≡ false

@@ -67,6 +67,7 @@ pub mod MemoryDeliveries
 pub mod MemorySteps
 pub mod Opened
 pub mod ReadingBodies
+pub mod ReadingSections
 pub mod Datagrams
 pub mod Closing
 pub mod OpeningAt

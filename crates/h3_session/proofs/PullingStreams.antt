@@ -118,7 +118,7 @@ resumed s mid e id before after h was goes rest r same = record {
 }
 
 -- A request stream that is there.
-pulls_there : (s mid : EndpointState) (id : ℕ) (before after : RequestState) (a : Pull) → kind_of s.side id ≡ Request → kept_at s.requests id ≡ Some before → ChangesRequests s mid
+pub pulls_there : (s mid : EndpointState) (id : ℕ) (before after : RequestState) (a : Pull) → kind_of s.side id ≡ Request → kept_at s.requests id ≡ Some before → ChangesRequests s mid
     → (is_memory a ≡ false → PullsWithin s.side s.announced id s.decoding.decoder s.requests mid.requests before after a s.own.decoder mid.own.decoder)
     → (is_memory a ≡ true → ResumesThere s.announced s.requests mid.requests id before after × (mid.own.decoder ≡ s.own.decoder))
     → (is_settled_request (Some before.incoming) ≡ true → is_memory a ≡ false)

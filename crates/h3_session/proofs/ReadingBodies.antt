@@ -210,7 +210,7 @@ place_same limit other inserted others id old s bytes o limit_is inserted_is sam
     h receivers (subst (AreReceivers receivers) same are) ∙ ap (λ l. place_unless (are_too_many limit inserted receivers) (kept_at l id) bytes) (sym same)
     ∙ ap (λ n. place_unless (are_too_many n inserted receivers) (kept_at s id) bytes) (sym limit_is) ∙ ap (λ n. place_unless (are_too_many other n receivers) (kept_at s id) bytes) (sym inserted_is)
 
-sets_stream : {X : Type 0} (streams : Streams X) (id : ℕ) (x : X) → Sets streams (set_stream streams id x) id x
+pub sets_stream : {X : Type 0} (streams : Streams X) (id : ℕ) (x : X) → Sets streams (set_stream streams id x) id x
 sets_stream streams id x = record {
   here = kept_is_at (set_stream streams id x) id ∙ set-here streams id x;
   others = λ q differs. kept_is_at (set_stream streams id x) q ∙ set-other streams id q x (other_id q id differs) ∙ sym (kept_is_at streams q);

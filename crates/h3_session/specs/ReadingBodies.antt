@@ -1,5 +1,6 @@
 -- A piece of a body that is read where it lies in bytes that come.
-use Rattle.std.specs.Prelude.{◌≡◌, ℕ, ◌+◌, ◌<◌, ◌≤◌, Bool, true, false, List, [], ◌∷◌, length, Option, Some, None, Ok}
+use Rattle.std.specs.Prelude.{◌≡◌, ℕ, ◌+◌, ◌<◌, ◌≤◌, Bool, true, false, List, [], ◌∷◌, length, take, Option, Some, None, Ok}
+use Rattle.h3_field.specs.Field.{Field}
 use Rattle.h3_connection.specs.declared.arrival.Arrival.{Arrival}
 use Rattle.h3_connection.specs.declared.arrival.Arrival.TheVariants.{BytesCame}
 use Rattle.h3_connection.specs.Endpoint.{EndpointHistory, Kind, kind_of}
@@ -9,10 +10,12 @@ use Rattle.h3_connection.specs.Keeping.{arrives, pulls}
 use Rattle.h3_connection.specs.ReceivingContracts.{Delivers, PullsNext}
 use Rattle.h3_connection.specs.State.{EndpointState, StandsFor}
 use Rattle.h3_connection.specs.StreamSets.{stream_at}
+use Rattle.h3_connection.specs.declared.event.Pull.{Pull}
 use Rattle.h3_connection.specs.declared.event.Pull.TheVariants as pull
 use Rattle.h3_incoming.specs.BodyPlaces.{body_place, body_pulled, front_to}
 use Rattle.h3_incoming.specs.declared.body_place.BodyPlace.{BodyPlace}
 use Rattle.h3_requests.specs.ReadingBodies.{are_too_many}
+use Rattle.h3_session.specs.Listing.{ListsNext}
 
 -- nothing is read at a stream that is not there, and where more streams wait than may: then the next pull is a fault
 abbrev pub place_there : Bool → Option Incoming → List ℕ → Option BodyPlace
@@ -60,3 +63,13 @@ pub record BeginsBody (old new : EndpointState) (id : ℕ) (bytes : List ℕ) : 
   pub nowhere : (e : EndpointHistory) → StandsFor old e → place_next e id bytes ≡ None
   pub delivers : Delivers old middle id bytes (Ok tt)
   pub pulls : PullsNext middle new id pull.Pending
+
+-- `read_section`: the first `n` bytes are accepted, and what stands then is what a delivery of these leaves and the pull behind it, which has this
+-- answer. No piece of a body lies in the bytes.
+pub record ReadsHeaders (old new : EndpointState) (id : ℕ) (bytes : List ℕ) (n : ℕ) (answer : Pull) (listed : Option (List Field)) : Type 0 where
+  pub middle : EndpointState
+  pub within : n ≤ length bytes
+  pub some : 0 < n
+  pub delivers : Delivers old middle id (take n bytes) (Ok tt)
+  pub pulls : PullsNext middle new id answer
+  pub lists : ListsNext middle id listed

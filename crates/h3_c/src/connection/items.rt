@@ -60,7 +60,7 @@ impl Connection {
 }
 
 // Memory that a large section took is given back before the next pull: a peer could make a handle keep it until the connection closes.
-fn free_if_large(alloc: Global, answer: &mut BlockPull) {
+pub(super) fn free_if_large(alloc: Global, answer: &mut BlockPull) {
     if answer.block().is_large() {
         put(answer, BlockPull::new(alloc));
     }

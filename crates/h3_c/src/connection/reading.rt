@@ -1,22 +1,25 @@
 //! What came and is read where it lies.
-ghost use Rattle.std.specs.Prelude.{◌≡◌, ◌<◌, ◌≤◌, ◌^◌, true, false, length, Err, IfErr, OnOk};
+ghost use Rattle.std.specs.Prelude.{◌≡◌, ◌<◌, ◌≤◌, ◌^◌, true, false, length, Err, IfErr, IfSome, IsNone, OnOk, if◌then◌else◌};
 ghost use Rattle.h3_connection.specs.Calls.{IsSame};
+ghost use Rattle.h3_connection.specs.Lists.{list_of, pull_of};
 ghost use Rattle.h3_connection.specs.Shutdown.{is_rejected_in};
+ghost use Rattle.h3_connection.specs.declared.lists.ListItem.TheVariants as listed;
 ghost use Rattle.h3_connection.specs.declared.lists.ListPull.TheVariants as answer;
-ghost use Rattle.h3_session.specs.ReadingBodies.{BeginsBody};
+ghost use Rattle.h3_session.specs.ReadingBodies.{BeginsBody, ReadsHeaders};
 ghost use Rattle.h3_c.specs.Exported.{OnStream, UnlessRejected};
 ghost use Rattle.h3_c.specs.Numbers.{delivery_told};
 ghost use Rattle.h3_c.specs.Reads.{ends_with, is_after_end, is_kept, place_shown, taken_of};
 ghost use Rattle.h3_c.specs.ReadsBeside.{EndsThereBeside, ReadsCopiedBeside, ReadsNextBeside, RefusesEndBeside, StopsAtBeside};
-ghost use Rattle.h3_c.specs.ReadsBeside.{TakesBytesBeside, TakesEndBeside};
+ghost use Rattle.h3_c.specs.ReadsBeside.{ReadsOtherBeside, TakesBytesBeside, TakesEndBeside};
 
 use super::Connection;
-use crate::items::{PulledItem, plain_shown};
+use super::items::free_if_large;
+use crate::items::{PulledItem, plain_shown, show};
 use crate::numbers::{OK, Told, delivered, or_memory};
 use bytes::Bytes;
 use h3_coding::coding::BufExt;
 use h3_connection::event::{DeliverError, Refusal};
-use h3_incoming::answer::{Plain, pause};
+use h3_incoming::answer::{Plain, end, pause};
 use h3_incoming::{BlockPull, BodyPlace, Told as PulledTold};
 use h3_proto::stream::StreamId;
 use std::alloc::Global;
@@ -87,7 +90,7 @@ impl Connection {
         ensures { ReadsNextBeside self.old self.new id bytes.now fin result item.old item.new used.new }
     {
         let Some(place) = self.endpoint.read_body(id, bytes) else {
-            return self.read_copied(alloc, id, bytes, fin, used, item);
+            return self.read_other(alloc, id, bytes, fin, used, item);
         };
         *used = place.offset + place.len;
         *item = placed(place);
@@ -114,6 +117,62 @@ impl Connection {
             return false;
         }
         self.endpoint.begin_body(id, bytes)
+    }
+
+    // The same of bytes in which no piece of a body is next: a field section is read where it lies, and what else came is copied.
+    fn read_other(
+        &mut self,
+        alloc: Global,
+        id: StreamId,
+        bytes: &[u8],
+        fin: u32,
+        used: &mut usize,
+        item: &mut PulledItem,
+    ) -> Told
+        requires { used.old ≡ 0 }
+        ensures { ReadsOtherBeside self.old self.new id bytes.now fin result item.old item.new used.new }
+    {
+        let Some(count) = self.read_section(alloc, id, bytes, fin) else {
+            return self.read_copied(alloc, id, bytes, fin, used, item);
+        };
+        *used = count;
+        show(&self.last, item);
+        OK
+    }
+
+    // A field section is read where it lies, if no stream may be one of a session, and the end does not come right after it. What was pulled
+    // last is to hold nothing, since its memory is taken.
+    #[tactic(auto, using(crate::proofs::Reading::same_itself, crate::proofs::Reading::section_within, crate::proofs::Reading::no_end))]
+    fn read_section(
+        &mut self,
+        alloc: Global,
+        id: StreamId,
+        bytes: &[u8],
+        fin: u32,
+    ) -> Option<usize>
+        ensures events { self.new.events ≡ self.old.events }
+        ensures sessions { self.new.sessions ≡ self.old.sessions }
+        ensures off { IfSome result (λ n. self.old.sessions.is_on ≡ false) }
+        ensures end { IfSome result (λ n. ends_with fin bytes.now n ≡ false) }
+        ensures reads { IfSome result (λ n. ReadsHeaders self.old.endpoint self.new.endpoint id bytes.now n
+            (pull_of self.new.last) (list_of self.new.last)) }
+        ensures last { IsNone result → self.new.last ≡ self.old.last }
+        ensures same { IsNone result → IsSame self.old.endpoint self.new.endpoint }
+    {
+        let is_end = holds_plain(&self.last)?;
+        if self.sessions.is_on() || bytes.is_empty() {
+            return None;
+        }
+        free_if_large(alloc, &mut self.last);
+        let count = len_before_end(fin, bytes);
+        let Some(count) = self
+            .endpoint
+            .read_section(id, &bytes[..count], &mut self.last)
+        else {
+            hold_again(&mut self.last, is_end);
+            return None;
+        };
+        Some(count)
     }
 
     // The same, by a delivery of a front of the bytes and a pull.
@@ -230,6 +289,40 @@ fn holds_none(last: &BlockPull) -> bool
         PulledTold::Plain(Plain::Pending) => true,
         _ => false,
     }
+}
+
+// Whether what was pulled last is the end; nothing if it holds bytes or fields.
+fn holds_plain(last: &BlockPull) -> Option<bool>
+    ensures { IfSome result (λ is_end. last.now ≡ (if is_end then answer.Item listed.End else answer.Pending)) }
+{
+    match last.told() {
+        PulledTold::Plain(Plain::Pending) => Some(false),
+        PulledTold::Plain(Plain::End) => Some(true),
+        _ => None,
+    }
+}
+
+// It is held again.
+fn hold_again(last: &mut BlockPull, is_end: bool)
+    ensures { last.new ≡ (if is_end then answer.Item listed.End else answer.Pending) }
+{
+    if is_end {
+        end(last);
+        return;
+    }
+    pause(last);
+}
+
+// How many of the bytes have no end right after them.
+fn len_before_end(fin: u32, bytes: &[u8]) -> usize
+    requires { 0 < length bytes.now }
+    ensures within { result ≤ length bytes.now }
+    ensures before { 0 < fin → result < length bytes.now }
+{
+    if fin > 0 {
+        return bytes.len() - 1;
+    }
+    bytes.len()
 }
 
 // Why a delivery goes no further.

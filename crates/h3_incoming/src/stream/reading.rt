@@ -74,7 +74,7 @@ impl IncomingStream {
 
     // Whether nothing of it is kept, more may come, and what came of its content is not too much.
     #[tactic(auto, using(crate::proofs::SomePieces::some_none))]
-    fn keeps_nothing(&self) -> bool
+    pub(super) fn keeps_nothing(&self) -> bool
         ensures is { result ≡ keeps_nothing self.now }
         ensures none { result ≡ true → self.now.unread ≡ [] }
     {
@@ -174,7 +174,7 @@ fn length_alone(bytes: &[u8]) -> Option<usize>
 }
 
 // The number that the bytes begin with (RFC 9000, section 16), and how many of them it has.
-fn number_at(bytes: &[u8]) -> Option<(u64, usize)>
+pub(super) fn number_at(bytes: &[u8]) -> Option<(u64, usize)>
     ensures some { IfSome result (λ p. varint_at bytes.now ≡ Some (p.0, drop p.1 bytes.now)) }
     ensures inside { IfSome result (λ p. p.1 ≤ length bytes.now) }
     ensures below { IfSome result (λ p. p.0 < 2 ^ 62) }

@@ -217,7 +217,7 @@ impl IncomingStream {
     }
 
     // A try was made, and no section is next any more.
-    fn pass_section(&mut self)
+    pub(super) fn pass_section(&mut self)
         ensures { self.new ≡ past_section self.old }
     {
         self.tries = if self.waits_for == 0 {

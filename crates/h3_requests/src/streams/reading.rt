@@ -1,15 +1,17 @@
-//! A piece of a body that is read where it lies.
+//! A piece of a body and a field section that are read where they lie.
 ghost use Rattle.std.specs.Prelude.{◌≡◌, true, false, IfSome, IsNone};
 ghost use Rattle.h3_connection.specs.Incoming.{Incoming};
 ghost use Rattle.h3_connection.specs.Calls.{AllSame};
 ghost use Rattle.h3_connection.specs.State.{kept_at};
 ghost use Rattle.h3_connection.specs.StreamSets.{Streams};
 ghost use Rattle.h3_requests.specs.Limited.{AreReceivers};
-ghost use Rattle.h3_requests.specs.ReadingBodies.{are_too_many, BeginsDataAt, place_unless, ReadsPieceAt};
+ghost use Rattle.h3_requests.specs.ReadingBodies.{are_too_many, BeginsDataAt, place_unless, ReadsPieceAt, ReadsSectionAt};
 
 use super::RequestStreams;
-use h3_incoming::BodyPlace;
-use h3_proto::stream::StreamId;
+use h3_connection::setup::Announced;
+use h3_incoming::{Answer, BodyPlace};
+use h3_proto::stream::{Side, StreamId};
+use h3_qpack::Decoder;
 use std::alloc::Global;
 
 impl RequestStreams {
@@ -60,5 +62,34 @@ impl RequestStreams {
             return false;
         };
         stream.incoming.begin_body(alloc, bytes)
+    }
+
+    /// Reads the field section of a HEADERS frame where it lies in bytes that came on a stream, as `IncomingStream::read_section` does, with
+    /// one look-up. It also returns `None`, which changes nothing, if more than announced streams wait for insertions that were not read.
+    pub fn read_section<O: Answer>(
+        &mut self,
+        alloc: Global,
+        side: Side,
+        announced: &Announced,
+        id: StreamId,
+        decoder: &Decoder,
+        bytes: &[u8],
+        replies: &mut Vec<u8>,
+        out: &mut O,
+    ) -> Option<usize>
+        ensures reads { IfSome result (λ n. ReadsSectionAt side announced.now id decoder.now self.old self.new bytes.now n
+            (O.told out.new) (O.listed out.new) replies.old.items replies.new.items) }
+        ensures none { IsNone result → AllSame self.old self.new × (replies.new.items ≡ replies.old.items) }
+    {
+        let waiting = self.blocked.above(decoder.inserted()) as u64;
+        if waiting > announced.limits.blocked {
+            return None;
+        }
+        let Some(stream) = self.streams.get_mut(id) else {
+            return None;
+        };
+        stream
+            .incoming
+            .read_section(alloc, side, announced, id, decoder, bytes, replies, out)
     }
 }

@@ -35,7 +35,7 @@ use h3_unidirectional::waiting::WaitingBytes;
 use std::alloc::{AllocError, Global};
 
 /// The fault of the connection that an answer tells.
-fn fault_of<O: Answer>(answer: &O) -> Option<Code>
+pub(super) fn fault_of<O: Answer>(answer: &O) -> Option<Code>
     ensures { result ≡ answer_code (O.told answer.now) }
 {
     let fault = answer.fault();
@@ -235,7 +235,7 @@ impl Endpoint {
     }
 
     // A fault of the connection closes it.
-    fn close_if(&mut self, fault: Option<Code>)
+    pub(super) fn close_if(&mut self, fault: Option<Code>)
         ensures { self.new ≡ closed_with fault self.old }
     {
         if let Some(code) = fault {

@@ -1,12 +1,17 @@
 -- A piece of a body is read where it lies, or what came is copied.
 use Rattle.std.proofs.Common.{◌+◌, Some, None, refl, subst}
 use Rattle.h3_c.specs.ReadsBeside.{ReadsNextBeside}
+use Rattle.h3_c.proofs.Reading.{other_behind}
 use Rattle.h3_c.proofs.connection.Connection.read_next.Goals as goal
 
 pub returns-in_default : goal.returns-in_default
 returns-in_default c =
-    subst (λ v. ReadsNextBeside v c.read_copied.new.self c.args.id c.args.bytes.now c.args.fin c.read_copied.result c.args.item.now c.read_copied.new.item c.read_copied.new.used) c.self.view_is
-    (record { place = None; is_next = c.in_default.ensures.place; reads = (c.read_body.new.self, c.in_default.ensures.none refl, c.read_copied.ensures) })
+    subst (λ v. ReadsNextBeside v c.read_other.new.self c.args.id c.args.bytes.now c.args.fin c.read_other.result c.args.item.now c.read_other.new.item c.read_other.new.used) c.self.view_is
+    (record {
+      place = None;
+      is_next = c.in_default.ensures.place;
+      reads = other_behind (record { endpoint = c.self.inside.endpoint; sessions = c.self.inside.sessions; last = c.self.inside.last; events = c.self.inside.events }) c.read_body.new.self c.read_other.new.self _ _ _ _ _ _ _ (c.in_default.ensures.none refl) c.read_other.ensures;
+    })
 
 pub returns : goal.returns
 returns c =
