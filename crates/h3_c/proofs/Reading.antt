@@ -11,6 +11,7 @@ use Rattle.h3_connection.specs.State.{EndpointState, StandsFor}
 use Rattle.h3_connection.specs.StreamSets.{Streams}
 use Rattle.h3_field.specs.Field.{Field}
 use Rattle.h3_connection.specs.declared.event.Pull.{Pull}
+use Rattle.h3_connection.specs.declared.event.Item.TheVariants as item
 use Rattle.h3_connection.specs.declared.event.Pull.TheVariants as pull
 use Rattle.h3_connection.specs.declared.event.DeliverError.{DeliverError}
 use Rattle.h3_connection.specs.declared.event.Refusal.{Refusal}
@@ -106,6 +107,21 @@ is_pending (answer.Item listed.End) h = absurd (cc)
 is_pending (answer.Waiting count) h = absurd (cc)
 is_pending (answer.Fault fault) h = absurd (cc)
 is_pending answer.NoMessages h = absurd (cc)
+
+-- nor but that the stream has ended
+pub is_end : (x : ListPull) → pull_of x ≡ pull.Item item.End → x ≡ answer.Item listed.End
+is_end answer.Pending h = absurd (cc)
+is_end (answer.Item (listed.Interim fields)) h = absurd (cc)
+is_end (answer.Item (listed.Head fields)) h = absurd (cc)
+is_end (answer.Item (listed.Body bytes)) h = absurd (cc)
+is_end (answer.Item (listed.Trailer fields)) h = absurd (cc)
+is_end (answer.Item (listed.TooLarge size)) h = absurd (cc)
+is_end (answer.Item (listed.Session session)) h = absurd (cc)
+is_end (answer.Item (listed.Raw bytes)) h = absurd (cc)
+is_end (answer.Item listed.End) h = refl
+is_end (answer.Waiting count) h = absurd (cc)
+is_end (answer.Fault fault) h = absurd (cc)
+is_end answer.NoMessages h = absurd (cc)
 
 -- A call on a stream whose request is not rejected.
 pub goes_on : (goes : Seen → ℕ → Type 0) (id stream : ℕ) (n : Told) (u v w : Seen) → u ≡ v → stream ≡ id → id < 2 ^ 62 → is_rejected_in v.endpoint id ≡ false → goes u stream

@@ -15,7 +15,9 @@ use Rattle.h3_connection.specs.declared.event.StreamFault.TheVariants.{Canceled}
 use Rattle.h3_connection.specs.declared.setup.Announced.{Announced}
 use Rattle.h3_incoming.specs.Gives.{Gives}
 use Rattle.h3_incoming.specs.Replying.{encodings}
+use Rattle.h3_field.specs.Field.{Field}
 use Rattle.h3_requests.specs.Limited.{PullsWithin}
+use Rattle.h3_requests.specs.ReadingBodies.{ReadsSectionAt}
 use Rattle.h3_session.specs.Canceling.{CancelsAt}
 
 gives_behind : (p : Pulled) (answer : Pull) (i : Incoming) (waits items after : List ℕ) → drop (length items - length waits) items ≡ waits
@@ -30,6 +32,29 @@ pulls_behind side own id r old new None later answer waits items after front h =
 pulls_behind side own id r old new (Some before) None answer waits items after front h = h
 pulls_behind side own id r old new (Some before) (Some then) answer waits items after front h =
     record { sets = h.sets; gives = λ receivers are. gives_behind _ answer then.incoming waits items after front (h.gives receivers are) }
+
+pub section_behind : (side : Side) (own : Announced) (id : ℕ) (r : DecoderState) (old new : Streams RequestState) (bytes : List ℕ) (o : Option ℕ) (answer : Pull) (listed : Option (List Field)) (waits items after : List ℕ)
+    → drop (length items - length waits) items ≡ waits
+    → IfSome o (λ n. ReadsSectionAt side own id r old new bytes n answer listed items after)
+    → IfSome o (λ n. ReadsSectionAt side own id r old new bytes n answer listed waits (drop (length items - length waits) after))
+section_behind side own id r old new bytes None answer listed waits items after front h = h
+section_behind side own id r old new bytes (Some n) answer listed waits items after front h =
+    record {
+      before = h.before;
+      after = h.after;
+      there = h.there;
+      reads = record {
+        within = h.reads.within;
+        some = h.reads.some;
+        clear = h.reads.clear;
+        closed = h.reads.closed;
+        memory = h.reads.memory;
+        gives = gives_behind _ answer h.after waits items after front h.reads.gives;
+        lists = h.reads.lists;
+      };
+      sets = h.sets;
+      few = h.few;
+    }
 
 pub cancels_behind : (old new : Streams RequestState) (id : ℕ) (o : Option RequestState) (waits items after : List ℕ) → drop (length items - length waits) items ≡ waits
     → IfSome o (λ r. Sets old new id (record r { incoming = given_up_once r.incoming Canceled }))

@@ -303,6 +303,7 @@ fn holds_plain(last: &BlockPull) -> Option<bool>
 }
 
 // It is held again.
+#[tactic(auto, using(crate::proofs::Reading::is_pending, crate::proofs::Reading::is_end))]
 fn hold_again(last: &mut BlockPull, is_end: bool)
     ensures { last.new ≡ (if is_end then answer.Item listed.End else answer.Pending) }
 {

@@ -126,6 +126,7 @@ impl Endpoint {
 }
 
 // Reads the field section of a HEADERS frame of a request stream, as `RequestStreams::read_section` does.
+#[tactic(auto, using(crate::proofs::Behind::section_behind))]
 fn read_section<O: Answer>(
     requests: &mut RequestStreams,
     alloc: Global,
