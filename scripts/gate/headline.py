@@ -24,8 +24,8 @@ CONTRACT = f"{CRATES}/h3_session/src/run.rt"
 OF_LISTS = "h3_connection.specs.Lists"
 WORLD_LISTS = "h3_world.specs.Lists"
 PARTS = (
-    ("## How a list of fields is read", (f"{WORLD_LISTS}.as_flagged", f"{OF_LISTS}.pull_of")),
     ("## All that it rests on", ("Faithful", "AreSmall")),
+    ("## How a list of fields is read", (f"{WORLD_LISTS}.as_flagged", f"{OF_LISTS}.pull_of", "h3_connection.specs.Pulling.is_for")),
     ("## Which lists are malformed", (f"{WORLD_LISTS}.unreadable", f"{OF_LISTS}.list_of")),
     ("## What is answered", ("Run", "Happens", "empty_world", "ArePlain")),
     ("## The endpoints that are returned", ("RunsInWorld",)),
@@ -39,14 +39,14 @@ VALUES = (
 )
 # The pages, each with its parts in their order there.
 PAGES = {
-    "docs/MESSAGES.md": (PARTS[1][0],),
-    "docs/headline/lists.md": (PARTS[0][0], PARTS[2][0]),
+    "docs/MESSAGES.md": (PARTS[0][0],),
+    "docs/headline/lists.md": (PARTS[1][0], PARTS[2][0]),
     "docs/HEADLINE.md": (PARTS[3][0], PARTS[6][0]),
     "docs/headline/endpoints.md": (VALUES[0][0], PARTS[4][0], VALUES[1][0]),
     "docs/headline/calls.md": (PARTS[5][0],),
 }
 # how many lines the first parts may have: a sitting each
-MOST = {PARTS[0][0]: 160, PARTS[1][0]: 490, PARTS[3][0]: 1500}
+MOST = {PARTS[0][0]: 500, PARTS[1][0]: 90, PARTS[3][0]: 1500}
 # the parts in which no name stands for two definitions: what each side gets, and the plain world
 SITTINGS = (*(heading for heading, _ in PARTS[:4]), VALUES[0][0])
 # but for these: the Rust crate h3 has a type of that name in two modules, and so have the ports of them; and a contract sees a `Setup` of the

@@ -36,7 +36,6 @@ use Rattle.h3_strict.specs.Accounts.{Accounts, Advances, AdvancesBy, AnswersNoth
 use Rattle.h3_strict.specs.AdvanceLaws.{advances, advances_then, front_more, keeps, quiet_none, says}
 use Rattle.h3_strict.specs.GivingUpLaws.{alive_before, gives_up_advances, none_if, not_both, nothing_yet, quiet_on, quiet_step, refusal_advances, refused_advances, told_nothing, unused_accounts}
 use Rattle.h3_strict.specs.PlainEnds.{plain_setup}
-use Rattle.h3_faithful.specs.Faithful.{HandsOut}
 use Rattle.h3_faithful.specs.Steps.{AsPlainly, GivesMessageUp, HappensAnywhere, IsRefusedUnread, LacksMemory, MayLack, PullsMalformed, PullsOn, RefusesMalformed, RefusesOwn, unread}
 use Rattle.h3_faithful.proofs.SoundSteps.{SoundLaws, sound_step}
 
@@ -211,6 +210,12 @@ module _ (setup : Setup) (events : List Event) (answers : List Answer) (k : Keep
       let c = carried_with_end (reader_at setup Server) (flow k.world Client id) _ _ _ _ (a Server id) ended in
       let all = is_complete (plain_setup setup) k.world events answers Client id (record { carried = c; sound = sound }) ended in
       (all.all, all.has_finished)
+
+-- Each side is handed of each stream what the other side sent on it, and with the end all of it.
+pub record HandsOut (setup : Setup) (events : List Event) (answers : List Answer) : Type 0 where
+  pub begins : (side : Side) (id : ℕ) → IsFrontOf (IsExactly (reader_at setup side)) (pulled side id events answers) (sent (other side) id events answers)
+  pub ends : (side : Side) (id : ℕ) → has_pulled_end side id events answers ≡ true
+      → IsAllOf (IsExactly (reader_at setup side)) (pulled side id events answers) (sent (other side) id events answers) × (has_finished (other side) id events answers ≡ true)
 
 pub hands_out : MemoryMoves → (setup : Setup) (events : List Event) (answers : List Answer) (k : KeepingWorld) → AllByRecursion (IsSendableBy true) events → RunsSo setup events answers k → HandsOut setup events answers
 hands_out laws setup events answers k sendable run =

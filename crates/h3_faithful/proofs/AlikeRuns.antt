@@ -15,7 +15,6 @@ use Rattle.h3_memory.specs.Kept.{KeepingWorld}
 use Rattle.h3_memory.specs.Refused.{AnswerOf, EndsRun, EndsStep}
 use Rattle.h3_strict.specs.HoldsBehind.{HoldsBehind}
 use Rattle.h3_strict.specs.Tunnels.{StandsSo}
-use Rattle.h3_faithful.specs.Faithful.{JudgeAlike}
 use Rattle.h3_faithful.proofs.AlikeFaultless.{AlikeLaws, Standing, faultless}
 use Rattle.h3_faithful.proofs.AlikeSteps.{goes_on}
 use Rattle.h3_faithful.proofs.Quiet.{new_quiet}
@@ -24,6 +23,10 @@ use Rattle.h3_faithful.proofs.Runs.{first, memory_faultless, new_stand}
 neither : (x y : Bool) → x ≡ false → y ≡ false → (x || y) ≡ false
 neither true y h k = cc
 neither false y h k = k
+
+-- both sides ask for strict messages, or neither does
+abbrev JudgeAlike : Setup → Type 0
+JudgeAlike setup = setup.client.choices.strict_messages ≡ setup.server.choices.strict_messages
 
 -- both sides ask for what the client asks for
 both_ask : (setup : Setup) (b : Bool) → JudgeAlike setup → setup.client.choices.strict_messages ≡ b → (side : Side) → (announced_at setup side).choices.strict_messages ≡ b

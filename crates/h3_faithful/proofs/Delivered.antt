@@ -17,6 +17,7 @@ use Rattle.h3_connection.specs.declared.event.Refusal.TheVariants as refusal
 use Rattle.h3_connection.specs.declared.event.StreamFault.{StreamFault}
 use Rattle.h3_connection.specs.Lists.{pull_of}
 use Rattle.h3_connection.specs.declared.lists.ListPull.{ListPull}
+use Rattle.h3_connection.specs.declared.lists.ListPull.TheVariants as list
 use Rattle.h3_world.specs.Delivering.{delivered, delivery, is_closed}
 use Rattle.h3_world.specs.Flow.{Flow, Part, bytes_waiting, flow_bytes, part_bytes, unused}
 use Rattle.h3_world.specs.Flow.Part.{Interim, Head, Body, Trailer, End}
@@ -50,7 +51,7 @@ use Rattle.h3_memory.specs.MemoryStep.{StepOf, UnlessMemory, read_behind}
 use Rattle.h3_memory.specs.SoundKeeping.{IsSoundKeeping}
 use Rattle.h3_strict.specs.GivingUpLaws.{alive_before}
 use Rattle.h3_strict.specs.PlainEnds.{plain_setup}
-use Rattle.h3_faithful.specs.Faithful.{is_pause, pauses_on}
+use Rattle.h3_faithful.specs.Faithful.{pauses_on}
 use Rattle.h3_faithful.specs.Steps.{AsPlainly, GivesMessageUp, HappensAnywhere, LacksMemory, RefusesMalformed, RefusesOwn}
 use Rattle.h3_faithful.proofs.Accounts.{AccountsAt, MemoryMoves, RunsSo, accounts, out_is_front, sound_keeping_after}
 use Rattle.h3_faithful.proofs.Ordered.{on_same}
@@ -143,6 +144,9 @@ not_there w writer id e = of writer (no_flow w id e)
 unidirectional : (side : Side) (id : ℕ) → (id % 4 == control_id side) ≡ true → is_request_stream id ≡ false
 unidirectional Client id e = grind (arith, common_steps, e)
 unidirectional Server id e = grind (arith, common_steps, e)
+
+abbrev is_pause : Pull → Bool
+is_pause p = is_some (pause_of p)
 
 untouched : (w : World) (side : Side) (id : ℕ) (q : Pull) → settled w side id ≡ Some q → is_pause q ≡ true → IsUntouched w side id
 untouched w side id q e pauses = by_tests (id % 4 == control_id (other side)) refl (is_request_stream id) refl (is_open w side id) refl (flow w (other side) id).fault (is_over (flow w (other side) id)) e
@@ -347,13 +351,19 @@ module _ (laws : MemoryMoves) (at_end : PausesAtEnd) (setup : Setup) (before : L
   list_at l pauses (RefusesOwn unread is) = absurd unread
   list_at l pauses (GivesMessageUp m) = absurd (let never : false ≡ true = sym (ap is_pause m.told) ∙ pauses in cc)
 
+  pull_on : (acting : Side) (i : ℕ) (p : Pull) → is_pause p ≡ true → HappensAnywhere setup k (event.Pull acting i) (answer.Pulled p) new → is_on side id acting i ≡ true → AllCame
+  pull_on acting i p pauses happens on =
+      let at = on_same side acting id i on in
+      pull_at p pauses (subst (λ s. HappensAnywhere setup k (event.Pull s id) (answer.Pulled p) new) at.0 (subst (λ n. HappensAnywhere setup k (event.Pull acting n) (answer.Pulled p) new) at.1 happens))
+
+  list_on : (acting : Side) (i : ℕ) (l : ListPull) → is_pause (pull_of l) ≡ true → HappensAnywhere setup k (event.PullFields acting i) (answer.Listed l) new → is_on side id acting i ≡ true → AllCame
+  list_on acting i l pauses happens on =
+      let at = on_same side acting id i on in
+      list_at l pauses (subst (λ s. HappensAnywhere setup k (event.PullFields s id) (answer.Listed l) new) at.0 (subst (λ n. HappensAnywhere setup k (event.PullFields acting n) (answer.Listed l) new) at.1 happens))
+
   pub all_came_out : (e : Event) (x : Answer) → HappensAnywhere setup k e x new → pauses_on side id e x ≡ true → AllCame
-  all_came_out (event.Pull acting i) (answer.Pulled p) happens on =
-      let both = both_of (is_on side id acting i) (is_pause p) on in
-      let at = on_same side acting id i both.0 in
-      pull_at p both.1 (subst (λ s. HappensAnywhere setup k (event.Pull s id) (answer.Pulled p) new) at.0 (subst (λ n. HappensAnywhere setup k (event.Pull acting n) (answer.Pulled p) new) at.1 happens))
-  all_came_out (event.PullFields acting i) (answer.Listed l) happens on =
-      let both = both_of (is_on side id acting i) (is_pause (pull_of l)) on in
-      let at = on_same side acting id i both.0 in
-      list_at l both.1 (subst (λ s. HappensAnywhere setup k (event.PullFields s id) (answer.Listed l) new) at.0 (subst (λ n. HappensAnywhere setup k (event.PullFields acting n) (answer.Listed l) new) at.1 happens))
+  all_came_out (event.Pull acting i) (answer.Pulled pull.Pending) happens on = pull_on acting i pull.Pending refl happens on
+  all_came_out (event.Pull acting i) (answer.Pulled (pull.Waiting count)) happens on = pull_on acting i (pull.Waiting count) refl happens on
+  all_came_out (event.PullFields acting i) (answer.Listed list.Pending) happens on = list_on acting i list.Pending refl happens on
+  all_came_out (event.PullFields acting i) (answer.Listed (list.Waiting count)) happens on = list_on acting i (list.Waiting count) refl happens on
   all_came_out e x happens on = absurd (cc)

@@ -4,11 +4,9 @@ use Rattle.std.specs.Prelude.{◌||◌, ◌&&◌, drop, take}
 use Rattle.std.specs.List.{AllByRecursion, list_any}
 use Rattle.h3_proto.specs.declared.stream.Side.{Side}
 use Rattle.h3_connection.specs.OwnIds.{encoder_id, other}
-use Rattle.h3_connection.specs.declared.event.Pull.{Pull}
 use Rattle.h3_connection.specs.declared.event.Pull.TheVariants as pull
-use Rattle.h3_connection.specs.Lists.{pull_of}
+use Rattle.h3_connection.specs.declared.lists.ListPull.TheVariants as list
 use Rattle.h3_world.specs.Headline.{is_connection_fault}
-use Rattle.h3_world.specs.ListLaws.{fault_listed}
 use Rattle.h3_world.specs.Run.{Run}
 use Rattle.h3_world.specs.Sendable.{IsSendableBy}
 use Rattle.h3_world.specs.Streams.{waiting}
@@ -24,13 +22,14 @@ use Rattle.h3_headline.specs.Exactly.{IsAllOf, IsExactly, reader_at}
 use Rattle.h3_headline.specs.Messages.{MessageContent, any_of, is_on, pulled, sent}
 use Rattle.h3_memory.specs.Kept.{KeepingWorld, caught_up, nothing_kept}
 use Rattle.h3_strict.specs.PlainEnds.{plain_setup}
-use Rattle.h3_faithful.specs.Faithful.{AcceptsNext, PausesDelivered, UntilFault, is_pause, is_without_fault, pauses_on}
+use Rattle.h3_faithful.specs.Faithful.{AcceptsNext, HoldsAt, PausesDelivered, pauses_on}
 use Rattle.h3_faithful.specs.Sends.{is_next}
-use Rattle.h3_faithful.specs.Steps.{HappensAnywhere, RunsUntilFault, is_send}
+use Rattle.h3_faithful.specs.Steps.{HappensAnywhere, RunsUntilFault, is_send, is_without_fault}
 use Rattle.h3_faithful.proofs.Accounts.{MemoryMoves, hands_out}
 use Rattle.h3_faithful.proofs.Delivered.{PausesAtEnd, all_came_out, nothing_waits}
-use Rattle.h3_faithful.proofs.Ordered.{OrderedAccepted, accepts_next, on_same}
-use Rattle.h3_faithful.proofs.Takes.{both_of, three_of}
+use Rattle.h3_faithful.proofs.Ordered.{AcceptsEvent, OrderedAccepted, accepts_next, on_same}
+use Rattle.h3_faithful.proofs.ReadAs.{as_long, front_read}
+use Rattle.h3_faithful.proofs.Takes.{three_of}
 use Rattle.h3_faithful.proofs.Telling.{tells}
 
 -- a front of what may be sent
@@ -100,13 +99,11 @@ next_sends setup side id all (event.Finish acting i) h = refl
 next_sends setup side id all e h = absurd (cc)
 
 -- a pause is no fault
-pause_no_fault : (p : Pull) → is_pause p ≡ true → is_connection_fault (answer.Pulled p) ≡ false
-pause_no_fault (pull.Fault f) h = absurd (cc)
-pause_no_fault p h = refl
-
 pauses_no_fault : (side : Side) (id : ℕ) (e : Event) (a : Answer) → pauses_on side id e a ≡ true → is_connection_fault a ≡ false
-pauses_no_fault side id (event.Pull acting i) (answer.Pulled p) h = pause_no_fault p (both_of (is_on side id acting i) (is_pause p) h).1
-pauses_no_fault side id (event.PullFields acting i) (answer.Listed l) h = fault_listed l ∙ pause_no_fault (pull_of l) (both_of (is_on side id acting i) (is_pause (pull_of l)) h).1
+pauses_no_fault side id (event.Pull acting i) (answer.Pulled pull.Pending) h = refl
+pauses_no_fault side id (event.Pull acting i) (answer.Pulled (pull.Waiting count)) h = refl
+pauses_no_fault side id (event.PullFields acting i) (answer.Listed list.Pending) h = refl
+pauses_no_fault side id (event.PullFields acting i) (answer.Listed (list.Waiting count)) h = refl
 pauses_no_fault side id e a h = absurd (cc)
 
 module _ (laws : MemoryMoves) (accepted : OrderedAccepted) (at_end : PausesAtEnd) (setup : Setup) (events : List Event) (answers : List Answer) (sendable : AllByRecursion (IsSendableBy true) events) (runs : RunsUntilFault setup events answers) where
@@ -116,7 +113,7 @@ module _ (laws : MemoryMoves) (accepted : OrderedAccepted) (at_end : PausesAtEnd
   may : (n : ℕ) → AllByRecursion (IsSendableBy true) (take n events)
   may n = sendable_front (IsSendableBy true) n events sendable
 
-  accepts_at : (n : ℕ) (e : Event) (a : Answer) (later : List Event) (others : List Answer) → is_without_fault n answers → drop n events ≡ e ∷ later → drop n answers ≡ a ∷ others → AcceptsNext setup (take n events) (take n answers) e a
+  accepts_at : (n : ℕ) (e : Event) (a : Answer) (later : List Event) (others : List Answer) → is_without_fault n answers → drop n events ≡ e ∷ later → drop n answers ≡ a ∷ others → AcceptsEvent setup (take n events) (take n answers) e a
   accepts_at n e a later others none at_e at_a = λ side id on next.
       let not = runs.sends n e a later others none at_e at_a (next_sends setup side id (sent side id (take n events) (take n answers)) e next) in
       let r = runs.runs (suc n) (next_none n answers a others none at_a not) in
@@ -168,11 +165,31 @@ module _ (laws : MemoryMoves) (accepted : OrderedAccepted) (at_end : PausesAtEnd
           came n side id first_side second_side i j e a later others none no_reset at_e at_a h
       by_lists es given at_e at_a h = absurd h
 
+  accepts_front : (n : ℕ) → is_without_fault n answers → AcceptsNext setup (take n events) (take n answers) (drop n events) (drop n answers)
+  accepts_front n none = by_lists (drop n events) (drop n answers) refl refl
+    where
+      by_lists : (es : List Event) (given : List Answer) → drop n events ≡ es → drop n answers ≡ given → AcceptsNext setup (take n events) (take n answers) es given
+      by_lists (e ∷ later) (a ∷ others) at_e at_a = accepts_at n e a later others none at_e at_a
+      by_lists [] given at_e at_a = tt
+      by_lists (e ∷ later) [] at_e at_a = tt
+
+  holds_at : (n : ℕ) → is_without_fault n answers → HoldsAt setup (take n events) (take n answers) (drop n events) (drop n answers)
+  holds_at n none =
+      let before = take n events in
+      let given = take n answers in
+      let r = runs.runs n none in
+      let handed = hands_out laws setup before given r.world (may n) r.run in
+      record {
+        begins = λ side id. front_read setup side (pulled side id before given) (sent (other side) id before given) (handed.begins side id);
+        ends = λ side id ended.
+            let all = handed.ends side id ended in
+            (as_long (IsExactly (reader_at setup side)) (pulled side id before given) (sent (other side) id before given) all.0, all.1);
+        accepts = accepts_front n none;
+        comes_out = λ side id no_reset pauses.
+            as_long (IsExactly (reader_at setup side)) (pulled side id before given) (sent (other side) id before given) (comes_at n side id none no_reset pauses);
+      }
+
 -- **Up to a fault of the connection.**
-pub until_fault : MemoryMoves → OrderedAccepted → PausesAtEnd → (setup : Setup) (events : List Event) (answers : List Answer) → AllByRecursion (IsSendableBy true) events → RunsUntilFault setup events answers → UntilFault setup events answers
-until_fault laws accepted at_end setup events answers sendable runs =
-    record {
-      hands_out = λ n none. let r = runs.runs n none in hands_out laws setup (take n events) (take n answers) r.world (may laws accepted at_end setup events answers sendable runs n) r.run;
-      accepts = accepts_at laws accepted at_end setup events answers sendable runs;
-      comes_out = comes_at laws accepted at_end setup events answers sendable runs;
-    }
+pub until_fault : MemoryMoves → OrderedAccepted → PausesAtEnd → (setup : Setup) (events : List Event) (answers : List Answer) → AllByRecursion (IsSendableBy true) events → RunsUntilFault setup events answers
+    → (n : ℕ) → is_without_fault n answers → HoldsAt setup (take n events) (take n answers) (drop n events) (drop n answers)
+until_fault laws accepted at_end setup events answers sendable runs = holds_at laws accepted at_end setup events answers sendable runs

@@ -2,6 +2,7 @@ mod PlainMemory
 mod AnyPull
 mod AnyStep
 mod Quiet
+mod ReadAs
 mod Runs
 mod SoundSteps
 mod Accounts
@@ -9,6 +10,7 @@ mod Takes
 mod Ordered
 mod Telling
 mod Delivered
+mod HeaderRead
 mod Joined
 mod BehindBoth
 mod CaughtUpEnds

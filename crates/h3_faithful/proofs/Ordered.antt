@@ -1,11 +1,11 @@
 -- A send that is in order by the events before it is accepted.
 use Rattle.std.proofs.Common.{◌≡◌, ◌⊎◌, inl, inr, ℕ, Bool, true, false, List, [], ◌∷◌, refl, ap, sym, ◌∙◌, subst, Option, Some, None, if◌then◌else◌}
-use Rattle.std.specs.Prelude.{not, ◌&&◌, ◌||◌, ◌-◌, ◌^◌, is_some, length, map, nat_lt, take, unwrap_or}
+use Rattle.std.specs.Prelude.{not, ◌&&◌, ◌||◌, ◌-◌, ◌^◌, is_some, length, map, nat_lt, option_map, take, unwrap_or}
 use Rattle.std.specs.List.{list_any}
 use Rattle.std.proofs.lemmas.Bool.{le-ltb, leb-true}
 use Rattle.h3_field.specs.Field.{Field, section_size}
 use Rattle.h3_header.specs.Head.{Head as Fields, head_fields, has_pseudo}
-use Rattle.h3_header.specs.HeadTests.{takes_protocol}
+use Rattle.h3_header.specs.HeadTests.{is_protocol_by, takes_protocol}
 use Rattle.h3_header.specs.Reads.{head_of_fields}
 use Rattle.h3_proto.specs.Settings.{value_of}
 use Rattle.h3_proto.specs.declared.stream.Side.{Side}
@@ -51,10 +51,12 @@ use Rattle.h3_memory.specs.Kept.{KeepingWorld}
 use Rattle.h3_memory.specs.MemoryStep.{Answers, StepOf}
 use Rattle.h3_memory.specs.MemoryStep.{LacksMemory as AnswersWithoutMemory}
 use Rattle.h3_strict.specs.PlainEnds.{is_malformed_refusal, plain_setup}
-use Rattle.h3_faithful.specs.Faithful.{AcceptsNext, IsAccepted, asks_for_strict}
-use Rattle.h3_faithful.specs.Sends.{awaits_head, begins_late, goes_on, is_between, is_head_section, is_next, is_trailer_section, opens, takes_size, may_be_unread}
-use Rattle.h3_faithful.specs.Steps.{AsPlainly, GivesMessageUp, HappensAnywhere, IsRefusedUnread, LacksMemory, MayLack, PullsOn, RefusesMalformed, RefusesOwn, is_strict_send, unread}
-use Rattle.h3_faithful.proofs.Takes.{both_hold, both_of, opposite, takes_body_next, takes_end_next, takes_head_next, three_of}
+use Rattle.h3_faithful.specs.Faithful.{IsAccepted}
+use Rattle.h3_faithful.specs.Reading.{header_in, is_pseudo, is_sent_by}
+use Rattle.h3_faithful.specs.Sends.{begins_late, goes_on, is_between, is_head_section, is_next, is_trailer_section, opens, takes_size, may_be_unread}
+use Rattle.h3_faithful.specs.Steps.{AsPlainly, GivesMessageUp, HappensAnywhere, IsRefusedUnread, LacksMemory, MayLack, PullsOn, RefusesMalformed, RefusesOwn, asks_for_strict, is_strict_send, unread}
+use Rattle.h3_faithful.proofs.HeaderRead.{has_none, header_read, read_by_other, reads_without}
+use Rattle.h3_faithful.proofs.Takes.{awaits_head, both_hold, both_of, opposite, takes_body_next, takes_end_next, takes_head_next, three_of}
 
 -- What the events and their answers say of a stream of a side holds of it in the world.
 pub record Tells (w : World) (side : Side) (id : ℕ) (before : List Event) (given : List Answer) : Type 0 where
@@ -169,40 +171,40 @@ module _ (setup : Setup) (w : World) (side : Side) (id : ℕ) (before : List Eve
   takes_body_here h = takes_body_next f live unfinished (ap is_between t.sent_is ∙ between_listed all ∙ h)
 
   -- on the side's own stream
-  head_placed : (head : Fields) → (awaits_head all && is_for (other side) head && takes_size setup side (head_fields head)) ≡ true → IsPlaced ps w (event.Head side id head)
+  head_placed : (head : Fields) → (awaits_head all && is_sent_by side head && takes_size setup side (head_fields head)) ≡ true → IsPlaced ps w (event.Head side id head)
   head_placed head h = by_going (none_after ps w side) refl
     where
       by_going : (o : Option ℕ) → none_after ps w side ≡ o → IsPlaced ps w (event.Head side id head)
       by_going None e =
-          let a = three_of (awaits_head all) (is_for (other side) head) (takes_size setup side (head_fields head)) h in
-          inl (here, takes_head_here a.0, e, a.1, fits_known setup w side (head_fields head) a.2)
-      by_going (Some last) e = inr (inr (here, takes_head_here (three_of (awaits_head all) (is_for (other side) head) (takes_size setup side (head_fields head)) h).0, last, e))
+          let a = three_of (awaits_head all) (is_sent_by side head) (takes_size setup side (head_fields head)) h in
+          inl (here, takes_head_here a.0, e, read_by_other side head ∙ a.1, fits_known setup w side (head_fields head) a.2)
+      by_going (Some last) e = inr (inr (here, takes_head_here (three_of (awaits_head all) (is_sent_by side head) (takes_size setup side (head_fields head)) h).0, last, e))
 
-  trailer_placed : (trailer : Fields) → (is_between all && not (has_pseudo trailer) && takes_size setup side (head_fields trailer)) ≡ true → IsInOrder ps w (event.Trailer side id trailer)
+  trailer_placed : (trailer : Fields) → (is_between all && not (list_any is_pseudo (head_fields trailer)) && takes_size setup side (head_fields trailer)) ≡ true → IsInOrder ps w (event.Trailer side id trailer)
   trailer_placed trailer h =
-      let a = three_of (is_between all) (not (has_pseudo trailer)) (takes_size setup side (head_fields trailer)) h in
-      (here, takes_body_here a.0, opposite (has_pseudo trailer) a.1, fits_known setup w side (head_fields trailer) a.2)
+      let a = three_of (is_between all) (not (list_any is_pseudo (head_fields trailer))) (takes_size setup side (head_fields trailer)) h in
+      (here, takes_body_here a.0, has_none trailer (opposite (list_any is_pseudo (head_fields trailer)) a.1), fits_known setup w side (head_fields trailer) a.2)
 
-  fields_placed : (fields : List Field) → (awaits_head all && is_for (other side) (head_of_fields fields) && takes_size setup side fields) ≡ true → IsPlaced ps w (event.Fields side id fields)
+  fields_placed : (fields : List Field) → (awaits_head all && is_sent_by side (header_in fields) && takes_size setup side fields) ≡ true → IsPlaced ps w (event.Fields side id fields)
   fields_placed fields h = by_going (none_after ps w side) refl (unreadable (takes_any (announced_at ps side)) fields) refl
     where
       by_going : (o : Option ℕ) → none_after ps w side ≡ o → (why : Option Malformation) → unreadable (takes_any (announced_at ps side)) fields ≡ why → IsPlaced ps w (event.Fields side id fields)
       by_going None e None read =
-          let a = three_of (awaits_head all) (is_for (other side) (head_of_fields fields)) (takes_size setup side fields) h in
-          inl (here, takes_head_here a.0, e, read, a.1, fits_known setup w side fields a.2)
+          let a = three_of (awaits_head all) (is_sent_by side (header_in fields)) (takes_size setup side fields) h in
+          inl (here, takes_head_here a.0, e, read, ap (is_for (other side)) (header_read fields) ∙ read_by_other side (header_in fields) ∙ a.1, fits_known setup w side fields a.2)
       by_going None e (Some why) read =
-          inr (inl (here, takes_head_here (three_of (awaits_head all) (is_for (other side) (head_of_fields fields)) (takes_size setup side fields) h).0, e, why, read))
+          inr (inl (here, takes_head_here (three_of (awaits_head all) (is_sent_by side (header_in fields)) (takes_size setup side fields) h).0, e, why, read))
       by_going (Some last) e why read =
-          inr (inr (here, takes_head_here (three_of (awaits_head all) (is_for (other side) (head_of_fields fields)) (takes_size setup side fields) h).0, last, e))
+          inr (inr (here, takes_head_here (three_of (awaits_head all) (is_sent_by side (header_in fields)) (takes_size setup side fields) h).0, last, e))
 
-  trailer_fields_placed : (fields : List Field) → (is_between all && not (has_pseudo (head_of_fields fields)) && takes_size setup side fields) ≡ true → IsPlaced ps w (event.TrailerFields side id fields)
+  trailer_fields_placed : (fields : List Field) → (is_between all && not (list_any is_pseudo fields) && takes_size setup side fields) ≡ true → IsPlaced ps w (event.TrailerFields side id fields)
   trailer_fields_placed fields h = by_reading (unreadable (takes_any (announced_at ps side)) fields) refl
     where
       by_reading : (o : Option Malformation) → unreadable (takes_any (announced_at ps side)) fields ≡ o → IsPlaced ps w (event.TrailerFields side id fields)
       by_reading None e =
-          let a = three_of (is_between all) (not (has_pseudo (head_of_fields fields))) (takes_size setup side fields) h in
-          inl (here, takes_body_here a.0, e, opposite (has_pseudo (head_of_fields fields)) a.1, fits_known setup w side fields a.2)
-      by_reading (Some why) e = inr (inl (here, takes_body_here (three_of (is_between all) (not (has_pseudo (head_of_fields fields))) (takes_size setup side fields) h).0, why, e))
+          let a = three_of (is_between all) (not (list_any is_pseudo fields)) (takes_size setup side fields) h in
+          inl (here, takes_body_here a.0, e, reads_without fields (opposite (list_any is_pseudo fields) a.1), fits_known setup w side fields a.2)
+      by_reading (Some why) e = inr (inl (here, takes_body_here (three_of (is_between all) (not (list_any is_pseudo fields)) (takes_size setup side fields) h).0, why, e))
 
   -- and on any that is it
   moved : (P : Side → ℕ → Type 0) (acting : Side) (i : ℕ) → is_on side id acting i ≡ true → P side id → P acting i
@@ -210,19 +212,19 @@ module _ (setup : Setup) (w : World) (side : Side) (id : ℕ) (before : List Eve
 
   pub placed : (e : Event) → is_next setup side id all e ≡ true → IsPlaced ps w e
   placed (event.Head acting i head) h =
-      let a = both_of (is_on side id acting i) (awaits_head all && is_for (other side) head && takes_size setup side (head_fields head)) h in
+      let a = both_of (is_on side id acting i) (awaits_head all && is_sent_by side head && takes_size setup side (head_fields head)) h in
       moved (λ s n. IsPlaced ps w (event.Head s n head)) acting i a.0 (head_placed head a.1)
   placed (event.Fields acting i fields) h =
-      let a = both_of (is_on side id acting i) (awaits_head all && is_for (other side) (head_of_fields fields) && takes_size setup side fields) h in
+      let a = both_of (is_on side id acting i) (awaits_head all && is_sent_by side (header_in fields) && takes_size setup side fields) h in
       moved (λ s n. IsPlaced ps w (event.Fields s n fields)) acting i a.0 (fields_placed fields a.1)
   placed (event.Body acting i bytes) h =
       let a = both_of (is_on side id acting i) (is_between all) h in
       moved (λ s n. IsPlaced ps w (event.Body s n bytes)) acting i a.0 (inl (here, takes_body_here a.1))
   placed (event.Trailer acting i trailer) h =
-      let a = both_of (is_on side id acting i) (is_between all && not (has_pseudo trailer) && takes_size setup side (head_fields trailer)) h in
+      let a = both_of (is_on side id acting i) (is_between all && not (list_any is_pseudo (head_fields trailer)) && takes_size setup side (head_fields trailer)) h in
       moved (λ s n. IsPlaced ps w (event.Trailer s n trailer)) acting i a.0 (inl (trailer_placed trailer a.1))
   placed (event.TrailerFields acting i fields) h =
-      let a = both_of (is_on side id acting i) (is_between all && not (has_pseudo (head_of_fields fields)) && takes_size setup side fields) h in
+      let a = both_of (is_on side id acting i) (is_between all && not (list_any is_pseudo fields) && takes_size setup side fields) h in
       moved (λ s n. IsPlaced ps w (event.TrailerFields s n fields)) acting i a.0 (trailer_fields_placed fields a.1)
   placed (event.Finish acting i) h =
       let a = both_of (is_on side id acting i) (list_any is_head_section all) h in
@@ -279,13 +281,43 @@ unreadable_may setup other_setup w (event.Fields side id fields) h = refl
 unreadable_may setup other_setup w (event.TrailerFields side id fields) h = refl
 unreadable_may setup other_setup w e h = absurd h
 
+other_protocol : (any : Bool) (o : Option (List ℕ)) → not (takes_protocol any o) ≡ true → unwrap_or (option_map (λ text. not (is_protocol_by any text)) o) false ≡ true
+other_protocol any None h = h
+other_protocol any (Some text) h = h
+
+-- a trailer that is next has no protocol
+no_protocol : (any : Bool) (h : Fields) → has_pseudo h ≡ false → takes_protocol any h.protocol ≡ true
+no_protocol any h none = of_protocol h.protocol (last_none (is_some h.method) (is_some h.scheme) (is_some h.authority) (is_some h.path) (is_some h.status) (is_some h.protocol) none)
+  where
+    of_protocol : (o : Option (List ℕ)) → is_some o ≡ false → takes_protocol any o ≡ true
+    of_protocol None e = refl
+    of_protocol (Some text) e = absurd (cc)
+
+    last_none : (a b c d e g : Bool) → (a || b || c || d || e || g) ≡ false → g ≡ false
+    last_none false false false false false g h = h
+    last_none true b c d e g h = absurd (cc)
+    last_none false true c d e g h = absurd (cc)
+    last_none false false true d e g h = absurd (cc)
+    last_none false false false true e g h = absurd (cc)
+    last_none false false false false true g h = absurd (cc)
+
 -- what the side does not read itself may be that
-unread_may : (setup : Setup) (e : Event) → is_some (unread setup e) ≡ true → may_be_unread setup e ≡ true
-unread_may setup (event.Fields side id fields) h = refl
-unread_may setup (event.TrailerFields side id fields) h = refl
-unread_may setup (event.Head side id head) h = unless_taken (takes_protocol (takes_any (announced_at setup side)) head.protocol) h
-unread_may setup (event.Trailer side id trailer) h = unless_taken (takes_protocol (takes_any (announced_at setup side)) trailer.protocol) h
-unread_may setup e h = absurd (cc)
+unread_may : (setup : Setup) (side : Side) (id : ℕ) (all : List MessageContent) (e : Event) → is_next setup side id all e ≡ true → is_some (unread setup e) ≡ true → may_be_unread setup e ≡ true
+unread_may setup side id all (event.Fields acting i fields) next h = refl
+unread_may setup side id all (event.TrailerFields acting i fields) next h = refl
+unread_may setup side id all (event.Head acting i head) next h =
+    other_protocol (takes_any (announced_at setup acting)) head.protocol (unless_taken (takes_protocol (takes_any (announced_at setup acting)) head.protocol) h)
+unread_may setup side id all (event.Trailer acting i trailer) next h =
+    let a = both_of (is_on side id acting i) (is_between all && not (list_any is_pseudo (head_fields trailer)) && takes_size setup side (head_fields trailer)) next in
+    let b = three_of (is_between all) (not (list_any is_pseudo (head_fields trailer))) (takes_size setup side (head_fields trailer)) a.1 in
+    let none = has_none trailer (opposite (list_any is_pseudo (head_fields trailer)) b.1) in
+    absurd (never_both (takes_protocol (takes_any (announced_at setup acting)) trailer.protocol) (no_protocol (takes_any (announced_at setup acting)) trailer none)
+    (unless_taken (takes_protocol (takes_any (announced_at setup acting)) trailer.protocol) h))
+  where
+    never_both : (b : Bool) → b ≡ true → not b ≡ true → ⊥
+    never_both true h k = cc
+    never_both false h k = cc
+unread_may setup side id all e next h = absurd (cc)
 
 -- what has gone away is a server, and the client begins no request then
 going_of : (setup : Setup) (w : World) (side : Side) (last : ℕ) → none_after setup w side ≡ Some last → (side ≡ Client) × (is_strict setup.client ≡ true) × (w.server.own.goaways ≡ [] → ⊥)
@@ -373,9 +405,15 @@ no_pull setup k new (event.PullFields side id) a (inr (inl h)) pulls = h
 no_pull setup k new (event.PullFields side id) a (inr (inr h)) pulls = h
 no_pull setup k new e a h pulls = pulls
 
+-- A send that is in order is accepted.
+abbrev pub AcceptsEvent : Setup → List Event → List Answer → Event → Answer → Type 0
+AcceptsEvent setup before given e a =
+    (side : Side) (id : ℕ) → goes_on side id before given ≡ true → is_next setup side id (sent side id before given) e ≡ true
+    → IsAccepted (may_be_unread setup e || asks_for_strict setup side) (begins_late setup before given e) a
+
 -- **A send that is in order is accepted by each step of the world.**
 pub accepts_next : OrderedAccepted → (setup : Setup) (before : List Event) (given : List Answer) (k new : KeepingWorld) (e : Event) (a : Answer) → ((side : Side) (id : ℕ) → Tells k.world side id before given)
-    → HappensAnywhere setup k e a new → AcceptsNext setup before given e a
+    → HappensAnywhere setup k e a new → AcceptsEvent setup before given e a
 accepts_next accepted setup before given k new e a tells happens = λ side id on next. by_step side id next (placed setup k.world side id before given (tells side id) on e next) happens
   where
     late : Bool
@@ -397,5 +435,5 @@ accepts_next accepted setup before given k new e a tells happens = λ side id on
         memory_accepted (plain_setup setup) k new e a (may_be_unread setup e || asks_for_strict setup side) late in_place (subst (λ b. StepOf b (plain_setup setup) k e a new) memory h.step)
     by_step side id next in_place (RefusesMalformed strict refused same) =
         malformed_accepted (may_be_unread setup e || asks_for_strict setup side) late a refused (or_second (may_be_unread setup e) (asks_for_strict setup side) (strict_allows setup side id (sent side id before given) e next strict))
-    by_step side id next in_place (RefusesOwn own same) = unread_accepted (may_be_unread setup e || asks_for_strict setup side) late a (MayLack e) (unread setup e) own (λ some. or_first (may_be_unread setup e) (asks_for_strict setup side) (unread_may setup e some))
+    by_step side id next in_place (RefusesOwn own same) = unread_accepted (may_be_unread setup e || asks_for_strict setup side) late a (MayLack e) (unread setup e) own (λ some. or_first (may_be_unread setup e) (asks_for_strict setup side) (unread_may setup side id (sent side id before given) e next some))
     by_step side id next in_place (GivesMessageUp pulls) = absurd (no_pull setup k new e a in_place pulls)

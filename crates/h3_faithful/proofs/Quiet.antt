@@ -46,8 +46,7 @@ use Rattle.h3_strict.specs.CountsNothing.{CountsNothing, KeepsTo, RefusesAlike}
 use Rattle.h3_strict.specs.PlainAlike.{SameUnless}
 use Rattle.h3_strict.specs.PlainEnds.{is_malformed_refusal, plain_ends}
 use Rattle.h3_strict.specs.Plainly.{is_malformed, plainly}
-use Rattle.h3_faithful.specs.Faithful.{asks_for_strict}
-use Rattle.h3_faithful.specs.Steps.{IsRefusedUnread}
+use Rattle.h3_faithful.specs.Steps.{IsRefusedUnread, asks_for_strict}
 use Rattle.h3_faithful.proofs.AnyStep.{RefusesPlainly}
 use Rattle.h3_faithful.proofs.PlainMemory.{QuietSides, at_end}
 

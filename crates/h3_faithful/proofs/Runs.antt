@@ -21,8 +21,7 @@ use Rattle.h3_memory.specs.Keeping.{StandsKeeping}
 use Rattle.h3_memory.specs.Refused.{AnswerOf, EndsRun, EndsStep}
 use Rattle.h3_memory.specs.Theorem.{RunsWithMemory}
 use Rattle.h3_strict.specs.PlainEnds.{Alike, Judges, RefusesMalformed as RefusedSo, StepsPlainly, is_malformed_refusal, judges, plain_ends, plain_setup}
-use Rattle.h3_faithful.specs.Faithful.{is_without_fault}
-use Rattle.h3_faithful.specs.Steps.{HappensAnywhere, RunsUntilFault, StandsAnywhere, is_send}
+use Rattle.h3_faithful.specs.Steps.{HappensAnywhere, RunsUntilFault, StandsAnywhere, is_send, is_without_fault}
 use Rattle.h3_faithful.proofs.Accounts.{MemoryMoves}
 use Rattle.h3_faithful.proofs.AnyPull.{StepLaws, plain_step}
 use Rattle.h3_faithful.proofs.AnyStep.{any_step}

@@ -13,7 +13,11 @@ use Rattle.h3_world.specs.World.{Party}
 use Rattle.h3_headline.specs.Contents.{contents, has_end}
 use Rattle.h3_headline.specs.Messages.{MessageContent}
 use Rattle.h3_headline.specs.Messages.MessageContent.{Byte}
-use Rattle.h3_faithful.specs.Sends.{awaits_head, is_between, is_head_section, is_trailer_section}
+use Rattle.h3_faithful.specs.Sends.{is_between, is_head_section, is_trailer_section}
+
+-- behind these contents a header section may come
+abbrev pub awaits_head : List MessageContent → Bool
+awaits_head before = not (list_any is_head_section before)
 
 -- tests and their parts
 pub none_of : (a b : Bool) → (a || b) ≡ false → (a ≡ false) × (b ≡ false)

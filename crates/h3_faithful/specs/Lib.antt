@@ -1,3 +1,4 @@
+pub mod Reading
 pub mod Sends
 pub mod Faithful
 pub mod Steps

@@ -1,24 +1,22 @@
 -- Which sends are in order, by the events before and their answers alone (RFC 9114, section 4.1).
-use Rattle.std.specs.Prelude.{ℕ, Bool, true, false, not, ◌&&◌, List, nat_le}
+use Rattle.std.specs.Prelude.{ℕ, Bool, true, false, not, ◌&&◌, List, nat_le, option_map, unwrap_or}
 use Rattle.std.specs.List.{list_any}
 use Rattle.h3_field.specs.Field.{Field, section_size}
-use Rattle.h3_header.specs.Head.{head_fields, has_pseudo}
-use Rattle.h3_header.specs.HeadTests.{takes_protocol}
-use Rattle.h3_header.specs.Reads.{head_of_fields}
+use Rattle.h3_header.specs.Head.{head_fields}
+use Rattle.h3_header.specs.HeadTests.{is_protocol_by}
+use Rattle.h3_faithful.specs.Reading.{header_in, is_pseudo, is_sent_by}
 use Rattle.h3_proto.specs.StreamIds.{is_request_stream}
 use Rattle.h3_proto.specs.declared.stream.Side.{Side}
 use Rattle.h3_proto.specs.declared.stream.Side.TheVariants.{Client}
 use Rattle.h3_connection.specs.Announcing.{section_of}
 use Rattle.h3_connection.specs.OwnIds.{other}
-use Rattle.h3_connection.specs.Pulling.{is_for}
-use Rattle.h3_connection.specs.StrictConnection.{is_strict}
-use Rattle.h3_world.specs.Setup.{Setup, announced_at, takes_any}
+use Rattle.h3_world.specs.Setup.{Setup, announced_at}
 use Rattle.h3_world.specs.declared.event.Answer.{Answer}
 use Rattle.h3_world.specs.declared.event.Answer.TheVariants as answer
 use Rattle.h3_world.specs.declared.event.Event.{Event}
 use Rattle.h3_world.specs.declared.event.Event.TheVariants as event
 use Rattle.h3_headline.specs.Changes.{goes_away, resets_on}
-use Rattle.h3_headline.specs.Messages.{MessageContent, any_of, has_finished, is_on}
+use Rattle.h3_headline.specs.Messages.{MessageContent, any_of, finished_in, is_on}
 use Rattle.h3_headline.specs.Messages.MessageContent.{FieldSection}
 use Rattle.h3_headline.specs.Messages.SectionKind.{OfHead, OfTrailer}
 
@@ -30,7 +28,7 @@ opens side id _ _ = false
 
 -- It is open there, and was neither finished nor reset.
 abbrev pub goes_on : Side → ℕ → List Event → List Answer → Bool
-goes_on side id events answers = any_of (opens side id) events answers && not (has_finished side id events answers) && not (any_of (resets_on side id) events answers)
+goes_on side id events answers = any_of (opens side id) events answers && not (any_of (finished_in side id) events answers) && not (any_of (resets_on side id) events answers)
 
 abbrev pub is_head_section : MessageContent → Bool
 is_head_section (FieldSection OfHead as_list fields) = true
@@ -44,20 +42,20 @@ is_trailer_section _ = false
 abbrev pub takes_size : Setup → Side → List Field → Bool
 takes_size setup side fields = nat_le (section_size fields) (section_of (announced_at setup (other side)))
 
--- behind these contents a header section may come; and what stands between it and the trailer
-abbrev pub awaits_head : List MessageContent → Bool
-awaits_head before = not (list_any is_head_section before)
-
 abbrev pub is_between : List MessageContent → Bool
 is_between before = list_any is_head_section before && not (list_any is_trailer_section before)
 
--- The event sends what is next on the side's stream, behind these contents, as the other side takes it.
+-- The event sends what is next on the side's stream, after these contents, as the other side takes it.
 abbrev pub is_next : Setup → Side → ℕ → List MessageContent → Event → Bool
-is_next setup side id before (event.Head acting i head) = is_on side id acting i && (awaits_head before && is_for (other side) head && takes_size setup side (head_fields head))
-is_next setup side id before (event.Fields acting i fields) = is_on side id acting i && (awaits_head before && is_for (other side) (head_of_fields fields) && takes_size setup side fields)
+is_next setup side id before (event.Head acting i head) =
+    is_on side id acting i && (not (list_any is_head_section before) && is_sent_by side head && takes_size setup side (head_fields head))
+is_next setup side id before (event.Fields acting i fields) =
+    is_on side id acting i && (not (list_any is_head_section before) && is_sent_by side (header_in fields) && takes_size setup side fields)
 is_next setup side id before (event.Body acting i bytes) = is_on side id acting i && is_between before
-is_next setup side id before (event.Trailer acting i trailer) = is_on side id acting i && (is_between before && not (has_pseudo trailer) && takes_size setup side (head_fields trailer))
-is_next setup side id before (event.TrailerFields acting i fields) = is_on side id acting i && (is_between before && not (has_pseudo (head_of_fields fields)) && takes_size setup side fields)
+is_next setup side id before (event.Trailer acting i trailer) =
+    is_on side id acting i && (is_between before && not (list_any is_pseudo (head_fields trailer)) && takes_size setup side (head_fields trailer))
+is_next setup side id before (event.TrailerFields acting i fields) =
+    is_on side id acting i && (is_between before && not (list_any is_pseudo fields) && takes_size setup side fields)
 is_next setup side id before (event.Finish acting i) = is_on side id acting i && list_any is_head_section before
 is_next setup side id before _ = false
 
@@ -65,12 +63,12 @@ is_next setup side id before _ = false
 abbrev pub may_be_unread : Setup → Event → Bool
 may_be_unread setup (event.Fields side id fields) = true
 may_be_unread setup (event.TrailerFields side id fields) = true
-may_be_unread setup (event.Head side id head) = not (takes_protocol (takes_any (announced_at setup side)) head.protocol)
-may_be_unread setup (event.Trailer side id trailer) = not (takes_protocol (takes_any (announced_at setup side)) trailer.protocol)
+may_be_unread setup (event.Head side id head) =
+    unwrap_or (option_map (λ text. not (is_protocol_by (announced_at setup side).choices.extensions.any_protocol text)) head.protocol) false
 may_be_unread setup _ = false
 
 -- A client that asks for a strict connection begins no request once its server goes away (RFC 9114, section 5.2).
 abbrev pub begins_late : Setup → List Event → List Answer → Event → Bool
-begins_late setup before given (event.Head Client id head) = is_strict setup.client && any_of goes_away before given
-begins_late setup before given (event.Fields Client id fields) = is_strict setup.client && any_of goes_away before given
+begins_late setup before given (event.Head Client id head) = setup.client.choices.extensions.strict_connection && any_of goes_away before given
+begins_late setup before given (event.Fields Client id fields) = setup.client.choices.extensions.strict_connection && any_of goes_away before given
 begins_late setup before given _ = false

@@ -1,6 +1,7 @@
 -- The world of any two sides, memory refused or not: as that of sides that ask for no strict messages, limit nothing and take any protocol, with
 -- three steps more.
 use Rattle.std.specs.Prelude.{◌≡◌, ℕ, ◌<◌, Bool, true, false, ◌∷◌, List, [], length, Option, Some, None, drop, take}
+use Rattle.std.specs.List.{list_any}
 use Rattle.h3_proto.specs.declared.stream.Side.{Side}
 use Rattle.h3_connection.specs.OwnIds.{other}
 use Rattle.h3_connection.specs.StrictSending.{broken_protocol}
@@ -31,7 +32,12 @@ use Rattle.h3_memory.specs.Keeping.{StandsKeeping}
 use Rattle.h3_memory.specs.MemoryStep.{HappensWithMemory}
 use Rattle.h3_strict.specs.GivesUp.{GivesUp}
 use Rattle.h3_strict.specs.PlainEnds.{is_malformed_refusal, plain_ends, plain_setup}
-use Rattle.h3_faithful.specs.Faithful.{asks_for_strict, is_without_fault}
+
+abbrev pub asks_for_strict : Setup → Side → Bool
+asks_for_strict setup side = (announced_at setup side).choices.strict_messages
+
+abbrev pub is_without_fault : ℕ → List Answer → Type 0
+is_without_fault n answers = list_any is_connection_fault (take n answers) ≡ false
 
 -- The side that sends asks for strict messages.
 abbrev pub is_strict_send : Setup → Event → Bool

@@ -8,16 +8,14 @@ ghost use Rattle.h3_world.specs.Setup.{IsMadeSetup, Setup};
 ghost use Rattle.h3_world.specs.declared.event.Answer.{Answer};
 ghost use Rattle.h3_world.specs.declared.event.Event.{Event};
 ghost use Rattle.h3_memory.specs.Refused.{EndsRun};
-ghost use Rattle.h3_faithful.specs.Faithful.{Faithful, UntilFault};
+ghost use Rattle.h3_faithful.specs.Faithful.{Faithful};
 ghost use Rattle.h3_faithful.specs.Steps.{RunsUntilFault, StandsAnywhere};
 
 /// What a client and a server get of each other. It is so of every setup, over every schedule of events that may be sent, however both
-/// answer by the contracts of their calls, whichever allocations fail: up to a fault of the connection (`until_fault`), and the answers up
-/// to it are those of a run (`runs`), in whose last world both stand if there is none (`stands`). Between sides that both ask for strict
-/// messages, or both do not, there is no such fault (`faithful`), whatever they limit.
+/// answer by the contracts of their calls, whichever allocations fail, up to a fault of the connection. Between sides that both ask for
+/// strict messages, or both do not, there is no such fault (`faithful`), whatever they limit. The answers up to it are those of a run
+/// (`runs`), in whose last world both stand if there is none (`stands`).
 pub fn each_side_gets_what_the_other_sent()
-    ensures until_fault { (setup : Setup) (events : List Event) (answers : List Answer) (ends : Ends) → IsMadeSetup setup
-        → AllByRecursion (IsSendableBy true) events → EndsRun (new_ends setup) events answers ends → UntilFault setup events answers }
     ensures runs { (setup : Setup) (events : List Event) (answers : List Answer) (ends : Ends) → IsMadeSetup setup
         → AllByRecursion (IsSendableBy true) events → EndsRun (new_ends setup) events answers ends → RunsUntilFault setup events answers }
     ensures stands { (setup : Setup) (events : List Event) (answers : List Answer) (ends : Ends) → IsMadeSetup setup

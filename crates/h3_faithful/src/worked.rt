@@ -1,7 +1,7 @@
 //! Worked schedules, and what the statement says of them: these laws compute. The answers were worked out from the standards. If an
 //! allocation fails, they are some that the contracts of the calls allow.
 
-ghost use Rattle.std.specs.Prelude.{◌≡◌, true, false, [], ◌∷◌, take, drop};
+ghost use Rattle.std.specs.Prelude.{◌≡◌, true, false, [], ◌∷◌, length, take, drop};
 ghost use Rattle.std.specs.List.{list_any};
 ghost use Rattle.h3_proto.specs.declared.stream.Side.TheVariants.{Client, Server};
 ghost use Rattle.h3_world.specs.Ends.{answers_of_ends, new_ends};
@@ -9,11 +9,11 @@ ghost use Rattle.h3_world.specs.Headline.{is_connection_fault};
 ghost use Rattle.h3_world.specs.WorkedHeads.{home, no_tables};
 ghost use Rattle.h3_world.specs.WorkedLists.{listed_answers, listed_run, mixed_answers, mixed_run};
 ghost use Rattle.h3_world.specs.declared.event.Event.TheVariants as event;
-ghost use Rattle.h3_headline.specs.Exactly.{IsAllOf, IsExactly, reader_at};
 ghost use Rattle.h3_headline.specs.Messages.{IsFrontOf, has_finished, has_pulled_end, pulled, sent};
 ghost use Rattle.h3_strict.specs.WorkedStrict.{early_answers, early_run, refused_answers, refused_run, strict_setup, tunnel_answers};
 ghost use Rattle.h3_strict.specs.WorkedStrict.{tunnel_run};
 ghost use Rattle.h3_faithful.specs.Faithful.{PausesDelivered};
+ghost use Rattle.h3_faithful.specs.Reading.{IsReadAs};
 ghost use Rattle.h3_faithful.specs.Sends.{begins_late, may_be_unread};
 ghost use Rattle.h3_faithful.specs.WorkedFaithful.{asked_answers, asked_run, careful_client, control_answers, control_run, curious_client};
 ghost use Rattle.h3_faithful.specs.WorkedFaithful.{curious_server, delivered_answers, delivered_run, early_pulled, early_sent};
@@ -27,7 +27,7 @@ ghost use Rattle.h3_faithful.specs.WorkedMemory.{verdict_answers, verdict_run};
 pub fn lists_are_handed_out()
     ensures sent { sent Server 0 listed_run listed_answers ≡ listed_sent }
     ensures handed { pulled Client 0 listed_run listed_answers ≡ listed_sent }
-    ensures all { IsAllOf (IsExactly (reader_at no_tables Client)) (pulled Client 0 listed_run listed_answers)
+    ensures all { IsFrontOf (IsReadAs no_tables Client) (pulled Client 0 listed_run listed_answers)
         (sent Server 0 listed_run listed_answers) }
     ensures ended { has_pulled_end Client 0 listed_run listed_answers ≡ true }
     ensures finished { has_finished Server 0 listed_run listed_answers ≡ true }
@@ -36,7 +36,7 @@ pub fn lists_are_handed_out()
 /// A list that is pulled as the header that it reads as.
 pub fn lists_are_handed_out_as_headers()
     ensures handed { pulled Client 0 mixed_run mixed_answers ≡ mixed_pulled }
-    ensures front { IsFrontOf (IsExactly (reader_at no_tables Client)) (pulled Client 0 mixed_run mixed_answers)
+    ensures front { IsFrontOf (IsReadAs no_tables Client) (pulled Client 0 mixed_run mixed_answers)
         (sent Server 0 mixed_run mixed_answers) }
 {}
 
@@ -54,7 +54,7 @@ pub fn strict_refusals_send_nothing()
 pub fn messages_found_malformed_end_in_front()
     ensures sent { sent Server 0 early_run early_answers ≡ early_sent }
     ensures handed { pulled Client 0 early_run early_answers ≡ early_pulled }
-    ensures front { IsFrontOf (IsExactly (reader_at strict_setup Client)) (pulled Client 0 early_run early_answers)
+    ensures front { IsFrontOf (IsReadAs strict_setup Client) (pulled Client 0 early_run early_answers)
         (sent Server 0 early_run early_answers) }
     ensures faultless { list_any is_connection_fault early_answers ≡ false }
 {}
@@ -79,8 +79,10 @@ pub fn with_all_delivered_all_comes_out()
     ensures answers { answers_of_ends (new_ends no_tables) delivered_run ≡ delivered_answers }
     ensures pauses { PausesDelivered Client 0 (drop 6 delivered_run) (drop 6 delivered_answers) }
     ensures not_before { PausesDelivered Client 0 (drop 5 delivered_run) (drop 5 delivered_answers) → ⊥ }
-    ensures all { IsAllOf (IsExactly (reader_at no_tables Client)) (pulled Client 0 (take 6 delivered_run) (take 6 delivered_answers))
+    ensures front { IsFrontOf (IsReadAs no_tables Client) (pulled Client 0 (take 6 delivered_run) (take 6 delivered_answers))
         (sent Server 0 (take 6 delivered_run) (take 6 delivered_answers)) }
+    ensures all { length (pulled Client 0 (take 6 delivered_run) (take 6 delivered_answers))
+        ≡ length (sent Server 0 (take 6 delivered_run) (take 6 delivered_answers)) }
 {}
 
 /// Between a strict side and one that is not, a trailer in a tunnel is a fault of the connection. Before it all is as it was sent. (Those
@@ -128,7 +130,7 @@ pub fn what_is_kept_is_handed_out_later()
 /// Two strict sides with memory refused: a response is found malformed later, and another stream goes on.
 pub fn strict_verdicts_wait_for_memory()
     ensures handed { pulled Client 0 verdict_run verdict_answers ≡ early_pulled }
-    ensures front { IsFrontOf (IsExactly (reader_at strict_setup Client)) (pulled Client 0 verdict_run verdict_answers)
+    ensures front { IsFrontOf (IsReadAs strict_setup Client) (pulled Client 0 verdict_run verdict_answers)
         (sent Server 0 verdict_run verdict_answers) }
     ensures other { pulled Client 4 verdict_run verdict_answers ≡ status_pulled }
     ensures faultless { list_any is_connection_fault verdict_answers ≡ false }

@@ -8,9 +8,18 @@ use Rattle.h3_connection.specs.declared.event.Item.{Item}
 use Rattle.h3_connection.specs.declared.event.Item.TheVariants as item
 use Rattle.h3_connection.specs.declared.event.Pull.{Pull}
 use Rattle.h3_connection.specs.declared.event.Pull.TheVariants as pull
+use Rattle.h3_connection.specs.declared.lists.ListItem.{ListItem}
+use Rattle.h3_connection.specs.declared.lists.ListPull.TheVariants as list
 use Rattle.h3_headline.specs.Exactly.{IsAllOf, IsExactly, Reader}
-use Rattle.h3_headline.specs.Messages.{MessageContent, SectionKind, contents_of, is_end_of, item_contents}
+use Rattle.h3_headline.specs.Messages.{MessageContent, SectionKind, contents_of, is_end_of}
 use Rattle.h3_headline.specs.Messages.MessageContent.{FieldSection}
+
+-- what an item hands out, and one with lists
+abbrev pub item_contents : Item → List MessageContent
+item_contents i = contents_of (answer.Pulled (pull.Item i))
+
+abbrev pub listed_contents : ListItem → List MessageContent
+listed_contents i = contents_of (answer.Listed (list.Item i))
 
 -- the end, as an item
 abbrev pub is_end_item : Item → Bool

@@ -20,9 +20,9 @@ use Rattle.h3_world.specs.Sound.{OutOfNext}
 use Rattle.h3_headline.specs.ContentLaws.{bytes_are, none_of_piece}
 use Rattle.h3_headline.specs.Contents.{Moves, contents, has_end, out, out_of, part_contents, piece_of}
 use Rattle.h3_headline.specs.FlowLaws.{same_number}
-use Rattle.h3_headline.specs.Handing.{GivesItem, is_end_item}
+use Rattle.h3_headline.specs.Handing.{GivesItem, is_end_item, item_contents, listed_contents}
 use Rattle.h3_headline.specs.Exactly.{IsAllOf, IsExactly, Reader}
-use Rattle.h3_headline.specs.Messages.{MessageContent, SectionKind, item_contents, listed_contents}
+use Rattle.h3_headline.specs.Messages.{MessageContent, SectionKind}
 use Rattle.h3_headline.specs.Messages.MessageContent.{Byte, FieldSection}
 use Rattle.h3_headline.specs.Messages.SectionKind.{OfHead, OfInterim, OfTrailer}
 

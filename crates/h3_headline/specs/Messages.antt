@@ -1,19 +1,18 @@
 -- What a side sent on a request stream, and what the other side was handed out of it, by the events and their answers alone.
-use Rattle.std.specs.Prelude.{ℕ, List, Bool, false, ◌==◌, [], true, if◌then◌else◌, ◌∷◌, map, fold, ◌&&◌, ◌++◌, ◌||◌, Option, Some, None, bytes_eq, codes}
+use Rattle.std.specs.Prelude.{ℕ, List, Bool, false, ◌==◌, [], true, if◌then◌else◌, ◌∷◌, map, ◌&&◌, ◌++◌, ◌||◌, Option, option_map, codes}
 use Rattle.h3_field.specs.Field.{Field}
-use Rattle.h3_connection.specs.declared.event.Item.{Item}
 use Rattle.h3_connection.specs.declared.event.Item.TheVariants as item
 use Rattle.h3_proto.specs.declared.stream.Side.{Side}
 use Rattle.h3_proto.specs.declared.stream.Side.TheVariants.{Client, Server}
 use Rattle.h3_world.specs.declared.event.Answer.{Answer}
 use Rattle.h3_world.specs.declared.event.Answer.TheVariants as answer
+use Rattle.h3_qpack.specs.Sizes.{last_value}
 use Rattle.h3_header.specs.Head.{head_fields}
 use Rattle.h3_header.specs.Reads.{status_number}
 use Rattle.h3_connection.specs.Pulling.{is_interim}
 use Rattle.h3_world.specs.declared.event.Event.{Event}
 use Rattle.h3_world.specs.declared.event.Event.TheVariants as event
 use Rattle.h3_connection.specs.declared.event.Pull.TheVariants as pull
-use Rattle.h3_connection.specs.declared.lists.ListItem.{ListItem}
 use Rattle.h3_connection.specs.declared.lists.ListItem.TheVariants as listed
 use Rattle.h3_connection.specs.declared.lists.ListPull.TheVariants as list
 
@@ -35,34 +34,28 @@ pub data MessageContent : Type 0 where
 -- the call is the side's, on the stream
 abbrev pub is_on : Side → ℕ → Side → ℕ → Bool
 is_on Client id Client i = i == id
-is_on Client id Server i = false
-is_on Server id Client i = false
 is_on Server id Server i = i == id
-
--- what is accepted, of a call that is on the stream
-abbrev pub if_done : Answer → Bool → List MessageContent → List MessageContent
-if_done answer.Done on contents = if on then contents else []
-if_done _ on contents = []
+is_on side id acting i = false
 
 abbrev pub is_done : Answer → Bool
 is_done answer.Done = true
 is_done _ = false
 
+-- the status of a list of fields: its last one
+abbrev pub status_in : List Field → Option ℕ
+status_in fields = option_map status_number (last_value (codes ":status") fields)
+
 -- a head with this status
 abbrev pub head_section : Option ℕ → Bool → List Field → MessageContent
 head_section status as_list fields = FieldSection (if is_interim status then OfInterim else OfHead) as_list fields
 
--- the status behind one more field of a list: that of the last `:status`
-abbrev pub status_after : Option ℕ → Field → Option ℕ
-status_after status f = if bytes_eq f.name (codes ":status") then Some (status_number f.value) else status
-
 -- what an event sends on the stream, where it was accepted
 abbrev pub sent_in : Side → ℕ → Event → Answer → List MessageContent
-sent_in side id (event.Head s i head) a = if_done a (is_on side id s i) (head_section head.status false (head_fields head) ∷ [])
-sent_in side id (event.Fields s i fields) a = if_done a (is_on side id s i) (head_section (fold status_after None fields) true fields ∷ [])
-sent_in side id (event.Body s i bytes) a = if_done a (is_on side id s i) (map Byte bytes)
-sent_in side id (event.Trailer s i trailer) a = if_done a (is_on side id s i) (FieldSection OfTrailer false (head_fields trailer) ∷ [])
-sent_in side id (event.TrailerFields s i fields) a = if_done a (is_on side id s i) (FieldSection OfTrailer true fields ∷ [])
+sent_in side id (event.Head s i head) a = if is_done a && is_on side id s i then head_section head.status false (head_fields head) ∷ [] else []
+sent_in side id (event.Fields s i fields) a = if is_done a && is_on side id s i then head_section (status_in fields) true fields ∷ [] else []
+sent_in side id (event.Body s i bytes) a = if is_done a && is_on side id s i then map Byte bytes else []
+sent_in side id (event.Trailer s i trailer) a = if is_done a && is_on side id s i then FieldSection OfTrailer false (head_fields trailer) ∷ [] else []
+sent_in side id (event.TrailerFields s i fields) a = if is_done a && is_on side id s i then FieldSection OfTrailer true fields ∷ [] else []
 sent_in side id _ a = []
 
 -- whether it completes the message
@@ -70,28 +63,22 @@ abbrev pub finished_in : Side → ℕ → Event → Answer → Bool
 finished_in side id (event.Finish acting i) a = is_done a && is_on side id acting i
 finished_in side id _ a = false
 
-abbrev pub item_contents : Item → List MessageContent
-item_contents (item.Interim head) = FieldSection OfInterim false (head_fields head) ∷ []
-item_contents (item.Head head) = FieldSection OfHead false (head_fields head) ∷ []
-item_contents (item.Body bytes) = map Byte bytes
-item_contents (item.Trailer trailer) = FieldSection OfTrailer false (head_fields trailer) ∷ []
-item_contents (item.TooLarge size) = TooLarge size ∷ []
-item_contents item.End = []
-item_contents i = Foreign ∷ []
-
-abbrev pub listed_contents : ListItem → List MessageContent
-listed_contents (listed.Interim fields) = FieldSection OfInterim true fields ∷ []
-listed_contents (listed.Head fields) = FieldSection OfHead true fields ∷ []
-listed_contents (listed.Body bytes) = map Byte bytes
-listed_contents (listed.Trailer fields) = FieldSection OfTrailer true fields ∷ []
-listed_contents (listed.TooLarge size) = TooLarge size ∷ []
-listed_contents listed.End = []
-listed_contents i = Foreign ∷ []
-
 -- what an answer hands out
 abbrev pub contents_of : Answer → List MessageContent
-contents_of (answer.Pulled (pull.Item i)) = item_contents i
-contents_of (answer.Listed (list.Item i)) = listed_contents i
+contents_of (answer.Pulled (pull.Item (item.Interim head))) = FieldSection OfInterim false (head_fields head) ∷ []
+contents_of (answer.Pulled (pull.Item (item.Head head))) = FieldSection OfHead false (head_fields head) ∷ []
+contents_of (answer.Pulled (pull.Item (item.Body bytes))) = map Byte bytes
+contents_of (answer.Pulled (pull.Item (item.Trailer trailer))) = FieldSection OfTrailer false (head_fields trailer) ∷ []
+contents_of (answer.Pulled (pull.Item (item.TooLarge size))) = TooLarge size ∷ []
+contents_of (answer.Pulled (pull.Item item.End)) = []
+contents_of (answer.Pulled (pull.Item i)) = Foreign ∷ []
+contents_of (answer.Listed (list.Item (listed.Interim fields))) = FieldSection OfInterim true fields ∷ []
+contents_of (answer.Listed (list.Item (listed.Head fields))) = FieldSection OfHead true fields ∷ []
+contents_of (answer.Listed (list.Item (listed.Body bytes))) = map Byte bytes
+contents_of (answer.Listed (list.Item (listed.Trailer fields))) = FieldSection OfTrailer true fields ∷ []
+contents_of (answer.Listed (list.Item (listed.TooLarge size))) = TooLarge size ∷ []
+contents_of (answer.Listed (list.Item listed.End)) = []
+contents_of (answer.Listed (list.Item i)) = Foreign ∷ []
 contents_of _ = []
 
 -- whether it is the end
@@ -100,16 +87,18 @@ is_end_of (answer.Pulled (pull.Item item.End)) = true
 is_end_of (answer.Listed (list.Item listed.End)) = true
 is_end_of _ = false
 
--- what an event hands out of the stream
+-- the side pulls from the stream
+abbrev pub pulls_on : Side → ℕ → Event → Bool
+pulls_on side id (event.Pull acting i) = is_on side id acting i
+pulls_on side id (event.PullFields acting i) = is_on side id acting i
+pulls_on side id _ = false
+
+-- what an event hands out of the stream, and whether that is the end
 abbrev pub pulled_in : Side → ℕ → Event → Answer → List MessageContent
-pulled_in side id (event.Pull acting i) a = if is_on side id acting i then contents_of a else []
-pulled_in side id (event.PullFields acting i) a = if is_on side id acting i then contents_of a else []
-pulled_in side id _ a = []
+pulled_in side id e a = if pulls_on side id e then contents_of a else []
 
 abbrev pub ended_in : Side → ℕ → Event → Answer → Bool
-ended_in side id (event.Pull acting i) a = is_on side id acting i && is_end_of a
-ended_in side id (event.PullFields acting i) a = is_on side id acting i && is_end_of a
-ended_in side id _ a = false
+ended_in side id e a = pulls_on side id e && is_end_of a
 
 -- over all events and their answers
 abbrev pub all_of : (Event → Answer → List MessageContent) → List Event → List Answer → List MessageContent

@@ -12,7 +12,7 @@ use Rattle.h3_world.specs.Step.{Does, Step}
 use Rattle.h3_connection.specs.Refusals.{first_of, is_too_large, of_list, unless_going, with_pseudo, wrong_side}
 use Rattle.h3_connection.specs.StrictSending.{unless_malformed}
 use Rattle.h3_connection.specs.declared.event.Refusal.TheVariants as refusal
-use Rattle.std.specs.Prelude.{if◌then◌else◌, map, fold, ◌||◌, is_some, IfSome, option_map}
+use Rattle.std.specs.Prelude.{if◌then◌else◌, map, ◌||◌, is_some, IfSome, option_map}
 use Rattle.h3_world.specs.Order.{is_end, outgoing_of, is_sent_off, is_over, next_part, section_of_part}
 use Rattle.h3_world.specs.Sending.{appended, finished, having_encoded, section_sent, sent_head, sent_fields, sent_body, sent_trailer, sent_trailer_fields, cut_off, given_up, opened, with_goaway}
 use Rattle.h3_world.specs.Sound.{IsSoundWorld}
@@ -54,7 +54,7 @@ use Rattle.h3_headline.specs.Handing.{GivesAs, GivesItem, is_end_item}
 use Rattle.h3_headline.specs.HandingLaws.{gives_itself, gives_list, hands}
 use Rattle.h3_headline.specs.KeepsPartsLaws.{flow_at, keeps_delivery, keeps_end, keeps_flows, keeps_given_up, keeps_reset, keeps_same, keeps_with_flow, keeps_with_party, same_flow}
 use Rattle.h3_headline.specs.Exactly.{Reader, as_listed, reader_at}
-use Rattle.h3_headline.specs.Messages.{MessageContent, contents_of, head_section, status_after, is_end_of, is_on}
+use Rattle.h3_headline.specs.Messages.{MessageContent, contents_of, head_section, is_end_of, is_on, status_in}
 use Rattle.h3_headline.specs.Messages.MessageContent.{Byte, FieldSection}
 use Rattle.h3_headline.specs.Messages.SectionKind.{OfHead, OfInterim, OfTrailer}
 use Rattle.h3_headline.specs.StatusLaws.{status_told}
@@ -185,7 +185,7 @@ fields_moves setup w new side i fields a writer id h step =
     unless_going (none_after setup w side) (unless_malformed (unreadable (takes_any (announced_at setup side)) fields) (wrong_side side head ∷ of_list None (settings_known setup w side) fields))) none) in
     let s = section_sent (party w side) i fields (flow w side i) in
     let interim = is_interim head.status in
-    section_on setup w side i (having_encoded (party w side) i fields) ((if interim then Interim else Head) s) (head_section (fold status_after None fields) true fields ∷ []) writer id h there
+    section_on setup w side i (having_encoded (party w side) i fields) ((if interim then Interim else Head) s) (head_section (status_in fields) true fields ∷ []) writer id h there
     (head_is interim s ∙ ap (λ status. FieldSection (if is_interim status then OfInterim else OfHead) true fields ∷ []) (status_told fields)) (no_end interim s)) step
 
 trailer_fields_moves : (setup : Setup) (w new : World) (side : Side) (i : ℕ) (fields : List Field) (a : Answer) (writer : Side) (id : ℕ) → IsSoundWorld setup w → Step setup w (event.TrailerFields side i fields) a new

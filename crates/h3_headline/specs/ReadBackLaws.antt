@@ -1,6 +1,6 @@
 -- The headers that events send are those that their fields read as.
 use Rattle.std.proofs.Common.{ℕ, Bool, true, false, List, [], ◌∷◌, ◌++◌}
-use Rattle.std.specs.Prelude.{map}
+use Rattle.std.specs.Prelude.{◌&&◌, if◌then◌else◌, map}
 use Rattle.std.specs.List.{AllByRecursion}
 use Rattle.h3_proto.specs.declared.stream.Side.{Side}
 use Rattle.h3_world.specs.Sendable.{IsSendable}
@@ -10,7 +10,7 @@ use Rattle.h3_world.specs.declared.event.Answer.TheVariants as answer
 use Rattle.h3_world.specs.declared.event.Event.{Event}
 use Rattle.h3_world.specs.declared.event.Event.TheVariants as event
 use Rattle.h3_headline.specs.Exactly.{IsReadBack}
-use Rattle.h3_headline.specs.Messages.{MessageContent, if_done, is_on, sent, sent_in}
+use Rattle.h3_headline.specs.Messages.{MessageContent, is_done, is_on, sent, sent_in}
 use Rattle.h3_headline.specs.Messages.MessageContent.{Byte}
 
 back_joined : (l m : List MessageContent) → AllByRecursion IsReadBack l → AllByRecursion IsReadBack m → AllByRecursion IsReadBack (l ++ m)
@@ -21,7 +21,7 @@ bytes_back : (bytes : List ℕ) → AllByRecursion IsReadBack (map Byte bytes)
 bytes_back [] = tt
 bytes_back (b ∷ bytes) = (tt, bytes_back bytes)
 
-back_if : (a : Answer) (on : Bool) (l : List MessageContent) → AllByRecursion IsReadBack l → AllByRecursion IsReadBack (if_done a on l)
+back_if : (a : Answer) (on : Bool) (l : List MessageContent) → AllByRecursion IsReadBack l → AllByRecursion IsReadBack (if is_done a && on then l else [])
 back_if answer.Done true l h = h
 back_if answer.Done false l h = tt
 back_if (answer.Opened id) on l h = tt

@@ -1,6 +1,6 @@
 -- The last status of a field list that is read as a head is that head's: so a list that is too large is counted as the head that it has.
 use Rattle.std.proofs.Common.{Bool, true, false, if◌then◌else◌, ◌≡◌, refl, Some, ℕ, List, sym, subst, Option, [], ◌∷◌, ◌+◌, ◌<◌, arith, ◌≤◌, ap, ◌∙◌, None}
-use Rattle.std.specs.Prelude.{bytes_eq, codes, ◌&&◌, ◌==◌, ◌/◌, ◌%◌, nat_le}
+use Rattle.std.specs.Prelude.{bytes_eq, codes, option_map, ◌&&◌, ◌==◌, ◌/◌, ◌%◌, nat_le}
 use Rattle.h3_field.specs.Field.{Field}
 use Rattle.h3_header.specs.Head.{Head, trailer_head}
 use Rattle.h3_header.specs.Reads.{kind_of, with_kind, IsValueAt, AcceptsAt, with_field, AcceptsAll, status_number, head_of_fields}
@@ -10,7 +10,7 @@ use Rattle.std.specs.List.{fold}
 use Rattle.std.proofs.lemmas.Grind.{common_steps}
 use Rattle.h3_connection.specs.Pulling.{is_digit, is_interim, is_interim_text}
 use Rattle.http.specs.StatusCode.{code_digits}
-use Rattle.h3_headline.specs.Messages.{status_after}
+use Rattle.h3_headline.specs.Messages.{status_in}
 use Rattle.h3_headline.specs.Status.{IsStatusOf}
 
 either : {X : Type 0} (P : X → Type 0) (b : Bool) (x y : X) → P x → P y → P (if b then x else y)
@@ -96,21 +96,22 @@ pub interim_by_last : (any : Bool) (fields : List Field) → AcceptsAll any (tra
 interim_by_last any fields accepts = told_as _ _ (status_of any (trailer_head []) None fields tt accepts)
 
 -- the status of a list, field by field
-told_after : (h : Head) (f : Field) → (with_field h f).status ≡ status_after h.status f
+told_after : (h : Head) (last : Option (List ℕ)) (f : Field) → h.status ≡ option_map status_number last → (with_field h f).status ≡ option_map status_number (value_after (codes ":status") last f)
 unfolding kind_of
-told_after h f = by_name (bytes_eq f.name (codes ":status")) refl
+told_after h last f before = by_name (bytes_eq f.name (codes ":status")) refl
   where
     found : (with_kind (kind_of (codes ":status")) h f).status ≡ Some (status_number f.value)
     found = refl
 
-    by_name : (b : Bool) → bytes_eq f.name (codes ":status") ≡ b → (with_kind (kind_of f.name) h f).status ≡ (if b then Some (status_number f.value) else h.status)
+    by_name : (b : Bool) → bytes_eq f.name (codes ":status") ≡ b → (with_kind (kind_of f.name) h f).status ≡ option_map status_number (if b then Some f.value else last)
     by_name true e = ap (λ n. (with_kind (kind_of n) h f).status) ((bytes_eq-Decides f.name (codes ":status")).0 e) ∙ found
-    by_name false e = status_stays h f e
+    by_name false e = status_stays h f e ∙ before
 
-told_from : (h : Head) (fields : List Field) → (fold with_field h fields).status ≡ fold status_after h.status fields
-told_from h [] = refl
-told_from h (f ∷ fields) = told_from (with_field h f) fields ∙ ap (λ s. fold status_after s fields) (told_after h f)
+told_from : (h : Head) (last : Option (List ℕ)) (fields : List Field) → h.status ≡ option_map status_number last
+    → (fold with_field h fields).status ≡ option_map status_number (fold (value_after (codes ":status")) last fields)
+told_from h last [] before = before
+told_from h last (f ∷ fields) before = told_from (with_field h f) (value_after (codes ":status") last f) fields (told_after h last f before)
 
 -- **The status that a list reads as, by its fields.**
-pub status_told : (fields : List Field) → (head_of_fields fields).status ≡ fold status_after None fields
-status_told fields = told_from (trailer_head []) fields
+pub status_told : (fields : List Field) → (head_of_fields fields).status ≡ status_in fields
+status_told fields = told_from (trailer_head []) None fields refl

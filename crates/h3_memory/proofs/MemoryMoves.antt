@@ -26,7 +26,7 @@ use Rattle.h3_headline.specs.ContentLaws.{moves_then, stays}
 use Rattle.h3_headline.specs.Contents.{Moves, KeepsParts, reader_of, MovesBy}
 use Rattle.h3_headline.specs.FlowLaws.{open_there}
 use Rattle.h3_headline.specs.KeepsPartsLaws.{keeps_same, keeps_with_flow, keeps_delivery, keeps_end, keeps_reset}
-use Rattle.h3_headline.specs.Messages.{MessageContent, contents_of, ended_in, finished_in, if_done, is_done, is_end_of, is_on, pulled_in, sent_in}
+use Rattle.h3_headline.specs.Messages.{MessageContent, contents_of, ended_in, finished_in, is_done, is_end_of, is_on, pulled_in, sent_in}
 use Rattle.h3_headline.specs.MovedLaws.{moved}
 use Rattle.h3_memory.specs.Kept.{Delivery, Bytes, End, Reset, KeepingWorld, kept_at, with_kept, caught_up, is_settled, noticed_all}
 use Rattle.h3_memory.specs.MemoryStep.{Answers, HandsNothingOut, Keeps, LacksMemory, Pulls, StepOf, StepWithMemory, read_behind}
@@ -212,7 +212,7 @@ record SaysNothing (e : Event) (a : Answer) (writer : Side) (id : ℕ) : Type 0 
   ends : ended_in (other writer) id e a ≡ false
 
 record TellsNothing (a : Answer) : Type 0 where
-  sends : (on : Bool) (l : List MessageContent) → if_done a on l ≡ []
+  sends : (on : Bool) (l : List MessageContent) → ◌≡◌ {A = List MessageContent} (if is_done a && on then l else []) []
   done : is_done a ≡ false
   hands : contents_of a ≡ []
   ends : is_end_of a ≡ false

@@ -30,8 +30,8 @@ use Rattle.h3_headline.specs.FlowLaws.{open_there, same_both}
 use Rattle.h3_headline.specs.GoneLaws.{gone_given_up, gone_stays, stays_given_up, stays_same, stays_then, there_handed}
 use Rattle.h3_headline.specs.KeepsPartsLaws.{keeps_given_up, keeps_same, same_flow}
 use Rattle.h3_headline.specs.Exactly.{Reader}
-use Rattle.h3_headline.specs.Handing.{is_end_item}
-use Rattle.h3_headline.specs.Messages.{MessageContent, contents_of, ended_in, finished_in, is_end_of, is_on, item_contents, pulled_in, sent_in}
+use Rattle.h3_headline.specs.Handing.{is_end_item, item_contents}
+use Rattle.h3_headline.specs.Messages.{MessageContent, contents_of, ended_in, finished_in, is_end_of, is_on, pulled_in, sent_in}
 use Rattle.h3_headline.specs.MovedLaws.{moved, swapped}
 use Rattle.h3_headline.specs.Pulls.{SaysNothing}
 use Rattle.h3_headline.specs.SettledLaws.{settled_alive, settled_gone, settled_none}

@@ -17,7 +17,6 @@ IsSmall (event.Trailer acting id trailer) = section_size (head_fields trailer) <
 IsSmall (event.TrailerFields acting id fields) = section_size fields < 2 ^ 56
 IsSmall _ = Unit {0}
 
--- So it is of each event.
 abbrev pub AreSmall : List Event → Type 0
 AreSmall events = AllByRecursion IsSmall events
 

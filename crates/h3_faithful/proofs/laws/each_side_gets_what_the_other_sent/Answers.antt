@@ -59,10 +59,6 @@ returns-clause-runs c = λ setup events answers ends made sendable run. runs_unt
 pub returns-clause-stands : goal.returns-clause-stands
 returns-clause-stands c = λ setup events answers ends made sendable run none. stands_at_the_end (laws c) setup made events answers ends sendable run none
 
-pub returns-clause-until_fault : goal.returns-clause-until_fault
-returns-clause-until_fault c = λ setup events answers ends made sendable run.
-    until_fault (moves c) c.ordered_sends_are_accepted.ensures.step c.with_all_delivered_pauses_are_at_the_end.ensures setup events answers sendable (runs_until_fault (laws c) setup made events answers ends sendable run)
-
 alike_laws : goal.After-tunnels_stand_whatever_is_kept → AlikeLaws
 alike_laws c =
     record {

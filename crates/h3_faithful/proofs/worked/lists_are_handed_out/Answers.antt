@@ -31,7 +31,7 @@ returns-clause-handed c = refl
 
 pub returns-clause-all : goal.returns-clause-all
 unfolding encoding static_field static_name chars encode varint_at split_of bits code_word octets huffman static_table frame_by frame_of known_by is_token_byte is_utf8 kind_of head_of head_of_any unhuffman hear_up_to listen_up_to fields_in decode_section skipped read_peer pull_stream violation_of_request violation_of_response violation_of_trailer
-returns-clause-all c = ((refl, refl, leb-true _ _ refl), (refl, (refl, ((refl, refl, leb-true _ _ refl), tt))))
+returns-clause-all c = ((refl, leb-true _ _ refl, refl), (refl, (refl, ((refl, leb-true _ _ refl, refl), tt))))
 
 pub returns-clause-ended : goal.returns-clause-ended
 unfolding encoding static_field static_name chars encode varint_at split_of bits code_word octets huffman static_table frame_by frame_of known_by is_token_byte is_utf8 kind_of head_of head_of_any unhuffman hear_up_to listen_up_to fields_in decode_section skipped read_peer pull_stream violation_of_request violation_of_response violation_of_trailer
