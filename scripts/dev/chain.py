@@ -98,7 +98,7 @@ class Chain:
 
     def __init__(self, folder, jobs):
         self.folder, self.jobs = folder, jobs
-        self.running, self.failed = {}, {}
+        self.running, self.failed, self.left = {}, {}, []
         os.makedirs(folder, exist_ok=True)
         path = f"{folder}/stands.json"
         self.stands = {}

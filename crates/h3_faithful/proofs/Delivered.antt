@@ -55,7 +55,6 @@ use Rattle.h3_faithful.specs.Faithful.{pauses_on}
 use Rattle.h3_faithful.specs.Steps.{AsPlainly, GivesMessageUp, HappensAnywhere, LacksMemory, RefusesMalformed, RefusesOwn}
 use Rattle.h3_faithful.proofs.Accounts.{AccountsAt, MemoryMoves, RunsSo, accounts, out_is_front, sound_keeping_after}
 use Rattle.h3_faithful.proofs.Ordered.{on_same}
-use Rattle.h3_faithful.proofs.Takes.{both_of}
 use Rattle.h3_faithful.proofs.Telling.{request_apart}
 
 -- `with_all_delivered_pauses_are_at_the_end` of `h3_world`

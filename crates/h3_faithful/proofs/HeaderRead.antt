@@ -10,14 +10,13 @@ use Rattle.http_uri.specs.Grammar.{or_slash, without_fragment}
 use Rattle.h3_field.specs.Field.{Field, plain_field}
 use Rattle.h3_qpack.specs.Sizes.{last_value, value_after}
 use Rattle.h3_header.specs.Head.{Head, has_pseudo, head_fields, optional_field, pseudo_fields, regular_fields, trailer_head}
-use Rattle.h3_header.specs.Reads.{head_of_fields, kind_of, status_number, with_field, with_kind}
+use Rattle.h3_header.specs.Reads.{head_of_fields, kind_of, with_field, with_kind}
 use Rattle.h3_header.specs.declared.headers.kind.FieldKind.{FieldKind}
 use Rattle.h3_header.specs.declared.headers.kind.FieldKind.TheVariants.{Authority, Method, Path, Protocol, Regular, Scheme, Status}
 use Rattle.h3_proto.specs.declared.stream.Side.{Side}
 use Rattle.h3_proto.specs.declared.stream.Side.TheVariants.{Client, Server}
 use Rattle.h3_connection.specs.OwnIds.{other}
 use Rattle.h3_connection.specs.Pulling.{is_for}
-use Rattle.h3_headline.specs.Messages.{status_in}
 use Rattle.h3_headline.specs.StatusLaws.{status_told}
 use Rattle.h3_faithful.specs.Reading.{header_in, is_pseudo, is_sent_by}
 
@@ -178,27 +177,73 @@ six_none false false false true e g ha hb hc hd he hg = cc
 six_none false false false false true g ha hb hc hd he hg = cc
 six_none false false false false false g ha hb hc hd he hg = hg
 
--- a pseudo-header field is one of its name
-named : (f : Field) (word : List ℕ) → is_pseudo (plain_field word []) ≡ true → bytes_eq f.name word ≡ true → is_pseudo f ≡ true
-named f word is e = of_name (λ n. is_pseudo (plain_field n []) ≡ true) f.name word e is
+-- one of six that holds
+second_holds : (a c d e g : Bool) → (a || true || c || d || e || g) ≡ true
+second_holds true c d e g = refl
+second_holds false c d e g = refl
 
-no_last : (word : List ℕ) → is_pseudo (plain_field word []) ≡ true → (last : Option (List ℕ)) (fields : List Field) → list_any is_pseudo fields ≡ false → fold (value_after word) last fields ≡ last
-no_last word is last [] none = refl
-no_last word is last (f ∷ fields) none = by_name (no_last word is last fields) (bytes_eq f.name word) refl
+third_holds : (a b d e g : Bool) → (a || b || true || d || e || g) ≡ true
+third_holds true b d e g = refl
+third_holds false true d e g = refl
+third_holds false false d e g = refl
+
+fourth_holds : (a b c e g : Bool) → (a || b || c || true || e || g) ≡ true
+fourth_holds true b c e g = refl
+fourth_holds false true c e g = refl
+fourth_holds false false true e g = refl
+fourth_holds false false false e g = refl
+
+fifth_holds : (a b c d g : Bool) → (a || b || c || d || true || g) ≡ true
+fifth_holds true b c d g = refl
+fifth_holds false true c d g = refl
+fifth_holds false false true d g = refl
+fifth_holds false false false true g = refl
+fifth_holds false false false false g = refl
+
+sixth_holds : (a b c d e : Bool) → (a || b || c || d || e || true) ≡ true
+sixth_holds true b c d e = refl
+sixth_holds false true c d e = refl
+sixth_holds false false true d e = refl
+sixth_holds false false false true e = refl
+sixth_holds false false false false true = refl
+sixth_holds false false false false false = refl
+
+-- a header with one more field
+pseudo_after : (h : Head) (f : Field) → has_pseudo (with_field h f) ≡ (is_pseudo f || has_pseudo h)
+unfolding kind_of
+pseudo_after h f =
+    by_names (bytes_eq f.name (codes ":method")) (bytes_eq f.name (codes ":scheme")) (bytes_eq f.name (codes ":authority")) (bytes_eq f.name (codes ":path")) (bytes_eq f.name (codes ":status"))
+    (bytes_eq f.name (codes ":protocol"))
   where
-    by_name : (list_any is_pseudo fields ≡ false → fold (value_after word) last fields ≡ last) → (b : Bool) → bytes_eq f.name word ≡ b → fold (value_after word) (if b then Some f.value else last) fields ≡ last
-    by_name rest true e = never (is_pseudo f) (none_first (is_pseudo f) (list_any is_pseudo fields) none) (named f word is e)
-    by_name rest false e = rest (none_rest (is_pseudo f) (list_any is_pseudo fields) none)
+    by_names : (a b c d e g : Bool)
+        → has_pseudo (with_kind (if a then Method else (if b then Scheme else (if c then Authority else (if d then Path else (if e then Status else (if g then Protocol else Regular)))))) h f)
+        ≡ ((a || (b || (c || (d || (e || (g || false)))))) || has_pseudo h)
+    by_names true b c d e g = refl
+    by_names false true c d e g = second_holds (is_some h.method) (is_some h.authority) (is_some h.path) (is_some h.status) (is_some h.protocol)
+    by_names false false true d e g = third_holds (is_some h.method) (is_some h.scheme) (is_some h.path) (is_some h.status) (is_some h.protocol)
+    by_names false false false true e g = fourth_holds (is_some h.method) (is_some h.scheme) (is_some h.authority) (is_some h.status) (is_some h.protocol)
+    by_names false false false false true g = fifth_holds (is_some h.method) (is_some h.scheme) (is_some h.authority) (is_some h.path) (is_some h.protocol)
+    by_names false false false false false true = sixth_holds (is_some h.method) (is_some h.scheme) (is_some h.authority) (is_some h.path) (is_some h.status)
+    by_names false false false false false false = refl
 
--- **A list without such fields reads as a header without them.**
-pub reads_without : (fields : List Field) → list_any is_pseudo fields ≡ false → has_pseudo (head_of_fields fields) ≡ false
-reads_without fields none =
-    ap has_pseudo (header_read fields) ∙
-    six_none (is_some (last_value (codes ":method") fields)) (is_some (last_value (codes ":scheme") fields)) (is_some (last_value (codes ":authority") fields))
-    (is_some (option_map without_fragment (last_value (codes ":path") fields))) (is_some (status_in fields)) (is_some (last_value (codes ":protocol") fields))
-    (ap is_some (no_last (codes ":method") refl None fields none)) (ap is_some (no_last (codes ":scheme") refl None fields none)) (ap is_some (no_last (codes ":authority") refl None fields none))
-    (ap (λ o. is_some (option_map without_fragment o)) (no_last (codes ":path") refl None fields none)) (ap (λ o. is_some (option_map status_number o)) (no_last (codes ":status") refl None fields none))
-    (ap is_some (no_last (codes ":protocol") refl None fields none))
+one_first : (l p h : Bool) → (l || (p || h)) ≡ ((p || l) || h)
+one_first true true h = refl
+one_first true false h = refl
+one_first false true h = refl
+one_first false false h = refl
+
+pseudo_from : (h : Head) (fields : List Field) → has_pseudo (fold with_field h fields) ≡ (list_any is_pseudo fields || has_pseudo h)
+pseudo_from h [] = refl
+pseudo_from h (f ∷ fields) =
+    pseudo_from (with_field h f) fields ∙ ap (λ b. list_any is_pseudo fields || b) (pseudo_after h f) ∙ one_first (list_any is_pseudo fields) (is_pseudo f) (has_pseudo h)
+
+or_none : (b : Bool) → (b || false) ≡ b
+or_none true = refl
+or_none false = refl
+
+-- **A list has a pseudo-header field where its header has one.**
+pub pseudo_read : (fields : List Field) → has_pseudo (head_of_fields fields) ≡ list_any is_pseudo fields
+pseudo_read fields = pseudo_from (trailer_head []) fields ∙ or_none (list_any is_pseudo fields)
 
 none_optional : (word : List ℕ) (o : Option (List ℕ)) → ((v : List ℕ) → is_pseudo (plain_field word v) ≡ true) → list_any is_pseudo (optional_field word o) ≡ false → is_some o ≡ false
 none_optional word None is none = refl

@@ -6,7 +6,6 @@ use Rattle.std.proofs.lemmas.Bool.{le-ltb, leb-true}
 use Rattle.h3_field.specs.Field.{Field, section_size}
 use Rattle.h3_header.specs.Head.{Head as Fields, head_fields, has_pseudo}
 use Rattle.h3_header.specs.HeadTests.{is_protocol_by, takes_protocol}
-use Rattle.h3_header.specs.Reads.{head_of_fields}
 use Rattle.h3_proto.specs.Settings.{value_of}
 use Rattle.h3_proto.specs.declared.stream.Side.{Side}
 use Rattle.h3_proto.specs.declared.stream.Side.TheVariants.{Client, Server}
@@ -55,7 +54,7 @@ use Rattle.h3_faithful.specs.Faithful.{IsAccepted}
 use Rattle.h3_faithful.specs.Reading.{header_in, is_pseudo, is_sent_by}
 use Rattle.h3_faithful.specs.Sends.{begins_late, goes_on, is_between, is_head_section, is_next, is_trailer_section, opens, takes_size, may_be_unread}
 use Rattle.h3_faithful.specs.Steps.{AsPlainly, GivesMessageUp, HappensAnywhere, IsRefusedUnread, LacksMemory, MayLack, PullsOn, RefusesMalformed, RefusesOwn, asks_for_strict, is_strict_send, unread}
-use Rattle.h3_faithful.proofs.HeaderRead.{has_none, header_read, read_by_other, reads_without}
+use Rattle.h3_faithful.proofs.HeaderRead.{has_none, header_read, pseudo_read, read_by_other}
 use Rattle.h3_faithful.proofs.Takes.{awaits_head, both_hold, both_of, opposite, takes_body_next, takes_end_next, takes_head_next, three_of}
 
 -- What the events and their answers say of a stream of a side holds of it in the world.
@@ -203,7 +202,7 @@ module _ (setup : Setup) (w : World) (side : Side) (id : ℕ) (before : List Eve
       by_reading : (o : Option Malformation) → unreadable (takes_any (announced_at ps side)) fields ≡ o → IsPlaced ps w (event.TrailerFields side id fields)
       by_reading None e =
           let a = three_of (is_between all) (not (list_any is_pseudo fields)) (takes_size setup side fields) h in
-          inl (here, takes_body_here a.0, e, reads_without fields (opposite (list_any is_pseudo fields) a.1), fits_known setup w side fields a.2)
+          inl (here, takes_body_here a.0, e, pseudo_read fields ∙ opposite (list_any is_pseudo fields) a.1, fits_known setup w side fields a.2)
       by_reading (Some why) e = inr (inl (here, takes_body_here (three_of (is_between all) (not (list_any is_pseudo fields)) (takes_size setup side fields) h).0, why, e))
 
   -- and on any that is it

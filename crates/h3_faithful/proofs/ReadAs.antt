@@ -1,5 +1,5 @@
 -- What is handed out of a message is what its reader reads of it, and all of it is as long.
-use Rattle.std.proofs.Common.{◌≡◌, Bool, true, false, ℕ, suc, List, [], ◌∷◌, if◌then◌else◌, refl, ap, ◌∙◌}
+use Rattle.std.proofs.Common.{◌≡◌, Bool, true, false, suc, List, [], ◌∷◌, if◌then◌else◌, refl, ap, ◌∙◌}
 use Rattle.std.specs.Prelude.{◌&&◌, ◌||◌, length, map}
 use Rattle.h3_field.specs.Field.{Field, flagged}
 use Rattle.h3_field.specs.Secret.{guarded, is_secret}
@@ -8,7 +8,7 @@ use Rattle.h3_proto.specs.declared.stream.Side.{Side}
 use Rattle.h3_world.specs.Setup.{Setup}
 use Rattle.h3_headline.specs.Exactly.{IsAllOf, IsExactly, reader_at}
 use Rattle.h3_headline.specs.Messages.{IsFrontOf, MessageContent}
-use Rattle.h3_headline.specs.Messages.MessageContent.{Byte, FieldSection, Foreign, TooLarge}
+use Rattle.h3_headline.specs.Messages.MessageContent.{Byte, FieldSection, TooLarge}
 use Rattle.h3_faithful.specs.Reading.{IsReadAs, with_secrets_flagged}
 use Rattle.h3_faithful.proofs.HeaderRead.{header_read}
 

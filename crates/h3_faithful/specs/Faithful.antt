@@ -39,15 +39,15 @@ pauses_on side id (event.PullFields acting i) (answer.Listed list.Pending) = is_
 pauses_on side id (event.PullFields acting i) (answer.Listed (list.Waiting count)) = is_on side id acting i
 pauses_on side id _ _ = false
 
--- Asked for a byte of the other side's encoder stream and of its side of this one, nothing waits there; and then a pull pauses.
+-- No byte of the other side's encoder stream waits, then none of what it sends on this stream, and then a pull pauses.
 abbrev pub PausesDelivered : Side → ℕ → List Event → List Answer → Type 0
 PausesDelivered side id (event.Deliver first i (suc zero) ∷ event.Deliver second j (suc zero) ∷ e ∷ events) (answer.Short zero ∷ answer.Short zero ∷ a ∷ answers) =
     (is_on (other side) (encoder_id (other side)) first i && is_on (other side) id second j && pauses_on side id e a) ≡ true
 PausesDelivered side id events answers = ⊥
 
--- At some time: what was asked and answered before, and what comes later.
+-- What holds after some events, `before`, and their answers, `given`. Those that follow are `later` and `others`.
 pub record HoldsAt (setup : Setup) (before : List Event) (given : List Answer) (later : List Event) (others : List Answer) : Type 0 where
-  -- what a side was given of a stream is the beginning of what the other side sent on it, in order
+  -- what a side pulled from a stream is the beginning of what the other side sent on it, in order
   pub begins : (side : Side) (id : ℕ) → IsFrontOf (IsReadAs setup side) (pulled side id before given) (sent (other side) id before given)
   -- with the end it is all of it, and there is no end before the other side has finished
   pub ends : (side : Side) (id : ℕ) → any_of (λ e a. pulls_on side id e && is_end_of a) before given ≡ true →
@@ -57,7 +57,7 @@ pub record HoldsAt (setup : Setup) (before : List Event) (given : List Answer) (
   pub comes_out : (side : Side) (id : ℕ) → any_of (resets_on (other side) id) before given ≡ false → PausesDelivered side id later others →
       length (pulled side id before given) ≡ length (sent (other side) id before given)
 
--- Up to a connection error, which ends it. And there is none between sides that both ask for strict messages, or both do not.
+-- That holds at each time before a connection error. Two sides that both ask for strict messages, or both do not, report none.
 pub record Faithful (setup : Setup) (events : List Event) (answers : List Answer) : Type 0 where
   pub until_fault : (n : ℕ) → list_any is_connection_fault (take n answers) ≡ false → HoldsAt setup (take n events) (take n answers) (drop n events) (drop n answers)
   pub no_connection_fault : setup.client.choices.strict_messages ≡ setup.server.choices.strict_messages → list_any is_connection_fault answers ≡ false

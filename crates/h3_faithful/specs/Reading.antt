@@ -1,5 +1,5 @@
 -- What a side reads of what the other one sent: each section as a list of fields or as a header.
-use Rattle.std.specs.Prelude.{ℕ, ◌≡◌, ◌<◌, ◌≤◌, Bool, not, ◌&&◌, ◌||◌, List, [], ◌∷◌, map, fold, if◌then◌else◌, bytes_eq, codes, is_some, option_map}
+use Rattle.std.specs.Prelude.{◌≡◌, ◌<◌, ◌≤◌, Bool, not, ◌&&◌, ◌||◌, List, [], ◌∷◌, map, fold, if◌then◌else◌, bytes_eq, codes, is_some, option_map}
 use Rattle.std.specs.List.{list_any}
 use Rattle.http_header.specs.FieldValue.{plain_value}
 use Rattle.http_header.specs.HeaderMap.{append}
@@ -16,7 +16,7 @@ use Rattle.h3_world.specs.Setup.{Setup, announced_at}
 use Rattle.h3_headline.specs.Messages.{MessageContent, status_in}
 use Rattle.h3_headline.specs.Messages.MessageContent.{Byte, FieldSection, TooLarge}
 
--- a field of one of these names, and no regular one (RFC 9114, section 4.3; RFC 8441, section 4)
+-- a pseudo-header field: one of these names (RFC 9114, section 4.3; RFC 8441, section 4)
 abbrev pub is_pseudo : Field → Bool
 is_pseudo f = list_any (bytes_eq f.name) (codes ":method" ∷ codes ":scheme" ∷ codes ":authority" ∷ codes ":path" ∷ codes ":status" ∷ codes ":protocol" ∷ [])
 
@@ -37,7 +37,7 @@ abbrev pub is_sent_by : Side → Head → Bool
 is_sent_by Client h = is_some h.method && not (is_some h.status)
 is_sent_by Server h = is_some h.status && not (is_some h.method)
 
--- the list as it comes out of an encoder that guards secrets, if it does: with each secret flagged (RFC 9204, section 7.1.3)
+-- the list as its reader gets it: with each secret flagged, if the encoder guards secrets (RFC 9204, section 7.1.3)
 abbrev pub with_secrets_flagged : Bool → List Field → List Field
 with_secrets_flagged guards fields = map (λ (f : Field). record f { never_indexed = f.never_indexed || guards && is_secret f }) fields
 
