@@ -12,7 +12,7 @@ use Rattle.h3_field.specs.ShapeAnswer.{AtString, behind, AnswersIndexAndString, 
 use Rattle.h3_field.specs.declared.prefix_int.Error as integer_error
 use Rattle.h3_field.specs.declared.prefix_int.Error.TheVariants.{Overflow, UnexpectedEnd}
 use Rattle.h3_field.specs.declared.parse_error.ParseError.{ParseError}
-use Rattle.h3_field.specs.declared.parse_error.ParseError.TheVariants.{Integer, String}
+use Rattle.h3_field.specs.declared.parse_error.ParseError.TheVariants.{String}
 use Rattle.h3_field.specs.declared.shapes.TwoStrings.{TwoStrings}
 
 -- two strings, the second of which is read as given
@@ -74,11 +74,6 @@ value_of head r = then_read r (λ value after. Whole (record { flags = head.0; i
 
 abbrev pub index_of : Reading (ℕ × ℕ) → Reading shape.IndexAndString
 index_of r = then_read r (λ head rest. value_of head (string 8 rest))
-
-pub index_stops : (r : Reading (ℕ × ℕ)) (old new : List ℕ) (e : integer_error.Error) → AnswersInteger r old new (Err e) → AnswersIndexAndString (behind r) (index_of r) old old (Err (Integer e))
-index_stops (Whole head rest) old new e h = absurd (cc)
-index_stops Unfinished old new e h = let same : e ≡ UnexpectedEnd = cc in rw same (refl, refl)
-index_stops Bad old new e h = let same : e ≡ Overflow = cc in rw same (refl, refl)
 
 value_stopped : (head : ℕ × ℕ) (r : Reading (ℕ × Payload)) (old mid new : List ℕ) (e : integer_error.Error) → AnswersPayload r mid new (Err e) → AnswersIndexAndString AtString (value_of head r) old old (Err (String (of_integer e)))
 value_stopped head (Whole value rest) old mid new e h = absurd (cc)

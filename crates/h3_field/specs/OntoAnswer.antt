@@ -3,7 +3,8 @@ use Rattle.std.specs.Prelude.{◌≡◌, ◌==◌, ◌/◌, ◌%◌, ℕ, Bool, 
 use Rattle.h3_field.specs.Field.{Field}
 use Rattle.h3_field.specs.FieldBlock.{IsNext}
 use Rattle.h3_field.specs.Reading.{Reading, Whole, Unfinished, Bad, then_read}
-use Rattle.h3_field.specs.Shapes.{IndexAndString}
+use Rattle.h3_field.specs.Shapes.{IndexAndString, TwoStrings}
+use Rattle.h3_field.specs.ShapeAnswer.{AreTwoStrings}
 use Rattle.h3_field.specs.LineReading.{LineForm, Named, PostBaseNamed}
 use Rattle.h3_field.specs.StringReading.{Payload, StandsFor, StandsForNone}
 use Rattle.h3_field.specs.Values.{string_of}
@@ -38,6 +39,19 @@ PutsField name n p old new (Err e) = IsRefusedString p e × (new ≡ old)
 abbrev pub PushesField : List ℕ → Bool → Payload → List Field → List Field → Result (Unit {0}) Error → Type 0
 PushesField name n p old new (Ok done) = (value : List ℕ) × StandsFor p value × (new ≡ old ++ (record { name = name; value = value; never_indexed = n }) ∷ [])
 PushesField name n p old new (Err e) = IsRefusedString p e × (new ≡ old)
+
+-- the strings of two payloads, a name and a value, and where they lie
+abbrev pub PutsStrings : Payload → Payload → Bool → List ℕ → List ℕ → FieldPlace → Type 0
+PutsStrings p q n old new place = (name : List ℕ) × (value : List ℕ) × StandsFor p name × StandsFor q value × (new ≡ old ++ (name ++ value)) × IsNext old name value n place
+
+-- the field of these strings and of the flag
+abbrev pub PushesStrings : Payload → Payload → Bool → List Field → List Field → Type 0
+PushesStrings p q n old new = (name : List ℕ) × (value : List ℕ) × StandsFor p name × StandsFor q value
+    × (new ≡ old ++ (record { name = name; value = value; never_indexed = n }) ∷ [])
+
+-- the field of the two strings that are read, and what stands behind them is left
+abbrev pub ReadsStrings : Reading TwoStrings → List ℕ → List Field → List Field → Type 0
+ReadsStrings r new before after = (f : Field) × AreTwoStrings r f new × (after ≡ before ++ f ∷ [])
 
 -- The field of a name, of the string that is read and of the flag, and what stands behind the string is left. A refused read takes nothing, and adds
 -- nothing.

@@ -34,13 +34,9 @@ fn take_indexed(buf: &mut SliceCursor<'_>) -> Result<HeaderField, DecoderError>
     requires own { begins 128 255 buf.old ≡ true }
     ensures { AnswersField buf.old buf.new result }
 {
-    match Indexed::decode(buf) {
-        Ok(Indexed::Static(index)) => match StaticTable::get(index) {
-            Ok(field) => Ok(field),
-            Err(e) => Err(DecoderError::InvalidStaticIndex(e)),
-        },
-        Ok(Indexed::Dynamic(_)) => Err(DecoderError::MissingRefs(0)),
-        Err(e) => Err(DecoderError::from(e)),
+    match Indexed::decode(buf)? {
+        Indexed::Static(index) => Ok(StaticTable::get(index)?),
+        Indexed::Dynamic(_) => Err(DecoderError::MissingRefs(0)),
     }
 }
 
@@ -84,18 +80,14 @@ fn take_short_named(buf: &mut SliceCursor<'_>) -> Option<HeaderField>
 {
     let mut ahead = SliceCursor::new(buf.chunk());
     let mut value = ShortString::new();
-    let Some(head) = LiteralWithNameRef::decode_short(&mut ahead, &mut value) else {
-        return None;
-    };
+    let head = LiteralWithNameRef::decode_short(&mut ahead, &mut value)?;
     let NameRef::Static(index) = head.0 else {
         return None;
     };
     let Ok(name) = StaticTable::get_name(index) else {
         return None;
     };
-    let Some(field) = HeaderField::short_with_static_name(name, value.as_slice()) else {
-        return None;
-    };
+    let field = HeaderField::short_with_static_name(name, value.as_slice())?;
     *buf = ahead;
     Some(field.with_never_indexed(head.1))
 }
@@ -154,19 +146,9 @@ fn take_long_literal(alloc: Global, buf: &mut SliceCursor<'_>) -> Result<HeaderF
     requires own { begins 32 63 buf.old ≡ true }
     ensures { AnswersField buf.old buf.new result }
 {
-    match Literal::decode(alloc, buf) {
-        Ok(
-            Literal {
-                name,
-                value,
-                never_indexed,
-            },
-        ) => {
-            let field = HeaderField::new(CowSlice::Owned(name), CowSlice::Owned(value));
-            Ok(field.with_never_indexed(never_indexed))
-        }
-        Err(e) => Err(DecoderError::from(e)),
-    }
+    let line = Literal::decode(alloc, buf)?;
+    let field = HeaderField::new(CowSlice::Owned(line.name), CowSlice::Owned(line.value));
+    Ok(field.with_never_indexed(line.never_indexed))
 }
 
 /// The field of the line at the front, if it names no dynamic entry.
@@ -214,23 +196,16 @@ fn list_section(
     ensures room { vec_capacity fields.old ≤ vec_capacity fields.new }
 {
     let mut ahead = SliceCursor::new(buf.chunk());
-    if let Err(e) = HeaderPrefix::decode(&mut ahead) {
-        return Err(DecoderError::from(e));
-    }
+    HeaderPrefix::decode(&mut ahead)?;
     let mut mem_size: u64 = 0;
     // (the label names the loop in its proof)
     'lines: while ahead.remaining() > 0 {
-        let field = match take_field(alloc, &mut ahead) {
-            Ok(field) => field,
-            Err(e) => return Err(e),
-        };
+        let field = take_field(alloc, &mut ahead)?;
         mem_size = mem_size.saturating_add(field.mem_size() as u64);
         if mem_size > max_size {
             return Err(DecoderError::HeaderTooLong(mem_size));
         }
-        let Ok(()) = keep(fields, field, ahead.remaining()) else {
-            return Err(DecoderError::OutOfMemory);
-        };
+        keep(fields, field, ahead.remaining())?;
     }
     *buf = ahead;
     Ok(mem_size)

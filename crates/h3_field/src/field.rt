@@ -160,13 +160,11 @@ impl HeaderField {
         ensures some { IfSome result (λ f. f ≡ plain_field name.now value.now) }
         ensures none { IfNone result (36 < length value.now) }
     {
-        match ShortValue::of(value) {
-            Some(value) => Some(HeaderField {
-                form: Form::ShortValue(value, name),
-                never_indexed: false,
-            }),
-            None => None,
-        }
+        let value = ShortValue::of(value)?;
+        Some(HeaderField {
+            form: Form::ShortValue(value, name),
+            never_indexed: false,
+        })
     }
 
     /// Copies of a name and a value, which take no memory. None: the value is empty, or they are too long.
@@ -177,13 +175,11 @@ impl HeaderField {
         if value.is_empty() {
             return None;
         }
-        match ShortField::of(name, value) {
-            Some(field) => Some(HeaderField {
-                form: Form::Short(field),
-                never_indexed: false,
-            }),
-            None => None,
-        }
+        let field = ShortField::of(name, value)?;
+        Some(HeaderField {
+            form: Form::Short(field),
+            never_indexed: false,
+        })
     }
 
     /// A field of copies: a short one takes no memory, and any other lies in one block. It takes no memory if both are empty.

@@ -1,8 +1,10 @@
 //! Fields in one block of memory, which serves again: their names and values lie end to end.
-ghost use Rattle.std.specs.Prelude.{◌≡◌, ◌++◌, ◌+◌, ◌<◌, ◌∷◌, [], length, OnOk, OnErr, IfOk};
+ghost use Rattle.std.specs.Prelude.{◌≡◌, ◌++◌, ◌+◌, ◌<◌, ◌≤◌, ◌∷◌, [], length, true, false, OnOk, OnErr, IfOk, IfSome, IfNone};
 ghost use Rattle.h3_field.specs.Ends.{IsEndOf};
 ghost use Rattle.h3_field.specs.Field.{plain_field};
-ghost use Rattle.h3_field.specs.OntoAnswer.{AnswersField, PushesField, PutsField, IsRefusedString};
+ghost use Rattle.h3_field.specs.OntoAnswer.{AnswersField, PushesField, PushesStrings, PutsField, PutsStrings, ReadsStrings};
+ghost use Rattle.h3_field.specs.OntoAnswer.{IsRefusedString};
+ghost use Rattle.h3_field.specs.Shapes.{two_strings};
 ghost use Rattle.h3_field.specs.StringReading.{string};
 
 use crate::cursor::SliceCursor;
@@ -111,10 +113,7 @@ impl FieldBlock {
         ensures err { OnErr result (self.new ≡ self.old) }
     {
         let start = self.bytes.len();
-        let place = match put_field(&mut self.bytes, field) {
-            Ok(place) => place,
-            Err(e) => return Err(e),
-        };
+        let place = put_field(&mut self.bytes, field)?;
         if let Err(_) = put_place(&mut self.places, place) {
             self.bytes.truncate(start);
             return Err(AllocError);
@@ -134,17 +133,10 @@ impl FieldBlock {
         ensures rest { IsEndOf buf.old buf.new }
     {
         let mut ahead = SliceCursor::new(buf.chunk());
-        let payload = match take_payload(8, &mut ahead) {
-            Ok((_, payload)) => payload,
-            Err(e) => return Err(prefix_string::Error::from(e)),
-        };
-        match self.push_payload(name, never_indexed, &payload) {
-            Ok(()) => {
-                *buf = ahead;
-                Ok(())
-            }
-            Err(e) => Err(e),
-        }
+        let (_, payload) = take_payload(8, &mut ahead)?;
+        self.push_payload(name, never_indexed, &payload)?;
+        *buf = ahead;
+        Ok(())
     }
 
     // Adds the field of a copied name, of the string of a payload and of the flag. A refusal adds nothing.
@@ -157,15 +149,56 @@ impl FieldBlock {
         ensures { PushesField name.now never_indexed value.now self.old self.new result }
     {
         let start = self.bytes.len();
-        let place = match put_payload(&mut self.bytes, name, never_indexed, value) {
-            Ok(place) => place,
-            Err(e) => return Err(e),
-        };
+        let place = put_payload(&mut self.bytes, name, never_indexed, value)?;
         if let Err(_) = put_place(&mut self.places, place) {
             self.bytes.truncate(start);
             return Err(prefix_string::Error::OutOfMemory);
         }
         Ok(())
+    }
+
+    /// Takes two strings from the front, and adds the field of them, a name and a value. It has the flag if the lowest flag in front of the
+    /// name is 1. The strings are read in their place. False: the read is refused, or memory is. Then nothing is taken, and nothing is
+    /// added.
+    pub(crate) fn has_read_strings(&mut self, size: u8, buf: &mut SliceCursor<'_>) -> bool
+        requires least { 2 ≤ size }
+        requires most { size ≤ 8 }
+        ensures yes { result ≡ true → ReadsStrings (two_strings size buf.old) buf.new self.old self.new }
+        ensures no { result ≡ false → (buf.new ≡ buf.old) × (self.new ≡ self.old) }
+    {
+        let mut ahead = SliceCursor::new(buf.chunk());
+        let Ok((flags, name)) = take_payload(size, &mut ahead) else {
+            return false;
+        };
+        let Ok((_, value)) = take_payload(8, &mut ahead) else {
+            return false;
+        };
+        if !self.has_pushed_strings(&name, &value, flags % 2 == 1) {
+            return false;
+        }
+        *buf = ahead;
+        true
+    }
+
+    // Adds the field of the strings of two payloads and of the flag. False: nothing is added.
+    fn has_pushed_strings(
+        &mut self,
+        name: &Payload<'_>,
+        value: &Payload<'_>,
+        never_indexed: bool,
+    ) -> bool
+        ensures yes { result ≡ true → PushesStrings name.now value.now never_indexed self.old self.new }
+        ensures no { result ≡ false → self.new ≡ self.old }
+    {
+        let start = self.bytes.len();
+        let Some(place) = put_strings(&mut self.bytes, name, value, never_indexed) else {
+            return false;
+        };
+        if let Err(_) = put_place(&mut self.places, place) {
+            self.bytes.truncate(start);
+            return false;
+        }
+        true
     }
 
     /// The fields, each with bytes of its own and its flag. No fields take no memory.
@@ -259,6 +292,37 @@ fn put_payload(
     }
     let end = bytes.len();
     Ok(FieldPlace {
+        start,
+        middle,
+        end,
+        never_indexed,
+    })
+}
+
+/// Appends the strings of two payloads, a name and a value, and answers where they lie, with the flag. None: nothing is appended.
+fn put_strings(
+    bytes: &mut Vec<u8>,
+    name: &Payload<'_>,
+    value: &Payload<'_>,
+    never_indexed: bool,
+) -> Option<FieldPlace>
+    ensures some { IfSome result (PutsStrings name.now value.now never_indexed bytes.old.items bytes.new.items) }
+    ensures none { IfNone result (bytes.new.items ≡ bytes.old.items) }
+{
+    if reserve_some(bytes).is_err() {
+        return None;
+    }
+    let start = bytes.len();
+    if name.append_to(bytes).is_err() {
+        return None;
+    }
+    let middle = bytes.len();
+    if value.append_to(bytes).is_err() {
+        bytes.truncate(start);
+        return None;
+    }
+    let end = bytes.len();
+    Some(FieldPlace {
         start,
         middle,
         end,

@@ -1,5 +1,5 @@
 //! What lines and instructions are made of: an integer, an integer and a string, or two strings.
-ghost use Rattle.std.specs.Prelude.{◌≡◌, ◌<◌, ◌≤◌, ◌-◌, ◌^◌, ◌++◌, true, false, length, slice_index, is_some, if◌then◌else◌, MatchOption};
+ghost use Rattle.std.specs.Prelude.{◌≡◌, ◌<◌, ◌≤◌, ◌-◌, ◌^◌, ◌++◌, true, false, length, slice_index, is_some, if◌then◌else◌, MatchResult};
 ghost use Rattle.std.specs.Prelude.{IfSome, IfNone, IfOk, OnOk, OnErr};
 ghost use Rattle.std.specs.Result.{IsOkUnless};
 ghost use Rattle.h3_field.specs.Ends.{IsEndOf};
@@ -21,20 +21,20 @@ use crate::prefix_int;
 use crate::prefix_string::{self, Payload, ShortString, take_payload};
 use std::alloc::Global;
 
-/// The first byte, if there is one and it is not from `low` to `high`.
-pub(crate) fn other_first(buf: &SliceCursor<'_>, low: u8, high: u8) -> Option<u8>
-    ensures { MatchOption result (begins low high buf.now ≡ true)
-        (λ first. (begins low high buf.now ≡ false) × (first ≡ slice_index buf.now 0)) }
+/// Refuses a first byte that is not from `low` to `high`, if there is one.
+pub(crate) fn expect_first(buf: &SliceCursor<'_>, low: u8, high: u8) -> Result<(), ParseError>
+    ensures { MatchResult result (λ _. begins low high buf.now ≡ true)
+        (λ e. (begins low high buf.now ≡ false) × (e ≡ parse_error.InvalidPrefix (slice_index buf.now 0))) }
 {
     let bytes = buf.chunk();
     if bytes.is_empty() {
-        return None;
+        return Ok(());
     }
     let first = bytes[0];
     if first < low || first > high {
-        return Some(first);
+        return Err(ParseError::InvalidPrefix(u64::from(first)));
     }
-    None
+    Ok(())
 }
 
 /// An integer, the flags above it, and the string after it.
@@ -60,26 +60,18 @@ pub(crate) fn take_index_and_string(
     ensures room { IfOk result (λ parts. HasRoom spare parts.value) }
 {
     let mut ahead = SliceCursor::new(buf.chunk());
-    let (flags, index) = match prefix_int::decode(size, &mut ahead) {
-        Ok(found) => found,
-        Err(e) => return Err(ParseError::Integer(e)),
-    };
+    let (flags, index) = prefix_int::decode(size, &mut ahead)?;
     let payload = match take_payload(8, &mut ahead) {
         Ok((_, payload)) => payload,
         Err(e) => return Err(ParseError::String(prefix_string::Error::from(e))),
     };
-    match payload.to_bytes(alloc, spare) {
-        Ok(value) => {
-            *buf = ahead;
-            Ok(IndexAndString {
-                flags,
-                index,
-                value,
-            })
-        }
-        Err(prefix_string::Error::OutOfMemory) => Err(ParseError::OutOfMemory),
-        Err(e) => Err(ParseError::String(e)),
-    }
+    let value = payload.to_bytes(alloc, spare)?;
+    *buf = ahead;
+    Ok(IndexAndString {
+        flags,
+        index,
+        value,
+    })
 }
 
 /// An integer and the flags above it.
@@ -141,9 +133,7 @@ pub(crate) fn take_short_field(size: u8, buf: &mut SliceCursor<'_>) -> Option<He
     if !name.read(&first) {
         return None;
     }
-    let Some(field) = HeaderField::short(name.as_slice(), value.as_slice()) else {
-        return None;
-    };
+    let field = HeaderField::short(name.as_slice(), value.as_slice())?;
     *buf = ahead;
     Some(field.with_never_indexed(flags % 2 == 1))
 }
@@ -208,13 +198,9 @@ pub(crate) fn take_two_strings(
         Ok((_, payload)) => payload,
         Err(e) => return Err(ParseError::String(prefix_string::Error::from(e))),
     };
-    match both_strings(alloc, flags, &first, &second) {
-        Ok(parts) => {
-            *buf = ahead;
-            Ok(parts)
-        }
-        Err(e) => Err(e),
-    }
+    let parts = both_strings(alloc, flags, &first, &second)?;
+    *buf = ahead;
+    Ok(parts)
 }
 
 // RFC 9204 4.5: field lines as bytes

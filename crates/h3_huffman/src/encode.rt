@@ -73,48 +73,89 @@ pub fn payload_len(plain: &[u8]) -> usize
 }
 
 /// What is not yet written: the low `count` bits of `acc`, which go to `out[written]` on.
+#[derive(Copy, Clone)]
 struct Pending {
     acc: u64,
     count: u64,
     written: usize,
 }
 
-/// The low `count` bits of `acc`, which are not yet written.
-#[derive(Copy, Clone)]
-struct Ahead {
-    acc: u64,
-    count: u64,
+/// Writes the first four bytes of what is pending, if there are so many.
+#[inline(always)]
+fn flush(out: &mut [u8], before: Pending) -> Pending
+    requires few { before.count < 64 }
+    requires room { 8 * before.written + before.count ≤ 8 * length out.old }
+    ensures standing { (plain : List ℕ) (index : ℕ) → Written plain out.old index before.acc before.count before.written
+        → Written plain out.new index result.acc result.count result.written }
+    ensures few { result.count < 32 }
+    ensures same { length out.new ≡ length out.old }
+{
+    if before.count < 32 {
+        return before;
+    }
+    let count = before.count - 32;
+    put_word(
+        out,
+        before.written,
+        ((before.acc >> count) % (1 << 32)) as u32,
+    );
+    Pending {
+        acc: before.acc,
+        count,
+        written: before.written + 4,
+    }
 }
 
 /// Adds the words of four bytes. None: with them the bits are more than 63.
 #[inline(always)]
-fn add_four(plain: &[u8], place: usize, acc: u64, count: u64) -> Option<Ahead>
+fn add_four(plain: &[u8], place: usize, before: Pending) -> Option<Pending>
     requires there { place + 4 ≤ length plain.now }
-    requires few { count < 32 }
+    requires few { before.count < 32 }
     ensures standing { IfSome result
-        (λ ahead. (out : List ℕ) (written : ℕ) → Written plain.now out place acc count written
-        → Written plain.now out (place + 4) ahead.acc ahead.count written) }
+        (λ ahead. (out : List ℕ) → Written plain.now out place before.acc before.count before.written
+        → Written plain.now out (place + 4) ahead.acc ahead.count ahead.written) }
     ensures fits { IfSome result (λ ahead. ahead.count < 64) }
 {
     let first_length = word_len(plain[place]);
     let second_length = word_len(plain[place + 1]);
     let third_length = word_len(plain[place + 2]);
     let fourth_length = word_len(plain[place + 3]);
-    let all = count + first_length + second_length + third_length + fourth_length;
-    if all >= 64 {
+    let count = before.count + first_length + second_length + third_length + fourth_length;
+    if count >= 64 {
         return None;
     }
-    let first = acc << first_length | word_of(plain[place]);
+    let first = before.acc << first_length | word_of(plain[place]);
     let second = first << second_length | word_of(plain[place + 1]);
     let third = second << third_length | word_of(plain[place + 2]);
     let fourth = third << fourth_length | word_of(plain[place + 3]);
-    Some(Ahead {
+    Some(Pending {
         acc: fourth,
-        count: all,
+        count,
+        written: before.written,
     })
 }
 
-/// Writes the words of a string, save for the last bits of fewer than four bytes.
+/// Adds the word of one byte, and writes four bytes if so many are pending.
+#[inline(always)]
+fn put_one(plain: &[u8], place: usize, out: &mut [u8], before: Pending) -> Pending
+    requires there { place < length plain.now }
+    requires few { before.count < 32 }
+    requires standing { Written plain.now out.old place before.acc before.count before.written }
+    ensures standing { Written plain.now out.new (place + 1) result.acc result.count result.written }
+    ensures few { result.count < 32 }
+    ensures same { length out.new ≡ length out.old }
+{
+    let length = word_len(plain[place]);
+    let ahead = Pending {
+        acc: before.acc << length | word_of(plain[place]),
+        count: before.count + length,
+        written: before.written,
+    };
+    flush(out, ahead)
+}
+
+/// Writes the words of a string, save for the last bits of fewer than four bytes: four bytes at a time while their words are short, then
+/// two at a time, which costs less for long words than a try of four that fails, and the last ones one at a time.
 #[inline(always)]
 fn put_words(plain: &[u8], out: &mut [u8]) -> Pending
     requires { length (huffman plain.now) ≤ length out.old }
@@ -122,40 +163,30 @@ fn put_words(plain: &[u8], out: &mut [u8]) -> Pending
     ensures few { result.count < 32 }
     ensures same { length out.new ≡ length out.old }
 {
-    let mut acc: u64 = 0;
-    let mut count: u64 = 0;
-    let mut written: usize = 0;
+    let mut pending = Pending {
+        acc: 0,
+        count: 0,
+        written: 0,
+    };
     let mut place: usize = 0;
     // (the labels name the loops in their proofs)
     'fours: while plain.len() - place >= 4 {
-        let Some(ahead) = add_four(plain, place, acc, count) else {
+        let Some(ahead) = add_four(plain, place, pending) else {
             break;
         };
-        acc = ahead.acc;
-        count = ahead.count;
+        pending = flush(out, ahead);
         place += 4;
-        if count >= 32 {
-            count -= 32;
-            put_word(out, written, ((acc >> count) % (1 << 32)) as u32);
-            written += 4;
-        }
+    }
+    'pairs: while plain.len() - place >= 4 {
+        pending = put_one(plain, place, out, pending);
+        pending = put_one(plain, place + 1, out, pending);
+        place += 2;
     }
     'ones: while place < plain.len() {
-        let length = word_len(plain[place]);
-        acc = acc << length | word_of(plain[place]);
-        count += length;
+        pending = put_one(plain, place, out, pending);
         place += 1;
-        if count >= 32 {
-            count -= 32;
-            put_word(out, written, ((acc >> count) % (1 << 32)) as u32);
-            written += 4;
-        }
     }
-    Pending {
-        acc,
-        count,
-        written,
-    }
+    pending
 }
 
 /// Writes the Huffman encoding of a string.

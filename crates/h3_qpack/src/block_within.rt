@@ -13,8 +13,8 @@ ghost use Rattle.h3_qpack.specs.Sizes.{IsBlockWithin, PassesLimit, told_size};
 use crate::lines::{Lines, lent};
 use crate::within::LargeSection;
 use h3_field::block::{
-    HeaderBlockField, Indexed, IndexedWithPostBase, LiteralWithNameRef, LiteralWithPostBaseNameRef,
-    NameRef,
+    HeaderBlockField, Indexed, IndexedWithPostBase, Literal, LiteralWithNameRef,
+    LiteralWithPostBaseNameRef, NameRef,
 };
 use h3_field::static_::StaticTable;
 use h3_field::{DecoderError, FieldBlock, FieldRef, SliceCursor};
@@ -52,10 +52,8 @@ fn put(block: &mut FieldBlock, field: &FieldRef<'_>) -> Result<(), DecoderError>
     ensures ok { OnOk result (block.new ≡ block.old ++ field.now ∷ []) }
     ensures err { IfErr result (λ e. e ≡ OutOfMemory) }
 {
-    match block.push_field(field) {
-        Ok(()) => Ok(()),
-        Err(_) => Err(DecoderError::OutOfMemory),
-    }
+    block.push_field(field)?;
+    Ok(())
 }
 
 /// Adds the field of a copied name, of the string at the front and of the flag. False: nothing is added.
@@ -68,10 +66,7 @@ fn has_put_value(
     ensures yes { result ≡ true → AnswersField name.now never_indexed (string 8 buf.old) buf.old buf.new block.old block.new (Ok tt) }
     ensures no { result ≡ false → block.new ≡ block.old }
 {
-    match block.push_value_read(name, never_indexed, buf) {
-        Ok(()) => true,
-        Err(_) => false,
-    }
+    block.push_value_read(name, never_indexed, buf).is_ok()
 }
 
 impl<'t> Lines<'t> {
@@ -85,16 +80,15 @@ impl<'t> Lines<'t> {
         requires own { begins 128 255 buf.old ≡ true }
         ensures { PutsLine self.now.table self.now.base buf.old buf.new block.old block.new result }
     {
-        match Indexed::decode(buf) {
-            Ok(Indexed::Static(index)) => match StaticTable::get(index) {
-                Ok(field) => put(block, &FieldRef::of(&field)),
-                Err(e) => Err(DecoderError::InvalidStaticIndex(e)),
-            },
-            Ok(Indexed::Dynamic(index)) => match self.relative(index) {
-                Ok(entry) => put(block, &lent(&entry)),
-                Err(e) => Err(e),
-            },
-            Err(e) => Err(DecoderError::from(e)),
+        match Indexed::decode(buf)? {
+            Indexed::Static(index) => {
+                let field = StaticTable::get(index)?;
+                put(block, &FieldRef::of(&field))
+            }
+            Indexed::Dynamic(index) => {
+                let entry = self.relative(index)?;
+                put(block, &lent(&entry))
+            }
         }
     }
 
@@ -108,13 +102,9 @@ impl<'t> Lines<'t> {
         requires own { begins 16 31 buf.old ≡ true }
         ensures { PutsLine self.now.table self.now.base buf.old buf.new block.old block.new result }
     {
-        match IndexedWithPostBase::decode(buf) {
-            Ok(IndexedWithPostBase(index)) => match self.post_base(index) {
-                Ok(entry) => put(block, &lent(&entry)),
-                Err(e) => Err(e),
-            },
-            Err(e) => Err(DecoderError::from(e)),
-        }
+        let line = IndexedWithPostBase::decode(buf)?;
+        let entry = self.post_base(line.0)?;
+        put(block, &lent(&entry))
     }
 
     /// Adds the field of a line with a literal value and the name of an entry, which is read straight onto the block. False: nothing
@@ -192,6 +182,22 @@ impl<'t> Lines<'t> {
         self.put_other(buf, block)
     }
 
+    /// Adds the field of a line with a literal name and value, which are read straight onto the block.
+    fn put_literal(
+        &self,
+        buf: &mut SliceCursor<'_>,
+        block: &mut FieldBlock,
+    ) -> Result<(), DecoderError>
+        requires some { 0 < length buf.old }
+        requires own { begins 32 63 buf.old ≡ true }
+        ensures { PutsLine self.now.table self.now.base buf.old buf.new block.old block.new result }
+    {
+        if Literal::has_read_onto(buf, block) {
+            return Ok(());
+        }
+        self.put_other(buf, block)
+    }
+
     /// Adds the field of the line at the front, whatever it is, by way of a field of its own.
     #[inline(never)]
     fn put_other(
@@ -202,10 +208,8 @@ impl<'t> Lines<'t> {
         requires { 0 < length buf.old }
         ensures { PutsLine self.now.table self.now.base buf.old buf.new block.old block.new result }
     {
-        match self.take(buf) {
-            Ok(line) => put(block, &line.lent()),
-            Err(e) => Err(e),
-        }
+        let line = self.take(buf)?;
+        put(block, &line.lent())
     }
 
     /// Adds the field of the line at the front to the block.
@@ -222,7 +226,8 @@ impl<'t> Lines<'t> {
             HeaderBlockField::LiteralWithNameRef => self.put_named(buf, block),
             HeaderBlockField::IndexedWithPostBase => self.put_post_base(buf, block),
             HeaderBlockField::LiteralWithPostBaseNameRef => self.put_post_base_named(buf, block),
-            _ => self.put_other(buf, block),
+            HeaderBlockField::Literal => self.put_literal(buf, block),
+            HeaderBlockField::Unknown => self.put_other(buf, block),
         }
     }
 
@@ -247,10 +252,7 @@ impl<'t> Lines<'t> {
         let mut mem_size: u64 = 0;
         // (the label names the loop in its proof)
         'lines: while ahead.remaining() > 0 {
-            match self.put_line(&mut ahead, block) {
-                Ok(()) => {}
-                Err(e) => return Err(e),
-            }
+            self.put_line(&mut ahead, block)?;
             mem_size = size_of_block(block);
             if mem_size > max {
                 return Ok(None);
@@ -278,16 +280,13 @@ impl<'t> Lines<'t> {
         ensures err { IfErr result (IsReasonFor (fields_in self.now.table self.now.base buf.old ≡ None) (λ count. ⊥)) }
         ensures memory { IfErr result (λ e. e ≡ OutOfMemory → LinesAskMemory self.now.table self.now.base buf.old) }
     {
-        match self.block_within(buf, max, block) {
-            Ok(Some(mem_size)) => Ok(BlockWithin::Fields(SectionSummary { dyn_ref, mem_size })),
-            Ok(None) => {
+        match self.block_within(buf, max, block)? {
+            Some(mem_size) => Ok(BlockWithin::Fields(SectionSummary { dyn_ref, mem_size })),
+            None => {
                 block.clear();
-                match self.take_large(buf, dyn_ref, name) {
-                    Ok(large) => Ok(BlockWithin::TooLarge(large)),
-                    Err(e) => Err(e),
-                }
+                let large = self.take_large(buf, dyn_ref, name)?;
+                Ok(BlockWithin::TooLarge(large))
             }
-            Err(e) => Err(e),
         }
     }
 

@@ -281,12 +281,8 @@ impl Decoder {
     {
         let mut ahead = SliceCursor::new(buf.chunk());
         let mut value = ShortString::new();
-        let Some(name) = InsertWithNameRef::decode_short(&mut ahead, &mut value) else {
-            return None;
-        };
-        let Some(field) = self.short_named(name, value.as_slice()) else {
-            return None;
-        };
+        let name = InsertWithNameRef::decode_short(&mut ahead, &mut value)?;
+        let field = self.short_named(name, value.as_slice())?;
         *buf = ahead;
         Some(field)
     }
@@ -489,10 +485,7 @@ impl Decoder {
         ensures err { IfErr result (IsReasonFor (BeginsBad self.new buf.new) (λ count. ⊥)) }
     {
         while buf.remaining() > 0 {
-            let is_read = match self.take_instruction(buf) {
-                Ok(is_read) => is_read,
-                Err(e) => return Err(e),
-            };
+            let is_read = self.take_instruction(buf)?;
             if !is_read {
                 return Ok(());
             }

@@ -272,10 +272,7 @@ impl DynamicTable {
             (MayHaveCapacity self.old size × (self.new ≡ record self.old { table = with_capacity self.old.table size; announced = size })) }
         ensures err { IfErr result (λ e. IsCapacityRefusal self.old size e × (self.new ≡ self.old)) }
     {
-        let after = match self.evicted_with_capacity(size) {
-            Ok(after) => after,
-            Err(e) => return Err(e),
-        };
+        let after = self.evicted_with_capacity(size)?;
         let count = after - self.entries.evicted();
         self.entries.set_capacity(size);
         self.announced = size;
@@ -589,9 +586,7 @@ impl DynamicTable {
         ensures ok { OnOk result (self.new ≡ encoder_state_after self.old (CancelStream stream)) }
         ensures err { OnErr result ((self.new ≡ self.old) × (was_canceled_in self.old stream ≡ false)) }
     {
-        let Ok(()) = self.canceled.insert(stream) else {
-            return Err(AllocError);
-        };
+        self.canceled.insert(stream)?;
         self.tracking.release_all(stream);
         Ok(())
     }

@@ -175,9 +175,7 @@ impl Encoder {
             return Err(EncoderError::Insertion(dynamic::Error::MaxBlockedStreamsTooLarge));
         }
         let capacity = self.table.most_capacity().min(announced);
-        if DynamicTableSizeUpdate(capacity).encode(out).is_err() {
-            return Err(EncoderError::OutOfMemory);
-        }
+        DynamicTableSizeUpdate(capacity).encode(out)?;
         self.table.use_announced(announced, blocked);
         Ok(())
     }
@@ -286,10 +284,7 @@ impl Encoder {
             (λ e. e ≢ OutOfMemory → (s : EncoderHistory) → self.old ≡ encoder_state s → HasListened s self.new read.old read.new true) }
     {
         while read.remaining() > 0 {
-            let is_read = match self.take_instruction(read) {
-                Ok(is_read) => is_read,
-                Err(e) => return Err(e),
-            };
+            let is_read = self.take_instruction(read)?;
             if !is_read {
                 return Ok(());
             }
@@ -388,9 +383,7 @@ pub fn set_dynamic_table_size(
     ensures err { IfErr result (λ e. IsSizeRefusal table.old size e × (table.new ≡ table.old) × (out.new.items ≡ out.old.items)) }
 {
     table.evicted_with_capacity(size)?;
-    if DynamicTableSizeUpdate(size).encode(out).is_err() {
-        return Err(EncoderError::OutOfMemory);
-    }
+    DynamicTableSizeUpdate(size).encode(out)?;
     table.set_max_size(size)?;
     Ok(())
 }

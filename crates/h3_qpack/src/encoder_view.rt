@@ -107,9 +107,7 @@ fn end(table: &mut DynamicTable, stream: u64, section: &Section) -> Result<usize
     ensures err { IfErr result (λ e. (e ≡ OutOfMemory) × (table.new ≡ table.old)) }
 {
     if section.newest != 0 {
-        let Ok(()) = table.track(stream, section.newest, section.oldest) else {
-            return Err(Error::OutOfMemory);
-        };
+        table.track(stream, section.newest, section.oldest)?;
     }
     Ok(section.newest)
 }
@@ -230,9 +228,7 @@ impl<'a> DynamicTableEncoder<'a> {
         let static_index = StaticTable::find_name(field.name());
         let answer = insertion_of(self.table, self.section.base, &lent, static_index, after);
         let number = self.table.inserted() + 1;
-        let Ok(()) = self.table.insert(&lent, after) else {
-            return Err(Error::OutOfMemory);
-        };
+        self.table.insert(&lent, after)?;
         self.section.name(number);
         Ok(answer)
     }

@@ -283,16 +283,9 @@ impl<'t> Lines<'t> {
         requires own { begins 128 255 buf.old ≡ true }
         ensures { AnswersLineAt self.now.table self.now.base buf.old buf.new result }
     {
-        match Indexed::decode(buf) {
-            Ok(Indexed::Static(index)) => match StaticTable::get(index) {
-                Ok(field) => Ok(LineField::own(field)),
-                Err(e) => Err(DecoderError::InvalidStaticIndex(e)),
-            },
-            Ok(Indexed::Dynamic(index)) => match self.relative(index) {
-                Ok(entry) => Ok(LineField::entry(entry)),
-                Err(e) => Err(e),
-            },
-            Err(e) => Err(DecoderError::from(e)),
+        match Indexed::decode(buf)? {
+            Indexed::Static(index) => Ok(LineField::own(StaticTable::get(index)?)),
+            Indexed::Dynamic(index) => Ok(LineField::entry(self.relative(index)?)),
         }
     }
 
@@ -302,13 +295,9 @@ impl<'t> Lines<'t> {
         requires own { begins 16 31 buf.old ≡ true }
         ensures { AnswersLineAt self.now.table self.now.base buf.old buf.new result }
     {
-        match IndexedWithPostBase::decode(buf) {
-            Ok(IndexedWithPostBase(index)) => match self.post_base(index) {
-                Ok(entry) => Ok(LineField::entry(entry)),
-                Err(e) => Err(e),
-            },
-            Err(e) => Err(DecoderError::from(e)),
-        }
+        let line = IndexedWithPostBase::decode(buf)?;
+        let entry = self.post_base(line.0)?;
+        Ok(LineField::entry(entry))
     }
 
     /// The field of a line with a literal value and the name of an entry, if it takes no memory. None: it may take some, or the line is
@@ -321,12 +310,8 @@ impl<'t> Lines<'t> {
     {
         let mut ahead = SliceCursor::new(buf.chunk());
         let mut value = ShortString::new();
-        let Some(head) = LiteralWithNameRef::decode_short(&mut ahead, &mut value) else {
-            return None;
-        };
-        let Some(field) = self.short_field(head, value.as_slice()) else {
-            return None;
-        };
+        let head = LiteralWithNameRef::decode_short(&mut ahead, &mut value)?;
+        let field = self.short_field(head, value.as_slice())?;
         *buf = ahead;
         Some(field)
     }
@@ -374,31 +359,20 @@ impl<'t> Lines<'t> {
         ensures { AnswersLineAt self.now.table self.now.base buf.old buf.new result }
     {
         let spare = relative_name_room(self.entries, self.base, 4, self.longest_name, buf);
-        match LiteralWithNameRef::decode_with_room(self.alloc, buf, spare) {
-            Ok(
-                LiteralWithNameRef::Static {
-                    index,
-                    value,
-                    never_indexed,
-                },
-            ) => match StaticTable::get_name(index) {
-                Ok(name) => {
-                    let field = HeaderField::with_static_name(name, value);
-                    Ok(LineField::own(field.with_never_indexed(never_indexed)))
-                }
-                Err(e) => Err(DecoderError::InvalidStaticIndex(e)),
-            },
-            Ok(
-                LiteralWithNameRef::Dynamic {
-                    index,
-                    value,
-                    never_indexed,
-                },
-            ) => match self.relative(index) {
-                Ok(entry) => Ok(LineField::named(entry, value, never_indexed)),
-                Err(e) => Err(e),
-            },
-            Err(e) => Err(DecoderError::from(e)),
+        match LiteralWithNameRef::decode_with_room(self.alloc, buf, spare)? {
+            LiteralWithNameRef::Static {
+                index,
+                value,
+                never_indexed,
+            } => {
+                let field = HeaderField::with_static_name(StaticTable::get_name(index)?, value);
+                Ok(LineField::own(field.with_never_indexed(never_indexed)))
+            }
+            LiteralWithNameRef::Dynamic {
+                index,
+                value,
+                never_indexed,
+            } => Ok(LineField::named(self.relative(index)?, value, never_indexed)),
         }
     }
 
@@ -412,15 +386,11 @@ impl<'t> Lines<'t> {
     {
         let mut ahead = SliceCursor::new(buf.chunk());
         let mut value = ShortString::new();
-        let Some(head) = LiteralWithPostBaseNameRef::decode_short(&mut ahead, &mut value) else {
-            return None;
-        };
+        let head = LiteralWithPostBaseNameRef::decode_short(&mut ahead, &mut value)?;
         let Ok(entry) = self.post_base(head.0) else {
             return None;
         };
-        let Some(field) = entry.with_short_value(value.as_slice()) else {
-            return None;
-        };
+        let field = entry.with_short_value(value.as_slice())?;
         *buf = ahead;
         Some(field.with_never_indexed(head.1))
     }
@@ -448,19 +418,9 @@ impl<'t> Lines<'t> {
         ensures { AnswersLineAt self.now.table self.now.base buf.old buf.new result }
     {
         let spare = self.post_base_name_room(buf);
-        match LiteralWithPostBaseNameRef::decode_with_room(self.alloc, buf, spare) {
-            Ok(
-                LiteralWithPostBaseNameRef {
-                    index,
-                    value,
-                    never_indexed,
-                },
-            ) => match self.post_base(index) {
-                Ok(entry) => Ok(LineField::named(entry, value, never_indexed)),
-                Err(e) => Err(e),
-            },
-            Err(e) => Err(DecoderError::from(e)),
-        }
+        let line = LiteralWithPostBaseNameRef::decode_with_room(self.alloc, buf, spare)?;
+        let entry = self.post_base(line.index)?;
+        Ok(LineField::named(entry, line.value, line.never_indexed))
     }
 
     /// The field of a line with a literal name and value.
@@ -482,19 +442,9 @@ impl<'t> Lines<'t> {
         requires own { begins 32 63 buf.old ≡ true }
         ensures { AnswersLineAt self.now.table self.now.base buf.old buf.new result }
     {
-        match Literal::decode(self.alloc, buf) {
-            Ok(
-                Literal {
-                    name,
-                    value,
-                    never_indexed,
-                },
-            ) => {
-                let field = HeaderField::new(CowSlice::Owned(name), CowSlice::Owned(value));
-                Ok(LineField::own(field.with_never_indexed(never_indexed)))
-            }
-            Err(e) => Err(DecoderError::from(e)),
-        }
+        let line = Literal::decode(self.alloc, buf)?;
+        let field = HeaderField::new(CowSlice::Owned(line.name), CowSlice::Owned(line.value));
+        Ok(LineField::own(field.with_never_indexed(line.never_indexed)))
     }
 
     /// The field of the line at the front.

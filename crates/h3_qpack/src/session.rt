@@ -123,16 +123,8 @@ fn decode_section(
     ensures err { IfErr result (IsRefusal decoder.now section.now.bytes) }
 {
     let mut cursor = SliceCursor::new(section.bytes());
-    match decoder.decode_header(&mut cursor) {
-        Ok(
-            Decoded {
-                fields,
-                dyn_ref,
-                ..
-            },
-        ) => Ok((fields, dyn_ref)),
-        Err(e) => Err(e),
-    }
+    let decoded = decoder.decode_header(&mut cursor)?;
+    Ok((decoded.fields, decoded.dyn_ref))
 }
 
 /// What a refused section answers.

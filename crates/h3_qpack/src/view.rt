@@ -39,10 +39,7 @@ impl<'a> DynamicTableDecoder<'a> {
         let Some(entry) = self.table.get(self.base.saturating_sub(index)) else {
             return Err(Error::BadRelativeIndex(index));
         };
-        let Ok(field) = entry.copy(self.table.alloc()) else {
-            return Err(Error::OutOfMemory);
-        };
-        Ok(field)
+        Ok(entry.copy(self.table.alloc())?)
     }
 
     /// A copy of the entry at a distance from the base on.
@@ -58,9 +55,6 @@ impl<'a> DynamicTableDecoder<'a> {
         let Some(entry) = self.table.get(number) else {
             return Err(Error::BadPostbaseIndex(index));
         };
-        let Ok(field) = entry.copy(self.table.alloc()) else {
-            return Err(Error::OutOfMemory);
-        };
-        Ok(field)
+        Ok(entry.copy(self.table.alloc())?)
     }
 }

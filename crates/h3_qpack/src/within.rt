@@ -66,13 +66,8 @@ impl<'t> Lines<'t> {
         let mut count = Count { sum: 0, last: None };
         // (the label names the loop in its proof)
         'lines: while buf.remaining() > 0 {
-            let line = match self.take(buf) {
-                Ok(line) => line,
-                Err(e) => return Err(e),
-            };
-            let Ok(()) = count.add(self.alloc(), name, line) else {
-                return Err(DecoderError::OutOfMemory);
-            };
+            let line = self.take(buf)?;
+            count.add(self.alloc(), name, line)?;
         }
         Ok(count)
     }
@@ -90,13 +85,11 @@ impl<'t> Lines<'t> {
         ensures err { IfErr result (IsReasonFor (fields_in self.now.table self.now.base buf.old ≡ None) (λ count. ⊥)) }
         ensures memory { IfErr result (λ e. e ≡ OutOfMemory → LinesAskMemory self.now.table self.now.base buf.old) }
     {
-        match self.count(buf, name) {
-            Ok(count) => Ok(LargeSection {
-                mem_size: count.sum,
-                dyn_ref,
-                last_value: count.last,
-            }),
-            Err(e) => Err(e),
-        }
+        let count = self.count(buf, name)?;
+        Ok(LargeSection {
+            mem_size: count.sum,
+            dyn_ref,
+            last_value: count.last,
+        })
     }
 }

@@ -50,9 +50,7 @@ fn reach(waiting: &mut VecDeque<usize>, place: usize) -> Result<(), AllocError>
     ensures total { sum waiting.new.items ≡ sum waiting.old.items }
 {
     while waiting.len() <= place {
-        let Ok(()) = waiting.push_back(0) else {
-            return Err(AllocError);
-        };
+        waiting.push_back(0)?;
     }
     Ok(())
 }

@@ -199,9 +199,7 @@ impl Entries {
         let mut number = index.newest(what.slot(field));
         while number > above {
             let place = number - evicted - 1;
-            let Some(entry) = fields.get(place) else {
-                return None;
-            };
+            let entry = fields.get(place)?;
             if number <= most && what.is_met(name, value, never_indexed, &entry) {
                 return Some(number);
             }
@@ -224,9 +222,7 @@ impl Entries {
             if evicted + evictions >= most {
                 return None;
             }
-            let Some(entry) = self.fields.get(evictions) else {
-                return None;
-            };
+            let entry = self.fields.get(evictions)?;
             sum -= entry.mem_size();
             evictions += 1;
         }

@@ -321,9 +321,7 @@ impl FieldQueue {
         ensures written { self.new.written ≡ self.old.written }
         ensures memory { (self.new.room ≡ self.old.room) × (self.new.places ≡ self.old.places) }
     {
-        let Some(record) = self.records.pop_front() else {
-            return None;
-        };
+        let record = self.records.pop_front()?;
         let count = record.name_len + record.value_len;
         self.bytes.drop_front(count);
         self.first += count as u128;

@@ -46,9 +46,7 @@ impl EntriesInOrder {
         ensures ok { OnOk result (self.new ≡ self.old ++ named ∷ []) }
         ensures err { OnErr result (self.new ≡ self.old) }
     {
-        let Ok(()) = self.more.push_back(named) else {
-            return Err(AllocError);
-        };
+        self.more.push_back(named)?;
         Ok(())
     }
 
@@ -57,9 +55,7 @@ impl EntriesInOrder {
         ensures some { IfSome result (λ n. self.old ≡ n ∷ self.new) }
         ensures none { IfNone result ((length self.old ≡ 1) × (self.new ≡ self.old)) }
     {
-        let Some(next) = self.more.pop_front() else {
-            return None;
-        };
+        let next = self.more.pop_front()?;
         let first = self.first;
         self.first = next;
         Some(first)
@@ -115,9 +111,7 @@ fn begin(
     ensures err { OnErr result (sections_of streams.new.entries ≡ sections_of streams.old.entries) }
 {
     let entries = EntriesInOrder::new(alloc, section.named());
-    let Ok(_) = streams.insert(section.stream, entries) else {
-        return Err(AllocError);
-    };
+    streams.insert(section.stream, entries)?;
     Ok(())
 }
 
@@ -133,9 +127,7 @@ fn add(
     let Some(entries) = streams.get_mut(&section.stream) else {
         return begin(streams, alloc, section);
     };
-    let Ok(()) = entries.add(section.named()) else {
-        return Err(AllocError);
-    };
+    entries.add(section.named())?;
     Ok(())
 }
 
@@ -144,19 +136,15 @@ fn take_only(streams: &mut BTreeMap<u64, EntriesInOrder>, stream: u64) -> Option
     ensures only { (n : NamedEntries) → lookup (is_at (nat_cmp stream)) streams.old.entries ≡ Some (n ∷ []) → result ≡ Some n }
     ensures after { IsChanged stream streams.old.entries streams.new.entries None }
 {
-    match streams.remove(&stream) {
-        Some(entries) => Some(entries.first()),
-        None => None,
-    }
+    let entries = streams.remove(&stream)?;
+    Some(entries.first())
 }
 
 /// Takes the oldest section of a stream away, and answers what it names.
 fn take_oldest(streams: &mut BTreeMap<u64, EntriesInOrder>, stream: u64) -> Option<NamedEntries>
     ensures { IsFirstTaken stream (sections_of streams.old.entries) (sections_of streams.new.entries) result }
 {
-    let Some(entries) = streams.get_mut(&stream) else {
-        return None;
-    };
+    let entries = streams.get_mut(&stream)?;
     if let Some(named) = entries.take_first() {
         return Some(named);
     }
@@ -167,9 +155,7 @@ fn take_oldest(streams: &mut BTreeMap<u64, EntriesInOrder>, stream: u64) -> Opti
 fn take_newest(streams: &mut BTreeMap<u64, EntriesInOrder>, stream: u64) -> Option<NamedEntries>
     ensures { IsLastTaken stream (sections_of streams.old.entries) (sections_of streams.new.entries) result }
 {
-    let Some(entries) = streams.get_mut(&stream) else {
-        return None;
-    };
+    let entries = streams.get_mut(&stream)?;
     if let Some(named) = entries.take_last() {
         return Some(named);
     }

@@ -16,6 +16,7 @@ const SLOTS: usize = 256;
 const AHEAD: usize = 16;
 
 /// Takes memory for a number more, if there is none.
+#[inline(always)]
 pub(crate) fn reserve_number(numbers: &mut VecDeque<usize>) -> Result<(), AllocError>
     ensures items { numbers.new.items ≡ numbers.old.items }
     ensures ok { OnOk result (deque_len numbers.new < deque_capacity numbers.new) }
@@ -57,6 +58,7 @@ pub fn slot_of_field(name_slot: usize, value: &[u8]) -> usize
 }
 
 /// Makes an item for each slot. New ones stand for no entry.
+#[inline(always)]
 fn fill(heads: &mut Vec<usize>) -> Result<(), AllocError>
     ensures same { (slot : ℕ) → slot < 256 → slice_index_or heads.new.items slot 0 ≡ slice_index_or heads.old.items slot 0 }
     ensures ok { OnOk result (length heads.new.items ≡ 256) }
@@ -90,6 +92,7 @@ impl Index {
     }
 
     /// Takes memory for one entry more.
+    #[inline(always)]
     pub fn reserve(&mut self) -> Result<(), AllocError>
         ensures same { (evicted : ℕ) (slots : List ℕ) → IsIndexed self.old evicted slots → IsIndexed self.new evicted slots }
         ensures ok { OnOk result (HasRoom self.new) }

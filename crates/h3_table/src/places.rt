@@ -57,15 +57,9 @@ impl PlacedSection {
         if section.stream % STREAM_STEP != 0 {
             return None;
         }
-        let Ok(index) = u32::try_from(section.stream / STREAM_STEP) else {
-            return None;
-        };
-        let Ok(oldest) = u32::try_from(section.oldest) else {
-            return None;
-        };
-        let Ok(newest) = u32::try_from(section.newest) else {
-            return None;
-        };
+        let index = u32::try_from(section.stream / STREAM_STEP).ok()?;
+        let oldest = u32::try_from(section.oldest).ok()?;
+        let newest = u32::try_from(section.newest).ok()?;
         Some(PlacedSection {
             index,
             oldest,

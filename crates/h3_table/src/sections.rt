@@ -50,9 +50,7 @@ fn add(
     if further.has(section.stream) {
         return further.add(section);
     }
-    let Ok(done) = places.put(count, section) else {
-        return Err(AllocError);
-    };
+    let done = places.put(count, section)?;
     if done {
         return Ok(());
     }
@@ -129,9 +127,7 @@ impl Sections {
         let Some(count) = self.count.checked_add(1) else {
             return Err(AllocError);
         };
-        let Ok(()) = add(&mut self.places, &mut self.further, count, section) else {
-            return Err(AllocError);
-        };
+        add(&mut self.places, &mut self.further, count, section)?;
         self.count = count;
         Ok(())
     }
@@ -150,9 +146,7 @@ impl Sections {
     pub fn take_oldest(&mut self, stream: u64) -> Option<NamedEntries>
         ensures { IsOldestTaken stream self.old self.new result }
     {
-        let Some(named) = take_oldest(&mut self.places, &mut self.further, stream) else {
-            return None;
-        };
+        let named = take_oldest(&mut self.places, &mut self.further, stream)?;
         self.count -= 1;
         give_back(&mut self.places, self.count);
         Some(named)
@@ -162,9 +156,7 @@ impl Sections {
     pub fn take_newest(&mut self, stream: u64) -> Option<NamedEntries>
         ensures { IsNewestTaken stream self.old self.new result }
     {
-        let Some(named) = take_newest(&mut self.places, &mut self.further, stream) else {
-            return None;
-        };
+        let named = take_newest(&mut self.places, &mut self.further, stream)?;
         self.count -= 1;
         give_back(&mut self.places, self.count);
         Some(named)

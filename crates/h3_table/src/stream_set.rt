@@ -81,9 +81,7 @@ impl StreamSet {
         if self.words.add(number, bit) {
             return Ok(());
         }
-        let Ok(()) = self.words.insert(number, bit) else {
-            return Err(AllocError);
-        };
+        self.words.insert(number, bit)?;
         Ok(())
     }
 }

@@ -174,9 +174,7 @@ impl Tracking {
         ensures newest { IfSome result (λ n. n ≡ newest_named stream self.old.sections) }
         ensures after { self.new ≡ record self.old { sections = without_oldest_of stream self.old.sections } }
     {
-        let Some(named) = self.sections.take_oldest(stream) else {
-            return None;
-        };
+        let named = self.sections.take_oldest(stream)?;
         take_one(&mut self.references, named.oldest - self.evicted - 1);
         Some(named.newest)
     }

@@ -174,9 +174,7 @@ impl Words {
             self.row[place] = word;
             return Ok(());
         }
-        let Ok(_) = self.further.insert(number, word) else {
-            return Err(AllocError);
-        };
+        self.further.insert(number, word)?;
         Ok(())
     }
 

@@ -11,7 +11,7 @@ ghost use Rattle.h3_field.specs.declared.parse_error.ParseError.TheVariants.{Inv
 use crate::cursor::SliceCursor;
 use crate::parse_error::ParseError;
 use crate::prefix_int;
-use crate::shapes::other_first;
+use crate::shapes::expect_first;
 use std::alloc::AllocError;
 
 /// A line that is an entry of the static table, or a dynamic one by its distance below the base (RFC 9204, section 4.5.2). It is the
@@ -30,18 +30,12 @@ impl Indexed {
         ensures other { begins 128 255 buf.old ≡ false → (result ≡ Err (InvalidPrefix (slice_index buf.old 0))) × (buf.new ≡ buf.old) }
         ensures rest { IsEndOf buf.old buf.new }
     {
-        if let Some(first) = other_first(buf, 128, 255) {
-            return Err(ParseError::InvalidPrefix(u64::from(first)));
-        }
-        match prefix_int::decode(6, buf) {
-            Ok((flags, index)) => {
-                if flags % 2 == 1 {
-                    Ok(Indexed::Static(index as usize))
-                } else {
-                    Ok(Indexed::Dynamic(index as usize))
-                }
-            }
-            Err(e) => Err(ParseError::Integer(e)),
+        expect_first(buf, 128, 255)?;
+        let (flags, index) = prefix_int::decode(6, buf)?;
+        if flags % 2 == 1 {
+            Ok(Indexed::Static(index as usize))
+        } else {
+            Ok(Indexed::Dynamic(index as usize))
         }
     }
 
@@ -71,13 +65,9 @@ impl IndexedWithPostBase {
         ensures other { begins 16 31 buf.old ≡ false → (result ≡ Err (InvalidPrefix (slice_index buf.old 0))) × (buf.new ≡ buf.old) }
         ensures rest { IsEndOf buf.old buf.new }
     {
-        if let Some(first) = other_first(buf, 16, 31) {
-            return Err(ParseError::InvalidPrefix(u64::from(first)));
-        }
-        match prefix_int::decode(4, buf) {
-            Ok((_, index)) => Ok(IndexedWithPostBase(index as usize)),
-            Err(e) => Err(ParseError::Integer(e)),
-        }
+        expect_first(buf, 16, 31)?;
+        let (_, index) = prefix_int::decode(4, buf)?;
+        Ok(IndexedWithPostBase(index as usize))
     }
 
     /// Appends the line. A refusal appends nothing.

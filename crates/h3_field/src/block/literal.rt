@@ -1,6 +1,8 @@
 //! Lines with a literal value (RFC 9204, sections 4.5.4 to 4.5.6). Each has the bit N as a flag: a field whose line has it is written as a
 //! literal with it on every hop, and is never inserted (section 7.1.3).
-ghost use Rattle.std.specs.Prelude.{◌≡◌, ◌<◌, ◌^◌, ◌++◌, true, false, length, slice_index, IfSome, IfNone, IfOk, OnOk, OnErr, Ok, Err};
+ghost use Rattle.std.specs.Prelude.{◌≡◌, ◌<◌, ◌^◌, ◌++◌, ◌∷◌, [], true, false, length, slice_index, IfSome, IfNone, IfOk, OnOk, OnErr};
+ghost use Rattle.std.specs.Prelude.{Ok, Err};
+ghost use Rattle.h3_field.specs.Field.{Field};
 ghost use Rattle.std.specs.Result.{IsOkUnless};
 ghost use Rattle.h3_field.specs.StringLiteral.{coded};
 ghost use Rattle.h3_field.specs.Line.{bit_n, line_bytes};
@@ -21,11 +23,12 @@ ghost use Rattle.h3_field.specs.declared.block.literal.LiteralWithNameRef.TheVar
 
 use crate::cursor::SliceCursor;
 use crate::field::HeaderField;
+use crate::field_block::FieldBlock;
 use crate::parse_error::ParseError;
 use crate::prefix_int;
 use crate::prefix_string::{self, ShortString};
 use crate::shapes::{
-    other_first, put_index_and_string, put_two_strings, take_index_and_short,
+    expect_first, put_index_and_string, put_two_strings, take_index_and_short,
     take_index_and_string, take_short_field, take_two_strings,
 };
 use std::alloc::Global;
@@ -132,29 +135,23 @@ impl LiteralWithNameRef {
         ensures rest { IsEndOf buf.old buf.new }
         ensures room { IfOk result (λ line. HasRoom spare (line_value line)) }
     {
-        if let Some(first) = other_first(buf, 64, 127) {
-            return Err(ParseError::InvalidPrefix(u64::from(first)));
-        }
-        match take_index_and_string(alloc, 4, buf, spare) {
-            Ok(parts) => {
-                let index = parts.index as usize;
-                let value = parts.value;
-                let never_indexed = parts.flags / 2 % 2 == 1;
-                if parts.flags % 2 == 1 {
-                    Ok(LiteralWithNameRef::Static {
-                        index,
-                        value,
-                        never_indexed,
-                    })
-                } else {
-                    Ok(LiteralWithNameRef::Dynamic {
-                        index,
-                        value,
-                        never_indexed,
-                    })
-                }
-            }
-            Err(e) => Err(e),
+        expect_first(buf, 64, 127)?;
+        let parts = take_index_and_string(alloc, 4, buf, spare)?;
+        let index = parts.index as usize;
+        let value = parts.value;
+        let never_indexed = parts.flags / 2 % 2 == 1;
+        if parts.flags % 2 == 1 {
+            Ok(LiteralWithNameRef::Static {
+                index,
+                value,
+                never_indexed,
+            })
+        } else {
+            Ok(LiteralWithNameRef::Dynamic {
+                index,
+                value,
+                never_indexed,
+            })
         }
     }
 
@@ -165,10 +162,7 @@ impl LiteralWithNameRef {
         ensures answer { AnswersIndex named_head (integer 4 buf.old) buf.old buf.new result }
         ensures rest { IsEndOf buf.old buf.new }
     {
-        let (flags, index) = match prefix_int::decode(4, buf) {
-            Ok(found) => found,
-            Err(e) => return Err(ParseError::Integer(e)),
-        };
+        let (flags, index) = prefix_int::decode(4, buf)?;
         let never_indexed = flags / 2 % 2 == 1;
         if flags % 2 == 1 {
             return Ok((NameRef::Static(index as usize), never_indexed));
@@ -186,9 +180,7 @@ impl LiteralWithNameRef {
             (λ head. AnswersLine (short_named_line value.new) AtInteger (named buf.old) buf.old buf.new (Ok head)) }
         ensures none { IfNone result (buf.new ≡ buf.old) }
     {
-        let Some(head) = take_index_and_short(4, buf, value) else {
-            return None;
-        };
+        let head = take_index_and_short(4, buf, value)?;
         let index = head.index as usize;
         let never_indexed = head.flags / 2 % 2 == 1;
         if head.flags % 2 == 1 {
@@ -339,17 +331,13 @@ impl LiteralWithPostBaseNameRef {
         ensures rest { IsEndOf buf.old buf.new }
         ensures room { IfOk result (λ line. HasRoom spare line.value) }
     {
-        if let Some(first) = other_first(buf, 0, 15) {
-            return Err(ParseError::InvalidPrefix(u64::from(first)));
-        }
-        match take_index_and_string(alloc, 3, buf, spare) {
-            Ok(parts) => Ok(LiteralWithPostBaseNameRef {
-                index: parts.index as usize,
-                value: parts.value,
-                never_indexed: parts.flags % 2 == 1,
-            }),
-            Err(e) => Err(e),
-        }
+        expect_first(buf, 0, 15)?;
+        let parts = take_index_and_string(alloc, 3, buf, spare)?;
+        Ok(LiteralWithPostBaseNameRef {
+            index: parts.index as usize,
+            value: parts.value,
+            never_indexed: parts.flags % 2 == 1,
+        })
     }
 
     /// Takes the first part of the line from the front: the post-base index of its name, and the bit N. The string of its value is left,
@@ -358,10 +346,8 @@ impl LiteralWithPostBaseNameRef {
         ensures answer { AnswersIndex post_base_head (integer 3 buf.old) buf.old buf.new result }
         ensures rest { IsEndOf buf.old buf.new }
     {
-        match prefix_int::decode(3, buf) {
-            Ok((flags, index)) => Ok((index as usize, flags % 2 == 1)),
-            Err(e) => Err(ParseError::Integer(e)),
-        }
+        let (flags, index) = prefix_int::decode(3, buf)?;
+        Ok((index as usize, flags % 2 == 1))
     }
 
     /// Takes the line from the front, and reads its value into `value`, with no memory: the post-base index of its name, and the bit N.
@@ -371,9 +357,7 @@ impl LiteralWithPostBaseNameRef {
             (λ head. AnswersLine (short_post_base_named_line value.new) AtInteger (post_base_named buf.old) buf.old buf.new (Ok head)) }
         ensures none { IfNone result (buf.new ≡ buf.old) }
     {
-        let Some(head) = take_index_and_short(3, buf, value) else {
-            return None;
-        };
+        let head = take_index_and_short(3, buf, value)?;
         Some((head.index as usize, head.flags % 2 == 1))
     }
 
@@ -448,17 +432,13 @@ impl Literal {
         ensures other { begins 32 63 buf.old ≡ false → (result ≡ Err (InvalidPrefix (slice_index buf.old 0))) × (buf.new ≡ buf.old) }
         ensures rest { IsEndOf buf.old buf.new }
     {
-        if let Some(first) = other_first(buf, 32, 63) {
-            return Err(ParseError::InvalidPrefix(u64::from(first)));
-        }
-        match take_two_strings(alloc, 4, buf) {
-            Ok(parts) => Ok(Literal {
-                name: parts.name,
-                value: parts.value,
-                never_indexed: parts.flags % 2 == 1,
-            }),
-            Err(e) => Err(e),
-        }
+        expect_first(buf, 32, 63)?;
+        let parts = take_two_strings(alloc, 4, buf)?;
+        Ok(Literal {
+            name: parts.name,
+            value: parts.value,
+            never_indexed: parts.flags % 2 == 1,
+        })
     }
 
     /// Takes the line from the front as a field that takes no memory, with the bit N as its flag. None: the field may be long, or the read
@@ -468,6 +448,16 @@ impl Literal {
         ensures none { IfNone result (buf.new ≡ buf.old) }
     {
         take_short_field(4, buf)
+    }
+
+    /// Takes the line from the front, and adds its field to a block, with the bit N as its flag. False: nothing is taken and nothing is
+    /// added, since the read is refused or memory is.
+    pub fn has_read_onto(buf: &mut SliceCursor<'_>, block: &mut FieldBlock) -> bool
+        ensures yes { result ≡ true
+            → (f : Field) × AnswersLine field_line AtString (literal buf.old) buf.old buf.new (Ok f) × (block.new ≡ block.old ++ f ∷ []) }
+        ensures no { result ≡ false → (buf.new ≡ buf.old) × (block.new ≡ block.old) }
+    {
+        block.has_read_strings(4, buf)
     }
 
     /// Appends the line. A refusal appends nothing.

@@ -137,14 +137,8 @@ impl HeaderPrefix {
         ensures rest { IsEndOf buf.old buf.new }
     {
         let mut ahead = SliceCursor::new(buf.chunk());
-        let (_, count) = match prefix_int::decode(8, &mut ahead) {
-            Ok(found) => found,
-            Err(e) => return Err(ParseError::Integer(e)),
-        };
-        let (sign, distance) = match prefix_int::decode(7, &mut ahead) {
-            Ok(found) => found,
-            Err(e) => return Err(ParseError::Integer(e)),
-        };
+        let (_, count) = prefix_int::decode(8, &mut ahead)?;
+        let (sign, distance) = prefix_int::decode(7, &mut ahead)?;
         *buf = ahead;
         Ok(HeaderPrefix {
             count,

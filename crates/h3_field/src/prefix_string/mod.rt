@@ -1,5 +1,6 @@
 //! String literals (RFC 9204, section 4.1.2; RFC 7541, section 5.2): as they stand or Huffman coded, after their length.
-ghost use Rattle.std.specs.Prelude.{◌≡◌, ◌+◌, ◌*◌, ◌-◌, ◌^◌, ◌<◌, ◌≤◌, ◌++◌, OnOk, OnErr, IfSome, Result, length, take, Some};
+ghost use Rattle.std.specs.Prelude.{◌≡◌, ◌+◌, ◌*◌, ◌-◌, ◌^◌, ◌<◌, ◌≤◌, ◌++◌, OnOk, OnErr, IfSome, Result, length, take, Some, vec_len};
+ghost use Rattle.std.specs.Prelude.{vec_capacity};
 ghost use Rattle.h3_huffman.specs.Huffman.{huffman};
 ghost use Rattle.h3_field.specs.Ends.{IsEndOf};
 ghost use Rattle.h3_field.specs.ErrorTexts.{string_text};
@@ -109,18 +110,10 @@ pub fn decode(alloc: Global, size: u8, buf: &mut SliceCursor<'_>) -> Result<Vec<
     ensures rest { IsEndOf buf.old buf.new }
 {
     let mut ahead = SliceCursor::new(buf.chunk());
-    let payload = match take_payload(size, &mut ahead) {
-        Ok((_, payload)) => payload,
-        Err(prefix_int::Error::UnexpectedEnd) => return Err(Error::UnexpectedEnd),
-        Err(prefix_int::Error::Overflow) => return Err(Error::Integer(prefix_int::Error::Overflow)),
-    };
-    match payload.to_bytes(alloc, 0) {
-        Ok(bytes) => {
-            *buf = ahead;
-            Ok(bytes)
-        }
-        Err(e) => Err(e),
-    }
+    let (_, payload) = take_payload(size, &mut ahead)?;
+    let bytes = payload.to_bytes(alloc, 0)?;
+    *buf = ahead;
+    Ok(bytes)
 }
 
 /// The longest string that is encoded in one pass: as it stands, its length takes one byte.
@@ -151,6 +144,17 @@ fn put_plain(size: u8, flags: u8, value: &[u8], buf: &mut Vec<u8>) -> Result<(),
     buf.extend_from_slice(value)
 }
 
+/// Appends so few bytes that a call to copy them would cost more. `buf` needs room for them.
+#[inline(always)]
+fn push_few(bytes: &[u8], buf: &mut Vec<u8>)
+    requires { vec_len buf.old + length bytes.now ≤ vec_capacity buf.old }
+    ensures { buf.new.items ≡ buf.old.items ++ bytes.now }
+{
+    for byte in bytes {
+        buf.push_reserved(*byte);
+    }
+}
+
 /// Writes the Huffman encoding of a string to the front of `room`, and appends its length and what was written, or the string as it stands.
 /// A refusal may leave a part of them.
 #[inline(always)]
@@ -175,7 +179,9 @@ fn put_by_way_of(
         return put_plain(size, flags, value, buf);
     }
     prefix_int::encode(size - 1, 2 * flags + 1, len as u64, buf)?;
-    buf.extend_from_slice(&room[..len])
+    buf.reserve(len)?;
+    push_few(&room[..len], buf);
+    Ok(())
 }
 
 /// Appends the length of a string that is empty, and has an empty encoding. It is not shorter, so if `shortest` the string is written as it
@@ -267,9 +273,7 @@ fn write_name(size: u8, flags: u8, value: &[u8], shortest: bool, out: &mut [u8])
     if !is_coded(value, shortest, len) {
         return None;
     }
-    let Some((first, second)) = prefix_int::two_bytes(size - 1, 2 * flags + 1, len as u64) else {
-        return None;
-    };
+    let (first, second) = prefix_int::two_bytes(size - 1, 2 * flags + 1, len as u64)?;
     out[0] = first;
     out[1] = second;
     Some(len + 2)

@@ -40,10 +40,7 @@ pub(crate) fn take_payload<'a>(
     ensures rest { IsEndOf buf.old buf.new }
 {
     let mut ahead = SliceCursor::new(buf.chunk());
-    let (head, len) = match prefix_int::decode(size - 1, &mut ahead) {
-        Ok(found) => found,
-        Err(error) => return Err(error),
-    };
+    let (head, len) = prefix_int::decode(size - 1, &mut ahead)?;
     if len > ahead.remaining() as u64 {
         return Err(prefix_int::Error::UnexpectedEnd);
     }
@@ -104,15 +101,13 @@ impl<'a> Payload<'a> {
             return Ok(Vec::new(alloc));
         }
         if !self.is_huffman {
-            let Ok(bytes) = copy_with_room(alloc, encoded, spare) else {
-                return Err(Error::OutOfMemory);
-            };
-            return Ok(bytes);
+            return Ok(copy_with_room(alloc, encoded, spare)?);
         }
         decode_payload(alloc, encoded, spare)
     }
 
     /// Appends the string that it stands for. A refusal appends nothing.
+    #[inline(always)]
     pub(crate) fn append_to(&self, bytes: &mut Vec<u8>) -> Result<(), Error>
         ensures { AppendsString self.now bytes.old.items bytes.new.items result }
     {
@@ -121,9 +116,7 @@ impl<'a> Payload<'a> {
         if self.is_huffman {
             return append_decoded(encoded, bytes);
         }
-        if bytes.extend_from_slice(encoded).is_err() {
-            return Err(Error::OutOfMemory);
-        }
+        bytes.extend_from_slice(encoded)?;
         Ok(())
     }
 
@@ -172,6 +165,7 @@ fn refusal_of_encoded(encoded: &[u8]) -> Error
 }
 
 /// Appends the string of a Huffman encoding. A refusal appends nothing.
+#[inline(always)]
 fn append_decoded(encoded: &[u8], bytes: &mut Vec<u8>) -> Result<(), Error>
     ensures { AppendsString (record { is_huffman = true; bytes = encoded.now }) bytes.old.items bytes.new.items result }
 {

@@ -23,7 +23,7 @@ use crate::field::HeaderField;
 use crate::parse_error::ParseError;
 use crate::prefix_string::ShortString;
 use crate::shapes::{
-    other_first, put_index_and_string, put_two_strings, take_index_and_short,
+    expect_first, put_index_and_string, put_two_strings, take_index_and_short,
     take_index_and_string, take_short_field, take_two_strings,
 };
 use crate::{prefix_int, prefix_string};
@@ -80,9 +80,7 @@ impl InsertWithNameRef {
         ensures rest { IsEndOf buf.old buf.new }
         ensures room { IfOk result (λ read. IfSome read (λ insertion. HasRoom spare (inserted_value insertion))) }
     {
-        if let Some(first) = other_first(buf, 128, 255) {
-            return Err(ParseError::InvalidPrefix(u64::from(first)));
-        }
+        expect_first(buf, 128, 255)?;
         match take_index_and_string(alloc, 6, buf, spare) {
             Ok(parts) => {
                 let index = parts.index as usize;
@@ -107,9 +105,7 @@ impl InsertWithNameRef {
             (Ok (Some name))) }
         ensures none { IfNone result (buf.new ≡ buf.old) }
     {
-        let Some(head) = take_index_and_short(6, buf, value) else {
-            return None;
-        };
+        let head = take_index_and_short(6, buf, value)?;
         let index = head.index as usize;
         if head.flags % 2 == 1 {
             Some(NameRef::Static(index))
@@ -198,9 +194,7 @@ impl InsertWithoutNameRef {
         ensures other { begins 64 127 buf.old ≡ false → (result ≡ Err (InvalidPrefix (slice_index buf.old 0))) × (buf.new ≡ buf.old) }
         ensures rest { IsEndOf buf.old buf.new }
     {
-        if let Some(first) = other_first(buf, 64, 127) {
-            return Err(ParseError::InvalidPrefix(u64::from(first)));
-        }
+        expect_first(buf, 64, 127)?;
         match take_two_strings(alloc, 6, buf) {
             Ok(parts) => Ok(Some(InsertWithoutNameRef {
                 name: parts.name,
@@ -219,9 +213,7 @@ impl InsertWithoutNameRef {
         ensures plain { IfSome result (λ field. field.never_indexed ≡ false) }
         ensures none { IfNone result (buf.new ≡ buf.old) }
     {
-        let Some(field) = take_short_field(6, buf) else {
-            return None;
-        };
+        let field = take_short_field(6, buf)?;
         // what stands above the name's length is no bit N
         Some(field.with_never_indexed(false))
     }

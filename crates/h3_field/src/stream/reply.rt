@@ -10,7 +10,7 @@ ghost use Rattle.h3_field.specs.declared.parse_error.ParseError.TheVariants.{Inv
 use crate::cursor::SliceCursor;
 use crate::parse_error::ParseError;
 use crate::prefix_int;
-use crate::shapes::other_first;
+use crate::shapes::expect_first;
 use std::alloc::AllocError;
 
 /// So many insertions were read since the last one that was reported: insert count increment, `| 0 | 0 | increment (6+) |` (RFC 9204,
@@ -26,9 +26,7 @@ impl InsertCountIncrement {
         ensures other { begins 0 63 buf.old ≡ false → (result ≡ Err (InvalidPrefix (slice_index buf.old 0))) × (buf.new ≡ buf.old) }
         ensures rest { IsEndOf buf.old buf.new }
     {
-        if let Some(first) = other_first(buf, 0, 63) {
-            return Err(ParseError::InvalidPrefix(u64::from(first)));
-        }
+        expect_first(buf, 0, 63)?;
         match prefix_int::decode(6, buf) {
             Ok((_, value)) => Ok(Some(InsertCountIncrement(value))),
             Err(prefix_int::Error::UnexpectedEnd) => Ok(None),
@@ -59,9 +57,7 @@ impl HeaderAck {
         ensures other { begins 128 255 buf.old ≡ false → (result ≡ Err (InvalidPrefix (slice_index buf.old 0))) × (buf.new ≡ buf.old) }
         ensures rest { IsEndOf buf.old buf.new }
     {
-        if let Some(first) = other_first(buf, 128, 255) {
-            return Err(ParseError::InvalidPrefix(u64::from(first)));
-        }
+        expect_first(buf, 128, 255)?;
         match prefix_int::decode(7, buf) {
             Ok((_, value)) => Ok(Some(HeaderAck(value))),
             Err(prefix_int::Error::UnexpectedEnd) => Ok(None),
@@ -92,9 +88,7 @@ impl StreamCancel {
         ensures other { begins 64 127 buf.old ≡ false → (result ≡ Err (InvalidPrefix (slice_index buf.old 0))) × (buf.new ≡ buf.old) }
         ensures rest { IsEndOf buf.old buf.new }
     {
-        if let Some(first) = other_first(buf, 64, 127) {
-            return Err(ParseError::InvalidPrefix(u64::from(first)));
-        }
+        expect_first(buf, 64, 127)?;
         match prefix_int::decode(6, buf) {
             Ok((_, value)) => Ok(Some(StreamCancel(value))),
             Err(prefix_int::Error::UnexpectedEnd) => Ok(None),

@@ -11,7 +11,7 @@ ghost use Rattle.h3_field.specs.declared.parse_error.ParseError.TheVariants.{Inv
 use crate::cursor::SliceCursor;
 use crate::parse_error::ParseError;
 use crate::prefix_int;
-use crate::shapes::other_first;
+use crate::shapes::expect_first;
 use std::alloc::AllocError;
 
 /// An insertion of a present entry again, by its distance from the newest: duplicate, `| 0 | 0 | 0 | index (5+) |` (RFC 9204, section
@@ -27,9 +27,7 @@ impl Duplicate {
         ensures other { begins 0 31 buf.old ≡ false → (result ≡ Err (InvalidPrefix (slice_index buf.old 0))) × (buf.new ≡ buf.old) }
         ensures rest { IsEndOf buf.old buf.new }
     {
-        if let Some(first) = other_first(buf, 0, 31) {
-            return Err(ParseError::InvalidPrefix(u64::from(first)));
-        }
+        expect_first(buf, 0, 31)?;
         match prefix_int::decode(5, buf) {
             Ok((_, value)) => Ok(Some(Duplicate(value as usize))),
             Err(prefix_int::Error::UnexpectedEnd) => Ok(None),
@@ -61,9 +59,7 @@ impl DynamicTableSizeUpdate {
         ensures other { begins 32 63 buf.old ≡ false → (result ≡ Err (InvalidPrefix (slice_index buf.old 0))) × (buf.new ≡ buf.old) }
         ensures rest { IsEndOf buf.old buf.new }
     {
-        if let Some(first) = other_first(buf, 32, 63) {
-            return Err(ParseError::InvalidPrefix(u64::from(first)));
-        }
+        expect_first(buf, 32, 63)?;
         match prefix_int::decode(5, buf) {
             Ok((_, value)) => Ok(Some(DynamicTableSizeUpdate(value as usize))),
             Err(prefix_int::Error::UnexpectedEnd) => Ok(None),

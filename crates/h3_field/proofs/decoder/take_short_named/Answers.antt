@@ -8,5 +8,5 @@ use Rattle.h3_field.proofs.decoder.take_short_named.Goals as goal
 
 pub returns-clause-some : goal.returns-clause-some
 returns-clause-some c =
-    has_field AtInteger (short_named_line _) named _ _ _ _ named_less (line_named _ c.requires.some c.requires.own) (rw (c.new-ahead.ensures, c.chunk.ensures) at c.in-Some.ensures.some)
-    (rw (c.in-Static.is, c.with_never_indexed.ensures, c.in-Some-short_with_static_name.ensures.some, c.as_slice.ensures) (named_entry _ _ _ _ c.in-Ok.ensures))
+    has_field AtInteger (short_named_line _) named _ _ _ _ named_less (line_named _ c.requires.some c.requires.own) (rw (c.new-ahead.ensures, c.chunk.ensures) at c.in_ok-head.ensures.some)
+    (rw (c.in-Static.is, c.with_never_indexed.ensures, c.in_ok-field.ensures.some, c.as_slice.ensures) (named_entry _ _ _ _ c.in-Ok.ensures))

@@ -3,9 +3,9 @@ use Rattle.h3_huffman.proofs.Writing.{add_at}
 use Rattle.h3_huffman.proofs.encode.add_four.Goals as goal
 
 pub returns-clause-standing : goal.returns-clause-standing
-returns-clause-standing c = λ out written standing.
+returns-clause-standing c = λ out standing.
     let i = c.args.place in
-    let fits = c.if-all-ge64.false in
+    let fits = c.if-count-ge64.false in
     let l1 = c.word_len-first_length in
     let l2 = c.word_len-second_length in
     let l3 = c.word_len-third_length in

@@ -7,7 +7,7 @@ use Rattle.h3_table.proofs.blocking.reach.Goals as goal
 
 pub loop-waiting-preserved : goal.loop-waiting-preserved
 loop-waiting-preserved c =
-    let is = c.in-Ok.ensures.items in
+    let is = c.in_ok-push_back.ensures.items in
     record {
       counts = λ n. ap (counts_from n) is ∙ zero_behind n c.loop-waiting.waiting.items ∙ c.loop-waiting.invariant.counts n;
       total = ap sum is ∙ omega (arith, sum_by-append (λ x. x) c.loop-waiting.waiting.items (0 ∷ [])) ∙ c.loop-waiting.invariant.total;

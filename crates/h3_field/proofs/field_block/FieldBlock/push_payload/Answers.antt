@@ -6,21 +6,21 @@ use Rattle.h3_field.proofs.Strings.{stands_some}
 use Rattle.h3_field.proofs.FieldBlocks.{block_next, fields_next}
 use Rattle.h3_field.proofs.field_block.FieldBlock.push_payload.Goals as goal
 
-pub returns-in-Err-put_place : goal.returns-in-Err-put_place
-returns-in-Err-put_place c =
-    let put = c.in-Ok.ensures.2 in
+pub returns-in-Err : goal.returns-in-Err
+returns-in-Err c =
+    let put = c.in_ok-place.ensures.2 in
     let kept : c.truncate.new.self.items ≡ c.self.inside.bytes.items = grind (arith, common_steps, put) in
-    (stands_some _ _ c.in-Ok.ensures.1, (λ i. fields_at (kept i) (c.in-Err-put_place.ensures.err i)) ∙ c.self.view_is)
+    (stands_some _ _ c.in_ok-place.ensures.1, (λ i. fields_at (kept i) (c.in-Err.ensures.err i)) ∙ c.self.view_is)
 
 pub invariant_of-self-in_default : goal.invariant_of-self-in_default
 invariant_of-self-in_default c =
-    rw (c.in-Ok.ensures.2, c.in_default.ensures.ok) (block_next _ _ _ _ _ _ c.self.invariant c.in-Ok.ensures.3)
+    rw (c.in_ok-place.ensures.2, c.in_default.ensures.ok) (block_next _ _ _ _ _ _ c.self.invariant c.in_ok-place.ensures.3)
 
 pub returns : goal.returns
 returns c = (
-  c.in-Ok.ensures.0,
-  c.in-Ok.ensures.1,
-  (λ i. fields_at (c.in-Ok.ensures.2 i) (c.in_default.ensures.ok i))
-      ∙ fields_next c.self.inside.bytes.items c.args.name.now c.in-Ok.ensures.0 c.args.never_indexed c.self.inside.places.items c.in-Ok.place c.self.invariant c.in-Ok.ensures.3
-      ∙ ap (λ (l : List Field). l ++ (record { name = c.args.name.now; value = c.in-Ok.ensures.0; never_indexed = c.args.never_indexed }) ∷ []) c.self.view_is,
+  c.in_ok-place.ensures.0,
+  c.in_ok-place.ensures.1,
+  (λ i. fields_at (c.in_ok-place.ensures.2 i) (c.in_default.ensures.ok i))
+      ∙ fields_next c.self.inside.bytes.items c.args.name.now c.in_ok-place.ensures.0 c.args.never_indexed c.self.inside.places.items c.in_ok-place.place c.self.invariant c.in_ok-place.ensures.3
+      ∙ ap (λ (l : List Field). l ++ (record { name = c.args.name.now; value = c.in_ok-place.ensures.0; never_indexed = c.args.never_indexed }) ∷ []) c.self.view_is,
 )

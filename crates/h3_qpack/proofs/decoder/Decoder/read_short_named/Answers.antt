@@ -9,5 +9,5 @@ use Rattle.h3_qpack.proofs.decoder.Decoder.read_short_named.Goals as goal
 
 pub returns-clause-some : goal.returns-clause-some
 returns-clause-some c =
-    begins_insertion AtInteger c.args.self.now.table (short_named_insertion _) name_reference c.args.buf.now _ (Some c.in-Some.name) c.in-Some.name _ name_reference_less (instruction_named _ c.requires.some c.requires.own) refl
-    (rw (c.new-ahead.ensures, c.chunk.ensures) at c.in-Some.ensures.some) (named_inserts _ c.in-Some.name) (rw c.as_slice.ensures at c.in-Some-short_named.ensures.names) c.in-Some-short_named.ensures.plain
+    begins_insertion AtInteger c.args.self.now.table (short_named_insertion _) name_reference c.args.buf.now _ (Some c.in_ok-name.name) c.in_ok-name.name _ name_reference_less (instruction_named _ c.requires.some c.requires.own) refl
+    (rw (c.new-ahead.ensures, c.chunk.ensures) at c.in_ok-name.ensures.some) (named_inserts _ c.in_ok-name.name) (rw c.as_slice.ensures at c.in_ok-field.ensures.names) c.in_ok-field.ensures.plain

@@ -1,4 +1,5 @@
 use Rattle.std.proofs.Common.{[], ◌∷◌, ◌++◌, refl, ap, ◌∙◌}
+use Rattle.std.proofs.lemmas.Result.{err_from_is_err_and}
 use Rattle.h3_qpack.specs.Sizes.{counted_on}
 use Rattle.h3_qpack.proofs.FieldsIn.{none_read, one_read, all_read, bad_read, one_kept, line_asks}
 use Rattle.h3_qpack.specs.ReasonLaws.{reason_with_map}
@@ -11,10 +12,10 @@ lines-init c = ([], none_read _ _ _, refl, λ asks. asks)
 pub lines-preserved : goal.lines-preserved
 lines-preserved c =
     let seen = c.lines.invariant in (
-      seen.0 ++ c.in-Ok.line ∷ [],
-      one_read _ _ _ seen.0 c.in-Ok.line _ _ seen.1 c.in-Ok.ensures,
-      c.in-Ok-add.ensures ∙ ap (λ n. counted_on c.args.name.now n c.in-Ok.line) seen.2 ∙ counted_more c.args.name.now seen.0 c.in-Ok.line,
-      λ asks. one_kept _ _ _ _ _ _ seen.3 c.in-Ok.ensures,
+      seen.0 ++ c.in_ok-line.line ∷ [],
+      one_read _ _ _ seen.0 c.in_ok-line.line _ _ seen.1 c.in_ok-line.ensures,
+      c.in_ok-add.ensures ∙ ap (λ n. counted_on c.args.name.now n c.in_ok-line.line) seen.2 ∙ counted_more c.args.name.now seen.0 c.in_ok-line.line,
+      λ asks. one_kept _ _ _ _ _ _ seen.3 c.in_ok-line.ensures,
     )
 
 pub returns-clause-ok : goal.returns-clause-ok
@@ -23,13 +24,18 @@ returns-clause-ok c =
     let all = all_read _ _ _ seen.0 _ seen.1 (rw c.remaining.ensures at c.lines-test.false) in
     (seen.0, all.0, seen.2, all.1)
 
-pub returns-in-Err-clause-err : goal.returns-in-Err-clause-err
-returns-in-Err-clause-err c =
+pub returns-in_err-line-clause-err : goal.returns-in_err-line-clause-err
+returns-in_err-line-clause-err c =
     let seen = c.lines.invariant in
-    reason_with_map _ _ _ _ c.in-Err.e (λ m. tt) (λ none. bad_read _ _ _ seen.0 _ seen.1 (rw c.remaining.ensures at c.lines-test.true) none) c.in-Err.ensures
+    let p = err_from_is_err_and c.from_residual.result c.from_residual.ensures.1 in
+    rw (p.1, p.2) (reason_with_map _ _ _ _ _ (λ m. tt) (λ none. bad_read _ _ _ seen.0 _ seen.1 (rw c.remaining.ensures at c.lines-test.true) none) c.in_err-line.ensures)
 
-pub returns-in-Err-clause-memory : goal.returns-in-Err-clause-memory
-returns-in-Err-clause-memory c = line_asks _ _ _ _ c.in-Err.e c.lines.invariant.3 c.in-Err.ensures
+pub returns-in_err-line-clause-memory : goal.returns-in_err-line-clause-memory
+returns-in_err-line-clause-memory c =
+    let p = err_from_is_err_and c.from_residual.result c.from_residual.ensures.1 in
+    rw (p.1, p.2) (line_asks _ _ _ _ _ c.lines.invariant.3 c.in_err-line.ensures)
 
-pub returns-in_default-clause-memory : goal.returns-in_default-clause-memory
-returns-in_default-clause-memory c = λ same. one_kept _ _ _ _ _ _ c.lines.invariant.3 c.in-Ok.ensures
+pub returns-in_err-add-clause-memory : goal.returns-in_err-add-clause-memory
+returns-in_err-add-clause-memory c =
+    let p = err_from_is_err_and c.from_residual-in_err-add.result c.from_residual-in_err-add.ensures.1 in
+    rw (p.1, p.2) λ same. one_kept _ _ _ _ _ _ c.lines.invariant.3 c.in_ok-line.ensures

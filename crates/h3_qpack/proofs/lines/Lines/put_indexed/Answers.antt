@@ -1,3 +1,4 @@
+use Rattle.std.proofs.lemmas.Result.{err_from_is_err_and}
 use Rattle.h3_field.specs.ShapeAnswer.{AtInteger}
 use Rattle.h3_field.specs.LineReading.{indexed}
 use Rattle.h3_field.specs.LineAnswer.{indexed_line}
@@ -7,30 +8,33 @@ use Rattle.h3_field.specs.StaticTableLaws.{static_none}
 use Rattle.h3_qpack.proofs.LinesAt.{begins_with, begins_with_none, refused_line, puts, puts_none}
 use Rattle.h3_qpack.proofs.lines.Lines.put_indexed.Goals as goal
 
-pub returns-in-Ok : goal.returns-in-Ok
-returns-in-Ok c =
-    puts _ _ _ _ _ _ c.in-Ok.field c.put.result
-    (begins_with AtInteger c.args.self.now.table c.args.self.now.base indexed_line indexed _ _ _ _ indexed_less (line_indexed _ c.requires.some c.requires.own) (c.in-Ok-Static.ensures.own c.requires.own)
-    (rw c.in-Ok-Static.field-0-is c.in-Ok.ensures))
+pub returns-in_ok-field-in-Static : goal.returns-in_ok-field-in-Static
+returns-in_ok-field-in-Static c =
+    puts _ _ _ _ _ _ c.in_ok-field-in-Static.field c.put.result
+    (begins_with AtInteger c.args.self.now.table c.args.self.now.base indexed_line indexed _ _ _ _ indexed_less (line_indexed _ c.requires.some c.requires.own) (c.in_ok-index.ensures.own c.requires.own)
+    (rw c.in-Static.is c.in_ok-field-in-Static.ensures))
     (rw c.of.ensures at c.put.ensures.ok) c.put.ensures.err
 
-pub returns-in-Err-get : goal.returns-in-Err-get
-returns-in-Err-get c =
-    begins_with_none AtInteger c.args.self.now.table c.args.self.now.base indexed_line _ _ _ _ (line_indexed _ c.requires.some c.requires.own) (c.in-Ok-Static.ensures.own c.requires.own)
-    (rw c.in-Ok-Static.field-0-is (static_none c.in-Ok-Static.index c.in-Err-get.ensures.1))
+pub returns-in_err-field-in-Static : goal.returns-in_err-field-in-Static
+returns-in_err-field-in-Static c =
+    let p = err_from_is_err_and c.from_residual-in_err-field-in-Static.result c.from_residual-in_err-field-in-Static.ensures.1 in
+    rw (p.1, p.2) (begins_with_none AtInteger c.args.self.now.table c.args.self.now.base indexed_line _ _ _ _ (line_indexed _ c.requires.some c.requires.own) (c.in_ok-index.ensures.own c.requires.own)
+    (rw c.in-Static.is (static_none c.in-Static.index c.in_err-field-in-Static.ensures.1)))
 
-pub returns-in-Ok-relative : goal.returns-in-Ok-relative
-returns-in-Ok-relative c =
-    puts _ _ _ _ _ _ c.in-Ok-relative.entry c.put-in-Ok-relative.result
-    (begins_with AtInteger c.args.self.now.table c.args.self.now.base indexed_line indexed _ _ _ _ indexed_less (line_indexed _ c.requires.some c.requires.own) (c.in-Ok-Dynamic.ensures.own c.requires.own)
-    (rw c.in-Ok-Dynamic.field-0-is c.in-Ok-relative.ensures))
-    (rw c.lent.ensures at c.put-in-Ok-relative.ensures.ok) c.put-in-Ok-relative.ensures.err
+pub returns-in_ok-entry-in-Dynamic : goal.returns-in_ok-entry-in-Dynamic
+returns-in_ok-entry-in-Dynamic c =
+    puts _ _ _ _ _ _ c.in_ok-entry-in-Dynamic.entry c.put-in-Dynamic.result
+    (begins_with AtInteger c.args.self.now.table c.args.self.now.base indexed_line indexed _ _ _ _ indexed_less (line_indexed _ c.requires.some c.requires.own) (c.in_ok-index.ensures.own c.requires.own)
+    (rw c.in-Dynamic.is c.in_ok-entry-in-Dynamic.ensures))
+    (rw c.lent.ensures at c.put-in-Dynamic.ensures.ok) c.put-in-Dynamic.ensures.err
 
-pub returns-in-Err-relative : goal.returns-in-Err-relative
-returns-in-Err-relative c =
-    rw c.in-Err-relative.ensures.1 (begins_with_none AtInteger c.args.self.now.table c.args.self.now.base indexed_line _ _ _ _ (line_indexed _ c.requires.some c.requires.own) (c.in-Ok-Dynamic.ensures.own c.requires.own)
-    (rw c.in-Ok-Dynamic.field-0-is c.in-Err-relative.ensures.0))
+pub returns-in_err-entry-in-Dynamic : goal.returns-in_err-entry-in-Dynamic
+returns-in_err-entry-in-Dynamic c =
+    let p = err_from_is_err_and c.from_residual-in_err-entry-in-Dynamic.result c.from_residual-in_err-entry-in-Dynamic.ensures.1 in
+    rw (p.1, p.2, c.in_err-entry-in-Dynamic.ensures.1) (begins_with_none AtInteger c.args.self.now.table c.args.self.now.base indexed_line _ _ _ _ (line_indexed _ c.requires.some c.requires.own) (c.in_ok-index.ensures.own c.requires.own)
+    (rw c.in-Dynamic.is c.in_err-entry-in-Dynamic.ensures.0))
 
-pub returns-in-Err : goal.returns-in-Err
-returns-in-Err c =
-    rw c.from.ensures (puts_none _ _ _ _ (refused_line AtInteger c.args.self.now.table c.args.self.now.base indexed_line _ _ _ c.in-Err.e (line_indexed _ c.requires.some c.requires.own) (c.in-Err.ensures.own c.requires.own)))
+pub returns-in_err-index : goal.returns-in_err-index
+returns-in_err-index c =
+    let p = err_from_is_err_and c.from_residual.result c.from_residual.ensures.1 in
+    rw (p.1, p.2) (puts_none _ _ _ _ (refused_line AtInteger c.args.self.now.table c.args.self.now.base indexed_line _ _ _ _ (line_indexed _ c.requires.some c.requires.own) (c.in_err-index.ensures.own c.requires.own)))

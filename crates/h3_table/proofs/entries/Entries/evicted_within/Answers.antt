@@ -14,10 +14,10 @@ returns-then-evicted-evictions-clause-none c =
       evicted_further c.self.inside.fields.fields c.self.inside.inserted c.args.room c.loop-sum.evictions c.self.invariant.made i.inside i.same (omega (arith, i.sum_is, c.loop-sum-test.true)),
     ))
 
-pub returns-in_default-clause-none : goal.returns-in_default-clause-none
-returns-in_default-clause-none c =
+pub returns-in_err-entry-clause-none : goal.returns-in_err-entry-clause-none
+returns-in_err-entry-clause-none c =
     let i = c.loop-sum.invariant.0 in
-    let nothing = drop_of_length-le c.self.inside.fields.fields {i = c.loop-sum.evictions} c.in_default.ensures.none in
+    let nothing = drop_of_length-le c.self.inside.fields.fields {i = c.loop-sum.evictions} c.in_err-entry.ensures.none in
     absurd (omega (arith, i.sum_is, ap section_size nothing, c.loop-sum-test.true))
 
 pub returns-clause-some : goal.returns-clause-some

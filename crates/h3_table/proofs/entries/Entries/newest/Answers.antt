@@ -47,8 +47,8 @@ pub returns-then-is_met-clause-value : goal.returns-then-is_met-clause-value
 returns-then-is_met-clause-value c =
     let i = c.loop-number.invariant in
     let p = place_is c.args.self.now c.self.inside.capacity c.self.inside.inserted c.len.result c.args.above c.loop-number.number c.self.inside.fields.fields c.self.view_is c.len.ensures c.requires.above c.loop-number-test.true i.below in
-    let e = entry_is c.args.self.now c.self.inside.capacity c.self.inside.inserted _ c.self.inside.fields.fields _ c.in-Some.entry c.self.view_is c.slices-fields.ensures p.inside c.in-Some.ensures.lookup in
-    sym (is_found c.args.self.now c.args.what c.args.field.now c.args.above c.args.most c.loop-number.number _ c.in-Some.entry i p.at e c.loop-number-test.true c.if-number-most.true (told_of c.args.what c.args.field.now c.in-Some.entry _ _ _ _ _ c.name-name.ensures c.value-value.ensures c.is_never_indexed-never_indexed.ensures c.is_met.ensures c.if-is_met.true))
+    let e = entry_is c.args.self.now c.self.inside.capacity c.self.inside.inserted _ c.self.inside.fields.fields _ c.in_ok-entry.entry c.self.view_is c.slices-fields.ensures p.inside c.in_ok-entry.ensures.lookup in
+    sym (is_found c.args.self.now c.args.what c.args.field.now c.args.above c.args.most c.loop-number.number _ c.in_ok-entry.entry i p.at e c.loop-number-test.true c.if-number-most.true (told_of c.args.what c.args.field.now c.in_ok-entry.entry _ _ _ _ _ c.name-name.ensures c.value-value.ensures c.is_never_indexed-never_indexed.ensures c.is_met.ensures c.if-is_met.true))
 
 pub loop-number-smaller : goal.loop-number-smaller
 loop-number-smaller c =
@@ -62,14 +62,14 @@ pub loop-number-preserved : goal.loop-number-preserved
 loop-number-preserved c =
     let i = c.loop-number.invariant in
     let p = place_is c.args.self.now c.self.inside.capacity c.self.inside.inserted c.len.result c.args.above c.loop-number.number c.self.inside.fields.fields c.self.view_is c.len.ensures c.requires.above c.loop-number-test.true i.below in
-    let e = entry_is c.args.self.now c.self.inside.capacity c.self.inside.inserted _ c.self.inside.fields.fields _ c.in-Some.entry c.self.view_is c.slices-fields.ensures p.inside c.in-Some.ensures.lookup in
+    let e = entry_is c.args.self.now c.self.inside.capacity c.self.inside.inserted _ c.self.inside.fields.fields _ c.in_ok-entry.entry c.self.view_is c.slices-fields.ensures p.inside c.in_ok-entry.ensures.lookup in
     let test = matches c.args.what c.args.field.now in
-    let fails : in_range test c.args.above c.args.most c.loop-number.number c.in-Some.entry ≡ false =
+    let fails : in_range test c.args.above c.args.most c.loop-number.number c.in_ok-entry.entry ≡ false =
     elim c.else-number-most.branch [
-      | else-number-most-via-then-number-most+else-is_met w ↦ unmet test c.args.above c.args.most c.loop-number.number c.in-Some.entry (told_of c.args.what c.args.field.now c.in-Some.entry _ _ _ _ _ c.name-name.ensures c.value-value.ensures c.is_never_indexed-never_indexed.ensures w.is_met.ensures w.if-is_met.false)
-      | else-number-most-via-else-number-most w ↦ outside test c.args.above c.args.most c.loop-number.number c.in-Some.entry w.if-number-most.false
+      | else-number-most-via-then-number-most+else-is_met w ↦ unmet test c.args.above c.args.most c.loop-number.number c.in_ok-entry.entry (told_of c.args.what c.args.field.now c.in_ok-entry.entry _ _ _ _ _ c.name-name.ensures c.value-value.ensures c.is_never_indexed-never_indexed.ensures w.is_met.ensures w.if-is_met.false)
+      | else-number-most-via-else-number-most w ↦ outside test c.args.above c.args.most c.loop-number.number c.in_ok-entry.entry w.if-number-most.false
     ] in
-    rw (c.older-number.ensures, c.links-links.ensures) (stands_next c.args.self.now c.args.index.now c.args.what c.args.field.now c.args.above c.args.most c.loop-number.number _ c.in-Some.entry c.requires.indexed i p.at e fails)
+    rw (c.older-number.ensures, c.links-links.ensures) (stands_next c.args.self.now c.args.index.now c.args.what c.args.field.now c.args.above c.args.most c.loop-number.number _ c.in_ok-entry.entry c.requires.indexed i p.at e fails)
 
 pub returns-clause-value : goal.returns-clause-value
 returns-clause-value c = sym (is_nowhere c.args.self.now c.args.what c.args.field.now c.args.above c.args.most c.loop-number.number c.loop-number.invariant (omega arith))
