@@ -1,6 +1,6 @@
 -- What the exports promise: the contract of the call that each makes, of the endpoint that the handle owned and the one that the handle
 -- for the next call owns, with the numbers that C gets.
-use Rattle.std.specs.Prelude.{◌≡◌, ◌≢◌, ◌⊎◌, ◌<◌, ◌≤◌, ◌^◌, ◌+◌, ◌++◌, ◌==◌, ◌&&◌, ℕ, true, false, List, [], length, take, drop, min, Option, Some, None, Result, Ok, Err}
+use Rattle.std.specs.Prelude.{◌≡◌, ◌≢◌, ◌⊎◌, ◌<◌, ◌≤◌, ◌^◌, ◌+◌, ◌++◌, ◌==◌, ◌&&◌, ℕ, true, false, List, [], length, take, drop, min, Option, Some, None, IsSome, Result, Ok, Err}
 use Rattle.h3_field.specs.Field.{Field}
 use Rattle.h3_connection.specs.Endpoint.{EndpointHistory, bytes_waiting}
 use Rattle.h3_connection.specs.Shown.{is_finished}
@@ -22,11 +22,12 @@ use Rattle.h3_c.specs.Numbers.{ok, none, room, argument, memory, rejected, Tells
 use Rattle.h3_c.specs.Seen.{Seen}
 use Rattle.h3_c.specs.Bits.{bit}
 
--- From what the handle owned to what the handle for the next call owns. Such a call leaves sessions of WebTransport as they are.
+-- The handle for the next call owns a connection, and from what the handle owned to that the call does so. Such a call leaves sessions of
+-- WebTransport as they are.
 abbrev pub Steps : Option Seen → Option Seen → (Seen → Seen → Type 0) → Type 0
-Steps before after goes = (v w : Seen) → before ≡ Some v → after ≡ Some w → goes v w × (w.sessions ≡ v.sessions)
+Steps before after goes = IsSome after × ((v w : Seen) → before ≡ Some v → after ≡ Some w → goes v w × (w.sessions ≡ v.sessions))
 
--- The same of a call that sessions answer, where they are off,
+-- What a call does that sessions answer, where they are off,
 abbrev pub StepsAlone : Option Seen → Option Seen → (Seen → Seen → Type 0) → Type 0
 StepsAlone before after goes = (v w : Seen) → before ≡ Some v → after ≡ Some w → v.sessions.is_on ≡ false → goes v w × (w.sessions ≡ v.sessions)
 

@@ -189,10 +189,7 @@ fn least_for(announced: u64) -> u64
 fn number_or(numbers: &[u64], at: usize, default: u64) -> u64
     ensures { result ≡ unwrap_or (slice_get numbers.now at) default }
 {
-    match numbers.get(at) {
-        Some(number) => *number,
-        None => default,
-    }
+    numbers.get(at).copied().unwrap_or(default)
 }
 
 pub(crate) fn side_of(given: &GivenConfig) -> Side

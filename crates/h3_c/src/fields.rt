@@ -82,10 +82,7 @@ fn make_room(fields: &mut Vec<HeaderField>, count: usize) -> Result<(), AllocErr
     if count <= fields.capacity() {
         return Ok(());
     }
-    match fields.reserve(count) {
-        Ok(()) => Ok(()),
-        Err(_) => Err(AllocError),
-    }
+    fields.reserve(count)
 }
 
 // Whether the sizes are those of all bytes.

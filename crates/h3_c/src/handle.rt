@@ -6,6 +6,7 @@ ghost use Rattle.std.specs.Prelude.{◌≡◌, IsSome, Option, Some};
 
 use crate::connection::Connection;
 use crate::loose::Loose;
+use crate::numbers::Told;
 use std::alloc::Global;
 use std::marker::Model;
 
@@ -55,4 +56,20 @@ pub(crate) fn opened(alloc: Global, handle: Handle) -> Box<Connection>
     ensures { Some result.value ≡ handle.value }
 {
     Loose::into_box(open(alloc, handle))
+}
+
+/// A call is done: C gets the handle of its connection again, and what the call told.
+pub(crate) fn answered(
+    connection: Box<Connection>,
+    told: Told,
+    detail: &mut u64,
+    out: &mut Handle,
+) -> u32
+    ensures kept { out.new.value ≡ Some connection.value }
+    ensures number { result ≡ told.number }
+    ensures detail { detail.new ≡ told.detail }
+{
+    *out = kept(connection);
+    *detail = told.detail;
+    told.number
 }

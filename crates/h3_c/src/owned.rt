@@ -14,8 +14,5 @@ pub(crate) fn put<T: Drop>(place: &mut T, value: T)
 pub(crate) fn boxed<T: Drop>(alloc: Global, value: T) -> Result<Box<T>, AllocError>
     ensures { IfOk result (λ b. b.value ≡ value) }
 {
-    match Box::new(alloc, value) {
-        Ok(made) => Ok(made),
-        Err(_) => Err(AllocError),
-    }
+    Ok(Box::new(alloc, value)?)
 }

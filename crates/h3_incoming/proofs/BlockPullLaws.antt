@@ -32,10 +32,6 @@ listed_of kind.Interim fields = refl
 listed_of kind.Head fields = refl
 listed_of kind.Trailer fields = refl
 
-pub is_this : (listed : Option (List Field)) (fields : List Field) → listed ≡ Some fields → IfSome listed (λ l. l ≡ fields)
-is_this (Some l) fields is = cc
-is_this None fields is = absurd (cc)
-
 -- the status of a list that reads as a head of this outline
 pub status_is : (any : Bool) (fields : List Field) (o : Outline) → ((fs : List Field) (h : Head) → head_by any fs ≡ IsHead h → IsHeadOf any fs h) → IsOutlined (head_by any fields) o → o.status ≡ (head_of_fields fields).status
 status_is any fields o law is =

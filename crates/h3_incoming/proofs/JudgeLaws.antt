@@ -1,14 +1,13 @@
 -- What a field section is at its place.
 use Rattle.std.proofs.Common.{◌≡◌, ℕ, ◌<◌, ◌≤◌, false, nat_lt, if◌then◌else◌, List, refl, ap, sym, ◌∙◌, subst}
 use Rattle.std.proofs.lemmas.Bool.{lt-ltb, le-ltb}
-use Rattle.std.specs.Prelude.{Option, Some, None, IfSome, option_map, Result, Ok, Err, IfOk, codes, Bool}
+use Rattle.std.specs.Prelude.{Option, Some, None, IfSome, option_map, codes, Bool}
 use Rattle.h3_field.specs.Field.{Field}
 use Rattle.h3_field.specs.Instruction.{DecoderInstruction}
 use Rattle.h3_qpack.specs.DecoderState.{DecoderState}
 use Rattle.h3_header.specs.Head.{Head}
-use Rattle.h3_header.specs.HeadRead.{HeadRead, HeadRefusal, IsHead, IsNone, head_by}
+use Rattle.h3_header.specs.HeadRead.{HeadRefusal, IsHead, IsNone, head_by}
 use Rattle.h3_proto.specs.declared.stream.Side.{Side}
-use Rattle.h3_connection.specs.declared.event.Item.{Item}
 use Rattle.h3_connection.specs.declared.event.Item.TheVariants as item
 use Rattle.h3_connection.specs.declared.event.Malformation.{Malformation}
 use Rattle.h3_connection.specs.declared.event.Pull.{Pull}
@@ -27,26 +26,18 @@ use Rattle.h3_qpack.specs.declared.block_within.BlockWithin.TheVariants as withi
 use Rattle.h3_qpack.specs.declared.block_within.SectionSummary.{SectionSummary}
 use Rattle.h3_incoming.specs.declared.judge.Judged.{Judged}
 use Rattle.h3_incoming.specs.declared.judge.Judged.TheVariants as judge
-use Rattle.h3_incoming.specs.Judging.{HasList, judged_as}
+use Rattle.h3_incoming.specs.Judging.{judged_as}
 use Rattle.h3_connection.specs.Pulling.{Pulled, is_memory, malformation_of, malformed, next_place, head_or_trailer, judged, with_content, read_section, decoded, at_section}
 
 -- what is said of the fields that are kept is said of the section
-pub judged_within : {E : Type 0} (result : Result Judged E) (side : Side) (own : Announced) (place : Place) (content : Content) (known : Option Content) (answer : Pull) (block : List Field) (d : SectionSummary) (w : BlockWithin) → w ≡ within.Fields d
-    → IfOk result (λ j. (id : ℕ) (r : DecoderState) (i : Incoming) (replies : List DecoderInstruction) → told_size block ≤ section_of own → i.place ≡ place → i.content ≡ content → i.response ≡ known
+pub judged_within : (j : Judged) (side : Side) (own : Announced) (place : Place) (content : Content) (known : Option Content) (answer : Pull) (block : List Field) (d : SectionSummary) (w : BlockWithin) → w ≡ within.Fields d
+    → ((id : ℕ) (r : DecoderState) (i : Incoming) (replies : List DecoderInstruction) → told_size block ≤ section_of own → i.place ≡ place → i.content ≡ content → i.response ≡ known
     → read_section side own id r i replies block ≡ judged_as id i replies answer j)
-    → IfOk result (λ j. (id : ℕ) (r : DecoderState) (i : Incoming) (replies : List DecoderInstruction) (dyn_ref : Bool) (fields : List Field)
-    → IsBlockWithin (section_of own) (codes ":status") dyn_ref fields w block → i.place ≡ place → i.content ≡ content → i.response ≡ known → read_section side own id r i replies fields ≡ judged_as id i replies answer j)
-judged_within (Err e) side own place left known answer block d w is h = h
-judged_within (Ok j) side own place before known answer block d w is h = λ id r i replies dyn_ref fields k at left told.
+    → (id : ℕ) (r : DecoderState) (i : Incoming) (replies : List DecoderInstruction) (dyn_ref : Bool) (fields : List Field)
+    → IsBlockWithin (section_of own) (codes ":status") dyn_ref fields w block → i.place ≡ place → i.content ≡ content → i.response ≡ known → read_section side own id r i replies fields ≡ judged_as id i replies answer j
+judged_within j side own place before known answer block d w is h id r i replies dyn_ref fields k at left told =
     let size = subst (λ x. IsBlockWithin (section_of own) (codes ":status") dyn_ref fields x block) is k in
     subst (λ fs. read_section side own id r i replies fs ≡ judged_as id i replies answer j) size.1 (h id r i replies (subst (λ fs. told_size fs ≤ section_of own) (sym size.1) size.0) at left told)
-
-pub listed_within : {E : Type 0} (result : Result Judged E) (limit : ℕ) (listed : Option (List Field)) (block : List Field) (d : SectionSummary) (w : BlockWithin) → w ≡ within.Fields d
-    → IfOk result (λ j. HasList j listed block) → IfOk result (λ j. (dyn_ref : Bool) (fields : List Field) → IsBlockWithin limit (codes ":status") dyn_ref fields w block → HasList j listed fields)
-listed_within (Err e) limit listed block d w is h = h
-listed_within (Ok j) limit listed block d w is h = λ dyn_ref fields k.
-    let size = subst (λ x. IsBlockWithin limit (codes ":status") dyn_ref fields x block) is k in
-    subst (HasList j listed) size.1 h
 
 -- what is made of it overwrites the content
 pub judged_behind : (id : ℕ) (i : Incoming) (content : Content) (known : Option Content) (replies : List DecoderInstruction) (answer : Pull) (j : Judged) → judged_as id (record i { content = content; response = known }) replies answer j ≡ judged_as id i replies answer j
@@ -61,10 +52,6 @@ malformed_by None m is P given = absurd (cc)
 pub no_refusal : (o : Option HeadRefusal) → None ≡ option_map malformation_of o → o ≡ None
 no_refusal (Some why) is = absurd (cc)
 no_refusal None is = refl
-
--- a list has one head
-pub one_head : (r : HeadRead) (header h : Head) → r ≡ IsHead header → r ≡ IsHead h → header ≡ h
-one_head r header h is other = cc
 
 module _ (side : Side) (own : Announced) (id : ℕ) (r : DecoderState) where
   -- a section that is too large

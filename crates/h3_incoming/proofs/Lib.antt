@@ -3,8 +3,11 @@ pub mod PulledFrame
 pub mod PullLaws
 pub mod ResumeLaws
 pub mod JudgeLaws
+pub mod ReceivedLaws
 pub mod ListLaws
 pub mod NextFrame
 pub mod BlockPullLaws
 pub mod SomePieces
 pub mod BodyPieces
+pub mod HeaderLaws
+pub mod LookLaws

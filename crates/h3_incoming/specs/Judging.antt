@@ -1,13 +1,12 @@
 -- What a decoded field section is at its place.
-use Rattle.std.specs.Prelude.{◌≡◌, ℕ, Bool, false, List, Option, IfSome}
-use Rattle.h3_field.specs.Field.{Field}
+use Rattle.std.specs.Prelude.{ℕ, Bool, List}
 use Rattle.h3_field.specs.Instruction.{DecoderInstruction}
 use Rattle.h3_messages.specs.Outline.{is_request_outline, is_response_outline}
 use Rattle.h3_messages.specs.declared.outline.Outline.{Outline}
 use Rattle.h3_proto.specs.declared.stream.Side.{Side}
 use Rattle.h3_proto.specs.declared.stream.Side.TheVariants.{Client, Server}
 use Rattle.h3_connection.specs.Incoming.{Incoming}
-use Rattle.h3_connection.specs.Pulling.{Pulled, is_memory, malformed}
+use Rattle.h3_connection.specs.Pulling.{Pulled, malformed}
 use Rattle.h3_connection.specs.declared.event.Pull.{Pull}
 use Rattle.h3_incoming.specs.declared.judge.Judged.{Judged}
 use Rattle.h3_incoming.specs.declared.judge.Judged.TheVariants as judged
@@ -17,16 +16,6 @@ abbrev pub judged_as : ℕ → Incoming → List DecoderInstruction → Pull →
 judged_as id i replies answer (judged.HandsOut place expected known) =
     record { answer = answer; incoming = record i { place = place; content = expected; response = known }; replies = replies }
 judged_as id i replies answer (judged.Malformed why known) = malformed id why (record i { response = known }) replies
-
--- What was written is an item, unless the section is malformed.
-abbrev pub HasItem : Judged → Pull → Type 0
-HasItem (judged.HandsOut place expected known) answer = is_memory answer ≡ false
-HasItem (judged.Malformed why known) answer = Unit {0}
-
--- What is kept of it as a list is this one.
-abbrev pub HasList : Judged → Option (List Field) → List Field → Type 0
-HasList (judged.HandsOut place expected known) listed fields = IfSome listed (λ l. l ≡ fields)
-HasList (judged.Malformed why known) listed fields = Unit {0}
 
 -- a side reads such heads: a client those of responses, and a server those of requests
 abbrev pub is_read_outline : Side → Outline → Bool

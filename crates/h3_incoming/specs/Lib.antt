@@ -8,6 +8,10 @@ pub mod Gives
 pub mod Resuming
 pub mod Beginning
 pub mod Answering
+pub mod Received
 pub mod BlockPulls
+pub mod HeaderSlots
+pub mod AnswerLaws
+pub mod Looking
 pub mod BodyPlaces
 pub mod SomePieces

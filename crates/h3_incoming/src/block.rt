@@ -1,18 +1,22 @@
 //! The answer of a pull whose header and trailer sections are the lists of fields that came, in a block of memory that serves again.
-ghost use Rattle.std.specs.Prelude.{◌≡◌, List, Option, IfSome};
+ghost use Rattle.std.specs.Prelude.{◌≡◌, List, [], Option, None, IfSome, false};
 ghost use Rattle.h3_field.specs.Field.{Field};
+ghost use Rattle.h3_header.specs.Reads.{head_of_fields};
 ghost use Rattle.h3_connection.specs.Lists.{list_of, pull_of};
+ghost use Rattle.h3_connection.specs.declared.lists.ListItem.TheVariants as listed;
 ghost use Rattle.h3_connection.specs.declared.lists.ListPull.TheVariants as answer;
-ghost use Rattle.h3_incoming.specs.Answering.{fault_told, plain_pull};
+ghost use Rattle.h3_incoming.specs.Answering.{fault_told, has_header, plain_pull};
 ghost use Rattle.h3_incoming.specs.BlockPulls.{fields_kept, listed_as, plain_answer, told_with, HasStatus};
+ghost use Rattle.h3_incoming.specs.HeaderSlots.{IsMadeOf};
 
-use crate::answer::{Answer, MessageKind, Plain};
-use h3_connection::event::Fault;
+use crate::answer::{MessageKind, Plain, item_of, plain_of, pull_of_plain};
+use crate::header_slot::HeaderSlot;
+use h3_connection::event::{Fault, Pull};
 use h3_connection::lists::{ListItem, ListPull};
 use h3_field::{FieldBlock, Fields};
-use h3_messages::Outline;
 use http::StatusCode;
-use std::alloc::{AllocError, Global};
+use std::alloc::Global;
+use std::boxed::Box;
 use std::marker::Model;
 use std::mem;
 
@@ -77,6 +81,22 @@ impl BlockPull {
         self.block.fields()
     }
 
+    /// The answer, with the header that was made of its list in the place of the list.
+    pub fn with_header(self, header: HeaderSlot) -> Pull
+        requires { IsMadeOf header (list_of self) }
+        ensures { result ≡ pull_of self }
+    {
+        let BlockPull { told, block } = self;
+        drop(block);
+        match told {
+            Told::Message(kind, _) => match header {
+                HeaderSlot::Made(header) => Pull::Item(item_of(kind, Box::into_inner(header))),
+                HeaderSlot::Unasked | HeaderSlot::Asked => unreachable!(),
+            },
+            Told::Plain(plain) => pull_of_plain(plain),
+        }
+    }
+
     /// The answer, with its block as the list of a header or trailer section. Nothing is copied.
     pub fn into_pull(self) -> ListPull
         ensures { result ≡ self }
@@ -87,47 +107,95 @@ impl BlockPull {
             Told::Plain(plain) => of_plain(plain),
         }
     }
-}
 
-impl Answer for BlockPull {
-    ghost told = { pull_of };
-
-    ghost listed = { list_of };
-
-    ghost asks = { λ any fields. ⊥ };
-
-    fn give(&mut self, answer: Plain) {
+    /// An answer with no header or trailer section takes the place of what was there.
+    pub fn give(&mut self, answer: Plain)
+        ensures { self.new ≡ plain_answer answer }
+    {
         self.told = Told::Plain(answer);
     }
 
-    #[inline(always)]
-    fn give_message(
+    /// There is this fault.
+    pub fn fail(&mut self, fault: Fault)
+        ensures { self.new ≡ answer.Fault fault }
+    {
+        self.give(Plain::Fault(fault));
+    }
+
+    /// The next item isn't there yet.
+    pub fn pause(&mut self)
+        ensures { self.new ≡ answer.Pending }
+    {
+        self.give(Plain::Pending);
+    }
+
+    /// The next header or trailer section needs so many insertions.
+    pub fn wait(&mut self, count: usize)
+        ensures { self.new ≡ answer.Waiting count }
+    {
+        self.give(Plain::Waiting(count));
+    }
+
+    /// The stream has ended, and all of it was returned.
+    pub fn end(&mut self)
+        ensures { self.new ≡ answer.Item listed.End }
+    {
+        self.give(Plain::End);
+    }
+
+    /// The stream has no messages for this side.
+    pub fn no_messages(&mut self)
+        ensures { self.new ≡ answer.NoMessages }
+    {
+        self.give(Plain::NoMessages);
+    }
+
+    /// An answer that was made elsewhere, if it has no `Header`. One that has becomes `Fault::Memory`.
+    pub fn give_made(&mut self, answer: Pull)
+        ensures is { has_header answer ≡ false → pull_of self.new ≡ answer }
+        ensures none { list_of self.new ≡ None }
+    {
+        self.give(plain_of(answer));
+    }
+
+    /// The answer is the header or trailer section of this kind that these fields are, with this status. It takes no memory.
+    pub(crate) fn give_message(
         &mut self,
-        _alloc: Global,
-        any_protocol: bool,
         kind: MessageKind,
-        outline: &Outline,
+        status: Option<StatusCode>,
         fields: FieldBlock,
-    ) -> Result<(), AllocError> {
-        h3_header::laws::lists_are_their_value();
-        self.told = Told::Message(kind, outline.status());
-        self.block = fields;
-        Ok(())
-    }
-
-    fn keep(&mut self, fields: FieldBlock) {
-        self.told = Told::Plain(Plain::Pending);
+    )
+        requires { status ≡ (head_of_fields fields).status }
+        ensures { self.new ≡ answer.Item (listed_as kind fields) }
+    {
+        self.told = Told::Message(kind, status);
         self.block = fields;
     }
 
-    fn room(&mut self, alloc: Global) -> FieldBlock {
+    /// An empty block for the fields of a section, with the memory of the last answer. Until the next answer is given, the item isn't
+    /// there yet.
+    pub(crate) fn room(&mut self, alloc: Global) -> FieldBlock
+        ensures is { self.new ≡ answer.Pending }
+        ensures room { result ≡ [] }
+    {
         self.told = Told::Plain(Plain::Pending);
         let mut block = mem::replace(&mut self.block, FieldBlock::new(alloc));
         block.clear();
         block
     }
 
-    fn fault(&self) -> Option<Fault> {
+    /// The memory of fields that are not returned serves again. Until the next answer is given, the item isn't there yet.
+    pub(crate) fn keep(&mut self, fields: FieldBlock)
+        ensures { self.new ≡ answer.Pending }
+    {
+        self.told = Told::Plain(Plain::Pending);
+        self.block = fields;
+    }
+
+    /// The fault that it tells.
+    pub fn fault(&self) -> Option<Fault>
+        ensures { result ≡ fault_told (pull_of self.now) }
+    {
         fault_of(&self.told)
     }
 }

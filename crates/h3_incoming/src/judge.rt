@@ -1,22 +1,25 @@
 //! What a decoded field section is at its place of a message (RFC 9114, sections 4.1 to 4.3).
-ghost use Rattle.std.specs.Prelude.{◌≡◌, ◌<◌, ◌≤◌, ◌⊎◌, ℕ, Bool, false, List, Some, None, IfOk, OnErr, length, option_map, codes};
+ghost use Rattle.std.specs.Prelude.{◌≡◌, ◌<◌, ◌≤◌, ℕ, Bool, List, false, Some, None, IfOk, IfSome, OnErr, length, option_map, codes};
 ghost use Rattle.h3_field.specs.Field.{Field};
 ghost use Rattle.h3_field.specs.Instruction.{DecoderInstruction};
 ghost use Rattle.h3_qpack.specs.DecoderState.{DecoderState};
 ghost use Rattle.h3_header.specs.BadPart.{IsHeadUnlessMany};
 ghost use Rattle.h3_header.specs.Head.{Head};
 ghost use Rattle.h3_connection.specs.Incoming.{Incoming};
+ghost use Rattle.h3_connection.specs.Lists.{list_of, pull_of};
 ghost use Rattle.h3_connection.specs.declared.event.Item.TheVariants as item;
 ghost use Rattle.h3_connection.specs.declared.event.Pull.TheVariants as pull;
 ghost use Rattle.h3_qpack.specs.Sizes.{IsLarge, IsBlockWithin, last_value, told_size};
 ghost use Rattle.h3_connection.specs.Announcing.{section_of};
 ghost use Rattle.h3_connection.specs.Pulling.{read_section, whole_head, whole_trailer, head_or_trailer, next_place, is_interim_text};
-ghost use Rattle.h3_connection.specs.Pulling.{is_client};
-ghost use Rattle.h3_incoming.specs.Answering.{message_at};
-ghost use Rattle.h3_incoming.specs.Judging.{HasItem, HasList, is_read_outline, judged_as};
+ghost use Rattle.h3_connection.specs.Pulling.{is_client, is_memory};
+ghost use Rattle.h3_incoming.specs.Answering.{Lists, message_at};
+ghost use Rattle.h3_incoming.specs.HeaderSlots.{ReadsAsHead};
+ghost use Rattle.h3_incoming.specs.Judging.{is_read_outline, judged_as};
 ghost use Rattle.h3_messages.specs.Outline.{outline_of};
 
-use crate::answer::{Answer, Plain, is_interim, kind_at};
+use crate::answer::{Plain, is_interim, kind_at};
+use crate::block::BlockPull;
 use crate::malformed::malformation_in;
 use crate::strict::{if_whole, large_content_at, read_at};
 use h3_connection::event::Malformation;
@@ -49,55 +52,23 @@ pub(crate) fn names_entries(decoded: &BlockWithin) -> bool
     }
 }
 
-/// What a decoded field section is at a place, whose fields stand in this block. The item that is returned of it is written to `out`. Of
-/// one whose fields sum to more than was announced, that item is its size alone.
-pub(crate) fn judge<O: Answer>(
-    alloc: Global,
-    side: Side,
-    announced: &Announced,
-    place: Place,
-    content: Content,
-    response: Option<Content>,
-    decoded: BlockWithin,
-    block: FieldBlock,
-    out: &mut O,
-) -> Result<Judged, AllocError>
-    ensures judged { IfOk result (λ j. (id : ℕ) (r : DecoderState) (i : Incoming) (replies : List DecoderInstruction) (dyn_ref : Bool)
-        (fields : List Field)
-        → IsBlockWithin (section_of announced.now) (codes ":status") dyn_ref fields decoded block → i.place ≡ place → i.content ≡ content
-        → i.response ≡ response → read_section side announced.now id r i replies fields ≡ judged_as id i replies (O.told out.new) j) }
-    ensures item { IfOk result (λ j. HasItem j (O.told out.new)) }
-    ensures list { IfOk result
-        (λ j. (dyn_ref : Bool) (fields : List Field)
-        → IsBlockWithin (section_of announced.now) (codes ":status") dyn_ref fields decoded block → HasList j (O.listed out.new) fields) }
-{
-    match decoded {
-        BlockWithin::Fields(_) => {
-            judge_fields(alloc, side, announced, place, content, response, block, out)
-        }
-        BlockWithin::TooLarge(large) => Ok(judge_large(
-            side, announced, place, content, response, large, out,
-        )),
-    }
-}
-
 // RFC 9114 4.2.2: size of a section, received
-// A section that is too large.
-fn judge_large<O: Answer>(
+/// A section that is too large, at this place. The item that is returned of it is its size alone.
+pub(crate) fn judge_large(
     side: Side,
     announced: &Announced,
     place: Place,
     content: Content,
     response: Option<Content>,
     large: LargeSection,
-    out: &mut O,
+    out: &mut BlockPull,
 ) -> Judged
     ensures judged { (id : ℕ) (r : DecoderState) (i : Incoming) (replies : List DecoderInstruction) (dyn_ref : Bool) (fields : List Field)
         → section_of announced.now < told_size fields → IsLarge (codes ":status") dyn_ref fields large → i.place ≡ place
         → i.content ≡ content → i.response ≡ response
-        → read_section side announced.now id r i replies fields ≡ judged_as id i replies (O.told out.new) result }
-    ensures item { HasItem result (O.told out.new) }
-    ensures none { (fields : List Field) → HasList result (O.listed out.new) fields }
+        → read_section side announced.now id r i replies fields ≡ judged_as id i replies (pull_of out.new) result }
+    ensures item { is_memory (pull_of out.new) ≡ false }
+    ensures none { list_of out.new ≡ None }
 {
     let expected = large_content_at(side, announced, place, content, &large.last_value);
     let behind = place_behind(side, place, large.last_value);
@@ -105,9 +76,9 @@ fn judge_large<O: Answer>(
     Judged::HandsOut(behind, expected, response)
 }
 
-// A section that is not too large. An allocation fails only for a list that takes memory to be read, or for which such an answer asks for
-// memory. It fails for no malformed list, unless that has more fields than a map has names for.
-fn judge_fields<O: Answer>(
+/// A section that is not too large, whose fields stand in this block, at this place. The item that is returned of it is written to `out`.
+/// An allocation fails only for a list that has more fields than a map has names for, and for no other malformed one.
+pub(crate) fn judge_fields(
     alloc: Global,
     side: Side,
     announced: &Announced,
@@ -115,17 +86,18 @@ fn judge_fields<O: Answer>(
     content: Content,
     response: Option<Content>,
     fields: FieldBlock,
-    out: &mut O,
+    out: &mut BlockPull,
 ) -> Result<Judged, AllocError>
     ensures judged { IfOk result (λ j. (id : ℕ) (r : DecoderState) (i : Incoming) (replies : List DecoderInstruction)
         → told_size fields ≤ section_of announced.now → i.place ≡ place → i.content ≡ content → i.response ≡ response
-        → read_section side announced.now id r i replies fields ≡ judged_as id i replies (O.told out.new) j) }
-    ensures item { IfOk result (λ j. HasItem j (O.told out.new)) }
-    ensures list { IfOk result (λ j. HasList j (O.listed out.new) fields) }
-    ensures memory { OnErr result ((24576 < length fields) ⊎ O.asks announced.now.choices.extensions.any_protocol fields) }
+        → read_section side announced.now id r i replies fields ≡ judged_as id i replies (pull_of out.new) j) }
+    ensures item { is_memory (pull_of out.new) ≡ false }
+    ensures list { Lists (list_of out.new) (Some fields) }
+    ensures reads { IfSome (list_of out.new) (ReadsAsHead announced.now.choices.extensions.any_protocol) }
+    ensures memory { OnErr result (24576 < length fields) }
     ensures good { OnErr result (IsHeadUnlessMany announced.now.choices.extensions.any_protocol fields) }
 {
-    let any_protocol = announced.choices.extensions.any_protocol;
+    h3_header::laws::lists_are_their_value();
     let read = read_at(alloc, side, announced, place, content, response, &fields);
     let strict = read.1;
     let outline = match read.0 {
@@ -150,10 +122,8 @@ fn judge_fields<O: Answer>(
     match judged {
         Judged::HandsOut(behind, content, response) => {
             let kind = kind_at(side, place, &outline);
-            match out.give_message(alloc, any_protocol, kind, &outline, fields) {
-                Ok(()) => Ok(Judged::HandsOut(behind, content, response)),
-                Err(e) => Err(e),
-            }
+            out.give_message(kind, outline.status(), fields);
+            Ok(Judged::HandsOut(behind, content, response))
         }
         Judged::Malformed(why, response) => {
             out.keep(fields);

@@ -5,6 +5,7 @@
 pub mod answer;
 pub mod block;
 pub mod body_place;
+pub mod header_slot;
 mod judge;
 pub mod malformed;
 mod replies;
@@ -12,7 +13,7 @@ mod section;
 pub mod stream;
 mod strict;
 
-pub use answer::Answer;
 pub use block::{BlockPull, Told};
 pub use body_place::BodyPlace;
+pub use header_slot::HeaderSlot;
 pub use stream::IncomingStream;

@@ -1,26 +1,26 @@
-//! Which rule of well-formed messages a field list breaks, and how much content follows it, if the endpoint asks for these rules (RFC 9114,
-//! sections 4.1.2 and 4.2 to 4.5).
-ghost use Rattle.std.specs.Prelude.{◌≡◌, option_map};
-ghost use Rattle.h3_connection.specs.StrictMessages.{broken_rule, malformation_by, violation_at, content_behind, content_behind_large};
-ghost use Rattle.h3_connection.specs.StrictMessages.{content_at, large_content_at, response_behind, response_at, if_whole};
+//! What a field section that came is at its place, and what is known after it: the rule of well-formed messages that it breaks, and how
+//! much content follows it, if the endpoint asks for these rules (RFC 9114, sections 4.1.2 and 4.2 to 4.5).
+ghost use Rattle.std.specs.Prelude.{◌≡◌, Ok, option_map};
+ghost use Rattle.h3_connection.specs.StrictMessages.{broken_rule, malformation_by, content_behind_large};
+ghost use Rattle.h3_connection.specs.StrictMessages.{content_at, large_content_at, response_at, if_whole};
+ghost use Rattle.h3_incoming.specs.Received.{IsContentBy, response_by, section_at};
 ghost use Rattle.h3_messages.specs.Outline.{IsListRead};
+ghost use Rattle.h3_messages.specs.declared.outline.Outline.{Outline};
 
 use h3_connection::event::Malformation;
 use h3_connection::place::Place;
 use h3_connection::setup::Announced;
 use h3_field::{FieldBlock, Fields};
-use h3_header::MOST_NAMES;
 use h3_messages::{
-    Content, ListError, Outline, Seen, Survey, Violation, read_list, request_by, response_by,
-    trailer_violation_by,
+    Content, Judgment, ListError, Outline, Rules, Said, Section, Violation, awaited_by, judge,
 };
 use h3_proto::stream::Side;
 use std::alloc::Global;
 
-/// What the rules of strict messages make of a field list at its place.
+/// What is known after a field section.
 #[derive(Clone, Copy)]
-pub(crate) struct StrictRead {
-    /// The rule that the list breaks.
+pub(crate) struct After {
+    /// The rule that its list breaks.
     pub(crate) broken: Option<Malformation>,
     /// The content after it.
     pub(crate) content: Content,
@@ -28,9 +28,8 @@ pub(crate) struct StrictRead {
     pub(crate) response: Option<Content>,
 }
 
-/// What the list in a block says at its place, and with which outline it reads as a header. In front of it such content was left, and this
-/// was known of the content of a response. If messages are strict, one walk tells all of it. If a field is malformed, or the list has more
-/// fields than a map has names for, other walks find what it says.
+/// Which outline the list in a block has at its place, and what is known after it. In front of it such content was left, and this was
+/// known of the content of a response. After a list that reads as no header only the latter counts.
 pub(crate) fn read_at(
     alloc: Global,
     side: Side,
@@ -39,91 +38,94 @@ pub(crate) fn read_at(
     content: Content,
     response: Option<Content>,
     block: &FieldBlock,
-) -> (Result<Outline, ListError>, StrictRead)
+) -> (Result<Outline, ListError>, After)
     ensures list { IsListRead announced.now.choices.extensions.any_protocol block.now result.0 }
-    ensures broken { result.1.broken ≡ broken_rule side announced.now place block.now }
-    ensures content { result.1.content ≡ content_at side announced.now place content block.now }
+    ensures broken { (o : Outline) → result.0 ≡ Ok o → result.1.broken ≡ broken_rule side announced.now place block.now }
+    ensures content { (o : Outline) → result.0 ≡ Ok o → result.1.content ≡ content_at side announced.now place content block.now }
     ensures response { result.1.response ≡ response_at side announced.now place response block.now }
 {
     let fields = block.fields();
-    let any_protocol = announced.choices.extensions.any_protocol;
-    if announced.choices.strict_messages && fields.len() <= MOST_NAMES {
-        let mut seen = Seen::new();
-        if let Ok(outline) = seen.take_good(&fields, any_protocol) {
-            let survey = Survey::of(&fields, &seen);
-            let strict = survey_at(side, announced, place, content, response, &survey);
-            return (Ok(outline), strict);
+    let rules = Rules {
+        is_sent: false,
+        strict_messages: announced.choices.strict_messages,
+        any_protocol: announced.choices.extensions.any_protocol,
+        extended_connect: announced.extended_connect(),
+    };
+    match judge(alloc, &fields, section_at(side, place), &rules) {
+        Ok(read) => (Ok(read.outline), after_section(content, response, &read)),
+        Err(e) => {
+            let response = response_unread(side, announced, place, response, &fields);
+            (
+                Err(e),
+                After {
+                    broken: None,
+                    content,
+                    response,
+                },
+            )
         }
     }
-    let strict = read_strictly(side, announced, place, content, response, &fields);
-    (read_list(alloc, &fields, any_protocol), strict)
 }
 
-// What the rules make of a list. An endpoint that asks for no strict messages looks at no field.
-fn read_strictly(
-    side: Side,
-    announced: &Announced,
-    place: Place,
-    content: Content,
-    response: Option<Content>,
-    fields: &Fields<'_>,
-) -> StrictRead
-    ensures broken { result.broken ≡ broken_rule side announced.now place fields.now }
-    ensures content { result.content ≡ content_at side announced.now place content fields.now }
-    ensures response { result.response ≡ response_at side announced.now place response fields.now }
-{
-    if !announced.choices.strict_messages {
-        return StrictRead {
-            broken: None,
-            content,
-            response,
-        };
-    }
-    let mut seen = Seen::new();
-    seen.take_all(fields);
-    let survey = Survey::of(fields, &seen);
-    survey_at(side, announced, place, content, response, &survey)
-}
-
-// What a list says at its place, over which the walk was made.
-#[inline(always)]
-fn survey_at(
-    side: Side,
-    announced: &Announced,
-    place: Place,
-    content: Content,
-    response: Option<Content>,
-    survey: &Survey<'_>,
-) -> StrictRead
-    ensures broken { result.broken ≡ option_map malformation_by (violation_at side announced.now place survey.now.fields.now) }
-    ensures content { result.content ≡ content_behind side place content survey.now.fields.now }
-    ensures response { result.response ≡ response_behind side place response survey.now.fields.now }
+// As which section a list is read: a client reads responses, and a server requests.
+fn section_at(side: Side, place: Place) -> Section
+    ensures { result ≡ section_at side place }
 {
     match place {
-        // a client reads responses, and a server requests
         Place::BeforeHead => match side {
-            Side::Client => {
-                let head = response_by(content, survey);
-                StrictRead {
-                    broken: told(head.violation),
-                    content: head.content,
-                    response,
-                }
-            }
-            Side::Server => {
-                let head = request_by(survey, announced.extended_connect());
-                StrictRead {
-                    broken: told(head.violation),
-                    content: head.content.until_answered(),
-                    response: Some(head.awaited),
-                }
-            }
+            Side::Client => Section::Response,
+            Side::Server => Section::Request,
         },
-        Place::InBody | Place::AfterTrailer | Place::InSession => StrictRead {
-            broken: told(trailer_violation_by(survey)),
+        Place::InBody | Place::AfterTrailer | Place::InSession => Section::Trailer,
+    }
+}
+
+// What is known after a section that was judged so.
+#[inline(always)]
+fn after_section(content: Content, response: Option<Content>, read: &Judgment) -> After
+    ensures broken { result.broken ≡ option_map malformation_by read.now.violation }
+    ensures content { IsContentBy content read.now.said result.content }
+    ensures response { result.response ≡ response_by response read.now.said }
+{
+    let broken = told(read.violation);
+    match read.said {
+        Said::Nothing => After {
+            broken,
             content,
             response,
         },
+        Said::Request(awaited, own) => After {
+            broken,
+            content: own.until_answered(),
+            response: Some(awaited),
+        },
+        Said::Response(said) => After {
+            broken,
+            content: said.behind(content),
+            response,
+        },
+    }
+}
+
+// What is known of the content of a response after a list that reads as no header.
+fn response_unread(
+    side: Side,
+    announced: &Announced,
+    place: Place,
+    response: Option<Content>,
+    fields: &Fields<'_>,
+) -> Option<Content>
+    ensures { result ≡ response_at side announced.now place response fields.now }
+{
+    if !announced.choices.strict_messages {
+        return response;
+    }
+    match place {
+        Place::BeforeHead => match side {
+            Side::Client => response,
+            Side::Server => Some(awaited_by(fields)),
+        },
+        Place::InBody | Place::AfterTrailer | Place::InSession => response,
     }
 }
 

@@ -4,7 +4,6 @@ use Rattle.h3_field.specs.Field.{Field}
 use Rattle.h3_header.specs.HeadRead.{is_name_at}
 use Rattle.h3_header.specs.Reads.{kind_of}
 use Rattle.h3_header.specs.declared.headers.kind.FieldKind.{FieldKind}
-use Rattle.h3_header.specs.declared.headers.kind.FieldKind.TheVariants as kind
 use Rattle.h3_messages.specs.Known.{candidate, known_at, known_of}
 use Rattle.h3_messages.specs.KindLaws.{by_kind, name_is_plain}
 use Rattle.h3_messages.specs.Messages.{is_pseudo}

@@ -1,4 +1,5 @@
 pub mod ContentRows
+pub mod HeldNames
 pub mod KindNames
 pub mod Names
 pub mod Outlines
@@ -6,7 +7,7 @@ pub mod OwnRows
 pub mod Pushes
 pub mod RequestRows
 pub mod ResponseRows
-pub mod Rules
+pub mod Rests
 pub mod Steps
 pub mod Surveys
 pub mod Written

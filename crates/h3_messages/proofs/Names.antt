@@ -190,10 +190,6 @@ both false b e h = e
 pub lone_by_length : (name : List ℕ) (size : ℕ) (k : Known) → length name ≡ size → list_all (λ j. not (eqb (length (text j)) size) || eqb (place j) (place k)) all ≡ true → cond (bytes_eq name (text k)) (Some k) None ≡ known_of name
 lone_by_length name size k is every = lone_known (λ n first third. eqb n size) name k (same_number (length name) size is) every
 
-pub lone_by_first : (name : List ℕ) (size head : ℕ) (k : Known) → length name ≡ size → slice_index name 0 ≡ head → list_all (λ j. not (eqb (length (text j)) size && eqb (slice_index (text j) 0) head) || eqb (place j) (place k)) all ≡ true → cond (bytes_eq name (text k)) (Some k) None ≡ known_of name
-lone_by_first name size head k is first every =
-    lone_known (λ n f t. eqb n size && eqb f head) name k (both _ _ (same_number (length name) size is) (same_number (slice_index name 0) head first)) every
-
 pub lone_by_third : (name : List ℕ) (size byte : ℕ) (k : Known) → length name ≡ size → slice_index name 2 ≡ byte → list_all (λ j. not (eqb (length (text j)) size && eqb (slice_index (text j) 2) byte) || eqb (place j) (place k)) all ≡ true → cond (bytes_eq name (text k)) (Some k) None ≡ known_of name
 lone_by_third name size byte k is third every =
     lone_known (λ n f t. eqb n size && eqb t byte) name k (both _ _ (same_number (length name) size is) (same_number (slice_index name 2) byte third)) every

@@ -60,7 +60,7 @@ seen_step fields f a b is takes = record {
       ∙ (ap (λ r. not (pseudo_first fields) || (is_pseudo f && r)) is.has_regular
       ∙ (out_of_order (pseudo_first fields) (is_pseudo f) (list_any (λ x. not (is_pseudo x)) fields)
       ∙ ap not (sym (order_push fields f)))));
-  has_unknown_pseudo = takes.has_unknown_pseudo ∙ (ap (λ u. u || is_unknown_pseudo f) is.has_unknown_pseudo ∙ sym (any_push is_unknown_pseudo fields f));
+  pseudo_are_known = any_push is_unknown_pseudo fields f ∙ ap (λ u. u || is_unknown_pseudo f) is.pseudo_are_known ∙ takes.pseudo_is_known;
   has_wrong_te =
       takes.has_wrong_te
       ∙ (ap (λ w. w || is_wrong_te f) is.has_wrong_te
@@ -106,13 +106,12 @@ te_named f its known old new e v is =
     ∙ (ap (λ has. old || (has && not (is_word (codes "trailers") its))) (ap (is_at 8) e ∙ sym (is_named f.name Te))
     ∙ ap (λ x. old || (has_name (codes "te") f && not (is_word (codes "trailers") x))) v)
 
-not_unknown : (old b : Bool) → old ≡ (old || (b && not true))
-not_unknown true b = refl
-not_unknown false true = refl
-not_unknown false false = refl
+not_unknown : (b : Bool) → (b && not true) ≡ false
+not_unknown true = refl
+not_unknown false = refl
 
-pub unknown_named : (f : Field) (known : Known) (old new : Bool) → Some known ≡ known_of f.name → new ≡ old → new ≡ (old || is_unknown_pseudo f)
-unknown_named f known old new e is = is ∙ (not_unknown old (is_pseudo f) ∙ ap (λ o. old || (is_pseudo f && not (is_some o))) e)
+pub unknown_named : (f : Field) (known : Known) → Some known ≡ known_of f.name → is_unknown_pseudo f ≡ false
+unknown_named f known e = ap (λ o. is_pseudo f && not (is_some o)) (sym e) ∙ not_unknown (is_pseudo f)
 
 keeps : (its : List ℕ) (k : Known) (a : Seen) → TakesName false its k a a
 keeps its k a = record { value = λ d. same_value (has k a.there) _; there = no_more (has k a.there); repeated = no_second (has k a.repeated) (has k a.there) }
@@ -123,13 +122,6 @@ takes_none f k a e = subst (λ is. TakesName is f.value k a a) (sym (none_named 
 
 pub te_none : (f : Field) (old : Bool) → None ≡ known_of f.name → old ≡ (old || is_wrong_te f)
 te_none f old e = no_more old ∙ ap (λ has. old || (has && not (is_word (codes "trailers") f.value))) (sym (none_named f.name (sym e) Te))
-
-and_true : (b : Bool) → b ≡ (b && not false)
-and_true true = refl
-and_true false = refl
-
-pub unknown_none : (f : Field) (old new : Bool) → None ≡ known_of f.name → new ≡ (old || is_pseudo f) → new ≡ (old || is_unknown_pseudo f)
-unknown_none f old new e is = is ∙ (ap (λ b. old || b) (and_true (is_pseudo f)) ∙ ap (λ o. old || (is_pseudo f && not (is_some o))) e)
 
 itself : (i : ℕ) → eqb i i ≡ true
 itself i = grind (arith, nat_tests)
@@ -155,9 +147,6 @@ pub colon_late : (b old regular new : Bool) → b ≡ true → new ≡ (old || r
 colon_late true old regular new p e = e
 colon_late false old regular new p e = absurd (false≢true p)
 
-pub colon_unknown : (f : Field) (old : Bool) → is_pseudo f ≡ true → None ≡ known_of f.name → true ≡ (old || is_unknown_pseudo f)
-colon_unknown f old p e = unknown_none f old true e (or_true old ∙ ap (λ b. old || b) (sym p))
-
 pub plain_regular : (b old new : Bool) → b ≡ false → new ≡ true → new ≡ (old || not b)
 plain_regular false old new p e = e ∙ or_true old
 plain_regular true old new p e = absurd (false≢true (sym p))
@@ -166,5 +155,5 @@ pub plain_late : (b old regular new : Bool) → b ≡ false → new ≡ old → 
 plain_late false old regular new p e = e ∙ no_more old
 plain_late true old regular new p e = absurd (false≢true (sym p))
 
-pub plain_unknown : (f : Field) (old new : Bool) → is_pseudo f ≡ false → new ≡ old → new ≡ (old || is_unknown_pseudo f)
-plain_unknown f old new p e = e ∙ (no_more old ∙ ap (λ b. old || (b && not (is_some (known_of f.name)))) (sym p))
+pub plain_unknown : (f : Field) → is_pseudo f ≡ false → is_unknown_pseudo f ≡ false
+plain_unknown f p = ap (λ b. b && not (is_some (known_of f.name))) p

@@ -1,5 +1,5 @@
 -- The rules of messages judge a list by names and values alone: alike whichever flags its fields have.
-use Rattle.std.proofs.Common.{◌≡◌, ℕ, ◌+◌, Bool, not, ◌&&◌, ◌||◌, List, [], ◌∷◌, Option, map, codes, cond, bytes_eq, slice_index, refl, sym, ap, ap₂, ◌∙◌, nat_lt, ◌==◌, if◌then◌else◌}
+use Rattle.std.proofs.Common.{◌≡◌, ℕ, ◌+◌, Bool, not, ◌&&◌, ◌||◌, List, [], ◌∷◌, Option, codes, cond, bytes_eq, slice_index, refl, sym, ap, ap₂, ◌∙◌, nat_lt, ◌==◌, if◌then◌else◌}
 use Rattle.std.specs.List.{list_all, list_any, count_by}
 use Rattle.std.proofs.lemmas.List.Sums.{sum_by-cons}
 use Rattle.h3_field.specs.Field.{Field, flagged, with_flags}

@@ -31,6 +31,10 @@ module _ (keeps breaks : Field → Type 0) (f : Field) (fields : List Field) whe
       before zero d less = is
       before (suc k) d less = first.before k d (omega (arith, less))
 
+all_cons : (keeps : Field → Type 0) (f : Field) (fields : List Field) → keeps f → All keeps fields → All keeps (f ∷ fields)
+all_cons keeps f fields here rest zero d less = here
+all_cons keeps f fields here rest (suc k) d less = rest k d (omega (arith, less))
+
 found : (test : Field → Bool) (keeps breaks : Field → Type 0) (fields : List Field) (h : Finds test keeps breaks fields) → position test fields ≡ Some h.index
 found test keeps breaks fields h =
     ap (λ n. let there : Option ℕ = if nat_lt n (length fields) then Some n else None in there) h.at
@@ -103,6 +107,16 @@ module _ (any : Bool) where
       by : (b : Bool) → head_by b fields ≡ read_from b (trailer_head []) fields
       by true = refl
       by false = refl
+
+  heads_good : (h : Head) (fields : List Field) (head : Head) → read_from any h fields ≡ IsHead head → All (λ f. bad_part any f ≡ None) fields
+  heads_good h [] head is = λ k d less. absurd (omega (arith, less))
+  heads_good h (f ∷ fields) head is =
+      let step = passed (refusal_at any (kind_of f.name) h f) (read_from any (with_field h f) fields) head is in
+      all_cons (λ g. bad_part any g ≡ None) f fields (good_at h f step.0) (heads_good (with_field h f) fields head step.1)
+
+  -- of the fields of a head none is malformed
+  pub head_is_good : (fields : List Field) (head : Head) → head_by any fields ≡ IsHead head → All (λ f. bad_part any f ≡ None) fields
+  head_is_good fields head is = heads_good (trailer_head []) fields head (sym (by_reading fields) ∙ is)
 
   -- a list that is refused for one of its fields
   pub invalid_of_refused : (strict : Bool) (fields : List Field) (bad : BadPart) → head_by any fields ≡ IsNone (refusal_of bad) → HasInvalidPart any strict fields bad

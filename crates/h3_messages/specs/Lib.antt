@@ -1,4 +1,5 @@
 pub mod Content
+pub mod Judging
 pub mod KindLaws
 pub mod Known
 pub mod Messages

@@ -8,6 +8,8 @@ use Rattle.h3_header.specs.Reads.{kind_of, status_number}
 use Rattle.h3_header.specs.declared.headers.kind.FieldKind.{FieldKind}
 use Rattle.h3_header.specs.declared.headers.kind.FieldKind.TheVariants.{Method, Scheme, Authority, Path, Status, Protocol, Regular}
 use Rattle.h3_messages.specs.declared.outline.Outline.{Outline}
+use Rattle.h3_messages.specs.declared.section.Section.{Section}
+use Rattle.h3_messages.specs.declared.section.Section.TheVariants.{Request, Response, Trailer}
 use Rattle.h3_messages.specs.declared.reading.ListError.{ListError}
 use Rattle.h3_messages.specs.declared.reading.ListError.TheVariants as error
 
@@ -37,6 +39,12 @@ is_request_outline o = o.method && not (is_some o.status)
 
 abbrev pub is_response_outline : Outline → Bool
 is_response_outline o = is_some o.status && not o.method
+
+-- that of a section
+abbrev pub is_outline_of : Section → Outline → Bool
+is_outline_of Request o = is_request_outline o
+is_outline_of Response o = is_response_outline o
+is_outline_of Trailer o = not o.pseudo
 
 -- what a list reads as is a head with this outline
 abbrev pub IsOutlined : HeadRead → Outline → Type 0

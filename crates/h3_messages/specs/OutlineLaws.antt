@@ -16,9 +16,6 @@ pub outlined_head : (r : HeadRead) (o : Outline) → IsOutlined r o → (P : Typ
 outlined_head (IsHead h) o is P given = given h refl is
 outlined_head (IsNone why) o is P given = absurd is
 
-pub never_none : (r : HeadRead) (o : Outline) (why : HeadRefusal) → IsOutlined r o → r ≡ IsNone why → ⊥
-never_none r o why is none = subst (λ q. IsOutlined q o) none is
-
 -- what a list reads as, where that was told
 pub told_outline : (any : Bool) (fields : List Field) (list : Result Outline ListError) (o : Outline) → IsListRead any fields list → list ≡ Ok o → IsOutlined (head_by any fields) o
 told_outline any fields list o read is = subst (IsListRead any fields) is read

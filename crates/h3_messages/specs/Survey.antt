@@ -1,5 +1,5 @@
 -- What one walk over a list finds, by the definitions of the rules.
-use Rattle.std.specs.Prelude.{ℕ, Bool, ◌≡◌, ◌&&◌, ◌||◌, ◌==◌, not, if◌then◌else◌, List, codes, slice_index_or, is_some}
+use Rattle.std.specs.Prelude.{ℕ, Bool, false, ◌≡◌, ◌&&◌, ◌||◌, ◌==◌, not, if◌then◌else◌, List, codes, slice_index_or, is_some}
 use Rattle.std.specs.Int.{bit_at}
 use Rattle.std.specs.List.{list_any}
 use Rattle.h3_field.specs.Field.{Field}
@@ -29,7 +29,7 @@ pub record IsSeen (fields : List Field) (seen : Seen) : Type 0 where
   pub repeated : (k : Known) → has k seen.repeated ≡ repeats (text k) fields
   pub has_regular : seen.has_regular ≡ list_any (λ f. not (is_pseudo f)) fields
   pub is_out_of_order : seen.is_out_of_order ≡ not (pseudo_first fields)
-  pub has_unknown_pseudo : seen.has_unknown_pseudo ≡ list_any is_unknown_pseudo fields
+  pub pseudo_are_known : list_any is_unknown_pseudo fields ≡ false
   pub has_wrong_te : seen.has_wrong_te ≡ is_te_wrong fields
   pub has_spaced_value : seen.has_spaced_value ≡ list_any has_space_around fields
 
@@ -45,7 +45,7 @@ pub record TakesField (f : Field) (before after : Seen) : Type 0 where
   pub names : (k : Known) → TakesName (has_name (text k) f) f.value k before after
   pub has_regular : after.has_regular ≡ (before.has_regular || not (is_pseudo f))
   pub is_out_of_order : after.is_out_of_order ≡ (before.is_out_of_order || (is_pseudo f && before.has_regular))
-  pub has_unknown_pseudo : after.has_unknown_pseudo ≡ (before.has_unknown_pseudo || is_unknown_pseudo f)
+  pub pseudo_is_known : is_unknown_pseudo f ≡ false
   pub has_wrong_te : after.has_wrong_te ≡ (before.has_wrong_te || is_wrong_te f)
   pub has_spaced_value : after.has_spaced_value ≡ (before.has_spaced_value || has_space_around f)
 
@@ -54,6 +54,5 @@ pub record TakesKnown (known : Known) (its : List ℕ) (before after : Seen) : T
   pub names : (k : Known) → TakesName (place k == place known) its k before after
   pub has_regular : after.has_regular ≡ before.has_regular
   pub is_out_of_order : after.is_out_of_order ≡ before.is_out_of_order
-  pub has_unknown_pseudo : after.has_unknown_pseudo ≡ before.has_unknown_pseudo
   pub has_wrong_te : after.has_wrong_te ≡ (before.has_wrong_te || ((8 == place known) && not (is_word (codes "trailers") its)))
   pub has_spaced_value : after.has_spaced_value ≡ before.has_spaced_value

@@ -1,11 +1,11 @@
 //! How much content a message has, and what comes of it (RFC 9114, 4.1.2; RFC 9110, 6.4.1, 8.6 and 9.3.6).
 ghost use Rattle.std.specs.Prelude.{◌≡◌, []};
 ghost use Rattle.h3_messages.specs.Content.{asked_by, asked_for, awaited, said, is_interim_status, is_without_content, content_of_status};
-ghost use Rattle.h3_messages.specs.Content.{content_expected, content_behind_status, until_answered, left_behind, is_exceeded, may_end};
-ghost use Rattle.h3_messages.specs.Content.{takes_trailer};
+ghost use Rattle.h3_messages.specs.Content.{content_behind_status, until_answered, left_behind, is_exceeded, may_end, takes_trailer};
 ghost use Rattle.h3_messages.specs.OwnMessages.{or_nothing};
 
-use crate::text::{byte_at, is_same, length_of};
+use crate::response_said::ResponseSaid;
+use crate::text::{is_same, length_of};
 
 /// How much content is left to come after a header section.
 #[derive(Clone, Copy, Debug, PartialEq, Eq)]
@@ -80,7 +80,7 @@ impl Content {
     pub fn behind_status(self, status: &[u8]) -> Content
         ensures { result ≡ content_behind_status self status.now [] }
     {
-        behind_status(self, status, b"")
+        ResponseSaid::by(status, b"", false, false).behind(self)
     }
 
     /// The same of a request that its server has read, and not yet answered.
@@ -189,16 +189,6 @@ pub fn is_interim_status(status: &[u8]) -> bool
     status.len() == 3 && status.iter().all(|byte| byte.is_ascii_digit()) && status[0] == b'1'
 }
 
-// What is expected after a header section of this status and this `content-length`, if this was awaited.
-pub(crate) fn behind_status(content: Content, status: &[u8], size: &[u8]) -> Content
-    ensures { result ≡ content_behind_status content status.now size.now }
-{
-    if is_interim_status(status) {
-        return content;
-    }
-    content_expected(content.asked(), status, size)
-}
-
 // What this `content-length` says, if it is a length.
 pub(crate) fn said(text: &[u8]) -> Content
     ensures { result ≡ said text.now }
@@ -224,21 +214,4 @@ pub(crate) fn content_of_status(status: &[u8], size: &[u8]) -> Content
         return Content::NoContent;
     }
     said(size)
-}
-
-// RFC 9110 9.3.2: no content after HEAD
-// The same for a request of this method.
-fn content_expected(asked: Asked, status: &[u8], size: &[u8]) -> Content
-    ensures { result ≡ content_expected asked status.now size.now }
-{
-    match asked {
-        Asked::Head => Content::NoContent,
-        Asked::Connect => {
-            if byte_at(status, 0) == b'2' {
-                return Content::Tunnel;
-            }
-            content_of_status(status, size)
-        }
-        Asked::Other => content_of_status(status, size),
-    }
 }

@@ -35,7 +35,7 @@ fn are_alike(survey: &Survey) -> bool
 
 // RFC 9114 4.3.1: :authority and host
 /// Whether `host` comes twice, is no host, or is unlike `:authority`.
-#[tactic(auto, using(crate::proofs::Rules::no_host, crate::proofs::Rules::lone_host))]
+#[tactic(auto, using(crate::proofs::HeldNames::no_host, crate::proofs::HeldNames::lone_host))]
 pub(crate) fn is_host_wrong(survey: &Survey) -> bool
     ensures { result ≡ is_host_wrong survey.now.fields.now }
 {

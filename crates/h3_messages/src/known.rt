@@ -28,22 +28,8 @@ impl Known {
     /// How many there are.
     pub(crate) const COUNT: usize = 14;
 
-    /// Which of them a name with a colon ahead is. No two of them have both one length and one third byte, so that a name is compared with
+    /// Which of them a name with no colon ahead is. No two of them have both one length and one third byte, so that a name is compared with
     /// at most one of them, here and below.
-    pub(crate) fn of_pseudo(name: &[u8]) -> Option<Known>
-        requires { slice_index name.now 0 ≡ 58 }
-        ensures { result ≡ known_of name.now }
-    {
-        match name.len() {
-            5 => if_same(name, b":path", Known::Path),
-            7 => pseudo_of_seven(name),
-            9 => if_same(name, b":protocol", Known::Protocol),
-            10 => if_same(name, b":authority", Known::Authority),
-            _ => None,
-        }
-    }
-
-    /// Which of them a name with no colon ahead is.
     #[inline(always)]
     pub(crate) fn of_regular(name: &[u8]) -> Option<Known>
         requires { slice_index name.now 0 ≢ 58 }
@@ -97,20 +83,6 @@ impl Known {
             Known::TransferEncoding => 12,
             Known::Upgrade => 13,
         }
-    }
-}
-
-// Which of them a name of seven bytes with a colon ahead is.
-fn pseudo_of_seven(name: &[u8]) -> Option<Known>
-    requires first { slice_index name.now 0 ≡ 58 }
-    requires size { length name.now ≡ 7 }
-    ensures { result ≡ known_of name.now }
-{
-    match name[2] {
-        b'e' => if_same(name, b":method", Known::Method),
-        b'c' => if_same(name, b":scheme", Known::Scheme),
-        b't' => if_same(name, b":status", Known::Status),
-        _ => None,
     }
 }
 

@@ -7,9 +7,9 @@
 #![tactic(auto)]
 
 pub mod content;
-pub mod head;
 mod host;
 mod invalid;
+pub mod judging;
 mod known;
 pub mod laws;
 mod name_set;
@@ -21,20 +21,21 @@ mod regular;
 mod request;
 mod response;
 pub mod response_said;
-pub mod seen;
+pub mod said;
+pub mod section;
+mod seen;
 mod slot;
-pub mod survey;
+mod survey;
 mod text;
 pub mod violation;
 
 pub use content::{Asked, Content, is_interim_status};
-pub use head::{RequestRead, ResponseRead, request_by, response_by};
 pub use invalid::invalid_field;
+pub use judging::{Judgment, judge};
 pub use outline::Outline;
-pub use own::{OwnResponseRead, or_broken, own_request_by, own_response_by, own_trailer_violation};
-pub use reading::{ListError, read_list};
-pub use response::trailer_violation_by;
+pub use own::or_broken;
+pub use reading::ListError;
 pub use response_said::ResponseSaid;
-pub use seen::Seen;
-pub use survey::Survey;
+pub use said::{Said, awaited_by};
+pub use section::{Rules, Section};
 pub use violation::Violation;

@@ -3,8 +3,10 @@ ghost use Rattle.std.specs.Prelude.{◌≡◌, false, true, Some, is_some};
 ghost use Rattle.h3_header.specs.HeadRead.{is_value_at};
 ghost use Rattle.h3_header.specs.Reads.{status_number};
 ghost use Rattle.h3_header.specs.declared.headers.kind.FieldKind.TheVariants.{Status};
-ghost use Rattle.h3_messages.specs.Outline.{empty_outline, is_request_outline, is_response_outline, outline_of, outlined_by};
+ghost use Rattle.h3_messages.specs.Outline.{empty_outline, is_outline_of, is_request_outline, is_response_outline};
+ghost use Rattle.h3_messages.specs.Outline.{outline_of, outlined_by};
 
+use crate::section::Section;
 use h3_field::FieldRef;
 use h3_header::{FieldKind, Header};
 use http::StatusCode;
@@ -52,6 +54,17 @@ impl Outline {
         ensures { result ≡ is_response_outline self.now }
     {
         self.status.is_some() && !self.method
+    }
+
+    /// Whether it is that of such a section: a trailer section has no pseudo-header field.
+    pub fn is_of(&self, section: Section) -> bool
+        ensures { result ≡ is_outline_of section self.now }
+    {
+        match section {
+            Section::Request => self.is_request(),
+            Section::Response => self.is_response(),
+            Section::Trailer => !self.pseudo,
+        }
     }
 
     /// The status, if it has one.

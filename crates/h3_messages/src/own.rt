@@ -1,75 +1,41 @@
 //! The rules of a message that bind who sends it, after those by which its peer judges it (RFC 9110, 6.5.1, 8.6, 9.3.8 and 15.3.6).
 ghost use Rattle.std.specs.Prelude.{◌≡◌};
-ghost use Rattle.h3_messages.specs.Content.{awaited_by};
-ghost use Rattle.h3_messages.specs.OwnMessages.{answer_names, authentication_names, condition_names, content_of_own_request, control_names};
-ghost use Rattle.h3_messages.specs.OwnMessages.{format_names, has_no_trailer_field, is_no_trailer_name, is_own_length_misplaced};
-ghost use Rattle.h3_messages.specs.OwnMessages.{is_reset_content, is_trace, or_broken, says_content, violation_of_own_request};
-ghost use Rattle.h3_messages.specs.OwnMessages.{violation_of_own_response, violation_of_own_trailer};
+ghost use Rattle.h3_messages.specs.Judging.{violation_of_sender};
 ghost use Rattle.h3_messages.specs.Messages.{is_one_of};
-ghost use Rattle.h3_messages.specs.ResponseSaid.{response_said};
+ghost use Rattle.h3_messages.specs.OwnMessages.{answer_names, authentication_names, condition_names, control_names, format_names};
+ghost use Rattle.h3_messages.specs.OwnMessages.{has_no_trailer_field, is_no_trailer_name, is_own_length_misplaced, is_reset_content};
+ghost use Rattle.h3_messages.specs.OwnMessages.{is_trace, or_broken, says_content};
 
-use crate::head::{RequestRead, request_by};
 use crate::known::Known;
-use crate::response::{self, trailer_violation};
-use crate::response_said::ResponseSaid;
+use crate::section::Section;
 use crate::survey::Survey;
 use crate::text::{is_same, says_more_than_none};
 use crate::violation::Violation;
-use h3_field::HeaderField;
-
-/// What the header section of a response says that is to be sent.
-#[derive(Clone, Copy, Debug, PartialEq, Eq)]
-pub struct OwnResponseRead {
-    /// The first rule that it breaks, whatever its request asked: one of a response that is received, or else of its sender.
-    pub violation: Option<Violation>,
-    /// What it says of the content after it.
-    pub said: ResponseSaid,
-}
-
-/// What the header section of a request says that is to be sent, over which the walk was made: as `request_by` tells it, but that a TRACE
-/// has no content (RFC 9110, 9.3.8).
-pub fn own_request_by(survey: &Survey, extended_connect: bool) -> RequestRead
-    ensures violation { result.violation ≡ violation_of_own_request extended_connect survey.now.fields.now }
-    ensures content { result.content ≡ content_of_own_request survey.now.fields.now }
-    ensures awaited { result.awaited ≡ awaited_by survey.now.fields.now }
-{
-    let read = request_by(survey, extended_connect);
-    let is_trace = is_trace(survey);
-    let is_broken = is_trace && says_content(survey);
-    RequestRead {
-        violation: or_broken(read.violation, is_broken, Violation::ContentLength),
-        content: read.content.or_nothing(is_trace),
-        awaited: read.awaited,
-    }
-}
-
-/// What the header section of a response says that is to be sent, over which the walk was made.
-pub fn own_response_by(survey: &Survey) -> OwnResponseRead
-    ensures violation { result.violation ≡ violation_of_own_response survey.now.fields.now }
-    ensures said { result.said ≡ response_said survey.now.fields.now }
-{
-    let is_broken = is_own_length_misplaced(survey);
-    OwnResponseRead {
-        violation: or_broken(
-            response::violation_of(survey),
-            is_broken,
-            Violation::ContentLength,
-        ),
-        said: response_said(survey),
-    }
-}
+use h3_field::Fields;
 
 // RFC 9110 6.5.1: fields that no trailer section has, sent
-/// The first rule that a trailer breaks that is to be sent, or none.
-pub fn own_trailer_violation(fields: &[HeaderField]) -> Option<Violation>
-    ensures { result ≡ violation_of_own_trailer fields.now }
+/// The rule that a section broke before, or else the one of its sender that it breaks.
+pub(crate) fn violation_after(
+    earlier: Option<Violation>,
+    survey: &Survey,
+    section: Section,
+) -> Option<Violation>
+    ensures { result ≡ violation_of_sender earlier section survey.now.fields.now }
 {
-    let is_broken = has_no_trailer_field(fields);
-    or_broken(
-        trailer_violation(fields),
-        is_broken,
-        Violation::TrailerField,
-    )
+    match section {
+        Section::Request => {
+            let is_broken = is_trace(survey) && says_content(survey);
+            or_broken(earlier, is_broken, Violation::ContentLength)
+        }
+        Section::Response => {
+            let is_broken = is_own_length_misplaced(survey);
+            or_broken(earlier, is_broken, Violation::ContentLength)
+        }
+        Section::Trailer => {
+            let is_broken = has_no_trailer_field(survey.fields());
+            or_broken(earlier, is_broken, Violation::TrailerField)
+        }
+    }
 }
 
 /// The rule that was broken before, or else this one if it is broken.
@@ -87,8 +53,8 @@ pub fn or_broken(earlier: Option<Violation>, is_broken: bool, rule: Violation) -
     }
 }
 
-// Whether the method is TRACE.
-fn is_trace(survey: &Survey) -> bool
+/// Whether the method is TRACE.
+pub(crate) fn is_trace(survey: &Survey) -> bool
     ensures { result ≡ is_trace survey.now.fields.now }
 {
     is_same(survey.value_of(Known::Method), b"TRACE")
@@ -117,20 +83,12 @@ fn is_own_length_misplaced(survey: &Survey) -> bool
         || (is_reset_content(status) && says_content(survey))
 }
 
-// What the header section of a response says of the content after it.
-fn response_said(survey: &Survey) -> ResponseSaid
-    ensures { result ≡ response_said survey.now.fields.now }
-{
-    let status = survey.value_of(Known::Status);
-    let size = survey.value_of(Known::ContentLength);
-    ResponseSaid::by(status, size, survey.holds(Known::ContentLength))
-}
-
 // Whether a field is one that no trailer has (RFC 9110, 6.5.1).
-fn has_no_trailer_field(fields: &[HeaderField]) -> bool
+fn has_no_trailer_field(fields: &Fields<'_>) -> bool
     ensures { result ≡ has_no_trailer_field fields.now }
 {
-    'fields: for field in fields {
+    'fields: for place in 0..fields.len() {
+        let field = fields.get(place);
         if is_no_trailer_name(field.name()) {
             return true;
         }

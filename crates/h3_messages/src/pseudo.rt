@@ -18,27 +18,30 @@ fn holds_of_request(survey: &Survey) -> bool
 }
 
 /// Whether the list has a pseudo-header field.
-#[tactic(auto, using(crate::proofs::Rules::any_pseudo))]
+#[tactic(auto, using(crate::proofs::HeldNames::any_pseudo))]
 pub(crate) fn has_pseudo(survey: &Survey) -> bool
     ensures { result ≡ list_any is_pseudo survey.now.fields.now }
 {
-    survey.has_unknown_pseudo() || survey.holds(Known::Status) || holds_of_request(survey)
+    survey.pseudo_are_known();
+    survey.holds(Known::Status) || holds_of_request(survey)
 }
 
 /// Whether the list has no pseudo-header field but those of requests.
-#[tactic(auto, using(crate::proofs::Rules::only_of_requests))]
+#[tactic(auto, using(crate::proofs::HeldNames::only_of_requests))]
 pub(crate) fn has_request_pseudo_only(survey: &Survey) -> bool
     ensures { result ≡ only_pseudo_of request_names survey.now.fields.now }
 {
-    !survey.has_unknown_pseudo() && !survey.holds(Known::Status)
+    survey.pseudo_are_known();
+    !survey.holds(Known::Status)
 }
 
 /// Whether the list has no pseudo-header field but that of responses.
-#[tactic(auto, using(crate::proofs::Rules::only_of_responses))]
+#[tactic(auto, using(crate::proofs::HeldNames::only_of_responses))]
 pub(crate) fn has_response_pseudo_only(survey: &Survey) -> bool
     ensures { result ≡ only_pseudo_of response_names survey.now.fields.now }
 {
-    !survey.has_unknown_pseudo() && !holds_of_request(survey)
+    survey.pseudo_are_known();
+    !holds_of_request(survey)
 }
 
 /// Whether a pseudo-header field of requests comes twice.

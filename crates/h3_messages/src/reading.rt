@@ -1,4 +1,4 @@
-//! What a list of fields reads as: the fields are read where they lie.
+//! Why a list of fields reads as no header, and what a long one reads as.
 ghost use Rattle.std.specs.Prelude.{◌≡◌, ◌<◌, [], None, IfErr, length};
 ghost use Rattle.h3_header.specs.Head.{trailer_head};
 ghost use Rattle.h3_header.specs.HeadRead.{told};
@@ -7,9 +7,8 @@ ghost use Rattle.h3_header.specs.declared.headers.error.HeaderError.TheVariants 
 ghost use Rattle.h3_messages.specs.Outline.{IsListRead, refusal_by};
 
 use crate::outline::Outline;
-use crate::seen::Seen;
 use h3_field::Fields;
-use h3_header::{BadPart, Header, HeaderError, MOST_NAMES};
+use h3_header::{BadPart, Header, HeaderError};
 use std::alloc::Global;
 
 /// Why a list of fields reads as no header.
@@ -42,28 +41,12 @@ impl ListError {
     }
 }
 
-/// What a list of fields reads as, its header aside. It takes memory only for a list of more than 24,576 fields, whose names a map has to
-/// tell apart. The value of `:protocol` may be any short token, or one of the two names alone.
-pub fn read_list(
+// What a list of many fields reads as, by the header that is made of it.
+pub(crate) fn read_long(
     alloc: Global,
     fields: &Fields<'_>,
     any_protocol: bool,
 ) -> Result<Outline, ListError>
-    ensures read { IsListRead any_protocol fields.now result }
-    ensures memory { IfErr result (λ e. refusal_by e ≡ None → RefusesOne any_protocol (trailer_head []) fields.now error.OutOfMemory) }
-{
-    if fields.len() > MOST_NAMES {
-        return read_long(alloc, fields, any_protocol);
-    }
-    let mut seen = Seen::new();
-    match seen.take_good(fields, any_protocol) {
-        Ok(outline) => Ok(outline),
-        Err(part) => Err(ListError::Malformed(part)),
-    }
-}
-
-// Any list, by the header that is made of it.
-fn read_long(alloc: Global, fields: &Fields<'_>, any_protocol: bool) -> Result<Outline, ListError>
     requires { 24576 < length fields.now }
     ensures read { IsListRead any_protocol fields.now result }
     ensures memory { IfErr result (λ e. refusal_by e ≡ None → RefusesOne any_protocol (trailer_head []) fields.now error.OutOfMemory) }

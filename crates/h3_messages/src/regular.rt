@@ -8,7 +8,7 @@ use crate::text::length_of;
 
 // RFC 9114 4.2: connection-specific fields
 /// Whether a field of the list is connection-specific (RFC 9114, 4.2).
-#[tactic(auto, using(crate::proofs::Rules::any_connection))]
+#[tactic(auto, using(crate::proofs::HeldNames::any_connection))]
 pub(crate) fn has_connection_field(survey: &Survey) -> bool
     ensures { result ≡ has_connection_field survey.now.fields.now }
 {
@@ -20,7 +20,7 @@ pub(crate) fn has_connection_field(survey: &Survey) -> bool
 }
 
 /// Whether the list has two `content-length`, or one that is no length (RFC 9110, 8.6).
-#[tactic(auto, using(crate::proofs::Rules::lone_length))]
+#[tactic(auto, using(crate::proofs::HeldNames::lone_length))]
 pub(crate) fn is_length_wrong(survey: &Survey) -> bool
     ensures { result ≡ is_length_wrong survey.now.fields.now }
 {

@@ -5,11 +5,9 @@ ghost use Rattle.h3_messages.specs.Messages.{has_connection_field, holds, is_len
 use crate::known::Known;
 use crate::pseudo::{has_pseudo, has_response_pseudo_only};
 use crate::regular::{has_connection_field, is_length_wrong};
-use crate::seen::Seen;
 use crate::survey::Survey;
 use crate::text::{byte_at, is_same, says_more_than_none};
 use crate::violation::Violation;
-use h3_field::{Fields, HeaderField};
 
 /// The first rule that the header section of a response breaks, interim or final, or none.
 #[tactic(auto, unfolding(crate::specs::Messages::violation_of_response))]
@@ -66,18 +64,8 @@ fn is_length_misplaced(survey: &Survey) -> bool
 }
 
 /// The first rule that a trailer breaks, or none.
-pub(crate) fn trailer_violation(fields: &[HeaderField]) -> Option<Violation>
-    ensures { result ≡ violation_of_trailer fields.now }
-{
-    let fields = Fields::of(fields);
-    let mut seen = Seen::new();
-    seen.take_all(&fields);
-    trailer_violation_by(&Survey::of(&fields, &seen))
-}
-
-/// The same of one over which the walk was made.
 #[tactic(auto, unfolding(crate::specs::Messages::violation_of_trailer))]
-pub fn trailer_violation_by(survey: &Survey) -> Option<Violation>
+pub(crate) fn trailer_violation(survey: &Survey) -> Option<Violation>
     ensures { result ≡ violation_of_trailer survey.now.fields.now }
 {
     if has_pseudo(survey) {

@@ -1,10 +1,10 @@
-//! What the header section of a response that is sent says of the content after it, whatever its request asked (RFC 9114, 4.1.2; RFC 9110,
-//! 6.4.1, 8.6, 9.3.6 and 15.3.6).
-ghost use Rattle.std.specs.Prelude.{◌≡◌, List, if◌then◌else◌};
+//! What the header section of a response says of the content after it, whatever its request asked (RFC 9114, 4.1.2; RFC 9110, 6.4.1, 8.6,
+//! 9.3.6 and 15.3.6).
+ghost use Rattle.std.specs.Prelude.{◌≡◌, ℕ, Bool, List, false, if◌then◌else◌};
 ghost use Rattle.h3_field.specs.Field.{Field};
-ghost use Rattle.h3_messages.specs.Content.{answered_by};
+ghost use Rattle.h3_messages.specs.Content.{answered_by, content_behind_status};
 ghost use Rattle.h3_messages.specs.OwnMessages.{content_of_own_response};
-ghost use Rattle.h3_messages.specs.ResponseSaid.{response_said, said_by};
+ghost use Rattle.h3_messages.specs.ResponseSaid.{response_said, said_by_status};
 ghost use Rattle.h3_messages.specs.declared.content.Content.TheVariants.{Tunnel, Unanswered, Unsaid};
 
 use crate::content::{Asked, Content, content_of_status, is_interim_status};
@@ -25,22 +25,27 @@ pub struct ResponseSaid {
 }
 
 impl ResponseSaid {
-    // What this status and this `content-length` say, which may not be there.
-    pub(crate) fn by(status: &[u8], size: &[u8], has_length: bool) -> ResponseSaid
-        ensures { result ≡ said_by status.now size.now has_length }
+    // What this status and this `content-length` say, which may not be there. A sender has no content with 205 (RFC 9110, 15.3.6).
+    pub(crate) fn by(status: &[u8], size: &[u8], has_length: bool, is_sent: bool) -> ResponseSaid
+        ensures { result ≡ said_by_status status.now size.now has_length is_sent }
     {
         let opens_tunnel = byte_at(status, 0) == b'2';
         ResponseSaid {
             is_interim: is_interim_status(status),
             opens_tunnel,
             says_tunnel_length: opens_tunnel && has_length,
-            content: content_of_status(status, size).or_nothing(is_reset_content(status)),
+            content: content_of_status(status, size).or_nothing(
+                is_sent && is_reset_content(status),
+            ),
         }
     }
 
+    // RFC 9110 9.3.2: no content after HEAD
     /// The content after such a header section, before which this was awaited.
     pub fn behind(self, awaited: Content) -> Content
-        ensures { (fields : List Field) → self ≡ response_said fields → result ≡ content_of_own_response awaited fields }
+        ensures sent { (fields : List Field) → self ≡ response_said fields → result ≡ content_of_own_response awaited fields }
+        ensures received { (status size : List ℕ) (has_length : Bool) → self ≡ said_by_status status size has_length false
+            → result ≡ content_behind_status awaited status size }
     {
         if self.is_interim {
             return awaited;

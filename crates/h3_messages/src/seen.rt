@@ -1,8 +1,9 @@
 //! What the fields that came so far hold of all that the rules ask.
 ghost use Rattle.std.specs.Prelude.{◌≡◌, ◌<◌, ◌≤◌, ◌==◌, ◌||◌, ◌&&◌, not, codes, [], length, slice_index_or, if◌then◌else◌, true, false};
-ghost use Rattle.std.specs.Prelude.{Some, None, OnOk, IfOk, IfErr};
-ghost use Rattle.h3_header.specs.BadPart.{refusal_of, AreGood};
-ghost use Rattle.h3_header.specs.HeadRead.{IsNone, head_by, is_name_at};
+ghost use Rattle.std.specs.Prelude.{Some, None, OnErr, OnOk, IfOk, IfErr};
+ghost use Rattle.h3_header.specs.BadPart.{refusal_of};
+ghost use Rattle.h3_header.specs.Head.{Head};
+ghost use Rattle.h3_header.specs.HeadRead.{IsHead, IsNone, head_by, is_name_at};
 ghost use Rattle.h3_header.specs.Reads.{kind_of};
 ghost use Rattle.h3_messages.specs.Known.{place, known_of};
 ghost use Rattle.h3_messages.specs.Messages.{is_pseudo, is_word};
@@ -12,13 +13,13 @@ use crate::known::Known;
 use crate::name_set::NameSet;
 use crate::outline::Outline;
 use crate::slot::Slot;
-use crate::text::{byte_at, has_space_around, is_word};
+use crate::text::{has_space_around, is_word};
 use h3_field::{FieldRef, Fields};
 use h3_header::{BadPart, FieldKind, field_kind};
 
 /// What the fields that came so far hold.
 #[derive(Drop)]
-pub struct Seen<'a> {
+pub(crate) struct Seen<'a> {
     pub(crate) slots: [Slot<'a>; Known::COUNT],
     /// The names that a field has.
     pub(crate) there: NameSet,
@@ -26,7 +27,6 @@ pub struct Seen<'a> {
     pub(crate) repeated: NameSet,
     pub(crate) has_regular: bool,
     pub(crate) is_out_of_order: bool,
-    pub(crate) has_unknown_pseudo: bool,
     pub(crate) has_wrong_te: bool,
     pub(crate) has_spaced_value: bool,
 }
@@ -37,7 +37,7 @@ impl<'a> Seen<'a> {
     ghost use Rattle.h3_messages.specs.declared.slot.Slot.{Slot};
 
     /// What no field holds.
-    pub fn new() -> Seen<'a>
+    pub(crate) fn new() -> Seen<'a>
         ensures { IsSeen [] result }
     {
         Seen {
@@ -46,42 +46,8 @@ impl<'a> Seen<'a> {
             repeated: NameSet::none(),
             has_regular: false,
             is_out_of_order: false,
-            has_unknown_pseudo: false,
             has_wrong_te: false,
             has_spaced_value: false,
-        }
-    }
-
-    /// Takes each field of the list; none was taken before.
-    pub fn take_all(&mut self, fields: &Fields<'a>)
-        requires { IsSeen [] self.old }
-        ensures { IsSeen fields.now self.new }
-    {
-        'fields: for place in 0..fields.len() {
-            self.take_in(&fields.get(place));
-        }
-    }
-
-    // One field more. The colon is looked at before the name is compared, which leaves few names to compare with.
-    fn take_in(&mut self, field: &FieldRef<'a>)
-        ensures { TakesField field.now self.old self.new }
-    {
-        let name = field.name();
-        let value = field.value();
-        note(&mut self.has_spaced_value, has_space_around(value));
-        if byte_at(name, 0) == b':' {
-            let is_late = self.has_regular;
-            note(&mut self.is_out_of_order, is_late);
-            match Known::of_pseudo(name) {
-                Some(known) => self.take_known(known, value),
-                None => self.has_unknown_pseudo = true,
-            }
-        } else {
-            self.has_regular = true;
-            match Known::of_regular(name) {
-                Some(known) => self.take_known(known, value),
-                None => {}
-            }
         }
     }
 
@@ -89,13 +55,16 @@ impl<'a> Seen<'a> {
     /// before. `:protocol` may be any token of at most 31 bytes, or one of the two names alone. The kind that this tells of a field is the
     /// name of a pseudo-header field, which is compared with no other. It answers the outline of the header that the list is.
     #[inline(never)]
-    pub fn take_good(&mut self, fields: &Fields<'a>, any_protocol: bool) -> Result<Outline, BadPart>
+    pub(crate) fn take_good(
+        &mut self,
+        fields: &Fields<'a>,
+        any_protocol: bool,
+    ) -> Result<Outline, BadPart>
         requires none { IsSeen [] self.old }
-        requires few { length fields.now ≤ 24576 }
         ensures seen { OnOk result (IsSeen fields.now self.new) }
-        ensures good { OnOk result (AreGood any_protocol fields.now) }
-        ensures outline { IfOk result (IsOutlined (head_by any_protocol fields.now)) }
-        ensures err { IfErr result (λ part. head_by any_protocol fields.now ≡ IsNone (refusal_of part)) }
+        ensures outline { IfOk result (λ o. length fields.now ≤ 24576 → IsOutlined (head_by any_protocol fields.now) o) }
+        ensures err { IfErr result (λ part. length fields.now ≤ 24576 → head_by any_protocol fields.now ≡ IsNone (refusal_of part)) }
+        ensures bad { OnErr result ((h : Head) → head_by any_protocol fields.now ≡ IsHead h → ⊥) }
     {
         h3_header::laws::lists_are_their_value();
         h3_header::laws::fields_are_judged_alone();

@@ -1,5 +1,5 @@
 //! What the rules ask of a list, by one walk over it.
-ghost use Rattle.std.specs.Prelude.{◌≡◌, not};
+ghost use Rattle.std.specs.Prelude.{◌≡◌, false, not};
 ghost use Rattle.std.specs.List.{list_any};
 ghost use Rattle.h3_messages.specs.Known.{text};
 ghost use Rattle.h3_messages.specs.Messages.{holds, repeats, value_of, pseudo_first, is_te_wrong, has_space_around};
@@ -11,7 +11,7 @@ use h3_field::Fields;
 
 /// A list, and what it holds. What it holds is lent and not copied: it is some 350 bytes.
 #[derive(Clone, Copy)]
-pub struct Survey<'a> {
+pub(crate) struct Survey<'a> {
     fields: &'a Fields<'a>,
     seen: &'a Seen<'a>,
     ghost surveyed: { IsSeen fields.now seen.now },
@@ -19,7 +19,7 @@ pub struct Survey<'a> {
 
 impl<'a> Survey<'a> {
     /// A list, all of whose fields were taken in.
-    pub fn of(fields: &'a Fields<'a>, seen: &'a Seen<'a>) -> Survey<'a>
+    pub(crate) fn of(fields: &'a Fields<'a>, seen: &'a Seen<'a>) -> Survey<'a>
         requires { IsSeen fields.now seen.now }
         ensures { result.fields.now ≡ fields.now }
     {
@@ -54,11 +54,16 @@ impl<'a> Survey<'a> {
         self.seen.is_out_of_order
     }
 
-    /// Whether a field is a pseudo-header field that neither requests nor responses have.
-    pub(crate) fn has_unknown_pseudo(&self) -> bool
-        ensures { result ≡ list_any is_unknown_pseudo self.now.fields.now }
+    // (for the proof: each pseudo-header field is one of requests or of responses)
+    pub(crate) fn pseudo_are_known(&self)
+        ensures { list_any is_unknown_pseudo self.now.fields.now ≡ false }
+    {}
+
+    /// The list.
+    pub(crate) fn fields(&self) -> &'a Fields<'a>
+        ensures { result.now ≡ self.now.fields.now }
     {
-        self.seen.has_unknown_pseudo
+        self.fields
     }
 
     /// Whether a `te` is not `trailers` (RFC 9114, 4.2).

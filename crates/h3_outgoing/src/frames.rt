@@ -110,7 +110,10 @@ impl WaitingFrames {
         ensures { self.new.frames ≡ [] }
     {
         let alloc = *self.later.allocator();
-        *self = WaitingFrames::new(alloc);
+        self.first = None;
+        self.second = None;
+        self.later = VecDeque::new(alloc);
+        self.waiting = 0;
     }
 
     /// No memory is kept for a queue if no frame waits in it.

@@ -2,6 +2,7 @@
 ghost use Rattle.std.specs.Prelude.{◌≡◌, ◌==◌, ◌+◌, ◌<◌, ◌≤◌, ◌^◌, ◌++◌, length, take, drop, true, false, OnOk, OnErr, IfErr, IfSome};
 ghost use Rattle.std.specs.Prelude.{IsTrue};
 ghost use Rattle.h3_connection.specs.WaitingPieces.{bytes_of, lent};
+ghost use Rattle.h3_connection.specs.Order.{default_precedence};
 ghost use Rattle.h3_connection.specs.State.{nothing_waits};
 ghost use Rattle.h3_connection.specs.StrictSending.{early_trailer, passes_content};
 ghost use Rattle.h3_outgoing.specs.Copied.{Filled, put};
@@ -55,6 +56,17 @@ impl Model for OutgoingStream {
     } };
 }
 
+/// That of a stream whose priority nobody said.
+fn unsaid() -> Precedence
+    ensures { result ≡ default_precedence }
+{
+    Precedence {
+        priority: Priority::default(),
+        source: PrioritySource::Unsaid,
+        is_held: false,
+    }
+}
+
 impl OutgoingStream {
     /// A stream on which nothing was sent. It takes no memory.
     pub fn new(alloc: Global) -> OutgoingStream
@@ -67,11 +79,7 @@ impl OutgoingStream {
             is_finished: false,
             is_reset: false,
             end_taken: false,
-            precedence: Precedence {
-                priority: Priority::default(),
-                source: PrioritySource::Unsaid,
-                is_held: false,
-            },
+            precedence: unsaid(),
         }
     }
 
@@ -256,6 +264,19 @@ impl OutgoingStream {
         self.is_reset = true;
         self.is_finished = false;
         self.content = Content::Unsaid;
+    }
+
+    /// What waits is dropped, and it is a stream on which nothing was sent. Its parts are written in their place. It takes no memory.
+    pub fn renew(&mut self)
+        ensures { self.new ≡ nothing_waits }
+    {
+        self.frames.clear();
+        self.place = SendPlace::NothingSent;
+        self.content = Content::Unsaid;
+        self.is_finished = false;
+        self.is_reset = false;
+        self.end_taken = false;
+        self.precedence = unsaid();
     }
 
     // No memory is kept for a queue once nothing of the stream is left to be sent.

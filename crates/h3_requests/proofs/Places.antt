@@ -1,5 +1,5 @@
 -- What stands in the places of a row.
-use Rattle.std.proofs.Common.{arith, ◌≡◌, ℕ, zero, suc, ◌/◌, ◌%◌, Bool, true, false, List, [], ◌∷◌, ◌++◌, length, refl, sym, ◌∙◌, ap, subst, inl, inr, if◌then◌else◌, slice_get, slice_index_or, slice_set}
+use Rattle.std.proofs.Common.{arith, ◌≡◌, ℕ, zero, suc, ◌/◌, ◌%◌, Bool, true, false, List, [], ◌∷◌, ◌++◌, refl, sym, ◌∙◌, ap, subst, inl, inr, if◌then◌else◌, slice_get, slice_index_or, slice_set}
 use Rattle.std.specs.Prelude.{Option, Some, None, IsSome, ◌==◌, ◌≢◌}
 use Rattle.std.proofs.lemmas.Bool.{cases_eq}
 use Rattle.std.proofs.lemmas.Grind.{common_steps}
@@ -82,17 +82,12 @@ free_there p id free = by_test (p.id == id)
     by_test true = free
     by_test false = refl
 
-free_behind : (places : List Place) (i id : ℕ) (p : Place) → p.stream ≡ None → held_by (slice_get places i) id ≡ None → held_by (slice_get (places ++ p ∷ []) i) id ≡ None
-free_behind [] zero id p free none = free_there p id free
-free_behind [] (suc i) id p free none = refl
-free_behind (z ∷ zs) zero id p free none = none
-free_behind (z ∷ zs) (suc i) id p free none = free_behind zs i id p free none
+free_behind : (places : List Place) (i id : ℕ) (p : Place) → p.stream ≡ None → held_by (slice_get (places ++ p ∷ []) i) id ≡ held_by (slice_get places i) id
+free_behind [] zero id p free = free_there p id free
+free_behind [] (suc i) id p free = refl
+free_behind (z ∷ zs) zero id p free = refl
+free_behind (z ∷ zs) (suc i) id p free = free_behind zs i id p free
 
 -- A free place more has no stream.
-pub lengthened : (places : List Place) (p : Place) → p.stream ≡ None → ((q : ℕ) → held_in places q ≡ None) → (q : ℕ) → held_in (places ++ p ∷ []) q ≡ None
-lengthened places p free none q = free_behind places (q / 4 % 128) q p free (none q)
-
--- where there is no place there is no stream
-pub empty : (places : List Place) → length places ≡ 0 → (q : ℕ) → held_in places q ≡ None
-empty [] none q = refl
-empty (p ∷ places) none q = absurd (omega (arith, none))
+pub lengthened : (places : List Place) (p : Place) → p.stream ≡ None → (q : ℕ) → held_in (places ++ p ∷ []) q ≡ held_in places q
+lengthened places p free q = free_behind places (q / 4 % 128) q p free

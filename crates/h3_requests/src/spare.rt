@@ -7,8 +7,9 @@ use crate::stream::RequestStream;
 use std::alloc::{AllocError, Global};
 use std::marker::Model;
 
-/// So many blocks are kept at most: some 30 KB, however many streams there were at once.
-const MOST: usize = 64;
+/// So many blocks are kept at most: some 50 KB, however many streams there were at once. It is what a QUIC library most often lets a peer
+/// open at once.
+const MOST: usize = 100;
 
 /// The blocks that are kept, with a stream in each on which nothing has happened: so streams that come and go, one after the other or many
 /// at once, take no new block each time.

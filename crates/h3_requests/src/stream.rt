@@ -60,7 +60,8 @@ impl RequestStream {
     pub(crate) fn renew(&mut self, alloc: Global)
         ensures { self.new ≡ fresh_request }
     {
-        *self = RequestStream::new(alloc);
+        self.incoming = IncomingStream::new(alloc);
+        self.outgoing.renew();
     }
 
     /// What came on it.

@@ -139,7 +139,7 @@ impl StreamsUnderWay {
         ensures ok { OnOk result (Sets self.old self.new id stream) }
         ensures err { OnErr result (self.new ≡ self.old) }
     {
-        self.row.reserve()?;
+        self.row.reserve(id)?;
         if self.row.has_room(id) {
             self.row.put(id, stream);
             return Ok(());

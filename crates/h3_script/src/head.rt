@@ -64,9 +64,7 @@ fn response(alloc: Global, status: &[u8], words: &[&[u8]]) -> Result<Header, Lin
     ensures ok { IfOk result (IsResponse status.now (texts words.now)) }
     ensures err { IfErr result (Denies ((head : Head) × IsResponse status.now (texts words.now) head)) }
 {
-    let Ok(status) = StatusCode::from_bytes(status) else {
-        return Err(LineError::NoSuchLine);
-    };
+    let status = StatusCode::from_bytes(status).map_err(|_| LineError::NoSuchLine)?;
     Ok(Header::response(status, fields(alloc, words)?))
 }
 
@@ -79,14 +77,8 @@ fn request(alloc: Global, method: &[u8], uri: &[u8], words: &[&[u8]]) -> Result<
     // The contract of this one says what a method holds.
     method.as_str();
     let uri = Uri::from_bytes(alloc, uri)?;
-    let fields = match fields(alloc, words) {
-        Ok(fields) => fields,
-        Err(e) => return Err(e),
-    };
-    match Header::request(method, uri, fields, None) {
-        Ok(head) => Ok(head),
-        Err(e) => Err(LineError::from(e)),
-    }
+    let fields = fields(alloc, words)?;
+    Ok(Header::request(method, uri, fields, None)?)
 }
 
 /// A status or a method and a URI, and then fields. A word of three digits is a status.

@@ -217,16 +217,10 @@ fn section_event(alloc: Global, words: &[&[u8]]) -> Result<Event, LineError>
         return Err(LineError::NoSuchLine);
     };
     if is(*command, "head") {
-        return match head(alloc, words) {
-            Ok(head) => Ok(Event::Head(acting, id, head)),
-            Err(e) => Err(e),
-        };
+        return Ok(Event::Head(acting, id, head(alloc, words)?));
     }
     if is(*command, "trailer") {
-        return match trailer(alloc, words) {
-            Ok(trailer) => Ok(Event::Trailer(acting, id, trailer)),
-            Err(e) => Err(e),
-        };
+        return Ok(Event::Trailer(acting, id, trailer(alloc, words)?));
     }
     Err(LineError::NoSuchLine)
 }

@@ -33,9 +33,7 @@ pub fn number(word: &[u8]) -> Option<u64>
     }
     let mut number = 0;
     for byte in word {
-        let Some(more) = with_digit(number, *byte) else {
-            return None;
-        };
+        let more = with_digit(number, *byte)?;
         number = more;
     }
     Some(number)

@@ -1,7 +1,5 @@
 -- What came on a stream of a session is given up.
-use Rattle.std.proofs.Common.{◌≡◌, ℕ, Bool, true, false, Option, Some, None, refl, sym, ap, subst, ◌∙◌, Ok, Err}
-use Rattle.std.specs.Prelude.{Result, not, if◌then◌else◌}
-use Rattle.h3_connection.specs.Answers.{call_refused}
+use Rattle.std.proofs.Common.{◌≡◌, ℕ, Bool, true, false, Option, Some, None, refl, sym, ap, ◌∙◌, Ok, Err}
 use Rattle.h3_connection.specs.Control.{Found}
 use Rattle.h3_connection.specs.Delivering.{reset_at, unidirectional_at, with_unidirectional}
 use Rattle.h3_connection.specs.Endpoint.{EndpointHistory}
@@ -13,7 +11,7 @@ use Rattle.h3_connection.specs.Unidirectional.{reset_with}
 use Rattle.h3_connection.specs.declared.event.Refusal.{Refusal}
 use Rattle.h3_connection.specs.declared.event.Refusal.TheVariants as refusal
 use Rattle.h3_unidirectional.specs.declared.stream.Kind.{Kind}
-use Rattle.h3_session.specs.Beside.{DropsSession, drop_refusal, drop_rules, drop_session, is_of_session}
+use Rattle.h3_session.specs.Beside.{DropsSession, drop_refusal, drop_rules, is_of_session}
 use Rattle.h3_session.specs.PeerKinds.{ShowsStreamKind, stream_kind}
 use Rattle.h3_session.specs.Reading.{Finds}
 use Rattle.h3_session.proofs.SendingCalls.{was_done, was_refused}

@@ -1,7 +1,7 @@
 -- What a list that reads as a head with an outline is in the place of a head or a trailer.
 use Rattle.std.proofs.Common.{◌≡◌, Bool, true, false, if◌then◌else◌, Option, Some, None, refl, ap, sym, ◌∙◌}
-use Rattle.std.specs.Prelude.{◌≢◌, not, option_map, Result, Ok, Err, OnOk}
-use Rattle.h3_header.specs.Head.{Head}
+use Rattle.std.specs.Prelude.{◌≢◌, not, option_map}
+use Rattle.h3_header.specs.Head.{Head, has_pseudo}
 use Rattle.h3_header.specs.HeadRead.{HeadRead, HeadRefusal, IsHead, IsNone}
 use Rattle.h3_connection.specs.OwnIds.{other}
 use Rattle.h3_connection.specs.Pulling.{is_for, is_interim, malformation_of}
@@ -10,43 +10,68 @@ use Rattle.h3_connection.specs.declared.event.Refusal.{Refusal}
 use Rattle.h3_connection.specs.declared.event.Refusal.TheVariants as refusal
 use Rattle.h3_connection.specs.declared.place.SendPlace.{SendPlace}
 use Rattle.h3_connection.specs.declared.place.SendPlace.TheVariants.{NothingSent, HeadSent}
-use Rattle.h3_messages.specs.Outline.{IsOutlined, outline_of}
+use Rattle.h3_messages.specs.Outline.{IsOutlined, is_outline_of, outline_of}
 use Rattle.h3_messages.specs.declared.outline.Outline.{Outline}
+use Rattle.h3_messages.specs.declared.section.Section.{Section}
+use Rattle.h3_messages.specs.declared.section.Section.TheVariants.{Trailer}
 use Rattle.h3_proto.specs.declared.stream.Side.{Side}
 use Rattle.h3_proto.specs.declared.stream.Side.TheVariants.{Client, Server}
-use Rattle.h3_session.specs.JudgedLists.{IsHeadAt, IsTrailer, head_list_refusal, is_sent_outline, trailer_list_refusal}
+use Rattle.h3_session.specs.JudgedLists.{IsHeadAt, IsTrailer, head_list_refusal, head_section, list_refusal, misplaced, section_refused, trailer_list_refusal}
+use Rattle.h3_session.specs.Refused.{pseudo_refused, side_refused}
 use Rattle.h3_session.specs.SendingLists.{malformed}
 
 -- a side sends what the other reads
-sent_for : (side : Side) (h : Head) → is_sent_outline side (outline_of h) ≡ is_for (other side) h
+sent_for : (side : Side) (h : Head) → is_outline_of (head_section side) (outline_of h) ≡ is_for (other side) h
 sent_for Client h = refl
 sent_for Server h = refl
 
 abbrev refused_by : Bool → Option Refusal
 refused_by b = if not b then Some refusal.WrongSide else None
 
-pub head_at : (side : Side) (r : HeadRead) (o : Outline) (place : SendPlace) → IsOutlined r o → is_sent_outline side o ≡ true → place ≡ (if is_interim o.status then NothingSent else HeadSent) → IsHeadAt side r place
+pub head_at : (side : Side) (r : HeadRead) (o : Outline) (place : SendPlace) → IsOutlined r o → is_outline_of (head_section side) o ≡ true → place ≡ (if is_interim o.status then NothingSent else HeadSent) → IsHeadAt side r place
 head_at side (IsHead h) o place is sent at =
-    let ours : is_for (other side) h ≡ true = sym (sent_for side h) ∙ ap (is_sent_outline side) (sym is) ∙ sent in
+    let ours : is_for (other side) h ≡ true = sym (sent_for side h) ∙ ap (is_outline_of (head_section side)) (sym is) ∙ sent in
     (ap refused_by ours, at ∙ ap (λ (p : Outline). if is_interim p.status then NothingSent else HeadSent) is)
 head_at side (IsNone why) o place is sent at = absurd is
 
-pub head_of_other : (side : Side) (r : HeadRead) (o : Outline) (e : Refusal) → IsOutlined r o → is_sent_outline side o ≡ false → e ≡ refusal.WrongSide → head_list_refusal side r ≡ Some e
-head_of_other side (IsHead h) o e is sent wrong =
-    let theirs : is_for (other side) h ≡ false = sym (sent_for side h) ∙ ap (is_sent_outline side) (sym is) ∙ sent in
-    ap refused_by theirs ∙ ap Some (sym wrong)
-head_of_other side (IsNone why) o e is sent wrong = absurd is
+-- a header that is no head of this side, and a trailer
+pub side_is : (side : Side) (h : Head) → section_refused (head_section side) h ≡ side_refused side h
+side_is Client h = refl
+side_is Server h = refl
+
+twice_not : (b : Bool) → (let r : Option Refusal = if not (not b) then Some refusal.PseudoInTrailer else None in r) ≡ (let r : Option Refusal = if b then Some refusal.PseudoInTrailer else None in r)
+twice_not true = refl
+twice_not false = refl
+
+pub pseudo_is : (h : Head) → section_refused Trailer h ≡ pseudo_refused h
+pseudo_is h = twice_not (has_pseudo h)
+
+pub head_refusal_is : (side : Side) (r : HeadRead) → list_refusal (head_section side) r ≡ head_list_refusal side r
+head_refusal_is side (IsHead h) = side_is side h
+head_refusal_is side (IsNone why) = refl
+
+pub trailer_refusal_is : (r : HeadRead) → list_refusal Trailer r ≡ trailer_list_refusal r
+trailer_refusal_is (IsHead h) = pseudo_is h
+trailer_refusal_is (IsNone why) = refl
+
+-- a list that is another section
+abbrev other_by : Section → Bool → Option Refusal
+other_by section b = if not b then Some (misplaced section) else None
+
+pub other_section : (section : Section) (r : HeadRead) (o : Outline) → IsOutlined r o → is_outline_of section o ≡ false → list_refusal section r ≡ Some (misplaced section)
+other_section section (IsHead h) o is none = ap (other_by section) (ap (is_outline_of section) (sym is) ∙ none)
+other_section section (IsNone why) o is none = absurd is
 
 abbrev pseudo_by : Bool → Option Refusal
 pseudo_by b = if b then Some refusal.PseudoInTrailer else None
 
-pub trailer_at : (r : HeadRead) (o : Outline) → IsOutlined r o → o.pseudo ≡ false → IsTrailer r
-trailer_at (IsHead h) o is none = ap pseudo_by (ap (λ (p : Outline). p.pseudo) (sym is) ∙ none)
-trailer_at (IsNone why) o is none = absurd is
+none_there : (b : Bool) → not b ≡ true → b ≡ false
+none_there false is = refl
+none_there true is = absurd (cc)
 
-pub trailer_refused : (r : HeadRead) (o : Outline) (e : Refusal) → IsOutlined r o → o.pseudo ≡ true → e ≡ refusal.PseudoInTrailer → trailer_list_refusal r ≡ Some e
-trailer_refused (IsHead h) o e is some wrong = ap pseudo_by (ap (λ (p : Outline). p.pseudo) (sym is) ∙ some) ∙ ap Some (sym wrong)
-trailer_refused (IsNone why) o e is some wrong = absurd is
+pub trailer_at : (r : HeadRead) (o : Outline) → IsOutlined r o → is_outline_of Trailer o ≡ true → IsTrailer r
+trailer_at (IsHead h) o is none = ap pseudo_by (ap (λ (p : Outline). p.pseudo) (sym is) ∙ none_there o.pseudo none)
+trailer_at (IsNone why) o is none = absurd is
 
 -- why a list is no head, unless memory was refused
 pub told_malformed : {A : Type 0} (o : Option HeadRefusal) (e : Refusal) → ((why : HeadRefusal) → o ≡ Some why → e ≡ malformed why) → (o ≡ None → e ≡ refusal.OutOfMemory) → e ≢ refusal.OutOfMemory
@@ -68,7 +93,3 @@ never_some None why is some = cc
 pub untold : (o : Option HeadRefusal) → None ≡ option_map malformation_of o → o ≡ None
 untold (Some why) is = absurd (cc)
 untold None is = refl
-
-pub on_ok : {E : Type 0} {A B : Type 0} (result : Result Unit E) → (A → B) → OnOk result A → OnOk result B
-on_ok (Ok q) f h = f h
-on_ok (Err e) f h = h

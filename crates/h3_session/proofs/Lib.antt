@@ -51,11 +51,13 @@ pub mod Copying
 pub mod Runs
 pub mod Carrying
 pub mod Sendables
+pub mod Headers
 pub mod Headlines
 pub mod TakingAll
 pub mod LentFrames
 pub mod WellSentLists
 pub mod SentAnswers
+pub mod SentAsLists
 pub mod JudgedPlaces
 pub mod Lacking
 pub mod MemoryTells

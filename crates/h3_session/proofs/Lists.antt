@@ -5,7 +5,6 @@ use Rattle.h3_field.specs.Field.{Field, section_size}
 use Rattle.h3_header.specs.Head.{Head, has_pseudo}
 use Rattle.h3_header.specs.HeadRead.{HeadRead, IsHead, IsNone, head_by}
 use Rattle.h3_header.specs.ReadTakenLaws.{heads_are_taken}
-use Rattle.h3_outgoing.specs.Sent as sent
 use Rattle.h3_proto.specs.declared.stream.Side.{Side}
 use Rattle.h3_connection.specs.Answers.{call_refused}
 use Rattle.h3_connection.specs.Remembering.{settings_known}
@@ -212,7 +211,7 @@ refused_later true p later is = let same : p ≡ later = cc in same
 refused_later false p later is = absurd (cc)
 
 -- Two calls that are one of each history that the state stands for.
-alike : (one two : EndpointHistory → Option Refusal × EndpointHistory) (s new : EndpointState) (id : ℕ) (fields : List Field) (told : Option Refusal)
+pub alike : (one two : EndpointHistory → Option Refusal × EndpointHistory) (s new : EndpointState) (id : ℕ) (fields : List Field) (told : Option Refusal)
     → ((e : EndpointHistory) → StandsFor s e → one e ≡ two e) → SendsList one s new id fields told → SendsList two s new id fields told
 alike one two s new id fields told same h =
     record {

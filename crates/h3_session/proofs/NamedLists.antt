@@ -1,12 +1,12 @@
 -- A list of which each `:protocol` is taken reads as it does where any protocol is taken.
-use Rattle.std.proofs.Common.{◌≡◌, ℕ, Bool, true, false, List, [], ◌∷◌, if◌then◌else◌, Option, Some, None, refl, ap, sym, ◌∙◌, subst}
+use Rattle.std.proofs.Common.{◌≡◌, ℕ, Bool, true, false, List, [], ◌∷◌, if◌then◌else◌, Option, Some, None, refl, ap, ◌∙◌}
 use Rattle.std.specs.Prelude.{not, codes, bytes_eq}
 use Rattle.std.specs.List.{AllByRecursion}
 use Rattle.h3_field.specs.Field.{Field}
 use Rattle.h3_header.specs.Head.{Head, trailer_head}
-use Rattle.h3_header.specs.HeadRead.{HeadRead, HeadRefusal, IsHead, IsNone, Value, head_by, head_of, head_of_any, read_from, refusal_at, unless_refused}
+use Rattle.h3_header.specs.HeadRead.{HeadRead, HeadRefusal, IsHead, Value, head_by, head_of, head_of_any, read_from, refusal_at, unless_refused}
 use Rattle.h3_header.specs.NamedProtocolLaws.{named_taken}
-use Rattle.h3_header.specs.ProtocolText.{IsProtocolBy, IsProtocolText}
+use Rattle.h3_header.specs.ProtocolText.{IsProtocolText}
 use Rattle.h3_header.specs.Reads.{kind_of, with_field}
 use Rattle.h3_header.specs.declared.headers.kind.FieldKind.{FieldKind}
 use Rattle.h3_header.specs.declared.headers.kind.FieldKind.TheVariants.{Method, Scheme, Authority, Path, Status, Protocol, Regular}

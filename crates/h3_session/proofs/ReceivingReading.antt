@@ -61,6 +61,12 @@ front_whole first s all front start h keeps =
     let f = front start h keeps in
     subst (Finds None s) (sym f.has.finds) (refl, f.stands)
 
+-- and nothing is kept
+pub front_whole_kept : (first s : EndpointState) (all kept : List Arrival) → ReadsUpTo first all s [] → s.kept ≡ [] → kept ≡ []
+    → (e : EndpointHistory) → StandsFor first e → All (KeepsOpen e.side e.incoming) all → Finds None (record s { kept = kept }) (read_all all e)
+front_whole_kept first s all kept front none empty e h keeps =
+    subst (λ l. Finds None (record s { kept = l }) (read_all all e)) (none ∙ sym empty) (front_whole first s all front e h keeps)
+
 -- a fault was found
 pub front_faulty : (first s new : EndpointState) (all rest : List Arrival) (a : Arrival) (code : ℕ) → ReadsUpTo first all s (a ∷ rest) → ReadsEach s a (Ok (Some code)) new
     → (e : EndpointHistory) → StandsFor first e → All (KeepsOpen e.side e.incoming) all → Finds (Some code) new (read_all all e)

@@ -23,8 +23,8 @@ use Rattle.h3_connection.specs.declared.place.SendPlace.TheVariants.{NothingSent
 use Rattle.h3_session.proofs.Opened.{stands_same}
 use Rattle.h3_session.specs.SendingFields.{Remembers, SendsFields, asking}
 use Rattle.h3_session.specs.SentHeads.{IsSaid}
-use Rattle.h3_session.specs.declared.endpoint.strict.Said.{Said}
-use Rattle.h3_session.specs.declared.endpoint.strict.Said.TheVariants.{Nothing, Request, Response}
+use Rattle.h3_messages.specs.declared.said.Said.{Said}
+use Rattle.h3_messages.specs.declared.said.Said.TheVariants.{Nothing, Request, Response}
 
 received_at : (s : EndpointState) (e : EndpointHistory) (id : ℕ) (there : Option RequestState) → StandsFor s e → kept_at s.requests id ≡ there → stream_at e.incoming id ≡ option_map (λ r. r.incoming) there
 received_at s e id there h was = sym (h.incoming id) ∙ ap (option_map (λ r. r.incoming)) was

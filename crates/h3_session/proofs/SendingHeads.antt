@@ -266,7 +266,7 @@ head_unreserved s n id head fields later r closed is rest same why =
     (section_alike (λ e. send_listed_head e id head fields) s id fields n.requests same (unwrap_or rule refusal.OutOfMemory) (head_refused_by s id head fields rule (head_open s id head closed))))
 
 -- it was refused before room was asked for: the stream's own refusal comes first,
-all_here : {X : Type 0} (streams : Streams X) → AllSame streams streams
+pub all_here : {X : Type 0} (streams : Streams X) → AllSame streams streams
 all_here streams = record { each = λ q. refl }
 
 after_is : (first later : Option Refusal) → refusal_after first (unwrap_or later refusal.OutOfMemory) ≡ unwrap_or (or_later first later) refusal.OutOfMemory
@@ -393,12 +393,6 @@ trailer_unreserved s n id trailer fields later r closed is rest same why =
     subst (λ v. SendsListedTrailer s v id trailer fields (Err r)) (sym rest)
     (subst (λ r. SendsListedTrailer s (record s { requests = n.requests }) id trailer fields (Err r)) (sym (why ∙ ap (λ l. unwrap_or (or_later (body_refused_at (kept_at s.requests id)) (behind_order s id l)) refusal.OutOfMemory) is))
     (section_alike (λ e. send_listed_trailer e id trailer fields) s id fields n.requests same (unwrap_or rule refusal.OutOfMemory) (trailer_refused_by s id trailer fields rule (trailer_open s id trailer closed))))
-
--- its fields could not be listed,
-pub trailer_unlisted : (s n : EndpointState) (id : ℕ) (trailer : Head) (fields : List Field) (later : Option Refusal) → s.closed ≡ None → later ≡ own_trailer_refused s.announced trailer → n ≡ record s { requests = n.requests } → AllSame s.requests n.requests
-    → or_later (body_refused_at (kept_at s.requests id)) (or_later later (early_trailer_at (kept_at s.requests id))) ≡ None → SendsListedTrailer s n id trailer fields (Err refusal.OutOfMemory)
-trailer_unlisted s n id trailer fields later closed is rest same none =
-    trailer_unreserved s n id trailer fields later refusal.OutOfMemory closed is rest same (ap (λ o. unwrap_or o refusal.OutOfMemory) (sym none))
 
 -- or they were sent
 pub trailer_sent : (s m n : EndpointState) (id : ℕ) (trailer : Head) (later : Option Refusal) (given fields : List Field) (result : Result Unit Refusal) → s.closed ≡ None → later ≡ own_trailer_refused s.announced trailer

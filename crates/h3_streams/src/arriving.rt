@@ -108,9 +108,7 @@ impl ConnectionStreams {
             → Reads s fault self.new (end_at e id PeerUnidirectional)) }
         ensures err { OnErr result (KeepsAll self.old self.new) }
     {
-        let Ok(is_critical) = self.unidirectional.close(alloc, id, None) else {
-            return Err(AllocError);
-        };
+        let is_critical = self.unidirectional.close(alloc, id, None)?;
         Ok(closing_fault(is_critical))
     }
 
@@ -127,9 +125,7 @@ impl ConnectionStreams {
             → Reads s fault self.new (reset_at e id code PeerUnidirectional)) }
         ensures err { OnErr result (KeepsAll self.old self.new) }
     {
-        let Ok(is_critical) = self.unidirectional.close(alloc, id, Some(code)) else {
-            return Err(AllocError);
-        };
+        let is_critical = self.unidirectional.close(alloc, id, Some(code))?;
         Ok(closing_fault(is_critical))
     }
 }

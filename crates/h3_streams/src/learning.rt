@@ -67,9 +67,7 @@ pub(crate) fn read_first(
     if encoding.encoder().inserted() != 0 {
         return Err(AllocError);
     }
-    let Ok(()) = out.reserve(CAPACITY_LEN) else {
-        return Err(AllocError);
-    };
+    out.reserve(CAPACITY_LEN)?;
     let outcome = peer.read_first(alloc, side, own, own.kinds());
     use_settings(peer, encoding, out, side, own);
     outcome

@@ -99,9 +99,7 @@ fn open(
     if streams.contains_key(&id.into_inner()) {
         return Ok(false);
     }
-    let Ok(_) = streams.insert(id.into_inner(), UnidirectionalStream::new(alloc)) else {
-        return Err(AllocError);
-    };
+    streams.insert(id.into_inner(), UnidirectionalStream::new(alloc))?;
     Ok(true)
 }
 
@@ -115,9 +113,7 @@ pub(crate) fn close(
     ensures ok { IfOk result (λ is_critical. Closes streams.old.entries streams.new.entries id code is_critical) }
     ensures err { OnErr result (AllSame streams.old.entries streams.new.entries) }
 {
-    let Ok(_) = open(streams, alloc, id) else {
-        return Err(AllocError);
-    };
+    open(streams, alloc, id)?;
     let Some(stream) = streams.get_mut(&id.into_inner()) else {
         unreachable!()
     };

@@ -40,10 +40,7 @@ fn of_stream(own: &Announced, code: Code, fault: Option<Code>) -> Option<Code>
     if !own.choices.extensions.strict_connection {
         return fault;
     }
-    match fault {
-        Some(_found) => Some(code),
-        None => None,
-    }
+    fault.and(Some(code))
 }
 
 impl ConnectionStreams {

@@ -118,9 +118,7 @@ impl Decoding {
         ensures increment { replies.new.items ≡ replies.old.items ++ increment_for
             (self.new.decoder.table.inserted - self.old.decoder.table.inserted) }
     {
-        if replies.reserve(INCREMENT_LEN).is_err() {
-            return Err(DecoderError::OutOfMemory);
-        }
+        replies.reserve(INCREMENT_LEN)?;
         let before = self.decoder.inserted();
         let outcome = self.read_unread(most);
         put_increment(self.decoder.inserted().saturating_sub(before), replies);

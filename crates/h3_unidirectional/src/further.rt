@@ -17,21 +17,11 @@ fn start_with(alloc: Global, settings: &Settings, further: &Settings) -> Result<
 {
     let mut bytes = Vec::new(alloc);
     let len = (settings.payload_len() + further.payload_len()) as u64;
-    let Ok(()) = bytes.write(StreamType::CONTROL) else {
-        return Err(AllocError);
-    };
-    let Ok(()) = bytes.write(FrameType::SETTINGS) else {
-        return Err(AllocError);
-    };
-    let Ok(()) = bytes.write_var(len) else {
-        return Err(AllocError);
-    };
-    let Ok(()) = settings.write_payload(&mut bytes) else {
-        return Err(AllocError);
-    };
-    let Ok(()) = further.write_payload(&mut bytes) else {
-        return Err(AllocError);
-    };
+    bytes.write(StreamType::CONTROL).map_err(|_| AllocError)?;
+    bytes.write(FrameType::SETTINGS).map_err(|_| AllocError)?;
+    bytes.write_var(len).map_err(|_| AllocError)?;
+    settings.write_payload(&mut bytes).map_err(|_| AllocError)?;
+    further.write_payload(&mut bytes).map_err(|_| AllocError)?;
     Ok(bytes)
 }
 

@@ -43,18 +43,10 @@ fn control_start(alloc: Global, settings: &Settings) -> Result<Vec<u8>, AllocErr
 {
     let mut bytes = Vec::with_capacity(alloc, START_ROOM)?;
     let len = settings.payload_len() as u64;
-    let Ok(()) = bytes.write(StreamType::CONTROL) else {
-        return Err(AllocError);
-    };
-    let Ok(()) = bytes.write(FrameType::SETTINGS) else {
-        return Err(AllocError);
-    };
-    let Ok(()) = bytes.write_var(len) else {
-        return Err(AllocError);
-    };
-    let Ok(()) = settings.write_payload(&mut bytes) else {
-        return Err(AllocError);
-    };
+    bytes.write(StreamType::CONTROL).map_err(|_| AllocError)?;
+    bytes.write(FrameType::SETTINGS).map_err(|_| AllocError)?;
+    bytes.write_var(len).map_err(|_| AllocError)?;
+    settings.write_payload(&mut bytes).map_err(|_| AllocError)?;
     Ok(bytes)
 }
 
@@ -63,9 +55,7 @@ fn typed(alloc: Global, kind: StreamType) -> Result<Vec<u8>, AllocError>
     ensures { IfOk result (λ bytes. bytes.items ≡ encoding kind) }
 {
     let mut bytes = Vec::new(alloc);
-    let Ok(()) = bytes.write(kind) else {
-        return Err(AllocError);
-    };
+    bytes.write(kind).map_err(|_| AllocError)?;
     Ok(bytes)
 }
 
@@ -74,15 +64,9 @@ fn goaway_frame(alloc: Global, id: VarInt) -> Result<Vec<u8>, AllocError>
     ensures { IfOk result (λ bytes. bytes.items ≡ goaway_encoding id) }
 {
     let mut bytes = Vec::new(alloc);
-    let Ok(()) = bytes.write(FrameType::GOAWAY) else {
-        return Err(AllocError);
-    };
-    let Ok(()) = bytes.write_var(id.size() as u64) else {
-        return Err(AllocError);
-    };
-    let Ok(()) = bytes.write_var(id.into_inner()) else {
-        return Err(AllocError);
-    };
+    bytes.write(FrameType::GOAWAY).map_err(|_| AllocError)?;
+    bytes.write_var(id.size() as u64).map_err(|_| AllocError)?;
+    bytes.write_var(id.into_inner()).map_err(|_| AllocError)?;
     Ok(bytes)
 }
 

@@ -86,11 +86,7 @@ pub fn first_role(bytes: &[u8], own: &Announced) -> Option<(PlainRole, usize)>
         → TellsFirst (known_streams own.now) (Untold []) bytes.now r rest }
 {
     let mut ahead = bytes;
-    let Some(kind) = read_kind(&mut ahead, own) else {
-        return None;
-    };
-    let Some(role) = PlainRole::of(kind) else {
-        return None;
-    };
+    let kind = read_kind(&mut ahead, own)?;
+    let role = PlainRole::of(kind)?;
     Some((role, bytes.len() - ahead.len()))
 }

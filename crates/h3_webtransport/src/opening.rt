@@ -1,6 +1,7 @@
 //! Streams that this side opens for a session.
 ghost use Rattle.std.specs.Prelude.{◌≡◌, ◌&&◌, ◌||◌, not, is_some};
-ghost use Rattle.h3_webtransport.specs.Opening.{OpensAtClient, OpensKind, OpensOn, is_one, is_over, open_error, takes_sessions, unless_taken};
+ghost use Rattle.h3_webtransport.specs.Opening.{OpensAtClient, OpensKind, OpensOn, is_one, is_over, open_error, takes_sessions};
+ghost use Rattle.h3_webtransport.specs.Opening.{unless_taken};
 ghost use Rattle.h3_connection.specs.Endpoint.{EndpointHistory};
 ghost use Rattle.h3_connection.specs.Pulling.{is_client};
 ghost use Rattle.h3_connection.specs.Sending.{body_refusal};

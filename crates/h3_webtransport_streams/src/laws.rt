@@ -37,8 +37,8 @@ pub fn codes_read_back()
     ensures free { (number n : ℕ) → code_of number ≡ 0x1f * n + 0x21 → ⊥ }
 {}
 
-/// A stream that waits has its turn, whichever streams are opened, send or are held meanwhile. So many turns of others, of ids below `bound`,
-/// come first at most.
+/// A stream that waits has its turn, whichever streams are opened, send or are held meanwhile. So many turns of others, of ids below
+/// `bound`, come first at most.
 #[tactic(auto, using(crate::proofs::Turns::has_its_turn))]
 pub fn each_has_its_turn()
     ensures { (waiting bound from : ℕ) (turns : List Turn) → WaitsThrough waiting bound from turns → length turns ≤ from + bound }

@@ -5,8 +5,8 @@ ghost use Rattle.h3_connection.specs.Answers.{call_refused};
 ghost use Rattle.h3_capsule.specs.Capsule.{read_on};
 ghost use Rattle.h3_capsule.specs.ReaderStates.{place_of_state};
 ghost use Rattle.h3_webtransport_streams.specs.Begun.{ArrivesAs, arrived_by, used_of};
-ghost use Rattle.h3_webtransport_streams.specs.Receiver.{Receiver, answering, came, canceled, given_up, is_closed, is_done, pulled, raw, read_front};
-ghost use Rattle.h3_webtransport_streams.specs.Receiver.{told_or_raw, untold, with_end, with_reset};
+ghost use Rattle.h3_webtransport_streams.specs.Receiver.{Receiver, answering, came, canceled, given_up, is_closed, is_done, pulled};
+ghost use Rattle.h3_webtransport_streams.specs.Receiver.{raw, read_front, told_or_raw, untold, with_end, with_reset};
 
 use crate::front::BOTH_WAYS;
 use bytes::{Buf, Bytes};

@@ -98,13 +98,8 @@ impl Connection {
 fn priority_given(urgency: u32, incremental: u32) -> Option<Priority>
     ensures { result ≡ priority_given urgency incremental }
 {
-    let Ok(urgency) = u8::try_from(urgency) else {
-        return None;
-    };
-    match flag_given(incremental) {
-        Some(incremental) => Priority::new(urgency, incremental),
-        None => None,
-    }
+    let urgency = u8::try_from(urgency).ok()?;
+    Priority::new(urgency, flag_given(incremental)?)
 }
 
 // 0 or 1.

@@ -16,7 +16,7 @@ use crate::numbers::{OK, Told, delivered, or_memory};
 use bytes::Bytes;
 use h3_coding::coding::BufExt;
 use h3_connection::event::{DeliverError, Refusal};
-use h3_incoming::answer::{Plain, pause};
+use h3_incoming::answer::Plain;
 use h3_incoming::{BlockPull, BodyPlace, Told as PulledTold};
 use h3_proto::stream::StreamId;
 use std::alloc::Global;
@@ -220,7 +220,7 @@ fn hold_none(last: &mut BlockPull)
     if holds_none(last) {
         return;
     }
-    pause(last);
+    last.pause();
 }
 
 fn holds_none(last: &BlockPull) -> bool

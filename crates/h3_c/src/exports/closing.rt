@@ -6,7 +6,7 @@ ghost use Rattle.h3_c.specs.Does.CallOfC.{CloseStream};
 ghost use Rattle.h3_c.specs.Exported.{StepsAlone, StepsBeside};
 ghost use Rattle.h3_c.specs.Numbers.{number};
 
-use crate::handle::{Handle, kept, opened};
+use crate::handle::{Handle, answered, opened};
 use std::alloc::Global;
 
 /// A stream is given up both ways: 1 says that QUIC has to send the frame.
@@ -29,7 +29,5 @@ pub extern "C" fn h3_raw_close_stream(
 {
     let mut connection = opened(alloc, handle);
     let told = connection.close_stream(id, stop_sending, reset_stream);
-    *out = kept(connection);
-    *detail = told.detail;
-    told.number
+    answered(connection, told, detail, out)
 }

@@ -5,7 +5,7 @@ ghost use Rattle.h3_c.specs.Does.CallOfC.{DatagramHead, ReadDatagram};
 ghost use Rattle.h3_c.specs.Exported.{Steps};
 ghost use Rattle.h3_c.specs.Numbers.{number};
 
-use crate::handle::{Handle, kept, opened};
+use crate::handle::{Handle, answered, opened};
 use std::alloc::Global;
 
 /// What stands in front of the payload of a datagram for the request on a stream.
@@ -20,15 +20,12 @@ pub extern "C" fn h3_raw_datagram_head(
     out: &mut Handle,
 ) -> u32
     requires { IsSome handle.value }
-    ensures there { IsSome out.new.value }
-    ensures goes { Steps handle.value out.new.value (Does (DatagramHead id buffer.old buffer.new count.old count.new
+    ensures { Steps handle.value out.new.value (Does (DatagramHead id buffer.old buffer.new count.old count.new
         (number result detail.new))) }
 {
     let connection = opened(alloc, handle);
     let told = connection.datagram_head(id, buffer, count);
-    *out = kept(connection);
-    *detail = told.detail;
-    told.number
+    answered(connection, told, detail, out)
 }
 
 /// A datagram came.
@@ -43,13 +40,10 @@ pub extern "C" fn h3_raw_read_datagram(
     out: &mut Handle,
 ) -> u32
     requires { IsSome handle.value }
-    ensures there { IsSome out.new.value }
-    ensures goes { Steps handle.value out.new.value (Does (ReadDatagram bytes.now id.old id.new from.old from.new
+    ensures { Steps handle.value out.new.value (Does (ReadDatagram bytes.now id.old id.new from.old from.new
         (number result detail.new))) }
 {
     let mut connection = opened(alloc, handle);
     let told = connection.read_datagram(bytes, id, from);
-    *out = kept(connection);
-    *detail = told.detail;
-    told.number
+    answered(connection, told, detail, out)
 }

@@ -18,8 +18,7 @@ pub extern "C" fn h3_raw_next_event(
     out: &mut Handle,
 ) -> u32
     requires { IsSome handle.value }
-    ensures there { IsSome out.new.value }
-    ensures goes { Steps handle.value out.new.value (Does (NextEvent kind.old kind.new id.old id.new (number result 0))) }
+    ensures { Steps handle.value out.new.value (Does (NextEvent kind.old kind.new id.old id.new (number result 0))) }
 {
     let mut connection = opened(alloc, handle);
     let told = connection.next_event(kind, id);

@@ -6,7 +6,7 @@ ghost use Rattle.h3_c.specs.Exported.{Steps};
 ghost use Rattle.h3_c.specs.Numbers.{number};
 
 use crate::fields::FieldSize;
-use crate::handle::{Handle, kept, opened};
+use crate::handle::{Handle, answered, opened};
 use std::alloc::Global;
 
 /// A header section goes out on a stream, as it is.
@@ -22,14 +22,11 @@ pub extern "C" fn h3_raw_send_head(
     out: &mut Handle,
 ) -> u32
     requires { IsSome handle.value }
-    ensures there { IsSome out.new.value }
-    ensures goes { Steps handle.value out.new.value (Does (SendHead id sizes.now flags.now bytes.now (number result detail.new))) }
+    ensures { Steps handle.value out.new.value (Does (SendHead id sizes.now flags.now bytes.now (number result detail.new))) }
 {
     let mut connection = opened(alloc, handle);
     let told = connection.send_head(alloc, id, sizes, flags, bytes);
-    *out = kept(connection);
-    *detail = told.detail;
-    told.number
+    answered(connection, told, detail, out)
 }
 
 /// A trailer section goes out on a stream, as it is.
@@ -45,12 +42,9 @@ pub extern "C" fn h3_raw_send_trailer(
     out: &mut Handle,
 ) -> u32
     requires { IsSome handle.value }
-    ensures there { IsSome out.new.value }
-    ensures goes { Steps handle.value out.new.value (Does (SendTrailer id sizes.now flags.now bytes.now (number result detail.new))) }
+    ensures { Steps handle.value out.new.value (Does (SendTrailer id sizes.now flags.now bytes.now (number result detail.new))) }
 {
     let mut connection = opened(alloc, handle);
     let told = connection.send_trailer(alloc, id, sizes, flags, bytes);
-    *out = kept(connection);
-    *detail = told.detail;
-    told.number
+    answered(connection, told, detail, out)
 }

@@ -42,8 +42,7 @@ pub extern "C" fn h3_raw_item_fields(
     out: &mut Handle,
 ) -> u32
     requires { IsSome handle.value }
-    ensures there { IsSome out.new.value }
-    ensures goes { Steps handle.value out.new.value (Does (ItemFields sizes.old sizes.new flags.old flags.new bytes.old bytes.new
+    ensures { Steps handle.value out.new.value (Does (ItemFields sizes.old sizes.new flags.old flags.new bytes.old bytes.new
         (number result 0))) }
 {
     let connection = opened(alloc, handle);
@@ -63,8 +62,7 @@ pub extern "C" fn h3_raw_item_bytes(
     out: &mut Handle,
 ) -> u32
     requires { IsSome handle.value }
-    ensures there { IsSome out.new.value }
-    ensures goes { Steps handle.value out.new.value (Does (ItemBytes from buffer.old buffer.new count.old count.new (number result 0))) }
+    ensures { Steps handle.value out.new.value (Does (ItemBytes from buffer.old buffer.new count.old count.new (number result 0))) }
 {
     let connection = opened(alloc, handle);
     let told = connection.item_bytes(from, buffer, count);

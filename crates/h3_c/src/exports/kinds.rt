@@ -18,8 +18,7 @@ pub extern "C" fn h3_raw_stream_kind(
     out: &mut Handle,
 ) -> u32
     requires { IsSome handle.value }
-    ensures there { IsSome out.new.value }
-    ensures goes { Steps handle.value out.new.value (Does (StreamKind id kind.old kind.new (number result 0))) }
+    ensures { Steps handle.value out.new.value (Does (StreamKind id kind.old kind.new (number result 0))) }
 {
     let connection = opened(alloc, handle);
     let told = connection.stream_kind(id, kind);
@@ -37,8 +36,7 @@ pub extern "C" fn h3_raw_other_type(
     out: &mut Handle,
 ) -> u32
     requires { IsSome handle.value }
-    ensures there { IsSome out.new.value }
-    ensures goes { Steps handle.value out.new.value (Does (OtherType id stream_type.old stream_type.new (number result 0))) }
+    ensures { Steps handle.value out.new.value (Does (OtherType id stream_type.old stream_type.new (number result 0))) }
 {
     let connection = opened(alloc, handle);
     let told = connection.other_type(id, stream_type);

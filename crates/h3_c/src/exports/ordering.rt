@@ -6,7 +6,7 @@ ghost use Rattle.h3_c.specs.Does.CallOfC.{Hold, NextByPriority, PriorityOf, Send
 ghost use Rattle.h3_c.specs.Exported.{Steps, StepsAlone, StepsBeside};
 ghost use Rattle.h3_c.specs.Numbers.{number};
 
-use crate::handle::{Handle, kept, opened};
+use crate::handle::{Handle, answered, kept, opened};
 use std::alloc::Global;
 
 /// The stream that sends next: one of the least urgency, by turns.
@@ -40,14 +40,11 @@ pub extern "C" fn h3_raw_set_priority(
     out: &mut Handle,
 ) -> u32
     requires { IsSome handle.value }
-    ensures there { IsSome out.new.value }
-    ensures goes { Steps handle.value out.new.value (Does (SetPriority id urgency incremental (number result detail.new))) }
+    ensures { Steps handle.value out.new.value (Does (SetPriority id urgency incremental (number result detail.new))) }
 {
     let mut connection = opened(alloc, handle);
     let told = connection.set_priority(id, urgency, incremental);
-    *out = kept(connection);
-    *detail = told.detail;
-    told.number
+    answered(connection, told, detail, out)
 }
 
 /// The request of a stream asks for this priority by its `priority` field.
@@ -62,14 +59,11 @@ pub extern "C" fn h3_raw_set_initial_priority(
     out: &mut Handle,
 ) -> u32
     requires { IsSome handle.value }
-    ensures there { IsSome out.new.value }
-    ensures goes { Steps handle.value out.new.value (Does (SetInitialPriority id urgency incremental (number result detail.new))) }
+    ensures { Steps handle.value out.new.value (Does (SetInitialPriority id urgency incremental (number result detail.new))) }
 {
     let mut connection = opened(alloc, handle);
     let told = connection.set_initial_priority(id, urgency, incremental);
-    *out = kept(connection);
-    *detail = told.detail;
-    told.number
+    answered(connection, told, detail, out)
 }
 
 /// Tells the server the priority of a response (RFC 9218, section 7.2).
@@ -84,14 +78,11 @@ pub extern "C" fn h3_raw_send_priority(
     out: &mut Handle,
 ) -> u32
     requires { IsSome handle.value }
-    ensures there { IsSome out.new.value }
-    ensures goes { Steps handle.value out.new.value (Does (SendPriority id urgency incremental (number result detail.new))) }
+    ensures { Steps handle.value out.new.value (Does (SendPriority id urgency incremental (number result detail.new))) }
 {
     let mut connection = opened(alloc, handle);
     let told = connection.send_priority(id, urgency, incremental);
-    *out = kept(connection);
-    *detail = told.detail;
-    told.number
+    answered(connection, told, detail, out)
 }
 
 /// The priority that counts of a request stream.
@@ -105,8 +96,7 @@ pub extern "C" fn h3_raw_priority(
     out: &mut Handle,
 ) -> u32
     requires { IsSome handle.value }
-    ensures there { IsSome out.new.value }
-    ensures goes { Steps handle.value out.new.value (Does (PriorityOf id urgency.old urgency.new incremental.old incremental.new
+    ensures { Steps handle.value out.new.value (Does (PriorityOf id urgency.old urgency.new incremental.old incremental.new
         (number result 0))) }
 {
     let connection = opened(alloc, handle);
@@ -132,7 +122,5 @@ pub extern "C" fn h3_raw_hold(
 {
     let mut connection = opened(alloc, handle);
     let told = connection.hold(id, held);
-    *out = kept(connection);
-    *detail = told.detail;
-    told.number
+    answered(connection, told, detail, out)
 }

@@ -6,7 +6,7 @@ ghost use Rattle.h3_c.specs.Does.CallOfC.{Read};
 ghost use Rattle.h3_c.specs.Exported.{StepsAlone, StepsBeside};
 ghost use Rattle.h3_c.specs.Numbers.{number};
 
-use crate::handle::{Handle, kept, opened};
+use crate::handle::{Handle, answered, opened};
 use crate::items::PulledItem;
 use std::alloc::Global;
 
@@ -32,7 +32,5 @@ pub extern "C" fn h3_raw_read(
 {
     let mut connection = opened(alloc, handle);
     let told = connection.read(alloc, id, bytes, fin, used, item);
-    *out = kept(connection);
-    *detail = told.detail;
-    told.number
+    answered(connection, told, detail, out)
 }

@@ -6,7 +6,7 @@ ghost use Rattle.h3_c.specs.Does.CallOfC.{Deliver, DeliverEnd, DeliverReset};
 ghost use Rattle.h3_c.specs.Exported.{StepsAlone, StepsBeside};
 ghost use Rattle.h3_c.specs.Numbers.{number};
 
-use crate::handle::{Handle, kept, opened};
+use crate::handle::{Handle, answered, opened};
 use std::alloc::Global;
 
 /// Bytes came on a stream.
@@ -26,9 +26,7 @@ pub extern "C" fn h3_raw_deliver(
 {
     let mut connection = opened(alloc, handle);
     let told = connection.deliver(alloc, id, bytes);
-    *out = kept(connection);
-    *detail = told.detail;
-    told.number
+    answered(connection, told, detail, out)
 }
 
 /// The end of a stream came.
@@ -47,9 +45,7 @@ pub extern "C" fn h3_raw_deliver_end(
 {
     let mut connection = opened(alloc, handle);
     let told = connection.deliver_end(id);
-    *out = kept(connection);
-    *detail = told.detail;
-    told.number
+    answered(connection, told, detail, out)
 }
 
 /// The sender reset a stream, with this code.
@@ -69,7 +65,5 @@ pub extern "C" fn h3_raw_deliver_reset(
 {
     let mut connection = opened(alloc, handle);
     let told = connection.deliver_reset(id, code);
-    *out = kept(connection);
-    *detail = told.detail;
-    told.number
+    answered(connection, told, detail, out)
 }

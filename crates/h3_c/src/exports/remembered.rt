@@ -27,8 +27,7 @@ pub extern "C" fn h3_raw_remember_settings(
     out: &mut Handle,
 ) -> u32
     requires { IsSome handle.value }
-    ensures there { IsSome out.new.value }
-    ensures goes { Steps handle.value out.new.value (Does (RememberSettings buffer.old buffer.new count.old count.new (number result 0))) }
+    ensures { Steps handle.value out.new.value (Does (RememberSettings buffer.old buffer.new count.old count.new (number result 0))) }
 {
     let connection = opened(alloc, handle);
     let told = connection.remember_settings(alloc, buffer, count);
@@ -46,8 +45,7 @@ pub extern "C" fn h3_raw_settings_kept(
     out: &mut Handle,
 ) -> u32
     requires { IsSome handle.value }
-    ensures there { IsSome out.new.value }
-    ensures goes { Steps handle.value out.new.value (Does (SettingsKept bytes.now keeps.old keeps.new (number result 0))) }
+    ensures { Steps handle.value out.new.value (Does (SettingsKept bytes.now keeps.old keeps.new (number result 0))) }
 {
     let connection = opened(alloc, handle);
     let told = connection.settings_kept(bytes, keeps);

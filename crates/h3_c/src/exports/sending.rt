@@ -6,7 +6,7 @@ ghost use Rattle.h3_c.specs.Does.CallOfC.{Cancel, Finish, Goaway, NextRequestId,
 ghost use Rattle.h3_c.specs.Exported.{Steps, StepsAlone, StepsBeside};
 ghost use Rattle.h3_c.specs.Numbers.{number};
 
-use crate::handle::{Handle, kept, opened};
+use crate::handle::{Handle, answered, opened};
 use std::alloc::Global;
 
 /// Opens the next request stream, whose id goes to `id`.
@@ -19,14 +19,11 @@ pub extern "C" fn h3_raw_open_request(
     out: &mut Handle,
 ) -> u32
     requires { IsSome handle.value }
-    ensures there { IsSome out.new.value }
-    ensures goes { Steps handle.value out.new.value (Does (OpenRequest id.old id.new (number result detail.new))) }
+    ensures { Steps handle.value out.new.value (Does (OpenRequest id.old id.new (number result detail.new))) }
 {
     let mut connection = opened(alloc, handle);
     let told = connection.open_request(id);
-    *out = kept(connection);
-    *detail = told.detail;
-    told.number
+    answered(connection, told, detail, out)
 }
 
 /// The id that `h3_raw_open_request` gives next goes to `id`, and nothing is opened.
@@ -39,14 +36,11 @@ pub extern "C" fn h3_raw_next_request_id(
     out: &mut Handle,
 ) -> u32
     requires { IsSome handle.value }
-    ensures there { IsSome out.new.value }
-    ensures goes { Steps handle.value out.new.value (Does (NextRequestId id.old id.new (number result detail.new))) }
+    ensures { Steps handle.value out.new.value (Does (NextRequestId id.old id.new (number result detail.new))) }
 {
     let connection = opened(alloc, handle);
     let told = connection.next_request_id(id);
-    *out = kept(connection);
-    *detail = told.detail;
-    told.number
+    answered(connection, told, detail, out)
 }
 
 /// Opens the request of an id that QUIC gave, and all with lower ids that are not open.
@@ -59,14 +53,11 @@ pub extern "C" fn h3_raw_open_request_at(
     out: &mut Handle,
 ) -> u32
     requires { IsSome handle.value }
-    ensures there { IsSome out.new.value }
-    ensures goes { Steps handle.value out.new.value (Does (OpenRequestAt id (number result detail.new))) }
+    ensures { Steps handle.value out.new.value (Does (OpenRequestAt id (number result detail.new))) }
 {
     let mut connection = opened(alloc, handle);
     let told = connection.open_request_at(id);
-    *out = kept(connection);
-    *detail = told.detail;
-    told.number
+    answered(connection, told, detail, out)
 }
 
 /// A piece of a body goes out on a stream.
@@ -80,14 +71,11 @@ pub extern "C" fn h3_raw_send_body(
     out: &mut Handle,
 ) -> u32
     requires { IsSome handle.value }
-    ensures there { IsSome out.new.value }
-    ensures goes { Steps handle.value out.new.value (Does (SendBody id bytes.now (number result detail.new))) }
+    ensures { Steps handle.value out.new.value (Does (SendBody id bytes.now (number result detail.new))) }
 {
     let mut connection = opened(alloc, handle);
     let told = connection.send_body(alloc, id, bytes);
-    *out = kept(connection);
-    *detail = told.detail;
-    told.number
+    answered(connection, told, detail, out)
 }
 
 /// A piece of a body of so many bytes goes out on a stream, which C holds.
@@ -101,14 +89,11 @@ pub extern "C" fn h3_raw_send_body_of(
     out: &mut Handle,
 ) -> u32
     requires { IsSome handle.value }
-    ensures there { IsSome out.new.value }
-    ensures goes { Steps handle.value out.new.value (Does (SendBodyOf id len (number result detail.new))) }
+    ensures { Steps handle.value out.new.value (Does (SendBodyOf id len (number result detail.new))) }
 {
     let mut connection = opened(alloc, handle);
     let told = connection.send_body_of(id, len);
-    *out = kept(connection);
-    *detail = told.detail;
-    told.number
+    answered(connection, told, detail, out)
 }
 
 /// The message on a stream is whole.
@@ -127,9 +112,7 @@ pub extern "C" fn h3_raw_finish(
 {
     let mut connection = opened(alloc, handle);
     let told = connection.finish(id);
-    *out = kept(connection);
-    *detail = told.detail;
-    told.number
+    answered(connection, told, detail, out)
 }
 
 /// Sending on a stream ends here.
@@ -148,9 +131,7 @@ pub extern "C" fn h3_raw_reset(
 {
     let mut connection = opened(alloc, handle);
     let told = connection.reset(id);
-    *out = kept(connection);
-    *detail = told.detail;
-    told.number
+    answered(connection, told, detail, out)
 }
 
 /// The caller needs nothing more of a request stream.
@@ -169,9 +150,7 @@ pub extern "C" fn h3_raw_cancel(
 {
     let mut connection = opened(alloc, handle);
     let told = connection.cancel(id);
-    *out = kept(connection);
-    *detail = told.detail;
-    told.number
+    answered(connection, told, detail, out)
 }
 
 /// No request, or no push, is taken from this id on.
@@ -184,12 +163,9 @@ pub extern "C" fn h3_raw_goaway(
     out: &mut Handle,
 ) -> u32
     requires { IsSome handle.value }
-    ensures there { IsSome out.new.value }
-    ensures goes { Steps handle.value out.new.value (Does (Goaway id (number result detail.new))) }
+    ensures { Steps handle.value out.new.value (Does (Goaway id (number result detail.new))) }
 {
     let mut connection = opened(alloc, handle);
     let told = connection.goaway(id);
-    *out = kept(connection);
-    *detail = told.detail;
-    told.number
+    answered(connection, told, detail, out)
 }

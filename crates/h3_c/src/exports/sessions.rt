@@ -5,7 +5,7 @@ ghost use Rattle.h3_c.specs.Exported.{StepsBeside};
 ghost use Rattle.h3_c.specs.Numbers.{number};
 ghost use Rattle.h3_c.specs.Sessions.{FindsOfSession, GivesNumber, OpensSession, SendsRawOn};
 
-use crate::handle::{Handle, kept, opened};
+use crate::handle::{Handle, answered, kept, opened};
 use crate::numbers::{NONE, OK};
 use h3_webtransport_streams::codes;
 use std::alloc::Global;
@@ -28,9 +28,7 @@ pub extern "C" fn h3_raw_open_session_stream(
 {
     let mut connection = opened(alloc, handle);
     let told = connection.open_session_stream(session, both_ways, id);
-    *out = kept(connection);
-    *detail = told.detail;
-    told.number
+    answered(connection, told, detail, out)
 }
 
 /// Sends bytes on a stream of a session, as they are.
@@ -49,9 +47,7 @@ pub extern "C" fn h3_raw_send_raw(
 {
     let mut connection = opened(alloc, handle);
     let told = connection.send_raw(alloc, id, bytes);
-    *out = kept(connection);
-    *detail = told.detail;
-    told.number
+    answered(connection, told, detail, out)
 }
 
 /// The lowest id from `from` on of a stream of a session.

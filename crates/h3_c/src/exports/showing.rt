@@ -40,8 +40,7 @@ pub extern "C" fn h3_raw_frame_left(
     out: &mut Handle,
 ) -> u32
     requires { IsSome handle.value }
-    ensures there { IsSome out.new.value }
-    ensures goes { Steps handle.value out.new.value (Does (FrameLeft id left.old left.new (number result 0))) }
+    ensures { Steps handle.value out.new.value (Does (FrameLeft id left.old left.new (number result 0))) }
 {
     let connection = opened(alloc, handle);
     let told = connection.frame_left(id, left);
@@ -58,8 +57,7 @@ pub extern "C" fn h3_raw_connection(
     out: &mut Handle,
 ) -> u32
     requires { IsSome handle.value }
-    ensures there { IsSome out.new.value }
-    ensures goes { Steps handle.value out.new.value (Does (Connection state.new (number result 0))) }
+    ensures { Steps handle.value out.new.value (Does (Connection state.new (number result 0))) }
 {
     let connection = opened(alloc, handle);
     let told = connection.connection(state);
@@ -77,8 +75,7 @@ pub extern "C" fn h3_raw_peer_setting(
     out: &mut Handle,
 ) -> u32
     requires { IsSome handle.value }
-    ensures there { IsSome out.new.value }
-    ensures goes { Steps handle.value out.new.value (Does (PeerSetting setting value.old value.new (number result 0))) }
+    ensures { Steps handle.value out.new.value (Does (PeerSetting setting value.old value.new (number result 0))) }
 {
     let connection = opened(alloc, handle);
     let told = connection.peer_setting(setting, value);

@@ -6,7 +6,7 @@ ghost use Rattle.h3_c.specs.Does.CallOfC.{FirstUnseen, IsDrained, Shutdown, Shut
 ghost use Rattle.h3_c.specs.Exported.{Steps, StepsAlone, StepsBeside};
 ghost use Rattle.h3_c.specs.Numbers.{number};
 
-use crate::handle::{Handle, kept, opened};
+use crate::handle::{Handle, answered, kept, opened};
 use std::alloc::Global;
 
 /// The peer learns that the connection will be shut down.
@@ -18,14 +18,11 @@ pub extern "C" fn h3_raw_shutdown_notice(
     out: &mut Handle,
 ) -> u32
     requires { IsSome handle.value }
-    ensures there { IsSome out.new.value }
-    ensures goes { Steps handle.value out.new.value (Does (ShutdownNotice (number result detail.new))) }
+    ensures { Steps handle.value out.new.value (Does (ShutdownNotice (number result detail.new))) }
 {
     let mut connection = opened(alloc, handle);
     let told = connection.shutdown_notice();
-    *out = kept(connection);
-    *detail = told.detail;
-    told.number
+    answered(connection, told, detail, out)
 }
 
 /// No more is taken than came.
@@ -37,14 +34,11 @@ pub extern "C" fn h3_raw_shutdown(
     out: &mut Handle,
 ) -> u32
     requires { IsSome handle.value }
-    ensures there { IsSome out.new.value }
-    ensures goes { Steps handle.value out.new.value (Does (Shutdown (number result detail.new))) }
+    ensures { Steps handle.value out.new.value (Does (Shutdown (number result detail.new))) }
 {
     let mut connection = opened(alloc, handle);
     let told = connection.shutdown();
-    *out = kept(connection);
-    *detail = told.detail;
-    told.number
+    answered(connection, told, detail, out)
 }
 
 /// The first id of a request stream that was not seen.
@@ -56,8 +50,7 @@ pub extern "C" fn h3_raw_first_unseen(
     out: &mut Handle,
 ) -> u32
     requires { IsSome handle.value }
-    ensures there { IsSome out.new.value }
-    ensures goes { Steps handle.value out.new.value (Does (FirstUnseen id.new (number result 0))) }
+    ensures { Steps handle.value out.new.value (Does (FirstUnseen id.new (number result 0))) }
 {
     let connection = opened(alloc, handle);
     let told = connection.first_unseen(id);

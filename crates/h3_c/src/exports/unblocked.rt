@@ -18,8 +18,7 @@ pub extern "C" fn h3_raw_next_unblocked(
     out: &mut Handle,
 ) -> u32
     requires { IsSome handle.value }
-    ensures there { IsSome out.new.value }
-    ensures goes { Steps handle.value out.new.value (Does (NextUnblocked from id.old id.new (number result 0))) }
+    ensures { Steps handle.value out.new.value (Does (NextUnblocked from id.old id.new (number result 0))) }
 {
     let connection = opened(alloc, handle);
     let told = connection.next_unblocked(from, id);

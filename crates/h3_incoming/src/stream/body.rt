@@ -1,14 +1,16 @@
 //! The payload of DATA that is under way, and the bytes of a session.
 ghost use Rattle.std.specs.Prelude.{◌≡◌, ◌<◌, true, false, [], None};
-ghost use Rattle.h3_connection.specs.declared.event.Item.TheVariants.{End};
-ghost use Rattle.h3_connection.specs.declared.event.Pull.TheVariants as pull;
+ghost use Rattle.h3_connection.specs.Lists.{list_of, pull_of};
+ghost use Rattle.h3_connection.specs.declared.lists.ListItem.TheVariants.{End};
+ghost use Rattle.h3_connection.specs.declared.lists.ListPull.TheVariants as answer;
 ghost use Rattle.h3_connection.specs.Pulling.{just, in_payload, at_payload, raw, is_memory};
 ghost use Rattle.h3_messages.specs.Content.{is_exceeded};
 ghost use Rattle.h3_incoming.specs.Gives.{Gives};
 ghost use Rattle.h3_incoming.specs.Placing.{is_session};
 
 use super::IncomingStream;
-use crate::answer::{Answer, Plain, end, fail, pause};
+use crate::answer::Plain;
+use crate::block::BlockPull;
 use h3_connection::event::{Fault, Malformation};
 use h3_frames::frame::FrameBuffer;
 use h3_proto::error::Code;
@@ -19,19 +21,19 @@ use std::mem;
 impl IncomingStream {
     /// The next bytes of the payload under way. Of one that is longer than the content may be, nothing is returned: the message is
     /// malformed (RFC 9114, section 4.1.2).
-    pub(super) fn pull_payload<O: Answer>(
+    pub(super) fn pull_payload(
         &mut self,
         alloc: Global,
         id: StreamId,
         replies: &mut Vec<u8>,
-        out: &mut O,
+        out: &mut BlockPull,
     )
         requires open { 0 < self.old.body_left }
         requires goes_on { self.old.is_over ≡ false }
-        ensures answer { is_memory (O.told out.new) ≡ false
-            → Gives (at_payload id self.old) (O.told out.new) self.new replies.old.items replies.new.items }
-        ensures memory { is_memory (O.told out.new) ≡ true → (self.new ≡ self.old) × (replies.new.items ≡ replies.old.items) }
-        ensures none { O.listed out.new ≡ None }
+        ensures answer { is_memory (pull_of out.new) ≡ false
+            → Gives (at_payload id self.old) (pull_of out.new) self.new replies.old.items replies.new.items }
+        ensures memory { is_memory (pull_of out.new) ≡ true → (self.new ≡ self.old) × (replies.new.items ≡ replies.old.items) }
+        ensures none { list_of out.new ≡ None }
     {
         if self.has_too_much() {
             return self.refuse_message(alloc, id, Malformation::ContentLength, replies, out);
@@ -47,20 +49,20 @@ impl IncomingStream {
     }
 
     // The next bytes of a payload that is not. One that the end cuts short is a fault of the connection (RFC 9114, section 7.1).
-    fn pull_bytes<O: Answer>(&mut self, out: &mut O)
+    fn pull_bytes(&mut self, out: &mut BlockPull)
         requires open { 0 < self.old.body_left }
         requires goes_on { self.old.is_over ≡ false }
-        ensures answer { is_memory (O.told out.new) ≡ false → in_payload self.old ≡ just (O.told out.new) self.new }
-        ensures memory { is_memory (O.told out.new) ≡ true → self.new ≡ self.old }
-        ensures none { O.listed out.new ≡ None }
+        ensures answer { is_memory (pull_of out.new) ≡ false → in_payload self.old ≡ just (pull_of out.new) self.new }
+        ensures memory { is_memory (pull_of out.new) ≡ true → self.new ≡ self.old }
+        ensures none { list_of out.new ≡ None }
     {
         if self.ended && self.unread.len() < self.body_left {
-            fail(out, Fault::Connection(Code::H3_FRAME_ERROR));
+            out.fail(Fault::Connection(Code::H3_FRAME_ERROR));
             return;
         }
         match self.unread.take_chunk(self.body_left) {
-            Err(_) => fail(out, Fault::Memory),
-            Ok(None) => pause(out),
+            Err(_) => out.fail(Fault::Memory),
+            Ok(None) => out.pause(),
             Ok(Some(bytes)) => {
                 self.body_left = self.body_left.saturating_sub(bytes.len());
                 out.give(Plain::Body(bytes));
@@ -69,31 +71,30 @@ impl IncomingStream {
     }
 
     /// The next bytes of a session. At its end no buffer is kept.
-    pub(super) fn pull_raw<O: Answer>(&mut self, alloc: Global, out: &mut O)
+    pub(super) fn pull_raw(&mut self, alloc: Global, out: &mut BlockPull)
         requires open { self.old.fault ≡ None }
         requires session { is_session self.old.place ≡ true }
         requires goes_on { self.old.is_over ≡ false }
-        ensures answer { raw self.old ≡ just (O.told out.new) self.new }
-        ensures memory { is_memory (O.told out.new) ≡ false }
-        ensures none { O.listed out.new ≡ None }
+        ensures answer { raw self.old ≡ just (pull_of out.new) self.new }
+        ensures memory { is_memory (pull_of out.new) ≡ false }
+        ensures none { list_of out.new ≡ None }
     {
         match self.unread.take_first_chunk() {
             Some(bytes) => out.give(Plain::Raw(bytes)),
-            None if !self.ended => pause(out),
+            None if !self.ended => out.pause(),
             None => self.finish(alloc, out),
         }
     }
 
     /// The end is returned, and no buffer is kept.
-    pub(super) fn finish<O: Answer>(&mut self, alloc: Global, out: &mut O)
+    pub(super) fn finish(&mut self, alloc: Global, out: &mut BlockPull)
         ensures stream { self.new ≡ record self.old { unread = []; is_over = true } }
-        ensures answer { O.told out.new ≡ pull.Item End }
-        ensures none { O.listed out.new ≡ None }
+        ensures answer { out.new ≡ answer.Item End }
     {
         if !self.unread.is_bare() {
             drop(mem::replace(&mut self.unread, FrameBuffer::new(alloc)));
         }
         self.is_over = true;
-        end(out);
+        out.end();
     }
 }

@@ -55,20 +55,13 @@ impl RequestStreams {
 
     // RFC 9114 4.1: a trailer section in its place, sent
     /// Room for the frame of a trailer section, so that sending it needs no memory. It refuses first a stream that is not there, then one
-    /// whose final header section was not sent, or whose trailer section or end was. Next is what `later` refuses. Then comes a trailer
-    /// section in front of which less content was sent than the header section said, or that would stand in a tunnel. The last is a failed
-    /// allocation.
-    pub fn reserve_trailer(
-        &mut self,
-        id: StreamId,
-        later: Option<Refusal>,
-    ) -> Result<SectionRoom, Refusal>
+    /// whose final header section was not sent, or whose trailer section or end was. Then comes a trailer section in front of which less
+    /// content was sent than the header section said, or that would stand in a tunnel. The last is a failed allocation.
+    pub fn reserve_trailer(&mut self, id: StreamId) -> Result<SectionRoom, Refusal>
         ensures room { IfOk result (λ room. room ≡ id) }
-        ensures taken { OnOk result
-            (or_later (body_refused_at (kept_at self.old id)) (or_later later (early_trailer_at (kept_at self.old id))) ≡ None) }
+        ensures taken { OnOk result (or_later (body_refused_at (kept_at self.old id)) (early_trailer_at (kept_at self.old id)) ≡ None) }
         ensures why { IfErr result
-            (λ r. r ≡ unwrap_or (or_later (body_refused_at (kept_at self.old id)) (or_later later (early_trailer_at (kept_at self.old id))))
-            OutOfMemory) }
+            (λ r. r ≡ unwrap_or (or_later (body_refused_at (kept_at self.old id)) (early_trailer_at (kept_at self.old id))) OutOfMemory) }
         ensures same { AllSame self.old self.new }
     {
         let Some(stream) = self.streams.get_mut(id) else {
@@ -76,9 +69,6 @@ impl RequestStreams {
         };
         if !stream.outgoing.takes_body() {
             return Err(Refusal::OutOfOrder);
-        }
-        if let Some(refusal) = later {
-            return Err(refusal);
         }
         if let Some(why) = stream.outgoing.early_trailer() {
             return Err(Refusal::Malformed(why));

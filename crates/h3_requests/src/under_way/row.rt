@@ -21,6 +21,9 @@ const STEP: u64 = 4;
 /// How many places a row has.
 const PLACES: usize = 128;
 
+/// How many it has at first. Most connections have no more streams.
+const FIRST_PLACES: usize = 16;
+
 /// A place: the stream in it, with its id, or none.
 #[derive(Drop)]
 pub(crate) struct Place {
@@ -31,7 +34,7 @@ pub(crate) struct Place {
 /// The streams in their places. The id of a stream says its place, so one that finds it taken has none.
 #[derive(Drop)]
 pub(crate) struct Row {
-    // none before the first stream, and all of them from then on
+    // none before the first stream, and all of them once one needs a place after the first ones
     places: Vec<Place>,
 }
 
@@ -178,24 +181,30 @@ impl Row {
         found
     }
 
-    /// Takes memory for all places, where they are not there yet. The streams stay.
-    pub(crate) fn reserve(&mut self) -> Result<(), AllocError>
+    /// Takes memory for the place of this id, unless it is there: for some places at first, and then for all. The streams stay.
+    pub(crate) fn reserve(&mut self, id: u64) -> Result<(), AllocError>
         ensures { HoldSame self.old self.new }
     {
-        if self.places.len() > 0 {
+        let place = place_of(id);
+        let len = self.places.len();
+        if place < len {
             return Ok(());
         }
-        self.fill()
+        let count = if place < FIRST_PLACES {
+            FIRST_PLACES
+        } else {
+            PLACES
+        };
+        self.lengthen(count - len)
     }
 
-    // The places, which are not there yet.
+    // So many places more, in which nothing stands.
     #[inline(never)]
-    fn fill(&mut self) -> Result<(), AllocError>
-        requires { length self.old.places.items ≡ 0 }
+    fn lengthen(&mut self, more: usize) -> Result<(), AllocError>
         ensures { HoldSame self.old self.new }
     {
-        self.places.reserve_exact(PLACES)?;
-        for _ in 0..PLACES {
+        self.places.reserve_exact(more)?;
+        for _ in 0..more {
             self.places.push_reserved(Place::free());
         }
         Ok(())

@@ -9,8 +9,7 @@ ghost use Rattle.h3_connection.specs.Remembering.{settings_known};
 ghost use Rattle.h3_connection.specs.Answers.{call_refused};
 ghost use Rattle.h3_connection.specs.Calls.{AllSame};
 ghost use Rattle.h3_connection.specs.Endpoint.{EndpointHistory};
-ghost use Rattle.h3_connection.specs.OwnIds.{other};
-ghost use Rattle.h3_connection.specs.Pulling.{is_for, is_interim};
+ghost use Rattle.h3_connection.specs.Pulling.{is_interim};
 ghost use Rattle.h3_connection.specs.Refusals.{is_too_large, or_later};
 ghost use Rattle.h3_connection.specs.Sending.{fields_cost};
 ghost use Rattle.h3_connection.specs.SendingContracts.{SendsHead, SendsTrailer, CutsOff};
@@ -18,22 +17,22 @@ ghost use Rattle.h3_connection.specs.State.{StandsFor, kept_at};
 ghost use Rattle.h3_connection.specs.declared.event.Refusal.TheVariants.{OutOfMemory};
 ghost use Rattle.h3_connection.specs.declared.place.SendPlace.TheVariants.{TrailerSent};
 ghost use Rattle.h3_requests.specs.Refused.{body_refused_at, early_trailer_at};
-ghost use Rattle.h3_session.specs.Refused.{broken_behind, head_refused_in, own_head_refused, own_trailer_refused, protocol_refused};
-ghost use Rattle.h3_session.specs.Refused.{side_refused, pseudo_refused, size_refused, refused_behind};
+ghost use Rattle.h3_session.specs.Refused.{broken_behind, head_refused_in, size_refused, refused_behind};
 ghost use Rattle.h3_session.specs.SendingFields.{Encodes, StopsEncoding, Queues, Remembers, SendsFields, IsJudged, asking};
 ghost use Rattle.h3_session.specs.SentHeads.{IsReadAt, IsSaid};
 
 use super::Endpoint;
-use super::strict::{Said, SentRead};
+use super::strict::{head_section, header_refusal};
+use crate::laws::heads_are_sent_as_their_lists;
 use h3_coding::varint::VarInt;
-use h3_connection::event::{Malformation, Refusal};
+use h3_connection::event::Refusal;
 use h3_connection::place::SendPlace;
-use h3_connection::setup::Announced;
-use h3_field::{Fields, HeaderField, section_size};
+use h3_field::{HeaderField, section_size};
 use h3_header::Header;
+use h3_messages::{Judgment, Said, Section};
 use h3_outgoing::EncodedSection;
 use h3_proto::frame::SettingId;
-use h3_proto::stream::{Side, StreamId};
+use h3_proto::stream::StreamId;
 use h3_qpack::laws::sections_leave_their_counts;
 use h3_requests::SectionRoom;
 use h3_streams::streams::ConnectionStreams;
@@ -64,15 +63,16 @@ impl Endpoint {
         if let Some(code) = self.closed {
             return Err(Refusal::Closed(code));
         }
-        if let Some(later) = head_refusal(&self.announced, self.side, head) {
+        let section = head_section(self.side);
+        if let Some(later) = header_refusal(&self.announced, section, head) {
             return Err(self.refusal_of_head(id, later));
         }
         let Ok(fields) = head.fields(self.alloc) else {
             return Err(self.refusal_of_head(id, Refusal::OutOfMemory));
         };
-        let list = fields.as_slice();
-        let read = self.read_head(&Fields::of(list));
-        self.send_head_at(id, list, place_behind(head), &read)
+        // (for the proof: its list goes out as it does)
+        heads_are_sent_as_their_lists(head);
+        self.send_head_list(id, fields.as_slice())
     }
 
     // Room for the frame of a header section on a stream that takes one, unless the peer is going away. The streams are found as they were.
@@ -98,34 +98,41 @@ impl Endpoint {
         if let Some(code) = self.closed {
             return Err(Refusal::Closed(code));
         }
-        let later = trailer_refusal(&self.announced, trailer);
-        let room = match self.reserve_trailer(id, later) {
-            Ok(room) => room,
-            Err(refusal) => return Err(refusal),
-        };
+        if let Some(later) = header_refusal(&self.announced, Section::Trailer, trailer) {
+            return Err(self.refusal_of_trailer(id, later));
+        }
         let Ok(fields) = trailer.fields(self.alloc) else {
-            return Err(Refusal::OutOfMemory);
+            return Err(self.unlisted_refusal(id));
         };
-        let list = fields.as_slice();
-        let read = self.read_trailer(list);
-        self.send_trailer_section(room, list, &read)
+        // (for the proof: its list goes out as it does)
+        heads_are_sent_as_their_lists(trailer);
+        self.send_trailer_list(id, fields.as_slice())
     }
 
-    // Room for the frame of a trailer on a stream that takes one, unless `later` refuses it. The streams are found as they were.
-    pub(super) fn reserve_trailer(
-        &mut self,
-        id: StreamId,
-        later: Option<Refusal>,
-    ) -> Result<SectionRoom, Refusal>
+    // Why a trailer is refused of whose fields no list could be made.
+    fn unlisted_refusal(&mut self, id: StreamId) -> Refusal
+        ensures rest { self.new ≡ record self.old { requests = self.new.requests } }
+        ensures why { result ≡ unwrap_or (or_later (body_refused_at (kept_at self.old.requests id))
+            (early_trailer_at (kept_at self.old.requests id))) OutOfMemory }
+        ensures same { AllSame self.old.requests self.new.requests }
+    {
+        match self.reserve_trailer(id) {
+            Ok(_) => Refusal::OutOfMemory,
+            Err(refusal) => refusal,
+        }
+    }
+
+    // Room for the frame of a trailer on a stream that takes one. The streams are found as they were.
+    pub(super) fn reserve_trailer(&mut self, id: StreamId) -> Result<SectionRoom, Refusal>
         ensures room { IfOk result (λ room. room ≡ id) }
         ensures rest { self.new ≡ record self.old { requests = self.new.requests } }
         ensures taken { OnOk result (or_later (body_refused_at (kept_at self.old.requests id))
-            (or_later later (early_trailer_at (kept_at self.old.requests id))) ≡ None) }
+            (early_trailer_at (kept_at self.old.requests id)) ≡ None) }
         ensures why { IfErr result (λ r. r ≡ unwrap_or (or_later (body_refused_at (kept_at self.old.requests id))
-            (or_later later (early_trailer_at (kept_at self.old.requests id)))) OutOfMemory) }
+            (early_trailer_at (kept_at self.old.requests id))) OutOfMemory) }
         ensures same { AllSame self.old.requests self.new.requests }
     {
-        self.requests.reserve_trailer(id, later)
+        self.requests.reserve_trailer(id)
     }
 
     // Sends the fields of a header section that were read so, and remembers what they say of content.
@@ -134,7 +141,7 @@ impl Endpoint {
         room: SectionRoom,
         fields: &[HeaderField],
         place: SendPlace,
-        read: &SentRead,
+        read: &Judgment,
     ) -> Result<(), Refusal>
         requires { IsReadAt place self.old fields.now read.now }
         ensures { place ≢ TrailerSent → SendsFields (asking room fields.now) self.old self.new room fields.now place (call_refused result) }
@@ -170,7 +177,7 @@ impl Endpoint {
         &mut self,
         room: SectionRoom,
         fields: &[HeaderField],
-        read: &SentRead,
+        read: &Judgment,
     ) -> Result<(), Refusal>
         requires { IsReadAt TrailerSent self.old fields.now read.now }
         ensures { SendsFields (λ e. e) self.old self.new room fields.now TrailerSent (call_refused result) }
@@ -208,7 +215,7 @@ impl Endpoint {
         id: StreamId,
         fields: &[HeaderField],
         place: SendPlace,
-        read: &SentRead,
+        read: &Judgment,
     ) -> Result<(), Refusal>
         requires { IsReadAt place self.now fields.now read.now }
         ensures fits { OnOk result (refused_behind self.now id place fields.now ≡ None) }
@@ -369,73 +376,6 @@ fn size_of(fields: &[HeaderField]) -> Option<u64>
         return None;
     }
     Some(size)
-}
-
-/// Why a header section is refused for its protocol, or as one of the other side's messages.
-fn head_refusal(announced: &Announced, side: Side, head: &Header) -> Option<Refusal>
-    ensures { result ≡ own_head_refused announced.now side head.now }
-{
-    match protocol_refusal(announced, head) {
-        Some(refusal) => Some(refusal),
-        None => side_refusal(side, head),
-    }
-}
-
-/// Why a trailer is refused for its protocol, or for any pseudo-header field.
-fn trailer_refusal(announced: &Announced, trailer: &Header) -> Option<Refusal>
-    ensures { result ≡ own_trailer_refused announced.now trailer.now }
-{
-    match protocol_refusal(announced, trailer) {
-        Some(refusal) => Some(refusal),
-        None => pseudo_refusal(trailer),
-    }
-}
-
-/// Why a header is refused whose protocol the endpoint takes from no peer (RFC 8441, section 4).
-fn protocol_refusal(announced: &Announced, header: &Header) -> Option<Refusal>
-    ensures { result ≡ protocol_refused announced.now header.now }
-{
-    if header.takes_protocol(announced.choices.extensions.any_protocol) {
-        return None;
-    }
-    Some(Refusal::Malformed(Malformation::Value))
-}
-
-/// Why a header section is refused that is one of the other side's messages.
-fn side_refusal(side: Side, head: &Header) -> Option<Refusal>
-    ensures { result ≡ side_refused side head.now }
-{
-    if is_sent_by(side, head) {
-        return None;
-    }
-    Some(Refusal::WrongSide)
-}
-
-/// Why a trailer is refused that has a pseudo-header field.
-fn pseudo_refusal(trailer: &Header) -> Option<Refusal>
-    ensures { result ≡ pseudo_refused trailer.now }
-{
-    if trailer.has_pseudo() {
-        return Some(Refusal::PseudoInTrailer);
-    }
-    None
-}
-
-/// Whether a header section is one that this side sends.
-fn is_sent_by(side: Side, head: &Header) -> bool
-    ensures { result ≡ is_for (other side) head.now }
-{
-    match side {
-        Side::Client => head.is_request(),
-        Side::Server => head.is_response(),
-    }
-}
-
-/// The place of the message after a header section.
-fn place_behind(head: &Header) -> SendPlace
-    ensures { result ≡ (if is_interim head.now.status then SendPlace.NothingSent else SendPlace.HeadSent) }
-{
-    place_of(head.status())
 }
 
 // RFC 9110 15.2: interim responses, as 103, sent

@@ -1,7 +1,7 @@
 //! Lists of fields that an endpoint sends as they are, with no header made of them.
-ghost use Rattle.std.specs.Prelude.{◌≡◌, ◌≢◌, ◌<◌, ◌≤◌, true, false, None, Some, IfOk, IfErr, OnOk, length, if◌then◌else◌};
+ghost use Rattle.std.specs.Prelude.{◌≡◌, ◌≢◌, ◌<◌, None, Some, IfOk, IfErr, length, if◌then◌else◌};
 ghost use Rattle.h3_header.specs.Head.{Head};
-ghost use Rattle.h3_header.specs.HeadRead.{HeadRefusal, IsHead, head_by};
+ghost use Rattle.h3_header.specs.HeadRead.{IsHead, head_by};
 ghost use Rattle.h3_connection.specs.Answers.{call_refused};
 ghost use Rattle.h3_connection.specs.Pulling.{is_interim};
 ghost use Rattle.h3_connection.specs.State.{kept_at};
@@ -10,23 +10,19 @@ ghost use Rattle.h3_requests.specs.Refused.{body_refused_at};
 ghost use Rattle.h3_session.specs.InvalidFields.{NamesField};
 ghost use Rattle.h3_session.specs.Refused.{head_refused_in, own_head_refused, own_trailer_refused};
 ghost use Rattle.h3_session.specs.SendingLists.{IsJudgedOr, SendsFieldList, SendsTrailerList, SendsJudgedHead, SendsJudgedTrailer};
-ghost use Rattle.h3_session.specs.SendingLists.{malformed, refusal_after};
+ghost use Rattle.h3_session.specs.SendingLists.{refusal_after};
 ghost use Rattle.h3_messages.specs.InvalidField.{invalid_field};
 ghost use Rattle.h3_session.specs.SentHeads.{IsReadAt};
-ghost use Rattle.h3_messages.specs.Outline.{refusal_by};
-ghost use Rattle.h3_session.specs.JudgedLists.{head_list_refusal, is_sent_outline, trailer_list_refusal, IsHeadAt, IsTrailer};
+ghost use Rattle.h3_session.specs.JudgedLists.{head_list_refusal, IsHeadAt};
 
 use super::Endpoint;
 use super::heads::place_of;
-use super::strict::SentRead;
-use h3_connection::event::{Malformation, Refusal};
+use super::strict::head_section;
+use h3_connection::event::Refusal;
 use h3_connection::place::SendPlace;
-use h3_field::{Fields, HeaderField};
-use h3_header::MOST_NAMES;
-use h3_incoming::malformed::malformation_in;
-use h3_messages::{ListError, Outline, Seen, Survey, invalid_field, read_list};
-use h3_proto::stream::{Side, StreamId};
-use std::alloc::Global;
+use h3_field::HeaderField;
+use h3_messages::{Judgment, Section, invalid_field};
+use h3_proto::stream::StreamId;
 
 impl Endpoint {
     /// Sends a list of fields as a header section of a stream: the fields go out in their order, from their own memory, and no header is
@@ -49,11 +45,7 @@ impl Endpoint {
         if let Some(code) = self.closed {
             return Err(Refusal::Closed(code));
         }
-        let (place, read) = match self.judge_head(fields) {
-            Ok(judged) => judged,
-            Err(later) => return Err(self.refusal_of_head(id, later)),
-        };
-        self.send_head_at(id, fields, place, &read)
+        self.send_head_list(id, fields)
     }
 
     /// Sends a trailer on a stream, as `send_trailer` does, but as the list that it is given as. Refused are first every call after a
@@ -71,10 +63,6 @@ impl Endpoint {
     {
         if let Some(code) = self.closed {
             return Err(Refusal::Closed(code));
-        }
-        let any = self.announced.choices.extensions.any_protocol;
-        if let Err(later) = judge_trailer(self.alloc, fields, any) {
-            return Err(self.refusal_of_trailer(id, later));
         }
         self.send_trailer_list(id, fields)
     }
@@ -94,10 +82,44 @@ impl Endpoint {
         )
     }
 
-    // The place of the message after a list that is sent as a header section, and what the rules make of it, or why the list is not one of
-    // this side. If the endpoint asks for strict messages one walk tells both. If a field is malformed, or the list has more fields than a
-    // map has names for, other walks find what it says.
-    fn judge_head(&self, fields: &[HeaderField]) -> Result<(SendPlace, SentRead), Refusal>
+    // Sends a list as a header section, of a connection without a fault.
+    #[inline(always)]
+    pub(super) fn send_head_list(
+        &mut self,
+        id: StreamId,
+        fields: &[HeaderField],
+    ) -> Result<(), Refusal>
+        requires { self.old.closed ≡ None }
+        ensures sends { SendsFieldList self.old self.new id fields.now result }
+        ensures names { NamesField (call_refused result) self.new.announced.choices fields.now }
+    {
+        let (place, read) = match self.judge_head(fields) {
+            Ok(judged) => judged,
+            Err(later) => return Err(self.refusal_of_head(id, later)),
+        };
+        self.send_head_at(id, fields, place, &read)
+    }
+
+    // Sends a list as a trailer, of a connection without a fault.
+    pub(super) fn send_trailer_list(
+        &mut self,
+        id: StreamId,
+        fields: &[HeaderField],
+    ) -> Result<(), Refusal>
+        requires { self.old.closed ≡ None }
+        ensures sends { SendsTrailerList self.old self.new id fields.now result }
+        ensures names { NamesField (call_refused result) self.new.announced.choices fields.now }
+    {
+        let read = match self.judge_sent(fields, Section::Trailer) {
+            Ok(read) => read,
+            Err(later) => return Err(self.refusal_of_trailer(id, later)),
+        };
+        self.send_trailer_at(id, fields, &read)
+    }
+
+    // The place of the message after a list that is sent as a header section, and what it is, or why the list is not one of this side.
+    #[inline(always)]
+    fn judge_head(&self, fields: &[HeaderField]) -> Result<(SendPlace, Judgment), Refusal>
         ensures ok { IfOk result
             (λ judged. IsHeadAt self.now.side (head_by self.now.announced.choices.extensions.any_protocol fields.now) judged.0) }
         ensures read { IfOk result (λ judged. IsReadAt judged.0 self.now fields.now judged.1) }
@@ -105,19 +127,8 @@ impl Endpoint {
             (head_by self.now.announced.choices.extensions.any_protocol fields.now) ≡ Some e) }
         ensures memory { IfErr result (λ e. e ≡ refusal.OutOfMemory → 24576 < length fields.now) }
     {
-        let any = self.announced.choices.extensions.any_protocol;
-        let list = Fields::of(fields);
-        if self.announced.choices.strict_messages && fields.len() <= MOST_NAMES {
-            let mut seen = Seen::new();
-            if let Ok(outline) = seen.take_good(&list, any) {
-                return match place_behind(self.side, &outline) {
-                    Ok(place) => Ok((place, self.read_survey(&Survey::of(&list, &seen)))),
-                    Err(e) => Err(e),
-                };
-            }
-        }
-        match judge_place(self.alloc, self.side, fields, any) {
-            Ok(place) => Ok((place, self.read_head(&list))),
+        match self.judge_sent(fields, head_section(self.side)) {
+            Ok(read) => Ok((place_of(read.outline.status()), read)),
             Err(e) => Err(e),
         }
     }
@@ -133,7 +144,7 @@ impl Endpoint {
     }
 
     // The same of a trailer.
-    fn refusal_of_trailer(&self, id: StreamId, later: Refusal) -> Refusal
+    pub(super) fn refusal_of_trailer(&self, id: StreamId, later: Refusal) -> Refusal
         ensures { result ≡ refusal_after (body_refused_at (kept_at self.now.requests id)) later }
     {
         match self.trailer_order_refusal(id) {
@@ -143,12 +154,12 @@ impl Endpoint {
     }
 
     // A list that reads as a header section of this side goes out, and the message is at this place after it.
-    pub(super) fn send_head_at(
+    fn send_head_at(
         &mut self,
         id: StreamId,
         fields: &[HeaderField],
         place: SendPlace,
-        read: &SentRead,
+        read: &Judgment,
     ) -> Result<(), Refusal>
         requires open { self.old.closed ≡ None }
         requires read { IsReadAt place self.old fields.now read.now }
@@ -166,21 +177,26 @@ impl Endpoint {
     }
 
     // A list that reads as a trailer goes out.
-    fn send_trailer_list(&mut self, id: StreamId, fields: &[HeaderField]) -> Result<(), Refusal>
-        requires { self.old.closed ≡ None }
+    fn send_trailer_at(
+        &mut self,
+        id: StreamId,
+        fields: &[HeaderField],
+        read: &Judgment,
+    ) -> Result<(), Refusal>
+        requires open { self.old.closed ≡ None }
+        requires read { IsReadAt SendPlace.TrailerSent self.old fields.now read.now }
         ensures sends { (trailer : Head) → own_trailer_refused self.old.announced trailer ≡ None
             → SendsJudgedTrailer self.old self.new id trailer fields.now result }
         ensures names { (trailer : Head) → head_by self.old.announced.choices.extensions.any_protocol fields.now ≡ IsHead trailer
             → NamesField (call_refused result) self.old.announced.choices fields.now }
     {
-        let read = self.read_trailer(fields);
-        let room = match self.reserve_trailer(id, None) {
+        let room = match self.reserve_trailer(id) {
             Ok(room) => room,
             Err(refusal) => {
-                return Err(self.judged_or(id, refusal, fields, SendPlace::TrailerSent, &read));
+                return Err(self.judged_or(id, refusal, fields, SendPlace::TrailerSent, read));
             }
         };
-        self.send_trailer_section(room, fields, &read)
+        self.send_trailer_section(room, fields, read)
     }
 
     // Why a list is not sent for which no room was made: it is at hand, so its own refusal comes before out of memory.
@@ -190,7 +206,7 @@ impl Endpoint {
         refusal: Refusal,
         fields: &[HeaderField],
         place: SendPlace,
-        read: &SentRead,
+        read: &Judgment,
     ) -> Refusal
         requires { IsReadAt place self.now fields.now read.now }
         ensures { IsJudgedOr self.now id place fields.now refusal result }
@@ -203,78 +219,4 @@ impl Endpoint {
             Err(why) => why,
         }
     }
-}
-
-// Why a list is refused that reads as no header.
-fn refusal_of(e: ListError) -> Refusal
-    ensures why { (why : HeadRefusal) → refusal_by e ≡ Some why → result ≡ malformed why }
-    ensures none { refusal_by e ≡ None → result ≡ refusal.OutOfMemory }
-    ensures memory { result ≡ refusal.OutOfMemory → refusal_by e ≡ None }
-{
-    match malformation_in(e) {
-        Some(why) => Refusal::Malformed(why),
-        None => Refusal::OutOfMemory,
-    }
-}
-
-// The place of the message after a list that is sent as a header section, or why the list is not one of this side.
-fn judge_place(
-    alloc: Global,
-    side: Side,
-    fields: &[HeaderField],
-    any_protocol: bool,
-) -> Result<SendPlace, Refusal>
-    ensures ok { IfOk result (IsHeadAt side (head_by any_protocol fields.now)) }
-    ensures err { IfErr result (λ e. e ≢ refusal.OutOfMemory → head_list_refusal side (head_by any_protocol fields.now) ≡ Some e) }
-    ensures memory { IfErr result (λ e. e ≡ refusal.OutOfMemory → 24576 < length fields.now) }
-{
-    match read_list(alloc, &Fields::of(fields), any_protocol) {
-        Ok(outline) => place_behind(side, &outline),
-        Err(e) => Err(refusal_of(e)),
-    }
-}
-
-// The place of the message after a header section, or that it is one of the other side.
-fn place_behind(side: Side, outline: &Outline) -> Result<SendPlace, Refusal>
-    ensures ok { IfOk result (λ place. (is_sent_outline side outline.now ≡ true)
-        × (place ≡ (if is_interim outline.now.status then SendPlace.NothingSent else SendPlace.HeadSent))) }
-    ensures err { IfErr result (λ e. (is_sent_outline side outline.now ≡ false) × (e ≡ refusal.WrongSide)) }
-{
-    if !is_sent_by(side, outline) {
-        return Err(Refusal::WrongSide);
-    }
-    Ok(place_of(outline.status()))
-}
-
-// Whether a side sends such header sections: a client those of requests, a server those of responses.
-fn is_sent_by(side: Side, outline: &Outline) -> bool
-    ensures { result ≡ is_sent_outline side outline.now }
-{
-    match side {
-        Side::Client => outline.is_request(),
-        Side::Server => outline.is_response(),
-    }
-}
-
-// Why a list is no trailer.
-fn judge_trailer(alloc: Global, fields: &[HeaderField], any_protocol: bool) -> Result<(), Refusal>
-    ensures ok { OnOk result (IsTrailer (head_by any_protocol fields.now)) }
-    ensures err { IfErr result (λ e. e ≢ refusal.OutOfMemory → trailer_list_refusal (head_by any_protocol fields.now) ≡ Some e) }
-    ensures memory { IfErr result (λ e. e ≡ refusal.OutOfMemory → 24576 < length fields.now) }
-{
-    match read_list(alloc, &Fields::of(fields), any_protocol) {
-        Ok(outline) => without_pseudo(&outline),
-        Err(e) => Err(refusal_of(e)),
-    }
-}
-
-// That a trailer has no pseudo-header field.
-fn without_pseudo(outline: &Outline) -> Result<(), Refusal>
-    ensures ok { OnOk result (outline.now.pseudo ≡ false) }
-    ensures err { IfErr result (λ e. (outline.now.pseudo ≡ true) × (e ≡ refusal.PseudoInTrailer)) }
-{
-    if outline.has_pseudo() {
-        return Err(Refusal::PseudoInTrailer);
-    }
-    Ok(())
 }

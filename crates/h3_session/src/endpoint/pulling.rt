@@ -12,6 +12,7 @@ ghost use Rattle.h3_connection.specs.declared.event.Refusal.TheVariants.{OutOfMe
 ghost use Rattle.h3_requests.specs.Refused.{cancel_refused_at};
 ghost use Rattle.h3_session.specs.Canceling.{CancelsAt};
 ghost use Rattle.h3_incoming.specs.Answering.{Lists, fault_told};
+ghost use Rattle.h3_incoming.specs.HeaderSlots.{MakesHeader};
 ghost use Rattle.h3_connection.specs.declared.event.Pull.{Pull};
 ghost use Rattle.h3_connection.specs.Lists.{list_of, pull_of};
 ghost use Rattle.h3_requests.specs.Coming.{fields_at};
@@ -24,8 +25,7 @@ use super::Endpoint;
 use h3_connection::event::{Fault, Pull, Refusal};
 use h3_connection::lists::ListPull;
 use h3_connection::setup::Announced;
-use h3_incoming::answer::{fail, give_made, no_messages};
-use h3_incoming::{Answer, BlockPull};
+use h3_incoming::{BlockPull, HeaderSlot};
 use h3_proto::error::Code;
 use h3_proto::stream::{Side, StreamId};
 use h3_requests::RequestStreams;
@@ -35,8 +35,8 @@ use h3_unidirectional::waiting::WaitingBytes;
 use std::alloc::{AllocError, Global};
 
 /// The fault of the connection that an answer tells.
-fn fault_of<O: Answer>(answer: &O) -> Option<Code>
-    ensures { result ≡ answer_code (O.told answer.now) }
+fn fault_of(answer: &BlockPull) -> Option<Code>
+    ensures { result ≡ answer_code (pull_of answer.now) }
 {
     let fault = answer.fault();
     code_told(&fault)
@@ -57,29 +57,31 @@ fn code_told(fault: &Option<Fault>) -> Option<Code>
 
 /// The next item of a request stream.
 #[tactic(auto, using(crate::proofs::Behind::pulls_behind))]
-fn pull_stream<O: Answer>(
+fn pull_stream(
     requests: &mut RequestStreams,
     alloc: Global,
     side: Side,
     announced: &Announced,
     id: StreamId,
     streams: &mut ConnectionStreams,
-    out: &mut O,
+    out: &mut BlockPull,
+    header: &mut HeaderSlot,
 )
-    ensures absent { kept_at requests.old id ≡ None → (O.told out.new ≡ unopened_answer side) × (requests.new ≡ requests.old)
+    ensures absent { kept_at requests.old id ≡ None → (pull_of out.new ≡ unopened_answer side) × (requests.new ≡ requests.old)
         × (streams.new.own.decoder ≡ streams.old.own.decoder) }
     ensures there { is_some (kept_at requests.new id) ≡ is_some (kept_at requests.old id) }
-    ensures answer { is_memory (O.told out.new) ≡ false
+    ensures answer { is_memory (pull_of out.new) ≡ false
         → IfSome (kept_at requests.old id) (λ before. IfSome (kept_at requests.new id) (λ after.
         PullsWithin side announced.now id streams.old.decoding.decoder requests.old requests.new before after
-        (O.told out.new) streams.old.own.decoder streams.new.own.decoder)) }
-    ensures memory { is_memory (O.told out.new) ≡ true
+        (pull_of out.new) streams.old.own.decoder streams.new.own.decoder)) }
+    ensures memory { is_memory (pull_of out.new) ≡ true
         → IfSome (kept_at requests.old id) (λ before. IfSome (kept_at requests.new id) (λ after.
         ResumesThere announced.now requests.old requests.new id before after)) × (streams.new.own.decoder ≡ streams.old.own.decoder) }
     ensures rest { streams.new ≡ record streams.old { own = record streams.old.own { decoder = streams.new.own.decoder } } }
     ensures settled { IfSome (kept_at requests.old id)
-        (λ before. is_settled_request (Some before.incoming) ≡ true → is_memory (O.told out.new) ≡ false) }
-    ensures list { Lists (O.listed out.new) (fields_at announced.now streams.old.decoding.decoder (kept_at requests.old id)) }
+        (λ before. is_settled_request (Some before.incoming) ≡ true → is_memory (pull_of out.new) ≡ false) }
+    ensures list { Lists (list_of out.new) (fields_at announced.now streams.old.decoding.decoder (kept_at requests.old id)) }
+    ensures header { MakesHeader header.old header.new (list_of out.new) }
 {
     let replies = &mut streams.own.decoder;
     let decoding = &streams.decoding;
@@ -91,6 +93,7 @@ fn pull_stream<O: Answer>(
         decoding.decoder(),
         replies.behind_mut(),
         out,
+        header,
     )
 }
 
@@ -118,9 +121,10 @@ impl Endpoint {
     pub fn pull(&mut self, id: StreamId) -> Pull
         ensures { PullsNext self.old self.new id result }
     {
-        let mut out = Pull::Pending;
-        self.pull_into(id, &mut out);
-        out
+        let mut out = BlockPull::new(self.alloc);
+        let mut header = HeaderSlot::Asked;
+        self.pull_into(id, &mut out, &mut header);
+        out.with_header(header)
     }
 
     /// What comes next on a stream, as `pull` answers it, but with each header section and trailer as the list of its fields. The fields
@@ -131,7 +135,7 @@ impl Endpoint {
         ensures list { ListsNext self.old id (list_of result) }
     {
         let mut out = BlockPull::new(self.alloc);
-        self.pull_into(id, &mut out);
+        self.pull_block(id, &mut out);
         out.into_pull()
     }
 
@@ -141,32 +145,34 @@ impl Endpoint {
         ensures pulls { PullsNext self.old self.new id (pull_of out.new) }
         ensures list { ListsNext self.old id (list_of out.new) }
     {
-        self.pull_into(id, out);
+        self.pull_into(id, out, &mut HeaderSlot::Unasked);
     }
 
-    // The same of an answer of any kind.
-    #[tactic(auto, using(crate::proofs::PullingKept::pull_closed, crate::proofs::PullingKept::pull_alone, crate::proofs::PullingKept::pull_settled, crate::proofs::PullingKept::pull_behind, crate::proofs::PullingKept::pull_faulty, crate::proofs::PullingKept::pull_lacked, crate::proofs::Listing::lists_no_next, crate::proofs::Listing::lists_settled))]
-    fn pull_into<O: Answer>(&mut self, id: StreamId, out: &mut O)
-        ensures pulls { PullsNext self.old self.new id (O.told out.new) }
-        ensures list { ListsNext self.old id (O.listed out.new) }
+    // The same, and the header of the list if one is asked for.
+    #[inline(always)]
+    #[tactic(auto, using(crate::proofs::PullingKept::pull_closed, crate::proofs::PullingKept::pull_alone, crate::proofs::PullingKept::pull_settled, crate::proofs::PullingKept::pull_behind, crate::proofs::PullingKept::pull_faulty, crate::proofs::PullingKept::pull_lacked, crate::proofs::Listing::lists_no_next, crate::proofs::Listing::lists_settled, crate::proofs::Headers::makes_none))]
+    fn pull_into(&mut self, id: StreamId, out: &mut BlockPull, header: &mut HeaderSlot)
+        ensures pulls { PullsNext self.old self.new id (pull_of out.new) }
+        ensures list { ListsNext self.old id (list_of out.new) }
+        ensures header { MakesHeader header.old header.new (list_of out.new) }
     {
         if let Some(code) = self.closed {
-            fail(out, Fault::Connection(code));
+            out.fail(Fault::Connection(code));
             return;
         }
         if self.kept.is_empty() {
-            return self.pull_next(id, out);
+            return self.pull_next(id, out, header);
         }
         if self.is_settled(id) {
-            return self.pull_next(id, out);
+            return self.pull_next(id, out, header);
         }
         match self.read_kept() {
-            Ok(None) => self.pull_next(id, out),
+            Ok(None) => self.pull_next(id, out, header),
             Ok(Some(code)) => {
                 self.closed = Some(code);
-                fail(out, Fault::Connection(code));
+                out.fail(Fault::Connection(code));
             }
-            Err(_) => fail(out, Fault::Memory),
+            Err(_) => out.fail(Fault::Memory),
         }
     }
 
@@ -209,29 +215,29 @@ impl Endpoint {
     }
 
     // The stream's next item, whatever is kept.
-    #[tactic(auto, using(crate::proofs::PullingStreams::pulls_server_opened, crate::proofs::PullingStreams::pulls_own, crate::proofs::Listing::lists_no_item))]
-    fn pull_next<O: Answer>(&mut self, id: StreamId, out: &mut O)
-        ensures item { PullsItem self.old self.new id (O.told out.new) }
-        ensures list { ListsItem self.old id (O.listed out.new) }
+    #[tactic(auto, using(crate::proofs::PullingStreams::pulls_server_opened, crate::proofs::PullingStreams::pulls_own, crate::proofs::Listing::lists_no_item, crate::proofs::Headers::makes_none))]
+    fn pull_next(&mut self, id: StreamId, out: &mut BlockPull, header: &mut HeaderSlot)
+        ensures item { PullsItem self.old self.new id (pull_of out.new) }
+        ensures list { ListsItem self.old id (list_of out.new) }
+        ensures header { MakesHeader header.old header.new (list_of out.new) }
     {
         match StreamKind::of(self.side, id) {
             StreamKind::Request => {
-                self.pull_stored(id, out);
+                self.pull_stored(id, out, header);
                 self.close_if(fault_of(out));
             }
             StreamKind::PeerUnidirectional => self.pull_peer(id, out),
-            StreamKind::ServerOpened => no_messages(out),
-            StreamKind::OwnUnidirectional => no_messages(out),
+            StreamKind::ServerOpened | StreamKind::OwnUnidirectional => out.no_messages(),
         }
     }
 
     #[tactic(auto, using(crate::proofs::PullingStreams::pulls_peer))]
-    fn pull_peer<O: Answer>(&mut self, id: StreamId, out: &mut O)
+    fn pull_peer(&mut self, id: StreamId, out: &mut BlockPull)
         requires { kind_of self.old.side id ≡ PeerUnidirectional }
-        ensures item { PullsItem self.old self.new id (O.told out.new) }
-        ensures list { ListsItem self.old id (O.listed out.new) }
+        ensures item { PullsItem self.old self.new id (pull_of out.new) }
+        ensures none { list_of out.new ≡ None }
     {
-        give_made(out, self.streams.pull(id));
+        out.give_made(self.streams.pull(id));
     }
 
     // A fault of the connection closes it.
@@ -243,29 +249,30 @@ impl Endpoint {
         }
     }
 
-    fn pull_stored<O: Answer>(&mut self, id: StreamId, out: &mut O)
+    fn pull_stored(&mut self, id: StreamId, out: &mut BlockPull, header: &mut HeaderSlot)
         ensures rest { ChangesRequests self.old self.new }
-        ensures absent { kept_at self.old.requests id ≡ None → (O.told out.new ≡ unopened_answer self.old.side)
+        ensures absent { kept_at self.old.requests id ≡ None → (pull_of out.new ≡ unopened_answer self.old.side)
             × (self.new.requests ≡ self.old.requests) × (self.new.own.decoder ≡ self.old.own.decoder) }
         ensures there { is_some (kept_at self.new.requests id) ≡ is_some (kept_at self.old.requests id) }
-        ensures answer { is_memory (O.told out.new) ≡ false
+        ensures answer { is_memory (pull_of out.new) ≡ false
             → IfSome (kept_at self.old.requests id) (λ before. IfSome (kept_at self.new.requests id) (λ after.
             PullsWithin self.old.side self.old.announced id self.old.decoding.decoder self.old.requests self.new.requests before after
-            (O.told out.new) self.old.own.decoder self.new.own.decoder)) }
-        ensures memory { is_memory (O.told out.new) ≡ true
+            (pull_of out.new) self.old.own.decoder self.new.own.decoder)) }
+        ensures memory { is_memory (pull_of out.new) ≡ true
             → IfSome (kept_at self.old.requests id) (λ before. IfSome (kept_at self.new.requests id) (λ after.
             ResumesThere self.old.announced self.old.requests self.new.requests id before after))
             × (self.new.own.decoder ≡ self.old.own.decoder) }
         ensures settled { IfSome (kept_at self.old.requests id)
-            (λ before. is_settled_request (Some before.incoming) ≡ true → is_memory (O.told out.new) ≡ false) }
-        ensures list { Lists (O.listed out.new) (fields_at self.old.announced self.old.decoding.decoder (kept_at self.old.requests id)) }
+            (λ before. is_settled_request (Some before.incoming) ≡ true → is_memory (pull_of out.new) ≡ false) }
+        ensures list { Lists (list_of out.new) (fields_at self.old.announced self.old.decoding.decoder (kept_at self.old.requests id)) }
+        ensures header { MakesHeader header.old header.new (list_of out.new) }
     {
         let alloc = self.alloc;
         let side = self.side;
         let announced = &self.announced;
         let streams = &mut self.streams;
         let requests = &mut self.requests;
-        pull_stream(requests, alloc, side, announced, id, streams, out)
+        pull_stream(requests, alloc, side, announced, id, streams, out, header)
     }
 
     /// Nothing more is needed of a request stream: what came on it is thrown away, and the peer's encoder learns of it (RFC 9204, section

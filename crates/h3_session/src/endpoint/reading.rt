@@ -54,13 +54,14 @@ impl Unread {
 
 impl Endpoint {
     // Reads these arrivals in order, up to the first fault, which it answers; the others are dropped then. If an allocation fails what is
-    // left is kept: there has to be room for one arrival more.
-    #[tactic(auto, using(crate::proofs::ReceivingReading::front_first, crate::proofs::ReceivingReading::front_next, crate::proofs::ReceivingReading::front_whole, crate::proofs::ReceivingReading::front_faulty, crate::proofs::ReceivingReading::front_stopped))]
+    // left is kept: there has to be room for one arrival more. Nothing else is kept.
+    #[tactic(auto, using(crate::proofs::ReceivingReading::front_first, crate::proofs::ReceivingReading::front_next, crate::proofs::ReceivingReading::front_whole_kept, crate::proofs::ReceivingReading::front_faulty, crate::proofs::ReceivingReading::front_stopped))]
     pub(super) fn read_all(
         &mut self,
         mut arrivals: VecDeque<Arrival>,
     ) -> Result<Option<Code>, AllocError>
         requires room { deque_len arrivals < deque_capacity arrivals }
+        requires none { self.old.kept ≡ [] }
         ensures reads { ReadsEvery self.old arrivals.items result self.new }
         ensures some_kept { OnErr result (self.new.kept ≢ []) }
         ensures none_kept { OnOk result (self.new.kept ≡ self.old.kept) }
@@ -75,6 +76,8 @@ impl Endpoint {
                 }
             }
         }
+        // its room serves the next delivery
+        self.kept = arrivals;
         Ok(None)
     }
 

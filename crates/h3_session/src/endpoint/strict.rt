@@ -1,57 +1,38 @@
 //! What the rules of well-formed messages make of a list that is to be sent (RFC 9114, sections 4.1.2 and 4.2 to 4.5). That is which of
 //! them the list breaks, as a strict peer would judge it and by the rules of its sender, and what it says of content.
-ghost use Rattle.std.specs.Prelude.{◌≡◌, ◌≢◌, ◌&&◌, List, None, Some, IfOk, IfErr, OnOk};
+ghost use Rattle.std.specs.Prelude.{◌≡◌, ◌≢◌, ◌<◌, ◌&&◌, true, List, None, Some, IfOk, IfErr, OnOk, length};
 ghost use Rattle.h3_field.specs.Field.{Field};
+ghost use Rattle.h3_header.specs.HeadRead.{HeadRefusal, head_by};
 ghost use Rattle.h3_connection.specs.Remembering.{settings_known};
 ghost use Rattle.h3_connection.specs.State.{kept_at};
 ghost use Rattle.h3_connection.specs.StrictSending.{peer_connects};
-ghost use Rattle.h3_connection.specs.declared.place.SendPlace.TheVariants.{TrailerSent};
+ghost use Rattle.h3_connection.specs.declared.event.Refusal.TheVariants as refusal;
+ghost use Rattle.h3_session.specs.JudgedLists.{head_section, header_refused, list_refusal, misplaced};
 ghost use Rattle.h3_session.specs.Refused.{broken_behind};
+ghost use Rattle.h3_messages.specs.Outline.{IsOutlined, is_outline_of, refusal_by};
 ghost use Rattle.h3_messages.specs.OwnMessages.{awaits_tunnel};
 ghost use Rattle.h3_requests.specs.Refused.{known_in};
-ghost use Rattle.h3_session.specs.SentHeads.{IsReadAt, IsSaidBy, says_length_of_tunnel, violation_of_own_list};
+ghost use Rattle.h3_session.specs.SendingLists.{malformed};
+ghost use Rattle.h3_session.specs.SentHeads.{IsJudgedAs, IsReadAt, says_length_of_tunnel};
 
 use super::Endpoint;
-use h3_connection::event::Malformation;
+use h3_connection::event::{Malformation, Refusal};
 use h3_connection::place::SendPlace;
+use h3_connection::setup::Announced;
 use h3_field::{Fields, HeaderField};
+use h3_header::Header;
+use h3_incoming::malformed::malformation_in;
 use h3_messages::{
-    Content, ResponseSaid, Seen, Survey, Violation, or_broken, own_request_by, own_response_by,
-    own_trailer_violation,
+    Judgment, ListError, Outline, Rules, Said, Section, Violation, judge, or_broken,
 };
 use h3_proto::frame::SettingId;
 use h3_proto::stream::{Side, StreamId};
-
-/// What a list that is sent says of content, if its endpoint asks for strict messages.
-#[derive(Clone, Copy)]
-pub(crate) enum Said {
-    /// Nothing that is asked.
-    Nothing,
-    /// A request: what is awaited in front of its response, and its own content.
-    Request(Content, Content),
-    /// A response.
-    Response(ResponseSaid),
-}
-
-/// What one walk over a list tells.
-#[derive(Clone, Copy)]
-pub(crate) struct SentRead {
-    pub(crate) violation: Option<Violation>,
-    pub(crate) said: Said,
-}
-
-impl SentRead {
-    const NOTHING: SentRead = SentRead {
-        violation: None,
-        said: Said::Nothing,
-    };
-}
 
 impl Endpoint {
     // What a list says that was read, or the rule that it breaks on its stream. A server's answer may break one by what was asked there
     // (RFC 9110, section 8.6). The stream is looked up only for such an answer.
     #[inline(always)]
-    pub(super) fn judge_read(&self, id: StreamId, read: &SentRead) -> Result<Said, Malformation>
+    pub(super) fn judge_read(&self, id: StreamId, read: &Judgment) -> Result<Said, Malformation>
         ensures kept { OnOk result ((place : SendPlace) (fields : List Field)
             → IsReadAt place self.now fields read.now → broken_behind place self.now id fields ≡ None) }
         ensures broken { IfErr result (λ why. (place : SendPlace) (fields : List Field)
@@ -72,57 +53,34 @@ impl Endpoint {
         says_tunnel_length(said) && self.requests.awaits_tunnel(id)
     }
 
-    // What a header section is read as: of the request that a client sends, or of the response that a server sends. An endpoint that asks
-    // for no strict messages looks at no field.
-    #[inline(never)]
-    #[tactic(auto, using(crate::proofs::SentAnswers::unread_at, crate::proofs::SentAnswers::read_head_at))]
-    pub(super) fn read_head(&self, fields: &Fields<'_>) -> SentRead
-        ensures { (place : SendPlace) → place ≢ TrailerSent → IsReadAt place self.now fields.now result }
-    {
-        if !self.announced.choices.strict_messages {
-            return SentRead::NOTHING;
-        }
-        let mut seen = Seen::new();
-        seen.take_all(fields);
-        self.read_survey(&Survey::of(fields, &seen))
-    }
-
-    // What a trailer is read as.
-    #[tactic(auto, using(crate::proofs::SentAnswers::unread_at, crate::proofs::SentAnswers::read_trailer_at))]
-    pub(super) fn read_trailer(&self, fields: &[HeaderField]) -> SentRead
-        ensures { IsReadAt TrailerSent self.now fields.now result }
-    {
-        if self.announced.choices.strict_messages {
-            return SentRead {
-                violation: own_trailer_violation(fields),
-                said: Said::Nothing,
-            };
-        }
-        SentRead::NOTHING
-    }
-
-    // What a header section says, over which the walk was made.
+    // What a list is that is to be sent as such a section, or why it is not one.
     #[inline(always)]
-    pub(super) fn read_survey(&self, survey: &Survey<'_>) -> SentRead
-        ensures violation { result.violation ≡ violation_of_own_list self.now.side
-            (settings_known self.now.announced self.now.peer.settings) survey.now.fields.now }
-        ensures said { IsSaidBy self.now.side survey.now.fields.now result.said }
+    pub(super) fn judge_sent(
+        &self,
+        fields: &[HeaderField],
+        section: Section,
+    ) -> Result<Judgment, Refusal>
+        ensures outline { IfOk result (λ it. IsOutlined (head_by self.now.announced.choices.extensions.any_protocol fields.now) it.outline) }
+        ensures place { IfOk result (λ it. is_outline_of section it.outline ≡ true) }
+        ensures read { IfOk result (λ it. IsJudgedAs section self.now fields.now it) }
+        ensures err { IfErr result (λ e. e ≢ refusal.OutOfMemory → list_refusal section
+            (head_by self.now.announced.choices.extensions.any_protocol fields.now) ≡ Some e) }
+        ensures memory { IfErr result (λ e. e ≡ refusal.OutOfMemory → 24576 < length fields.now) }
     {
-        match self.side {
-            Side::Client => {
-                let head = own_request_by(survey, self.peer_connects());
-                SentRead {
-                    violation: head.violation,
-                    said: Said::Request(head.awaited, head.content),
+        let rules = Rules {
+            is_sent: true,
+            strict_messages: self.announced.choices.strict_messages,
+            any_protocol: self.announced.choices.extensions.any_protocol,
+            extended_connect: self.peer_connects(),
+        };
+        match judge(self.alloc, &Fields::of(fields), section, &rules) {
+            Ok(read) => {
+                if !read.outline.is_of(section) {
+                    return Err(misplaced(section));
                 }
+                Ok(read)
             }
-            Side::Server => {
-                let head = own_response_by(survey);
-                SentRead {
-                    violation: head.violation,
-                    said: Said::Response(head.said),
-                }
-            }
+            Err(e) => Err(refusal_of(e)),
         }
     }
 
@@ -149,5 +107,54 @@ fn says_tunnel_length(said: Said) -> bool
     match said {
         Said::Response(response) => response.says_tunnel_length,
         Said::Nothing | Said::Request(_, _) => false,
+    }
+}
+
+// As which section a side sends a header section: a client sends requests, and a server responses.
+pub(super) fn head_section(side: Side) -> Section
+    ensures { result ≡ head_section side }
+{
+    match side {
+        Side::Client => Section::Request,
+        Side::Server => Section::Response,
+    }
+}
+
+// Why a header is refused as such a section whose protocol the endpoint takes from no peer (RFC 8441, section 4), or that is another one.
+pub(super) fn header_refusal(
+    announced: &Announced,
+    section: Section,
+    header: &Header,
+) -> Option<Refusal>
+    ensures { result ≡ header_refused announced.now section header.now }
+{
+    if !header.takes_protocol(announced.choices.extensions.any_protocol) {
+        return Some(Refusal::Malformed(Malformation::Value));
+    }
+    if !Outline::of(header).is_of(section) {
+        return Some(misplaced(section));
+    }
+    None
+}
+
+// Why a header is refused that is another section.
+fn misplaced(section: Section) -> Refusal
+    ensures { result ≡ misplaced section }
+{
+    match section {
+        Section::Request | Section::Response => Refusal::WrongSide,
+        Section::Trailer => Refusal::PseudoInTrailer,
+    }
+}
+
+// Why a list is refused that reads as no header.
+fn refusal_of(e: ListError) -> Refusal
+    ensures why { (why : HeadRefusal) → refusal_by e ≡ Some why → result ≡ malformed why }
+    ensures none { refusal_by e ≡ None → result ≡ refusal.OutOfMemory }
+    ensures memory { result ≡ refusal.OutOfMemory → refusal_by e ≡ None }
+{
+    match malformation_in(e) {
+        Some(why) => Refusal::Malformed(why),
+        None => Refusal::OutOfMemory,
     }
 }

@@ -8,8 +8,8 @@ use h3_proto::error::Code;
 use h3_proto::stream::StreamId;
 use h3_session::endpoint::Endpoint;
 
-// What was kept is read. Each pull does that first, and one of this stream delivers nothing: an endpoint reads none that a server opens both
-// ways.
+// What was kept is read. Each pull does that first, and one of this stream delivers nothing: an endpoint reads none that a server opens
+// both ways.
 pub(super) fn read_kept(endpoint: &mut Endpoint) -> Result<(), Refusal>
     ensures { ReadsKept endpoint.old endpoint.new result }
 {

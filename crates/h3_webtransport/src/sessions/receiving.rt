@@ -12,14 +12,14 @@ ghost use Rattle.h3_incoming.specs.BlockPulls.{plain_answer};
 ghost use Rattle.h3_session.specs.Listing.{ListsNext};
 ghost use Rattle.h3_webtransport_streams.specs.SessionStream.{entered, receiving};
 ghost use Rattle.h3_webtransport.specs.Joint.{is_read, may_begin, stored_at};
-ghost use Rattle.h3_webtransport.specs.Receiving.{Arrives, BeginsAt, CancelsOn, CancelsOneWay, DeliversOn, EndsOn, Enters, ListsAgain, PullsFirst};
-ghost use Rattle.h3_webtransport.specs.Receiving.{PullsOn, PullsThere, RefusesDeliveriesOn, raw_unread, session_of};
+ghost use Rattle.h3_webtransport.specs.Receiving.{Arrives, BeginsAt, CancelsOn, CancelsOneWay, DeliversOn, EndsOn, Enters, ListsAgain};
+ghost use Rattle.h3_webtransport.specs.Receiving.{PullsFirst, PullsOn, PullsThere, RefusesDeliveriesOn, raw_unread, session_of};
 
 use super::Sessions;
 use super::keeping::drop_one_way;
 use bytes::Bytes;
 use h3_connection::event::{DeliverError, Fault, Refusal};
-use h3_incoming::answer::{Plain, fail, give_made, pause};
+use h3_incoming::answer::Plain;
 use h3_incoming::{BlockPull, Told};
 use h3_proto::error::Code;
 use h3_proto::stream::StreamId;
@@ -190,7 +190,7 @@ impl Sessions {
             return endpoint.pull_block(id, out);
         }
         if let Some(code) = endpoint.fault() {
-            return fail(out, Fault::Connection(code));
+            return out.fail(Fault::Connection(code));
         }
         self.pull_here(id, out);
     }
@@ -201,9 +201,9 @@ impl Sessions {
         ensures { PullsThere self.old self.new id (pull_of out.new) (stored_at self.old id) }
     {
         if !self.streams.contains(id) {
-            return pause(out);
+            return out.pause();
         }
-        give_made(out, self.streams.pull(id));
+        out.give_made(self.streams.pull(id));
     }
 
     // The same of a stream that may turn out to be of a session: there is room for it before anything is pulled, so that nothing is lost.
@@ -215,7 +215,7 @@ impl Sessions {
         ensures list { ListsNext endpoint.old id (list_of out.new) }
     {
         let Ok(()) = self.streams.enter(id, SessionId::from(id), id.is_request()) else {
-            return fail(out, Fault::Memory);
+            return out.fail(Fault::Memory);
         };
         endpoint.pull_block(id, out);
         match session_of(out) {
@@ -242,14 +242,14 @@ impl Sessions {
         if !is_session(session) {
             self.streams.forget(id);
             let code = endpoint.close_for(Code::H3_ID_ERROR);
-            return fail(out, Fault::Connection(code));
+            return out.fail(Fault::Connection(code));
         }
         self.streams.set_session(id, session);
         self.begin_sending(endpoint, id);
     }
 
-    // On a stream of a session that the endpoint reads as a request no message is sent. If sending there has ended before, it has ended here:
-    // an end that QUIC did not take there waits here.
+    // On a stream of a session that the endpoint reads as a request no message is sent. If sending there has ended before, it has ended
+    // here: an end that QUIC did not take there waits here.
     #[tactic(auto, using(crate::proofs::Pulling::sends_none, crate::proofs::Pulling::sends_on, crate::proofs::Pulling::sends_the_end, crate::proofs::Pulling::sends_no_more))]
     fn begin_sending(&mut self, endpoint: &mut Endpoint, id: StreamId)
         ensures begins { (session : ℕ) → stored_at self.old id ≡ Some (entered session (is_request_stream id))

@@ -206,8 +206,8 @@ impl Sessions {
         })
     }
 
-    // Nothing is kept of a stream. Answers whether RESET_STREAM is to be sent: what waits is dropped, and a FIN that QUIC did not take. On a
-    // stream that a server opened its client has sent nothing while no session of it is known.
+    // Nothing is kept of a stream. Answers whether RESET_STREAM is to be sent: what waits is dropped, and a FIN that QUIC did not take. On
+    // a stream that a server opened its client has sent nothing while no session of it is known.
     fn give_up(&mut self, id: StreamId) -> bool
         ensures is { result ≡ resets_raw self.old id }
         ensures forgets { Forgets self.old self.new id }

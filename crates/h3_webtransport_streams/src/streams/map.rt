@@ -1,7 +1,7 @@
 //! The streams in a map by their ids.
 ghost use Rattle.std.specs.List.{concat};
-ghost use Rattle.std.specs.Prelude.{◌≡◌, ◌≢◌, ℕ, ◌+◌, ◌<◌, ◌^◌, length, unwrap_or, true, false, is_none, is_some, Some, None, IfErr, IfNone, IfOk};
-ghost use Rattle.std.specs.Prelude.{IfSome, IsSome, OnErr, OnOk};
+ghost use Rattle.std.specs.Prelude.{◌≡◌, ◌≢◌, ℕ, ◌+◌, ◌<◌, ◌^◌, length, unwrap_or, true, false, is_none, is_some, Some, None};
+ghost use Rattle.std.specs.Prelude.{IfErr, IfNone, IfOk, IfSome, IsSome, OnErr, OnOk};
 ghost use Rattle.h3_connection.specs.Answers.{call_refused};
 ghost use Rattle.h3_connection.specs.Calls.{AllSame, Sets};
 ghost use Rattle.h3_connection.specs.NextWaiting.{IsLeast};
@@ -13,7 +13,8 @@ ghost use Rattle.h3_webtransport_streams.specs.Closing.{Closes, closing};
 ghost use Rattle.h3_webtransport_streams.specs.Indexed.{AreAtMost, AreIndexed, AreIndexedBut};
 ghost use Rattle.h3_webtransport_streams.specs.Receiver.{canceled, pulled};
 ghost use Rattle.h3_webtransport_streams.specs.Sender.{cut_off, end_told, finished, held, sent};
-ghost use Rattle.h3_webtransport_streams.specs.SessionStream.{Acts, Changes, answer_at, gives_up, passes, receiving, sending, takes, takes_turns, unread_of};
+ghost use Rattle.h3_webtransport_streams.specs.SessionStream.{Acts, Changes, answer_at, gives_up, passes, receiving, sending};
+ghost use Rattle.h3_webtransport_streams.specs.SessionStream.{takes, takes_turns, unread_of};
 ghost use Rattle.h3_webtransport_streams.specs.Sought.{is_sought};
 
 use crate::receiver::Begun;

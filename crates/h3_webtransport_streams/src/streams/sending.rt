@@ -159,9 +159,9 @@ impl SessionStreams {
         sends
     }
 
-    /// The stream whose turn it is, of those on which bytes or an end wait and which are not held. They take turns from the greatest id down:
-    /// one that is opened with a greater id waits for the next round, so each that waits has its turn. It goes over none of the others: it
-    /// is found by binary search.
+    /// The stream whose turn it is, of those on which bytes or an end wait and which are not held. They take turns from the greatest id
+    /// down: one that is opened with a greater id waits for the next round, so each that waits has its turn. It goes over none of the
+    /// others: it is found by binary search.
     #[tactic(auto, using(crate::proofs::Indexing::same_turn))]
     pub fn next_in_turn(&self) -> Option<u64>
         ensures { IsTurn (λ id. passes takes_turns (kept_at self.now.streams id)) self.now.from result }

@@ -1,16 +1,17 @@
-use Rattle.std.proofs.Common.{ap, subst, ◌∙◌}
-use Rattle.h3_connection.specs.StrictMessages.{broken_rule, content_at, response_at}
-use Rattle.h3_messages.specs.Outline.{IsListRead}
+use Rattle.std.proofs.Common.{ap, false, if◌then◌else◌, ◌∙◌}
+use Rattle.h3_incoming.proofs.ReceivedLaws.{response_is, SaidBy}
+use Rattle.h3_messages.specs.Judging.{said_by_section}
+use Rattle.h3_messages.specs.declared.said.Said.{Said}
+use Rattle.h3_messages.specs.declared.said.Said.TheVariants.{Nothing}
+use Rattle.h3_messages.specs.declared.section.Section.{Section}
 use Rattle.h3_incoming.proofs.strict.read_at.Goals as goal
 
-pub returns-clause-list : goal.returns-clause-list
-returns-clause-list c = subst (λ fs. IsListRead c.args.announced.now.choices.extensions.any_protocol fs c.read_list.result) c.fields-fields.ensures c.read_list.ensures.read
-
-pub returns-clause-broken : goal.returns-clause-broken
-returns-clause-broken c = c.read_strictly-strict.ensures.broken ∙ ap (broken_rule c.args.side c.args.announced.now c.args.place) c.fields-fields.ensures
-
-pub returns-clause-content : goal.returns-clause-content
-returns-clause-content c = c.read_strictly-strict.ensures.content ∙ ap (content_at c.args.side c.args.announced.now c.args.place c.args.content) c.fields-fields.ensures
-
-pub returns-clause-response : goal.returns-clause-response
-returns-clause-response c = c.read_strictly-strict.ensures.response ∙ ap (response_at c.args.side c.args.announced.now c.args.place c.args.response) c.fields-fields.ensures
+pub returns-in-Ok-clause-response : goal.returns-in-Ok-clause-response
+returns-in-Ok-clause-response c =
+    let strict = c.args.announced.now.choices.strict_messages in
+    let side = c.args.side in
+    let place = c.args.place in
+    let said = c.in-Ok.ensures.said
+    ∙ ap (λ (s : Section). let t : Said = if strict then said_by_section s false c.fields-fields.result else Nothing in t) c.section_at.ensures
+    ∙ ap (λ fs. SaidBy fs strict side place) c.fields-fields.ensures in
+    c.after_section.ensures.response ∙ response_is c.args.block.now strict side place c.args.response c.in-Ok.read.said said

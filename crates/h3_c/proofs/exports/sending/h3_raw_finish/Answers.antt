@@ -5,5 +5,5 @@ use Rattle.h3_c.proofs.exports.sending.h3_raw_finish.Goals as goal
 
 pub returns-clause-goes : goal.returns-clause-goes
 returns-clause-goes c =
-    goes_alone (Finish c.args.id c.finish-told.result) _ _ _ _ _ c.opened-connection.ensures c.deref_mut.ensures.value c.kept.ensures
-    c.finish-told.ensures
+    rw (c.answered.ensures.number, c.answered.ensures.detail) (goes_alone (Finish c.args.id c.finish-told.result) _ _ _ _ _ c.opened-connection.ensures c.deref_mut.ensures.value c.answered.ensures.kept
+    c.finish-told.ensures)

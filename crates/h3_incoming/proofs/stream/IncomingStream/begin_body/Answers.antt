@@ -1,4 +1,4 @@
-use Rattle.std.proofs.Common.{◌≡◌, ◌∙◌, [], true, sym, ap, arith}
+use Rattle.std.proofs.Common.{◌≡◌, ◌∙◌, true, sym, ap, arith}
 use Rattle.h3_connection.specs.Incoming.{Incoming}
 use Rattle.h3_incoming.specs.BodyPlaces.{keeps_nothing}
 use Rattle.h3_incoming.proofs.BodyPieces.{head_begins}

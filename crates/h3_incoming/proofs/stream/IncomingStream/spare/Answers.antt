@@ -1,4 +1,4 @@
-use Rattle.std.proofs.Common.{◌≡◌, ℕ, true, arith, ap, sym, subst, ◌∙◌}
+use Rattle.std.proofs.Common.{◌≡◌, true, arith, ap, sym, subst, ◌∙◌}
 use Rattle.h3_connection.specs.Incoming.{Incoming}
 use Rattle.h3_connection.specs.Unread.{begins_frame}
 use Rattle.h3_incoming.specs.SomePieces.{AreSome}

@@ -15,7 +15,7 @@ returns c =
           record { value = t.value; there = t.there; repeated = t.repeated };
       has_regular = colon_regular (is_pseudo f) c.args.self.now.has_regular _ p took.has_regular;
       is_out_of_order = colon_late (is_pseudo f) c.args.self.now.is_out_of_order c.args.self.now.has_regular _ p (took.is_out_of_order ∙ c.note-2.ensures);
-      has_unknown_pseudo = unknown_named f c.args.known c.args.self.now.has_unknown_pseudo _ e took.has_unknown_pseudo;
+      pseudo_is_known = unknown_named f c.args.known e;
       has_wrong_te = te_named f c.value-value.result.now c.args.known c.args.self.now.has_wrong_te _ e c.value-value.ensures took.has_wrong_te;
       has_spaced_value = grind arith;
     }

@@ -17,7 +17,7 @@ returns-in-Some c =
           record { value = t.value; there = t.there; repeated = t.repeated };
       has_regular = plain_regular (is_pseudo f) c.args.self.now.has_regular _ p took.has_regular;
       is_out_of_order = plain_late (is_pseudo f) c.args.self.now.is_out_of_order c.args.self.now.has_regular _ p took.is_out_of_order;
-      has_unknown_pseudo = plain_unknown f c.args.self.now.has_unknown_pseudo _ p took.has_unknown_pseudo;
+      pseudo_is_known = plain_unknown f p;
       has_wrong_te = te_named f c.value-value.result.now known c.args.self.now.has_wrong_te _ e c.value-value.ensures took.has_wrong_te;
       has_spaced_value = grind arith;
     }
@@ -31,7 +31,7 @@ returns-in-None c =
       names = λ k. let t = takes_none f k c.args.self.now e in record { value = t.value; there = t.there; repeated = t.repeated };
       has_regular = plain_regular (is_pseudo f) c.args.self.now.has_regular _ p refl;
       is_out_of_order = plain_late (is_pseudo f) c.args.self.now.is_out_of_order c.args.self.now.has_regular _ p refl;
-      has_unknown_pseudo = plain_unknown f c.args.self.now.has_unknown_pseudo _ p refl;
+      pseudo_is_known = plain_unknown f p;
       has_wrong_te = te_none f c.args.self.now.has_wrong_te e;
       has_spaced_value = grind arith;
     }

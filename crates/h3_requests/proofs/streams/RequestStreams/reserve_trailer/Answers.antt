@@ -6,9 +6,6 @@ use Rattle.h3_requests.proofs.streams.RequestStreams.reserve_trailer.Goals as go
 pub invariant_of-self-then-not-takes_body : goal.invariant_of-self-then-not-takes_body
 invariant_of-self-then-not-takes_body c = written _ _ _ _ c.args.id c.in-Some.stream.now _ (c.get_mut.follows.holds _) (search rules) (search rules) (search rules) c.self.invariant
 
-pub invariant_of-self-in-Some-later : goal.invariant_of-self-in-Some-later
-invariant_of-self-in-Some-later c = written _ _ _ _ c.args.id c.in-Some.stream.now _ (c.get_mut.follows.holds _) (search rules) (search rules) (search rules) c.self.invariant
-
 pub invariant_of-self-in-Some-early_trailer : goal.invariant_of-self-in-Some-early_trailer
 invariant_of-self-in-Some-early_trailer c = written _ _ _ _ c.args.id c.in-Some.stream.now _ (c.get_mut.follows.holds _) (search rules) (search rules) (search rules) c.self.invariant
 

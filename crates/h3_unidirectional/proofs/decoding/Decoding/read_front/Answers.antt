@@ -3,8 +3,8 @@ use Rattle.h3_connection.specs.Listeners.{Decoding}
 use Rattle.h3_unidirectional.proofs.Heard.{no_hearing, bad_heard}
 use Rattle.h3_unidirectional.proofs.decoding.Decoding.read_front.Goals as goal
 
-pub returns-then-is_err-clause-front : goal.returns-then-is_err-clause-front
-returns-then-is_err-clause-front c = no_hearing _ _
+pub returns-in_err-reserve-clause-front : goal.returns-in_err-reserve-clause-front
+returns-in_err-reserve-clause-front c = no_hearing _ _
 
 pub returns-clause-err : goal.returns-clause-err
 returns-clause-err c =
