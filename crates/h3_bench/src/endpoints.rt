@@ -35,9 +35,7 @@ fn heads(alloc: Global, bytes: &[u8]) -> Result<Vec<Head>, Failure> {
     let mut heads = Vec::new(alloc);
     for section in &sections {
         let fields = fields_of(alloc, *section)?;
-        if heads.push(Head { fields }).is_err() {
-            return Err(Failure::Memory);
-        }
+        heads.push(Head { fields })?;
     }
     Ok(heads)
 }
@@ -52,9 +50,7 @@ struct Messages {
 impl Messages {
     /// Of encoded field sections, and the body's bytes.
     fn new(alloc: Global, sections: &[u8], body: &[u8]) -> Result<Messages, Failure> {
-        let Ok(body) = Bytes::copy_from_slice(alloc, body) else {
-            return Err(Failure::Memory);
-        };
+        let body = Bytes::copy_from_slice(alloc, body)?;
         let heads = heads(alloc, sections)?;
         Ok(Messages { heads, body })
     }
@@ -82,9 +78,7 @@ impl Messages {
 
 /// The same bytes once more, of which none is copied.
 fn shared(bytes: &Bytes) -> Result<Bytes, Failure> {
-    let Ok(again) = bytes.clone() else {
-        return Err(Failure::Memory);
-    };
+    let again = bytes.clone()?;
     Ok(again)
 }
 
@@ -154,25 +148,17 @@ struct Exchanges<'a> {
 impl Exchanges<'_> {
     /// A connection, from its making to its end.
     fn connect(&self, came: &mut CameOut) -> Result<(), Failure> {
-        match endpoint(self.alloc, Side::Client, self.shape.limits) {
-            Ok(mut client) => {
-                let done = self.with_server(&mut client, came);
-                client.free();
-                done
-            }
-            Err(e) => Err(e),
-        }
+        let mut client = endpoint(self.alloc, Side::Client, self.shape.limits)?;
+        let done = self.with_server(&mut client, came);
+        client.free();
+        done
     }
 
     fn with_server(&self, client: &mut Endpoint, came: &mut CameOut) -> Result<(), Failure> {
-        match endpoint(self.alloc, Side::Server, self.shape.limits) {
-            Ok(mut server) => {
-                let done = self.talk(client, &mut server, came);
-                server.free();
-                done
-            }
-            Err(e) => Err(e),
-        }
+        let mut server = endpoint(self.alloc, Side::Server, self.shape.limits)?;
+        let done = self.talk(client, &mut server, came);
+        server.free();
+        done
     }
 
     fn talk(
@@ -194,13 +180,9 @@ impl Exchanges<'_> {
     /// Opens streams and sends a request on each.
     fn request(&self, client: &mut Endpoint, streams: &mut Vec<StreamId>) -> Result<(), Failure> {
         for _ in 0..self.shape.under_way {
-            let Ok(id) = client.open_request() else {
-                return Err(Failure::Refused);
-            };
+            let id = client.open_request().map_err(|_| Failure::Refused)?;
             self.requests.send(client, id)?;
-            if streams.push(id).is_err() {
-                return Err(Failure::Memory);
-            }
+            streams.push(id)?;
         }
         Ok(())
     }
@@ -288,9 +270,7 @@ impl Exchanges<'_> {
         if let Some(body) = body {
             return shared(body);
         }
-        let Ok(piece) = Bytes::copy_from_slice(self.alloc, waits) else {
-            return Err(Failure::Memory);
-        };
+        let piece = Bytes::copy_from_slice(self.alloc, waits)?;
         Ok(piece)
     }
 }

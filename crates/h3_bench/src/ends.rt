@@ -30,13 +30,8 @@ fn set_limits(
     limit: usize,
     instructions: &mut Vec<u8>,
 ) -> Result<(), Failure> {
-    if table.set_max_blocked(limit).is_err() {
-        return Err(Failure::Input);
-    }
-    match set_dynamic_table_size(table, instructions, capacity) {
-        Ok(()) => Ok(()),
-        Err(_) => Err(Failure::Input),
-    }
+    table.set_max_blocked(limit).map_err(|_| Failure::Input)?;
+    set_dynamic_table_size(table, instructions, capacity).map_err(|_| Failure::Input)
 }
 
 /// An encoder, and the start of an instruction that is not whole.
@@ -56,17 +51,12 @@ impl Sender {
         instructions: &mut Vec<u8>,
     ) -> Result<Sender, Failure> {
         let mut table = DynamicTable::new(alloc);
-        match set_limits(&mut table, capacity, limit, instructions) {
-            Ok(()) => Ok(Sender {
-                encoder: Encoder::from(table),
-                unread: Vec::new(alloc),
-                wait: Wait::Bytes(1),
-            }),
-            Err(e) => {
-                drop(table);
-                Err(e)
-            }
-        }
+        set_limits(&mut table, capacity, limit, instructions)?;
+        Ok(Sender {
+            encoder: Encoder::from(table),
+            unread: Vec::new(alloc),
+            wait: Wait::Bytes(1),
+        })
     }
 
     /// Appends the list's section, and the instructions to be read before it.
@@ -77,20 +67,15 @@ impl Sender {
         section: &mut Vec<u8>,
         instructions: &mut Vec<u8>,
     ) -> Result<(), Failure> {
-        match self
-            .encoder
+        self.encoder
             .encode(stream, section, instructions, list.fields())
-        {
-            Ok(_) => Ok(()),
-            Err(_) => Err(Failure::Memory),
-        }
+            .map_err(|_| Failure::Memory)?;
+        Ok(())
     }
 
     /// Reads what the decoder wrote.
     pub(crate) fn hear(&mut self, bytes: &[u8]) -> Result<(), Failure> {
-        if self.unread.extend_from_slice(bytes).is_err() {
-            return Err(Failure::Memory);
-        }
+        self.unread.extend_from_slice(bytes)?;
         self.wait = decoder_wait_behind(self.wait, bytes, &self.unread);
         if self.wait.goes_on() {
             return Ok(());
@@ -100,10 +85,7 @@ impl Sender {
         let left = read.remaining();
         keep_last(&mut self.unread, left);
         self.wait = decoder_wait(&self.unread);
-        match heard {
-            Ok(()) => Ok(()),
-            Err(_) => Err(Failure::Refused),
-        }
+        heard.map_err(|_| Failure::Refused)
     }
 }
 
@@ -151,9 +133,7 @@ impl Receiver {
 
     /// Reads what the encoder wrote beside its sections, and appends the increment for it.
     pub(crate) fn hear(&mut self, bytes: &[u8], replies: &mut Vec<u8>) -> Result<(), Failure> {
-        if self.unread.extend_from_slice(bytes).is_err() {
-            return Err(Failure::Memory);
-        }
+        self.unread.extend_from_slice(bytes)?;
         self.wait = encoder_wait_behind(self.wait, bytes, &self.unread);
         if self.wait.goes_on() {
             return Ok(());
@@ -163,10 +143,8 @@ impl Receiver {
         let left = read.remaining();
         keep_last(&mut self.unread, left);
         self.wait = encoder_wait(&self.unread);
-        match heard {
-            Ok(_) => Ok(()),
-            Err(_) => Err(Failure::Refused),
-        }
+        heard.map_err(|_| Failure::Refused)?;
+        Ok(())
     }
 
     /// Decodes a section, and appends the acknowledgment if it names entries. Its fields are lent up to the next section. None:
@@ -177,28 +155,23 @@ impl Receiver {
         section: &[u8],
         replies: &mut Vec<u8>,
     ) -> Result<Option<&FieldBlock>, Failure> {
-        match decode_into(&self.decoder, section, &mut self.block) {
-            Ok(Some(dyn_ref)) => {
-                if dyn_ref {
-                    acknowledge(stream, replies)?;
-                }
-                Ok(Some(&self.block))
-            }
-            Ok(None) => Ok(None),
-            Err(e) => Err(e),
+        let Some(dyn_ref) = decode_into(&self.decoder, section, &mut self.block)? else {
+            return Ok(None);
+        };
+        if dyn_ref {
+            acknowledge(stream, replies)?;
         }
+        Ok(Some(&self.block))
     }
 
     /// What the decoder says of a section whose fields are kept up to `max` bytes: how many were kept, and the size of all.
     pub(crate) fn weigh(&mut self, section: &[u8], max: u64) -> Result<Report, Failure> {
         let mut section = SliceCursor::new(section);
-        match self
+        let told = self
             .decoder
             .decode_block_within(&mut section, max, &[], &mut self.block)
-        {
-            Ok(told) => Ok(report_of(&told, self.block.len())),
-            Err(_) => Err(Failure::Refused),
-        }
+            .map_err(|_| Failure::Refused)?;
+        Ok(report_of(&told, self.block.len()))
     }
 
     /// Decodes a section that does not have to wait. Returns the count of its fields.
@@ -208,11 +181,8 @@ impl Receiver {
         section: &[u8],
         replies: &mut Vec<u8>,
     ) -> Result<usize, Failure> {
-        match self.decode(stream, section, replies) {
-            Ok(Some(block)) => Ok(block.len()),
-            Ok(None) => Err(Failure::Refused),
-            Err(e) => Err(e),
-        }
+        let block = self.decode(stream, section, replies)?;
+        Ok(block.ok_or(Failure::Refused)?.len())
     }
 }
 
@@ -229,8 +199,6 @@ fn acknowledge(stream: u64, replies: &mut Vec<u8>) -> Result<(), Failure> {
     if stream >= 1 << 62 {
         return Err(Failure::Input);
     }
-    match ack_header(stream, replies) {
-        Ok(()) => Ok(()),
-        Err(_) => Err(Failure::Memory),
-    }
+    ack_header(stream, replies)?;
+    Ok(())
 }

@@ -31,9 +31,7 @@ impl Batch {
     fn new(alloc: Global, size: usize) -> Result<Batch, Failure> {
         let mut sections = Vec::new(alloc);
         for _ in 0..size {
-            if sections.push(Vec::new(alloc)).is_err() {
-                return Err(Failure::Memory);
-            }
+            sections.push(Vec::new(alloc))?;
         }
         Ok(Batch {
             streams: Vec::new(alloc),
@@ -59,10 +57,8 @@ impl Batch {
             &mut self.sections[place],
             &mut self.instructions,
         )?;
-        match self.streams.push(stream) {
-            Ok(()) => Ok(()),
-            Err(_) => Err(Failure::Memory),
-        }
+        self.streams.push(stream)?;
+        Ok(())
     }
 
     /// The decoder reads the batch.
@@ -104,42 +100,16 @@ struct Ends {
 }
 
 impl Ends {
-    fn new(alloc: Global, shape: Shape) -> Result<Ends, Failure> {
-        match Batch::new(alloc, shape.batch) {
-            Ok(batch) => Ends::around(alloc, shape, batch),
-            Err(e) => Err(e),
-        }
-    }
-
     /// Around an empty batch, in which the encoder's first instruction stands then.
-    fn around(alloc: Global, shape: Shape, mut batch: Batch) -> Result<Ends, Failure> {
-        match Sender::new(alloc, shape.capacity, shape.limit, &mut batch.instructions) {
-            Ok(sender) => Ends::joined(sender, Receiver::new(alloc, shape.capacity), batch),
-            Err(e) => {
-                drop(batch);
-                Err(e)
-            }
-        }
-    }
-
-    fn joined(
-        sender: Sender,
-        receiver: Result<Receiver, Failure>,
-        batch: Batch,
-    ) -> Result<Ends, Failure> {
-        match receiver {
-            Ok(receiver) => Ok(Ends {
-                sender,
-                receiver,
-                batch,
-                report: Report::new(),
-            }),
-            Err(e) => {
-                drop(sender);
-                drop(batch);
-                Err(e)
-            }
-        }
+    fn new(alloc: Global, shape: Shape) -> Result<Ends, Failure> {
+        let mut batch = Batch::new(alloc, shape.batch)?;
+        let instructions = &mut batch.instructions;
+        Ok(Ends {
+            sender: Sender::new(alloc, shape.capacity, shape.limit, instructions)?,
+            receiver: Receiver::new(alloc, shape.capacity)?,
+            batch,
+            report: Report::new(),
+        })
     }
 
     /// The batch is read, answered and packed, and the next begins.
@@ -194,14 +164,8 @@ fn exchange(
     lists: &[FieldList],
     packed: &mut Vec<u8>,
 ) -> Result<Report, Failure> {
-    match Ends::new(alloc, shape) {
-        Ok(mut ends) => {
-            let report = send_passes(shape.passes, lists, &mut ends, packed);
-            drop(ends);
-            report
-        }
-        Err(e) => Err(e),
-    }
+    let mut ends = Ends::new(alloc, shape)?;
+    send_passes(shape.passes, lists, &mut ends, packed)
 }
 
 fn run_rounds(
@@ -253,6 +217,5 @@ pub extern "C" fn h3_bench_exchange(
         batch,
         passes,
     };
-    let done = run(alloc, rounds, shape, bytes, out);
-    answer(done, report)
+    answer(run(alloc, rounds, shape, bytes, out), report)
 }

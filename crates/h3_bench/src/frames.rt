@@ -44,26 +44,19 @@ impl Reader {
         if self.unread.remaining() >= 1 << 62 || piece.len() >= 1 << 62 {
             return Err(Failure::Input);
         }
-        let Ok(piece) = piece.clone() else {
-            return Err(Failure::Memory);
-        };
-        if self.unread.push(piece).is_err() {
-            return Err(Failure::Memory);
-        }
+        let piece = piece.clone()?;
+        self.unread.push(piece)?;
         Ok(())
     }
 
     /// Takes bytes of the payload under way, as they came. False: none is there.
     fn take_payload(&mut self, report: &mut Report) -> Result<bool, Failure> {
-        match self.unread.take_chunk(self.left) {
-            Ok(Some(bytes)) => {
-                self.left = self.left.saturating_sub(bytes.len());
-                report.add(0, bytes.len());
-                Ok(true)
-            }
-            Ok(None) => Ok(false),
-            Err(_) => Err(Failure::Memory),
-        }
+        let Some(bytes) = self.unread.take_chunk(self.left)? else {
+            return Ok(false);
+        };
+        self.left = self.left.saturating_sub(bytes.len());
+        report.add(0, bytes.len());
+        Ok(true)
     }
 
     /// Takes the next frame, of DATA the type and length alone, or bytes of its payload. False: more has to come.
@@ -115,38 +108,20 @@ impl Reader {
 fn read_stream(alloc: Global, pieces: &[Bytes]) -> Result<Report, Failure> {
     let mut report = Report::new();
     let mut reader = Reader::new(alloc);
-    let read = reader.read(alloc, pieces, &mut report);
-    drop(reader);
-    match read {
-        Ok(()) => Ok(report),
-        Err(e) => Err(e),
-    }
+    reader.read(alloc, pieces, &mut report)?;
+    Ok(report)
 }
 
-/// Copies a piece of a stream, as its packet brings it.
-fn add_piece(alloc: Global, piece: &[u8], pieces: &mut Vec<Bytes>) -> Result<(), Failure> {
-    let Ok(piece) = Bytes::copy_from_slice(alloc, piece) else {
-        return Err(Failure::Memory);
-    };
-    match pieces.push(piece) {
-        Ok(()) => Ok(()),
-        Err(_) => Err(Failure::Memory),
-    }
-}
-
-fn add_pieces(
-    alloc: Global,
-    bytes: &[u8],
-    size: usize,
-    pieces: &mut Vec<Bytes>,
-) -> Result<(), Failure> {
+/// Copies of the pieces of a stream, as its packets bring them.
+fn pieces_of(alloc: Global, bytes: &[u8], size: usize) -> Result<Vec<Bytes>, Failure> {
     if size == 0 {
         return Err(Failure::Input);
     }
+    let mut pieces = Vec::new(alloc);
     for piece in bytes.chunks(size) {
-        add_piece(alloc, piece, pieces)?;
+        pieces.push(Bytes::copy_from_slice(alloc, piece)?)?;
     }
-    Ok(())
+    Ok(pieces)
 }
 
 fn read_rounds(alloc: Global, rounds: u64, pieces: &[Bytes]) -> Result<Report, Failure> {
@@ -158,11 +133,7 @@ fn read_rounds(alloc: Global, rounds: u64, pieces: &[Bytes]) -> Result<Report, F
 }
 
 fn read(alloc: Global, rounds: u64, bytes: &[u8], size: usize) -> Result<Report, Failure> {
-    let mut pieces = Vec::new(alloc);
-    match add_pieces(alloc, bytes, size, &mut pieces) {
-        Ok(()) => read_rounds(alloc, rounds, &pieces),
-        Err(e) => Err(e),
-    }
+    read_rounds(alloc, rounds, &pieces_of(alloc, bytes, size)?)
 }
 
 /// Reads the HEADERS and DATA frames of a stream, which comes in pieces of this size, `rounds` times.

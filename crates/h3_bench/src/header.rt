@@ -8,38 +8,22 @@ use std::alloc::Global;
 
 /// The fields of a section, as they come to a receiver.
 pub(crate) fn fields_of(alloc: Global, section: &[u8]) -> Result<Vec<HeaderField>, Failure> {
-    match decode_stateless(alloc, &mut SliceCursor::new(section), u64::MAX) {
-        Ok(decoded) => Ok(decoded.fields),
-        Err(_) => Err(Failure::Refused),
-    }
+    let decoded = decode_stateless(alloc, &mut SliceCursor::new(section), u64::MAX).map_err(
+        |_| Failure::Refused,
+    )?;
+    Ok(decoded.fields)
 }
 
 fn header_of(alloc: Global, section: &[u8]) -> Result<Header, Failure> {
     let fields = fields_of(alloc, section)?;
-    match Header::try_from(alloc, fields) {
-        Ok(header) => Ok(header),
-        Err(_) => Err(Failure::Refused),
-    }
+    Header::try_from(alloc, fields).map_err(|_| Failure::Refused)
 }
 
-/// Makes the header of a section, and frees it. Returns the count of its fields.
-fn read_one(alloc: Global, section: &[u8]) -> Result<usize, Failure> {
-    match header_of(alloc, section) {
-        Ok(header) => {
-            let count = header.len();
-            drop(header);
-            Ok(count)
-        }
-        Err(e) => Err(e),
-    }
-}
-
-/// Makes the header of each section.
+/// Makes the header of each section, and frees it.
 fn read_all(alloc: Global, sections: &[&[u8]]) -> Result<Report, Failure> {
     let mut report = Report::new();
     for section in sections {
-        let count = read_one(alloc, *section)?;
-        report.add(count, 0);
+        report.add(header_of(alloc, *section)?.len(), 0);
     }
     Ok(report)
 }
@@ -48,8 +32,7 @@ fn read_all(alloc: Global, sections: &[&[u8]]) -> Result<Report, Failure> {
 fn decode_all(alloc: Global, sections: &[&[u8]]) -> Result<Report, Failure> {
     let mut report = Report::new();
     for section in sections {
-        let fields = fields_of(alloc, *section)?;
-        report.add(fields.len(), 0);
+        report.add(fields_of(alloc, *section)?.len(), 0);
     }
     Ok(report)
 }
@@ -58,10 +41,7 @@ fn decode_all(alloc: Global, sections: &[&[u8]]) -> Result<Report, Failure> {
 fn list_all(alloc: Global, headers: &[Header]) -> Result<Report, Failure> {
     let mut report = Report::new();
     for header in headers {
-        match header.fields(alloc) {
-            Ok(fields) => report.add(fields.len(), 0),
-            Err(_) => return Err(Failure::Memory),
-        }
+        report.add(header.fields(alloc)?.len(), 0);
     }
     Ok(report)
 }
@@ -84,21 +64,12 @@ fn decode(alloc: Global, rounds: u64, bytes: &[u8]) -> Result<Report, Failure> {
     Ok(report)
 }
 
-/// Appends the header of a section.
-fn add_header(alloc: Global, section: &[u8], headers: &mut Vec<Header>) -> Result<(), Failure> {
-    let header = header_of(alloc, section)?;
-    match headers.push(header) {
-        Ok(()) => Ok(()),
-        Err(_) => Err(Failure::Memory),
-    }
-}
-
 /// The headers of sections.
 fn headers(alloc: Global, bytes: &[u8]) -> Result<Vec<Header>, Failure> {
     let sections = input::strings(alloc, bytes)?;
     let mut headers = Vec::new(alloc);
     for section in &sections {
-        add_header(alloc, *section, &mut headers)?;
+        headers.push(header_of(alloc, *section)?)?;
     }
     Ok(headers)
 }

@@ -30,9 +30,7 @@ fn decode_all(payloads: &[&[u8]], out: &mut [u8]) -> Result<usize, Failure> {
         if payload.len() / 5 * 8 + 12 > out.len() - written {
             return Err(Failure::Room);
         }
-        let Some(len) = decode_into(payload, &mut out[written..]) else {
-            return Err(Failure::Refused);
-        };
+        let len = decode_into(payload, &mut out[written..]).ok_or(Failure::Refused)?;
         written += len;
     }
     Ok(written)
@@ -47,8 +45,7 @@ pub extern "C" fn h3_bench_huffman_encode(
     out: &mut [u8],
     report: &mut Report,
 ) -> u32 {
-    let done = encode(alloc, rounds, bytes, out);
-    answer(done, report)
+    answer(encode(alloc, rounds, bytes, out), report)
 }
 
 /// Decodes the payloads `rounds` times.
@@ -60,8 +57,7 @@ pub extern "C" fn h3_bench_huffman_decode(
     out: &mut [u8],
     report: &mut Report,
 ) -> u32 {
-    let done = decode(alloc, rounds, bytes, out);
-    answer(done, report)
+    answer(decode(alloc, rounds, bytes, out), report)
 }
 
 fn encode(alloc: Global, rounds: u64, bytes: &[u8], out: &mut [u8]) -> Result<Report, Failure> {

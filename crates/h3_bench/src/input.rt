@@ -37,9 +37,7 @@ pub(crate) fn strings<'a>(alloc: Global, bytes: &'a [u8]) -> Result<Vec<&'a [u8]
     let mut strings = Vec::new(alloc);
     for _ in 0..count {
         let string = take_string(&mut input)?;
-        if strings.push(string).is_err() {
-            return Err(Failure::Memory);
-        }
+        strings.push(string)?;
     }
     Ok(strings)
 }
@@ -75,10 +73,7 @@ fn take_owned(
     input: &mut SliceCursor<'_>,
 ) -> Result<CowSlice<'static, u8>, Failure> {
     let string = take_string(input)?;
-    match Vec::from_slice(alloc, string) {
-        Ok(bytes) => Ok(CowSlice::Owned(bytes)),
-        Err(_) => Err(Failure::Memory),
-    }
+    Ok(CowSlice::Owned(Vec::from_slice(alloc, string)?))
 }
 
 fn take_field(alloc: Global, input: &mut SliceCursor<'_>) -> Result<HeaderField, Failure> {
@@ -98,9 +93,7 @@ fn take_list(alloc: Global, input: &mut SliceCursor<'_>) -> Result<FieldList, Fa
             return Err(Failure::Input);
         }
         size += own_size;
-        if fields.push(field).is_err() {
-            return Err(Failure::Memory);
-        }
+        fields.push(field)?;
     }
     Ok(FieldList { fields })
 }
@@ -114,9 +107,7 @@ pub(crate) fn take_lists(
     let mut lists = Vec::new(alloc);
     for _ in 0..count {
         let list = take_list(alloc, input)?;
-        if lists.push(list).is_err() {
-            return Err(Failure::Memory);
-        }
+        lists.push(list)?;
     }
     Ok(lists)
 }

@@ -4,45 +4,40 @@ use crate::header::fields_of;
 use crate::input;
 use crate::report::{Failure, Report, answer};
 use h3_field::{Fields, HeaderField};
-use h3_messages::{Seen, Survey, Violation, request_by};
+use h3_messages::{Rules, Section};
 use std::alloc::Global;
-
-/// Appends the fields of a section.
-fn add_list(
-    alloc: Global,
-    section: &[u8],
-    lists: &mut Vec<Vec<HeaderField>>,
-) -> Result<(), Failure> {
-    let fields = fields_of(alloc, section)?;
-    match lists.push(fields) {
-        Ok(()) => Ok(()),
-        Err(_) => Err(Failure::Memory),
-    }
-}
 
 /// The fields of each section.
 fn lists_of(alloc: Global, bytes: &[u8]) -> Result<Vec<Vec<HeaderField>>, Failure> {
     let sections = input::strings(alloc, bytes)?;
     let mut lists = Vec::new(alloc);
     for section in &sections {
-        add_list(alloc, *section, &mut lists)?;
+        lists.push(fields_of(alloc, *section)?)?;
     }
     Ok(lists)
 }
 
-/// The rule that a list breaks as the header section of a request, by one walk over it.
-fn violation_of(fields: &[HeaderField]) -> Option<Violation> {
-    let fields = Fields::of(fields);
-    let mut seen = Seen::new();
-    seen.take_all(&fields);
-    request_by(&Survey::of(&fields, &seen), false).violation
+/// The rules of a strict endpoint for what it receives.
+const RULES: Rules = Rules {
+    is_sent: false,
+    strict_messages: true,
+    any_protocol: false,
+    extended_connect: false,
+};
+
+/// Whether a list reads as the header section of a request and breaks no rule, by one walk over it.
+fn is_well_formed(alloc: Global, fields: &[HeaderField]) -> bool {
+    match h3_messages::judge(alloc, &Fields::of(fields), Section::Request, &RULES) {
+        Ok(read) => read.violation.is_none(),
+        Err(_) => false,
+    }
 }
 
 /// Judges each list as the header section of a request. The fields of those that break no rule are counted.
-fn judge_all(lists: &[Vec<HeaderField>]) -> Report {
+fn judge_all(alloc: Global, lists: &[Vec<HeaderField>]) -> Report {
     let mut report = Report::new();
     for fields in lists {
-        if violation_of(fields.as_slice()).is_none() {
+        if is_well_formed(alloc, fields.as_slice()) {
             report.add(fields.len(), 0);
         }
     }
@@ -53,7 +48,7 @@ fn judge(alloc: Global, rounds: u64, bytes: &[u8]) -> Result<Report, Failure> {
     let lists = lists_of(alloc, bytes)?;
     let mut report = Report::new();
     for _ in 0..rounds {
-        report = judge_all(lists.as_slice());
+        report = judge_all(alloc, lists.as_slice());
     }
     Ok(report)
 }

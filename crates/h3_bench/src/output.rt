@@ -4,9 +4,7 @@ use crate::report::Failure;
 use h3_field::Fields;
 
 fn put_bytes(packed: &mut Vec<u8>, bytes: &[u8]) -> Result<(), Failure> {
-    if packed.extend_from_slice(bytes).is_err() {
-        return Err(Failure::Memory);
-    }
+    packed.extend_from_slice(bytes)?;
     Ok(())
 }
 

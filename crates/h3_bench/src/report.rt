@@ -1,5 +1,7 @@
 //! What an export answers.
 
+use std::alloc::{AllocError, AllocFailed};
+
 /// Why a work was given up.
 #[derive(Copy, Clone, PartialEq, Eq, Debug)]
 pub(crate) enum Failure {
@@ -11,6 +13,18 @@ pub(crate) enum Failure {
     Memory,
     /// A call refused its input.
     Refused,
+}
+
+impl From<AllocError> for Failure {
+    fn from(_e: AllocError) -> Failure {
+        Failure::Memory
+    }
+}
+
+impl<T: Drop> From<AllocFailed<T>> for Failure {
+    fn from(_e: AllocFailed<T>) -> Failure {
+        Failure::Memory
+    }
 }
 
 /// What one round did.

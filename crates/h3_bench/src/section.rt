@@ -11,10 +11,8 @@ use std::alloc::Global;
 /// Encodes a list in place of what stands in `section`.
 fn encode_list(list: &FieldList, section: &mut Vec<u8>) -> Result<(), Failure> {
     section.clear();
-    match encode_stateless(section, list.fields()) {
-        Ok(_) => Ok(()),
-        Err(_) => Err(Failure::Memory),
-    }
+    encode_stateless(section, list.fields()).map_err(|_| Failure::Memory)?;
+    Ok(())
 }
 
 /// Encodes each list into the same buffer.
@@ -31,10 +29,9 @@ fn encode_all(lists: &[FieldList], section: &mut Vec<u8>) -> Result<Report, Fail
 fn decode_into(alloc: Global, section: &[u8], fields: &mut Vec<HeaderField>) -> Result<u64, Failure>
     ensures { IfOk result (λ sum. AnswersSection (2 ^ 64 - 1) section.now (Fields fields.new.items sum)) }
 {
-    match decode_stateless_into(alloc, &mut SliceCursor::new(section), u64::MAX, fields) {
-        Ok(sum) => Ok(sum),
-        Err(_) => Err(Failure::Refused),
-    }
+    decode_stateless_into(alloc, &mut SliceCursor::new(section), u64::MAX, fields).map_err(
+        |_| Failure::Refused,
+    )
 }
 
 /// Adds the fields that a section gave.
@@ -145,8 +142,7 @@ pub extern "C" fn h3_bench_section_encode(
     out: &mut [u8],
     report: &mut Report,
 ) -> u32 {
-    let done = encode(alloc, rounds, bytes, out);
-    answer(done, report)
+    answer(encode(alloc, rounds, bytes, out), report)
 }
 
 /// Decodes the sections `rounds` times, and once more to return their lists.
@@ -158,6 +154,5 @@ pub extern "C" fn h3_bench_section_decode(
     out: &mut [u8],
     report: &mut Report,
 ) -> u32 {
-    let done = decode(alloc, rounds, bytes, out);
-    answer(done, report)
+    answer(decode(alloc, rounds, bytes, out), report)
 }

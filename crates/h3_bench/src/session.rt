@@ -62,9 +62,7 @@ fn sender_steps<'a>(
     let mut steps = Vec::new(alloc);
     for _ in 0..count {
         let step = sender_step(input)?;
-        if steps.push(step).is_err() {
-            return Err(Failure::Memory);
-        }
+        steps.push(step)?;
     }
     Ok(steps)
 }
@@ -75,9 +73,7 @@ fn receiver_steps<'a>(alloc: Global, bytes: &'a [u8]) -> Result<Vec<Step<'a, &'a
     let mut steps = Vec::new(alloc);
     for _ in 0..count {
         let step = receiver_step(&mut input)?;
-        if steps.push(step).is_err() {
-            return Err(Failure::Memory);
-        }
+        steps.push(step)?;
     }
     Ok(steps)
 }
@@ -93,9 +89,7 @@ fn send(
 ) -> Result<(), Failure> {
     match step {
         Step::Stream(stream, number) => {
-            let Some(list) = lists.get(*number) else {
-                return Err(Failure::Input);
-            };
+            let list = lists.get(*number).ok_or(Failure::Input)?;
             sender.send(*stream, list, section, instructions)?;
             report.add(list.fields().len(), section.len());
             report.add(0, instructions.len());
@@ -148,14 +142,8 @@ fn send_all(
     packed: &mut Vec<u8>,
 ) -> Result<Report, Failure> {
     let mut instructions = Vec::new(alloc);
-    match Sender::new(alloc, capacity, limit, &mut instructions) {
-        Ok(mut sender) => {
-            let report = send_steps(alloc, &mut sender, lists, steps, &mut instructions, packed);
-            drop(sender);
-            report
-        }
-        Err(e) => Err(e),
-    }
+    let mut sender = Sender::new(alloc, capacity, limit, &mut instructions)?;
+    send_steps(alloc, &mut sender, lists, steps, &mut instructions, packed)
 }
 
 /// A step of a decoder; the fields if it decoded a section. It appends what it writes.
@@ -215,14 +203,8 @@ fn receive_all(
     capacity: usize,
     steps: &[Step<'_, &[u8]>],
 ) -> Result<Report, Failure> {
-    match Receiver::new(alloc, capacity) {
-        Ok(mut receiver) => {
-            let report = receive_steps(alloc, &mut receiver, steps);
-            drop(receiver);
-            report
-        }
-        Err(e) => Err(e),
-    }
+    let mut receiver = Receiver::new(alloc, capacity)?;
+    receive_steps(alloc, &mut receiver, steps)
 }
 
 /// Packs 1 and a list if a section was decoded, else 0.
@@ -272,14 +254,8 @@ fn put_received(
     capacity: usize,
     steps: &[Step<'_, &[u8]>],
 ) -> Result<(), Failure> {
-    match Receiver::new(alloc, capacity) {
-        Ok(mut receiver) => {
-            let done = receive_steps_into(alloc, packed, &mut receiver, steps);
-            drop(receiver);
-            done
-        }
-        Err(e) => Err(e),
-    }
+    let mut receiver = Receiver::new(alloc, capacity)?;
+    receive_steps_into(alloc, packed, &mut receiver, steps)
 }
 
 fn send_rounds(
@@ -354,8 +330,7 @@ pub extern "C" fn h3_bench_session_encode(
     out: &mut [u8],
     report: &mut Report,
 ) -> u32 {
-    let done = encode(alloc, rounds, capacity, limit, bytes, out);
-    answer(done, report)
+    answer(encode(alloc, rounds, capacity, limit, bytes, out), report)
 }
 
 /// Runs a session of a decoder `rounds` times, and once more to return what it gives and writes for each step. It gives
@@ -369,6 +344,5 @@ pub extern "C" fn h3_bench_session_decode(
     out: &mut [u8],
     report: &mut Report,
 ) -> u32 {
-    let done = decode(alloc, rounds, capacity, bytes, out);
-    answer(done, report)
+    answer(decode(alloc, rounds, capacity, bytes, out), report)
 }

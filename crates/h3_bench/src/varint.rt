@@ -1,29 +1,23 @@
 //! Varints.
 
+use crate::output;
 use crate::report::{Failure, Report, answer};
 use h3_coding::coding::{BufExt, BufMutExt};
 use std::alloc::Global;
 
 /// Writes the numbers, and copies what the last round wrote to `out`.
 fn encode(alloc: Global, rounds: u64, numbers: &[u64], out: &mut [u8]) -> Result<Report, Failure> {
-    let Ok(mut encoded) = Vec::with_capacity(alloc, out.len()) else {
-        return Err(Failure::Memory);
-    };
+    let mut encoded = Vec::with_capacity(alloc, out.len())?;
     for _ in 0..rounds {
         encoded.clear();
         for number in numbers {
             if *number >= 1 << 62 {
                 return Err(Failure::Input);
             }
-            if encoded.write_var(*number).is_err() {
-                return Err(Failure::Memory);
-            }
+            encoded.write_var(*number).map_err(|_| Failure::Memory)?;
         }
     }
-    if encoded.len() > out.len() {
-        return Err(Failure::Room);
-    }
-    out[..encoded.len()].copy_from_slice(&encoded);
+    output::hand_out(&encoded, out)?;
     Ok(Report {
         items: numbers.len() as u64,
         bytes: encoded.len() as u64,
@@ -38,9 +32,7 @@ fn decode(rounds: u64, count: usize, bytes: &[u8]) -> Result<Report, Failure> {
         let mut input = bytes;
         checksum = 0;
         for _ in 0..count {
-            let Ok(number) = input.get_var() else {
-                return Err(Failure::Input);
-            };
+            let number = input.get_var().map_err(|_| Failure::Input)?;
             checksum = checksum.wrapping_add(number);
         }
     }

@@ -8,24 +8,7 @@ use h3_frames::stream::MessageBuf;
 use h3_wire::stream::WriteBuf;
 
 /// Sends a DATA frame: its type and length, and then its payload, both as they are lent.
-fn send_data(body: &[u8], report: &mut Report) {
-    let mut out = WriteBuf::from(Frame::Data(body));
-    let head = out.chunk();
-    let of_head = head.len();
-    if of_head > 0 {
-        report.checksum = report.checksum.wrapping_add(u64::from(head[of_head - 1]));
-    }
-    out.advance(of_head);
-    let of_payload = out.chunk().len();
-    out.advance(of_payload);
-    report.add(1, of_head.wrapping_add(of_payload));
-}
-
-/// Sends a DATA frame in the small form that an endpoint keeps: its type and length, and then its payload, as `send_data` does.
-fn send_message(body: &[u8], report: &mut Report)
-    requires { length body.now < 2 ^ 62 }
-{
-    let mut out = MessageBuf::data(body);
+fn send_all<B: Buf>(out: &mut B, report: &mut Report) {
     let head = out.chunk();
     let of_head = head.len();
     if of_head > 0 {
@@ -49,7 +32,8 @@ fn send(rounds: u64, count: usize, body: &[u8]) -> Report {
     for _ in 0..rounds {
         report = Report::new();
         for place in 0..count {
-            send_data(front_at(place, body), &mut report);
+            let frame = Frame::Data(front_at(place, body));
+            send_all(&mut WriteBuf::from(frame), &mut report);
         }
     }
     report
@@ -62,7 +46,9 @@ fn send_messages(rounds: u64, count: usize, body: &[u8]) -> Report
     for _ in 0..rounds {
         report = Report::new();
         for place in 0..count {
-            send_message(front_at(place, body), &mut report);
+            // the small form that an endpoint keeps
+            let mut message = MessageBuf::data(front_at(place, body));
+            send_all(&mut message, &mut report);
         }
     }
     report
@@ -84,8 +70,7 @@ pub extern "C" fn h3_bench_data_send(
     body: &[u8],
     report: &mut Report,
 ) -> u32 {
-    let done: Result<Report, Failure> = Ok(send(rounds, count, body));
-    answer(done, report)
+    answer(Ok(send(rounds, count, body)), report)
 }
 
 /// The same by `MessageBuf`.

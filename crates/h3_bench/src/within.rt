@@ -30,21 +30,15 @@ fn weigh(
     section: &[u8],
 ) -> Result<Report, Failure> {
     let mut replies = Vec::new(alloc);
-    match Receiver::new(alloc, capacity) {
-        Ok(mut receiver) => {
-            let told = weigh_rounds(
-                &mut receiver,
-                &mut replies,
-                rounds,
-                max,
-                instructions,
-                section,
-            );
-            drop(receiver);
-            told
-        }
-        Err(e) => Err(e),
-    }
+    let mut receiver = Receiver::new(alloc, capacity)?;
+    weigh_rounds(
+        &mut receiver,
+        &mut replies,
+        rounds,
+        max,
+        instructions,
+        section,
+    )
 }
 
 /// Reads a section whose fields are kept up to `max` bytes, `rounds` times, at a decoder that announced this capacity and read these
@@ -59,6 +53,8 @@ pub extern "C" fn h3_bench_section_within(
     section: &[u8],
     report: &mut Report,
 ) -> u32 {
-    let told = weigh(alloc, rounds, capacity, max, instructions, section);
-    answer(told, report)
+    answer(
+        weigh(alloc, rounds, capacity, max, instructions, section),
+        report,
+    )
 }

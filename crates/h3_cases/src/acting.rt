@@ -7,8 +7,6 @@ use crate::reading::call;
 use bytes::Bytes;
 use h3_connection::event::{DeliverError, Fault, Pull, Refusal};
 use h3_connection::setup::{Limits, NewError};
-use h3_field::HeaderField;
-use h3_header::Header;
 use h3_proto::config::Config;
 use h3_proto::stream::{Side, StreamId};
 use h3_session::ListPull;
@@ -18,9 +16,7 @@ use h3_world::event::Answer;
 /// What a call answers. None is made of a line that cannot be read.
 pub fn answer(told: &mut Told, endpoint: &mut Option<Endpoint>, words: &[&str]) {
     let call = call(told, words);
-    if told.has_failed() {
-        drop(call);
-    } else {
+    if !told.has_failed() {
         perform(told, endpoint, call);
     }
 }
@@ -31,10 +27,7 @@ fn perform(told: &mut Told, endpoint: &mut Option<Endpoint>, call: Call) {
         Call::New(side, config, limits) => begin(told, endpoint, (side, config), limits),
         call => match endpoint {
             Some(endpoint) => act(told, endpoint, call),
-            None => {
-                drop(call);
-                told.say("no endpoint");
-            }
+            None => told.say("no endpoint"),
         },
     }
 }
@@ -67,11 +60,11 @@ pub fn act(told: &mut Told, endpoint: &mut Endpoint, call: Call) {
     match call {
         Call::New(_, _, _) => told.unreadable(),
         Call::Open => opened(told, endpoint.open_request()),
-        Call::Head(id, head) => send_head(told, endpoint, id, head),
-        Call::Fields(id, fields) => send_fields(told, endpoint, id, fields),
+        Call::Head(id, head) => done(told, endpoint.send_head(id, &head)),
+        Call::Fields(id, fields) => done(told, endpoint.send_fields(id, &fields)),
         Call::Body(id, body) => sent(told, endpoint.send_body(id, body)),
-        Call::Trailer(id, trailer) => send_trailer(told, endpoint, id, trailer),
-        Call::Trailers(id, fields) => send_trailers(told, endpoint, id, fields),
+        Call::Trailer(id, trailer) => done(told, endpoint.send_trailer(id, &trailer)),
+        Call::Trailers(id, fields) => done(told, endpoint.send_trailer_fields(id, &fields)),
         Call::Finish(id) => done(told, endpoint.finish(id)),
         Call::Reset(id) => done(told, endpoint.reset(id)),
         Call::Cancel(id) => done(told, cancel(endpoint, id)),
@@ -79,41 +72,17 @@ pub fn act(told: &mut Told, endpoint: &mut Endpoint, call: Call) {
         Call::Deliver(id, bytes) => delivered(told, deliver(endpoint, id, bytes)),
         Call::End(id) => delivered(told, deliver_end(endpoint, id)),
         Call::Gone(id, code) => delivered(told, deliver_reset(endpoint, id, code)),
-        Call::Pull(id) => pulled(told, pull(endpoint, id)),
-        Call::Pulls(id) => pulled_list(told, pull_fields(endpoint, id)),
+        Call::Pull(id) => pulled(told, &pull(endpoint, id)),
+        Call::Pulls(id) => pulled_list(told, &pull_fields(endpoint, id)),
         Call::Advance(id, count) => advance(told, endpoint, id, count),
         Call::Waits(id) => waits(told, endpoint, id),
         Call::Lends(id) => lends(told, endpoint, id),
-        Call::Tries(id) => tries(told, endpoint, id),
+        Call::Tries(id) => told.labeled("tries", endpoint.block_tries(id)),
         Call::Sends(id) => told.say(sends(endpoint, id)),
         Call::Show => shown(told, endpoint),
-        Call::Sent => sum(told, endpoint),
+        Call::Sent => told.labeled("sent", endpoint.sent()),
         Call::Goaways => goaways(told, endpoint),
     }
-}
-
-fn send_head(told: &mut Told, endpoint: &mut Endpoint, id: StreamId, head: Header) {
-    let tried = endpoint.send_head(id, &head);
-    drop(head);
-    done(told, tried);
-}
-
-fn send_trailer(told: &mut Told, endpoint: &mut Endpoint, id: StreamId, trailer: Header) {
-    let tried = endpoint.send_trailer(id, &trailer);
-    drop(trailer);
-    done(told, tried);
-}
-
-fn send_fields(told: &mut Told, endpoint: &mut Endpoint, id: StreamId, fields: Vec<HeaderField>) {
-    let tried = endpoint.send_fields(id, &fields);
-    drop(fields);
-    done(told, tried);
-}
-
-fn send_trailers(told: &mut Told, endpoint: &mut Endpoint, id: StreamId, fields: Vec<HeaderField>) {
-    let tried = endpoint.send_trailer_fields(id, &fields);
-    drop(fields);
-    done(told, tried);
 }
 
 fn advance(told: &mut Told, endpoint: &mut Endpoint, id: StreamId, count: usize) {
@@ -205,10 +174,7 @@ pub fn delivered(told: &mut Told, tried: Result<(), DeliverError>) {
 
 /// Why a delivery is not taken, or not read; `None` if it is taken and read.
 pub fn why(tried: &Result<(), DeliverError>) -> Option<Refusal> {
-    match tried {
-        Ok(()) => None,
-        Err(e) => Some(refusal_of(e)),
-    }
+    tried.as_ref().err().map(refusal_of)
 }
 
 /// Why a delivery is not taken, or not read.
@@ -245,17 +211,6 @@ fn sends(endpoint: &Endpoint, id: StreamId) -> &'static str {
         return "reset";
     }
     "sends"
-}
-
-fn tries(told: &mut Told, endpoint: &Endpoint, id: StreamId) {
-    told.say("tries");
-    told.then_show(endpoint.block_tries(id));
-}
-
-/// The sum of what was sent.
-fn sum(told: &mut Told, endpoint: &Endpoint) {
-    told.say("sent");
-    told.then_show(endpoint.sent());
 }
 
 fn shown(told: &mut Told, endpoint: &Endpoint) {

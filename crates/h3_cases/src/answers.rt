@@ -94,10 +94,7 @@ fn section(told: &mut Told, command: &str) {
             item(told, Item::Interim(interim));
         }
         "head" => head(told, fields),
-        _ => {
-            drop(fields);
-            told.unreadable();
-        }
+        _ => told.unreadable(),
     }
 }
 

@@ -123,6 +123,12 @@ impl Told {
         self.show(value);
     }
 
+    /// A text, a blank, and a value after it.
+    pub fn labeled<T: fmt::Display + Drop>(&mut self, text: &str, value: T) {
+        self.say(text);
+        self.then_show(value);
+    }
+
     /// The hex digits of bytes, or a `-` if there are none.
     pub fn digits(&mut self, bytes: &[u8]) {
         if bytes.is_empty() {

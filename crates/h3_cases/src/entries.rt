@@ -57,7 +57,6 @@ fn with_value(told: &mut Told, index: usize) {
 
 fn word_of(told: &mut Told, field: HeaderField) {
     told.field(&field);
-    drop(field);
 }
 
 /// The numbers after so many insertions and evictions.
@@ -80,8 +79,7 @@ fn of_table(told: &mut Told, command: &str, table: &VirtualAddressSpace, words: 
     match words {
         [] => {
             told.show(table.largest_ref());
-            told.say(" of");
-            told.then_show(table.total_inserted());
+            told.labeled(" of", table.total_inserted());
         }
         [word] => {
             let index = told.number(*word) as usize;

@@ -94,10 +94,7 @@ fn write(told: &mut Told, command: &str, frame: Frame<Bytes>) {
         "send" => sent(told, WriteBuf::from(frame)),
         "write" => written(told, frame),
         "print" => told.debug(frame),
-        _ => {
-            drop(frame);
-            told.unreadable();
-        }
+        _ => told.unreadable(),
     }
 }
 
@@ -109,7 +106,6 @@ fn written(told: &mut Told, frame: Frame<Bytes>) {
     } else {
         told.say("no length");
     }
-    drop(frame);
 }
 
 /// What is written of a DATA or a HEADERS frame with this payload: its type and length, and the payload that the frame lends.
@@ -139,9 +135,7 @@ fn both_parts(told: &mut Told, frame: Frame<Bytes>) {
 /// The first bytes that are sent, and how many there are in all.
 fn sent(told: &mut Told, sent: WriteBuf<Bytes>) {
     told.digits(sent.chunk());
-    told.say(" of");
-    told.then_show(sent.remaining());
-    drop(sent);
+    told.labeled(" of", sent.remaining());
 }
 
 /// Texts of errors that no frame gives, of settings that are refused, and of a DATA frame of three bytes.

@@ -3,7 +3,7 @@ use crate::case::Told;
 use crate::sections::{field, fields};
 use h3_field::HeaderField;
 use h3_header::ext::Protocol;
-use h3_header::headers::{Header, HeaderError, HeaderIter};
+use h3_header::headers::{Header, HeaderError};
 use http::{Method, StatusCode};
 use http_header::{HeaderMap, HeaderName, HeaderValue};
 use http_uri::Uri;
@@ -37,10 +37,7 @@ fn of_header(told: &mut Told, command: &str, header: Header) {
         "kind" => kind(told, header),
         "target" => target(told, header),
         "status" => status(told, header),
-        _ => {
-            drop(header);
-            told.unreadable();
-        }
+        _ => told.unreadable(),
     }
 }
 
@@ -49,9 +46,7 @@ fn listed(told: &mut Told, header: Header) {
     told.show(header.len());
     told.then_show(header.size());
     told.say(":");
-    let fields = header.fields(told.alloc());
-    drop(header);
-    match fields {
+    match header.fields(told.alloc()) {
         Ok(fields) => each(told, &fields),
         Err(_) => told.refused(),
     }
@@ -72,34 +67,23 @@ fn iterated(told: &mut Told, header: Header) {
 
 fn given(told: &mut Told, item: Result<HeaderField, AllocError>) {
     match item {
-        Ok(field) => {
-            told.field(&field);
-            drop(field);
-        }
+        Ok(field) => told.field(&field),
         Err(_) => told.refused(),
     }
 }
 
 fn kind(told: &mut Told, header: Header) {
-    told.say("request");
-    told.then_show(header.is_request());
-    told.say(" response");
-    told.then_show(header.is_response());
-    told.say(" pseudo");
-    told.then_show(header.has_pseudo());
+    told.labeled("request", header.is_request());
+    told.labeled(" response", header.is_response());
+    told.labeled(" pseudo", header.has_pseudo());
     told.say(" status");
     told.then_debug(header.status());
-    drop(header);
 }
 
 /// The URI of a request, or why there is none.
 fn target(told: &mut Told, header: Header) {
     match header.into_request_parts(told.alloc()) {
-        Ok(parts) => {
-            let text = parts.1.to_string(told.alloc());
-            drop(parts);
-            told.put(text);
-        }
+        Ok(parts) => told.put(parts.1.to_string(told.alloc())),
         Err(e) => told.show(e),
     }
 }
@@ -109,9 +93,7 @@ fn status(told: &mut Told, header: Header) {
     match header.into_response_parts() {
         Ok((status, fields)) => {
             told.debug(status);
-            told.say(", fields");
-            told.then_show(fields.len());
-            drop(fields);
+            told.labeled(", fields", fields.len());
         }
         Err(e) => told.show(e),
     }
@@ -138,10 +120,7 @@ fn to(told: &mut Told, method: Method, place: (&str, &str), hosts: &[&str]) {
             let protocol = Protocol::from_str(protocol).ok();
             made(told, Header::request(method, uri, fields, protocol));
         }
-        Err(_) => {
-            drop(method);
-            told.unreadable();
-        }
+        Err(_) => told.unreadable(),
     }
 }
 
@@ -164,8 +143,7 @@ fn append_host(told: &mut Told, fields: &mut HeaderMap, host: &str) {
 fn made(told: &mut Told, header: Result<Header, HeaderError>) {
     match header {
         Ok(header) => {
-            told.say("request");
-            told.then_show(header.is_request());
+            told.labeled("request", header.is_request());
             told.say(": ");
             listed(told, header);
         }
@@ -188,17 +166,9 @@ fn response(told: &mut Told, words: &[&str]) {
 /// Whether its iterator gives a field, asked three times.
 fn thrice(told: &mut Told, header: Header) {
     let mut iter = header.into_iter(told.alloc());
-    told.show(gives(&mut iter));
-    told.then_show(gives(&mut iter));
-    told.then_show(gives(&mut iter));
-    drop(iter);
-}
-
-fn gives(iter: &mut HeaderIter) -> bool {
-    let item = iter.next();
-    let is = item.is_some();
-    drop(item);
-    is
+    told.show(iter.next().is_some());
+    told.then_show(iter.next().is_some());
+    told.then_show(iter.next().is_some());
 }
 
 /// A list of one name more than a map holds.

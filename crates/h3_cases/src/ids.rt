@@ -63,7 +63,7 @@ fn of_number(told: &mut Told, command: &str, number: u64) {
 }
 
 /// An error in both forms.
-fn refused<E: fmt::Debug + fmt::Display + Drop>(told: &mut Told, e: E) {
+pub fn refused<E: fmt::Debug + fmt::Display + Drop>(told: &mut Told, e: E) {
     told.debug(&e);
     told.say(": ");
     told.show(e);
@@ -80,14 +80,11 @@ fn stream(told: &mut Told, number: u64) {
 fn of_id(told: &mut Told, id: StreamId) {
     told.show(VarInt::from(id));
     told.then_show(id);
-    told.say(", request");
-    told.then_show(id.is_request());
-    told.say(", push");
-    told.then_show(id.is_push());
+    told.labeled(", request", id.is_request());
+    told.labeled(", push", id.is_push());
     told.say(", by");
     told.then_debug(id.initiator());
-    told.say(", index");
-    told.then_show(id.index());
+    told.labeled(", index", id.index());
 }
 
 /// A session's id, as that of its stream, and back.
@@ -107,8 +104,7 @@ fn push(told: &mut Told, number: u64) {
     match PushId::try_from(number) {
         Ok(id) => {
             told.show(id);
-            told.say(",");
-            told.then_show(VarInt::from(id));
+            told.labeled(",", VarInt::from(id));
         }
         Err(e) => refused(told, e),
     }

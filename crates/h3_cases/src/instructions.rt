@@ -28,24 +28,13 @@ pub fn answer(told: &mut Told, command: &str, words: &[&str]) {
 
 /// The encoder's instruction at the front, or the kinds that a first byte tells.
 fn read(told: &mut Told, command: &str, bytes: &[u8]) {
+    let alloc = told.alloc();
     let mut buf = SliceCursor::new(bytes);
     match command {
-        "capacity" => {
-            let read = DynamicTableSizeUpdate::decode(&mut buf);
-            told.with_rest(read, buf.chunk());
-        }
-        "named" => {
-            let read = InsertWithNameRef::decode(told.alloc(), &mut buf);
-            told.with_rest(read, buf.chunk());
-        }
-        "literal" => {
-            let read = InsertWithoutNameRef::decode(told.alloc(), &mut buf);
-            told.with_rest(read, buf.chunk());
-        }
-        "duplicate" => {
-            let read = Duplicate::decode(&mut buf);
-            told.with_rest(read, buf.chunk());
-        }
+        "capacity" => told.with_rest(DynamicTableSizeUpdate::decode(&mut buf), buf.chunk()),
+        "named" => told.with_rest(InsertWithNameRef::decode(alloc, &mut buf), buf.chunk()),
+        "literal" => told.with_rest(InsertWithoutNameRef::decode(alloc, &mut buf), buf.chunk()),
+        "duplicate" => told.with_rest(Duplicate::decode(&mut buf), buf.chunk()),
         "kind" => kind(told, bytes),
         _ => read_reply(told, command, bytes),
     }
@@ -55,18 +44,9 @@ fn read(told: &mut Told, command: &str, bytes: &[u8]) {
 fn read_reply(told: &mut Told, command: &str, bytes: &[u8]) {
     let mut buf = SliceCursor::new(bytes);
     match command {
-        "acknowledgment" => {
-            let read = HeaderAck::decode(&mut buf);
-            told.with_rest(read, buf.chunk());
-        }
-        "cancellation" => {
-            let read = StreamCancel::decode(&mut buf);
-            told.with_rest(read, buf.chunk());
-        }
-        "increment" => {
-            let read = InsertCountIncrement::decode(&mut buf);
-            told.with_rest(read, buf.chunk());
-        }
+        "acknowledgment" => told.with_rest(HeaderAck::decode(&mut buf), buf.chunk()),
+        "cancellation" => told.with_rest(StreamCancel::decode(&mut buf), buf.chunk()),
+        "increment" => told.with_rest(InsertCountIncrement::decode(&mut buf), buf.chunk()),
         _ => told.unreadable(),
     }
 }

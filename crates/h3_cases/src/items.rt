@@ -7,45 +7,23 @@ use h3_script::text::FaultText;
 use h3_session::{ListItem, ListPull};
 
 /// The line of what a pull answers.
-pub fn pulled(told: &mut Told, pull: Pull) {
-    tell_pull(told, &pull);
-    drop(pull);
-}
-
-fn tell_pull(told: &mut Told, pull: &Pull) {
+pub fn pulled(told: &mut Told, pull: &Pull) {
     match pull {
         Pull::Item(item) => tell_item(told, item),
         Pull::Pending => told.say("pending"),
-        Pull::Waiting(count) => {
-            told.say("waiting");
-            told.then_show(*count);
-        }
-        Pull::Fault(fault) => {
-            told.say("fault");
-            told.then_show(FaultText(*fault));
-        }
+        Pull::Waiting(count) => told.labeled("waiting", *count),
+        Pull::Fault(fault) => told.labeled("fault", FaultText(*fault)),
         Pull::NoMessages => told.say("no messages"),
     }
 }
 
 /// The line of what a pull of lists answers.
-pub fn pulled_list(told: &mut Told, pull: ListPull) {
-    tell_list_pull(told, &pull);
-    drop(pull);
-}
-
-fn tell_list_pull(told: &mut Told, pull: &ListPull) {
+pub fn pulled_list(told: &mut Told, pull: &ListPull) {
     match pull {
         ListPull::Item(item) => tell_list_item(told, item),
         ListPull::Pending => told.say("pending"),
-        ListPull::Waiting(count) => {
-            told.say("waiting");
-            told.then_show(*count);
-        }
-        ListPull::Fault(fault) => {
-            told.say("fault");
-            told.then_show(FaultText(*fault));
-        }
+        ListPull::Waiting(count) => told.labeled("waiting", *count),
+        ListPull::Fault(fault) => told.labeled("fault", FaultText(*fault)),
         ListPull::NoMessages => told.say("no messages"),
     }
 }
@@ -56,14 +34,8 @@ fn tell_list_item(told: &mut Told, item: &ListItem) {
         ListItem::Head(list) => tell_list(told, "head", &list.fields()),
         ListItem::Body(bytes) => escaped(told, "body ", bytes.as_slice()),
         ListItem::Trailer(list) => tell_list(told, "trailer", &list.fields()),
-        ListItem::TooLarge(size) => {
-            told.say("too large");
-            told.then_show(*size);
-        }
-        ListItem::Session(id) => {
-            told.say("session");
-            told.then_show(id.into_inner());
-        }
+        ListItem::TooLarge(size) => told.labeled("too large", *size),
+        ListItem::Session(id) => told.labeled("session", id.into_inner()),
         ListItem::Raw(bytes) => escaped(told, "raw ", bytes.as_slice()),
         ListItem::End => told.say("end"),
     }
@@ -102,14 +74,8 @@ fn tell_item(told: &mut Told, item: &Item) {
         Item::Head(head) => section(told, "head", head),
         Item::Body(bytes) => escaped(told, "body ", bytes.as_slice()),
         Item::Trailer(trailer) => section(told, "trailer", trailer),
-        Item::TooLarge(size) => {
-            told.say("too large");
-            told.then_show(*size);
-        }
-        Item::Session(id) => {
-            told.say("session");
-            told.then_show(id.into_inner());
-        }
+        Item::TooLarge(size) => told.labeled("too large", *size),
+        Item::Session(id) => told.labeled("session", id.into_inner()),
         Item::Raw(bytes) => escaped(told, "raw ", bytes.as_slice()),
         Item::End => told.say("end"),
     }

@@ -41,28 +41,17 @@ fn of_three(told: &mut Told, command: &str, front: (&str, &str), last: &str) {
 
 /// The line at the front, or the kind that its first byte tells.
 fn read(told: &mut Told, command: &str, bytes: &[u8]) {
+    let alloc = told.alloc();
     let mut buf = SliceCursor::new(bytes);
     match command {
-        "indexed" => {
-            let read = Indexed::decode(&mut buf);
-            told.with_rest(read, buf.chunk());
-        }
-        "post_base" => {
-            let read = IndexedWithPostBase::decode(&mut buf);
-            told.with_rest(read, buf.chunk());
-        }
-        "named" => {
-            let read = LiteralWithNameRef::decode(told.alloc(), &mut buf);
-            told.with_rest(read, buf.chunk());
-        }
-        "post_base_named" => {
-            let read = LiteralWithPostBaseNameRef::decode(told.alloc(), &mut buf);
-            told.with_rest(read, buf.chunk());
-        }
-        "literal" => {
-            let read = Literal::decode(told.alloc(), &mut buf);
-            told.with_rest(read, buf.chunk());
-        }
+        "indexed" => told.with_rest(Indexed::decode(&mut buf), buf.chunk()),
+        "post_base" => told.with_rest(IndexedWithPostBase::decode(&mut buf), buf.chunk()),
+        "named" => told.with_rest(LiteralWithNameRef::decode(alloc, &mut buf), buf.chunk()),
+        "post_base_named" => told.with_rest(
+            LiteralWithPostBaseNameRef::decode(alloc, &mut buf),
+            buf.chunk(),
+        ),
+        "literal" => told.with_rest(Literal::decode(alloc, &mut buf), buf.chunk()),
         _ => kind(told, bytes),
     }
 }

@@ -43,14 +43,12 @@ pub fn again(told: &mut Told, feed: Feed<'_>)
     let source = BufRecvStream::new(told.alloc(), feed);
     let mut stream = FrameStream::new(told.alloc(), source);
     let how = read_all(&mut stream, &mut seen);
-    drop(stream);
     shown(told, &seen, how);
 }
 
 fn shown(told: &mut Told, seen: &Seen, how: &str) {
     told.say(how);
-    told.say(",");
-    told.then_show(seen.len);
+    told.labeled(",", seen.len);
     told.say(": ");
     told.digits(&seen.bytes);
 }
@@ -75,10 +73,7 @@ fn see_data<S: RecvStream>(stream: &mut FrameStream<S>, seen: &mut Seen) -> Opti
     requires few { length (left S.rest stream.old) < 2 ^ 62 }
     ensures fewer { length (left S.rest stream.new) ≤ length (left S.rest stream.old) }
 {
-    let polled = stream.poll_data();
-    let stop = add_data(&polled, seen);
-    drop(polled);
-    stop
+    add_data(&stream.poll_data(), seen)
 }
 
 fn add_data(
@@ -101,10 +96,7 @@ fn see_frame<S: RecvStream>(stream: &mut FrameStream<S>, seen: &mut Seen) -> Opt
     requires few { length (left S.rest stream.old) < 2 ^ 62 }
     ensures fewer { length (left S.rest stream.new) ≤ length (left S.rest stream.old) }
 {
-    let polled = stream.poll_next();
-    let stop = add_frame(&polled, seen);
-    drop(polled);
-    stop
+    add_frame(&stream.poll_next(), seen)
 }
 
 fn add_frame(
@@ -149,7 +141,6 @@ pub fn tries(told: &mut Told, bytes: &[u8]) {
 fn of_piece(told: &mut Told, piece: Bytes) {
     let mut buf = BufList::new(told.alloc());
     if buf.reserve().is_err() && buf.reserve().is_err() {
-        drop(piece);
         told.refused();
     } else {
         buf.push_reserved(piece);
@@ -167,11 +158,7 @@ fn decoded(told: &mut Told, buf: &mut BufList<Bytes>) {
         answer = decoder.decode(alloc, buf);
     }
     let is_section = matches!(&answer, Ok(Some(Frame::Headers(_))));
-    drop(answer);
-    told.say("section");
-    told.then_show(is_section);
-    told.say(", tries");
-    told.then_show(refused);
-    told.say(" then");
-    told.then_show(decoder.tries());
+    told.labeled("section", is_section);
+    told.labeled(", tries", refused);
+    told.labeled(" then", decoder.tries());
 }

@@ -42,8 +42,7 @@ fn encoded(told: &mut Told, value: VarInt) {
     let mut out = BytesMut::new(told.alloc());
     told.done(value.encode(&mut out));
     told.digits(out.as_slice());
-    told.say(" size");
-    told.then_show(value.size());
+    told.labeled(" size", value.size());
 }
 
 /// A number, a value, or a byte at the front.
@@ -54,14 +53,8 @@ fn read(told: &mut Told, command: &str, bytes: &[u8]) {
             Ok(number) => told.with_rest(number, from),
             Err(e) => told.debug(e),
         },
-        "value" => {
-            let read = BufExt::get::<VarInt>(&mut from);
-            told.with_rest(read, from);
-        }
-        "byte" => {
-            let read = BufExt::get::<u8>(&mut from);
-            told.with_rest(read, from);
-        }
+        "value" => told.with_rest(BufExt::get::<VarInt>(&mut from), from),
+        "byte" => told.with_rest(BufExt::get::<u8>(&mut from), from),
         _ => told.unreadable(),
     }
 }

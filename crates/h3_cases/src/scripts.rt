@@ -47,14 +47,8 @@ fn read(told: &mut Told, text: &[u8], most: u64)
     requires { most < 2 ^ 62 }
 {
     match parse(told.alloc(), text, most) {
-        Ok(script) => {
-            of_script(told, &script);
-            drop(script);
-        }
-        Err(ScriptError::Line(number)) => {
-            told.say("refused at");
-            told.then_show(number);
-        }
+        Ok(script) => of_script(told, &script),
+        Err(ScriptError::Line(number)) => told.labeled("refused at", number),
         Err(ScriptError::OutOfMemory) => told.refused(),
     }
 }

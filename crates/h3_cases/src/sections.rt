@@ -97,12 +97,9 @@ fn read(told: &mut Told, limit: u64, section: &[u8]) {
 }
 
 fn of_section(told: &mut Told, decoded: &Decoded, left: usize) {
-    told.say("size");
-    told.then_show(decoded.mem_size);
-    told.say(" dynamic");
-    told.then_show(decoded.dyn_ref);
-    told.say(" left");
-    told.then_show(left);
+    told.labeled("size", decoded.mem_size);
+    told.labeled(" dynamic", decoded.dyn_ref);
+    told.labeled(" left", left);
     told.say(":");
     for field in &decoded.fields {
         told.field(field);
@@ -132,17 +129,12 @@ fn of_field(told: &mut Told, command: &str, field: HeaderField) {
         "other_value" => other_value(told, field),
         "parts" => taken(told, field),
         "copied" => copied(told, field),
-        _ => {
-            drop(field);
-            told.unreadable();
-        }
+        _ => told.unreadable(),
     }
 }
 
 fn other_value(told: &mut Told, field: HeaderField) {
-    let made = field.with_value(told.alloc(), CowSlice::Borrowed(b"2"));
-    drop(field);
-    match made {
+    match field.with_value(told.alloc(), CowSlice::Borrowed(b"2")) {
         Ok(other) => {
             let text = other.into_string(told.alloc());
             told.put(text);
@@ -152,9 +144,7 @@ fn other_value(told: &mut Told, field: HeaderField) {
 }
 
 fn copied(told: &mut Told, field: HeaderField) {
-    let made = HeaderField::copied(told.alloc(), field.name(), field.value());
-    drop(field);
-    match made {
+    match HeaderField::copied(told.alloc(), field.name(), field.value()) {
         Ok(copy) => taken(told, copy),
         Err(_) => told.refused(),
     }
@@ -174,9 +164,7 @@ fn of_parts(told: &mut Told, field: HeaderField) {
     let same = field == HeaderField::from_static(b":path", b"a");
     told.debug(field.as_ref().name());
     told.then_debug(field.value());
-    told.say(" same");
-    told.then_show(same);
-    drop(field);
+    told.labeled(" same", same);
 }
 
 /// The texts of errors that are made of others.

@@ -56,14 +56,14 @@ fn of_payload(told: &mut Told, command: &str, payload: Bytes, more: &[&str])
 fn head(told: &mut Told, command: &str) {
     let session = SessionId::from_varint(VarInt::from_u32(5));
     match command {
-        "uni" => {
-            let head = UniStreamHeader::WebTransportUni(session);
-            first(told, WriteBuf::from(head));
-        }
-        "bidi" => {
-            let head = BidiStreamHeader::WebTransportBidi(session);
-            first(told, WriteBuf::from(head));
-        }
+        "uni" => first(
+            told,
+            WriteBuf::from(UniStreamHeader::WebTransportUni(session)),
+        ),
+        "bidi" => first(
+            told,
+            WriteBuf::from(BidiStreamHeader::WebTransportBidi(session)),
+        ),
         "decoder" => first(told, WriteBuf::from(UniStreamHeader::Decoder)),
         "type" => parts(told, WriteBuf::from(StreamType::ENCODER), &[]),
         "goaway" => {
@@ -76,7 +76,6 @@ fn head(told: &mut Told, command: &str) {
 
 fn first(told: &mut Told, sent: WriteBuf<Bytes>) {
     told.digits(sent.chunk());
-    drop(sent);
 }
 
 /// The promise of push 134, or a DATA frame after the type of an encoder stream.
@@ -90,10 +89,7 @@ fn frame(told: &mut Told, command: &str, payload: Bytes, more: &[&str]) {
             let frame = Frame::Data(payload);
             parts(told, WriteBuf::from((StreamType::ENCODER, frame)), more);
         }
-        _ => {
-            drop(payload);
-            told.unreadable();
-        }
+        _ => told.unreadable(),
     }
 }
 
@@ -106,7 +102,6 @@ fn parts(told: &mut Told, mut sent: WriteBuf<Bytes>, counts: &[&str]) {
         let count = told.small(*count);
         behind(told, &mut sent, count);
     }
-    drop(sent);
 }
 
 fn behind(told: &mut Told, sent: &mut WriteBuf<Bytes>, count: usize) {
@@ -127,7 +122,6 @@ fn message(told: &mut Told, mut sent: MessageBuf<Bytes>, counts: &[&str]) {
         let count = told.small(*count);
         part(told, &mut sent, count);
     }
-    drop(sent);
 }
 
 /// The first part and the first chunk, of which so many bytes are taken.
@@ -163,10 +157,7 @@ fn push(told: &mut Told, list: &mut BufList<Bytes>, piece: &[u8]) {
     match Bytes::copy_from_slice(told.alloc(), piece) {
         Ok(piece) => match list.reserve() {
             Ok(()) => list.push_reserved(piece),
-            Err(_) => {
-                drop(piece);
-                told.refused();
-            }
+            Err(_) => told.refused(),
         },
         Err(_) => told.refused(),
     }
@@ -176,8 +167,7 @@ fn taken(told: &mut Told, list: &mut BufList<Bytes>) {
     told.debug(list.take_var());
     told.then_debug(list.take_var());
     told.then_debug(list.take_var());
-    told.say(" left");
-    told.then_show(list.remaining());
+    told.labeled(" left", list.remaining());
 }
 
 /// A cursor on a list of one piece, past two bytes and past all.

@@ -1,10 +1,11 @@
 //! Settings (RFC 9114, section 7.2.4).
 use crate::case::Told;
+use crate::ids::refused;
 use bytes::{Bytes, BytesMut};
 use h3_frames::proto::frame::{Frame, PayloadLen};
 use h3_proto::config;
 use h3_proto::config::Config;
-use h3_proto::frame::{SettingId, Settings, SettingsError};
+use h3_proto::frame::{SettingId, Settings};
 use std::io::Cursor;
 
 pub fn answer(told: &mut Told, command: &str, words: &[&str]) {
@@ -84,16 +85,8 @@ fn payload(told: &mut Told, settings: &Settings, payload: &[u8]) {
     let mut from = payload;
     let same = Settings::read_payload(&mut from).is_ok_and(|read| read == *settings);
     told.digits(payload);
-    told.say(" length");
-    told.then_show(settings.payload_len());
-    told.say(" same");
-    told.then_show(same);
-}
-
-fn refused(told: &mut Told, e: SettingsError) {
-    told.debug(&e);
-    told.say(": ");
-    told.show(e);
+    told.labeled(" length", settings.payload_len());
+    told.labeled(" same", same);
 }
 
 /// The values of these ids in a payload, or why it is refused.
@@ -176,18 +169,14 @@ fn whole_frame(told: &mut Told, pairs: &[&str]) {
         told.done(frame.encode(&mut out));
         told.digits(out.as_slice());
     }
-    drop(frame);
 }
 
 /// What a peer of these pairs allows.
 fn flags(told: &mut Told, pairs: &[&str]) {
     let peer = config::Settings::from(&of_pairs(told, pairs));
-    told.say("webtransport");
-    told.then_show(peer.enable_webtransport());
-    told.say(" datagram");
-    told.then_show(peer.enable_datagram());
-    told.say(" connect");
-    told.then_show(peer.enable_extended_connect());
+    told.labeled("webtransport", peer.enable_webtransport());
+    told.labeled(" datagram", peer.enable_datagram());
+    told.labeled(" connect", peer.enable_extended_connect());
 }
 
 /// Pairs that are written into a room of one byte.

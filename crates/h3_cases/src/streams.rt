@@ -85,7 +85,6 @@ fn read_all(told: &mut Told, feed: Feed<'_>, payload: &mut Vec<u8>)
     let source = BufRecvStream::new(told.alloc(), feed);
     let mut stream = FrameStream::new(told.alloc(), source);
     read_on(told, &mut stream, payload);
-    drop(stream);
 }
 
 fn read_on(told: &mut Told, stream: &mut FrameStream<Feed<'_>>, payload: &mut Vec<u8>)
@@ -110,10 +109,7 @@ fn frame<S: RecvStream>(told: &mut Told, stream: &mut FrameStream<S>) -> bool
     requires few { length (left S.rest stream.old) < 2 ^ 62 }
     ensures fewer { length (left S.rest stream.new) ≤ length (left S.rest stream.old) }
 {
-    let polled = stream.poll_next();
-    let goes_on = tell_frame(told, &polled);
-    drop(polled);
-    goes_on
+    tell_frame(told, &stream.poll_next())
 }
 
 fn tell_frame(
@@ -143,10 +139,7 @@ fn data<S: RecvStream>(told: &mut Told, stream: &mut FrameStream<S>, payload: &m
     requires few { length (left S.rest stream.old) < 2 ^ 62 }
     ensures fewer { length (left S.rest stream.new) ≤ length (left S.rest stream.old) }
 {
-    let polled = stream.poll_data();
-    let goes_on = tell_data(told, &polled, payload);
-    drop(polled);
-    goes_on
+    tell_data(told, &stream.poll_data(), payload)
 }
 
 fn tell_data(
@@ -181,7 +174,6 @@ fn polls(told: &mut Told, feed: Feed<'_>, calls: &[&str])
     let source = BufRecvStream::new(told.alloc(), feed);
     let mut stream = FrameStream::new(told.alloc(), source);
     poll_each(told, &mut stream, calls);
-    drop(stream);
 }
 
 fn poll_each(told: &mut Told, stream: &mut FrameStream<Feed<'_>>, calls: &[&str])
@@ -215,25 +207,17 @@ fn accept(told: &mut Told, feed: Feed<'_>)
     let mut stream = AcceptRecvStream::new(told.alloc(), feed);
     let polled = stream.poll_type();
     if stream.is_resolved() {
-        drop(polled);
-        accepted(told, stream.into_stream());
+        tell_accepted(told, &stream.into_stream());
     } else {
-        drop(stream);
         told.debug(polled);
     }
-}
-
-fn accepted(told: &mut Told, stream: AcceptedRecvStream<Feed<'_>>) {
-    tell_accepted(told, &stream);
-    drop(stream);
 }
 
 fn tell_accepted<S: RecvStream>(told: &mut Told, stream: &AcceptedRecvStream<S>) {
     match stream {
         AcceptedRecvStream::WebTransportUni(session, rest) => {
             told.debug(session);
-            told.say(",");
-            told.then_show(rest.remaining());
+            told.labeled(",", rest.remaining());
             told.say(" behind");
         }
         _ => told.say("another type"),
@@ -342,7 +326,6 @@ fn section_of(told: &mut Told, feed: Feed<'_>) {
     let tries = stream.tries();
     drop(stream);
     tell_section(told, &polled, &bytes[3..], tries);
-    drop(polled);
 }
 
 /// Whether the section is this one, and whether it was tried twice at most.
@@ -355,10 +338,8 @@ fn tell_section(
     let Poll::Ready(Ok(Some(Frame::Headers(section)))) = polled else {
         return told.say("no field section");
     };
-    told.say("same");
-    told.then_show(section.as_slice() == wanted);
-    told.say(", tries at most two");
-    told.then_show(tries <= 2);
+    told.labeled("same", section.as_slice() == wanted);
+    told.labeled(", tries at most two", tries <= 2);
 }
 
 /// A body of 1,000,000 bytes in pieces of 16,384.
@@ -392,6 +373,5 @@ fn body_of(told: &mut Told, feed: Feed<'_>) {
     };
     let mut payload = Vec::new(told.alloc());
     read_all(told, feed, &mut payload);
-    told.say(" same");
-    told.then_show(payload.as_slice() == body);
+    told.labeled(" same", payload.as_slice() == body);
 }

@@ -86,16 +86,11 @@ fn write(told: &mut Told, value: &[u8])
 
 /// A string with a length of five bits, or an integer of five bits.
 fn read(told: &mut Told, command: &str, bytes: &[u8]) {
+    let alloc = told.alloc();
     let mut buf = SliceCursor::new(bytes);
     match command {
-        "read" => {
-            let read = prefix_string::decode(told.alloc(), 6, &mut buf);
-            told.with_rest(read, buf.chunk());
-        }
-        "integer" => {
-            let read = prefix_int::decode(5, &mut buf);
-            told.with_rest(read, buf.chunk());
-        }
+        "read" => told.with_rest(prefix_string::decode(alloc, 6, &mut buf), buf.chunk()),
+        "integer" => told.with_rest(prefix_int::decode(5, &mut buf), buf.chunk()),
         _ => told.unreadable(),
     }
 }

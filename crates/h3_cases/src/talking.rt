@@ -123,7 +123,6 @@ fn of_words(
 /// A call of one side. None is made of a line that cannot be read.
 fn on(told: &mut Told, client: &mut Endpoint, server: &mut Endpoint, side: Side, call: Call) {
     if told.has_failed() {
-        drop(call);
         return;
     }
     match side {
@@ -295,10 +294,7 @@ fn front(
 ) -> Result<Bytes, AllocError> {
     let mut front = Vec::new(alloc);
     writer.copy_outgoing(id, count, &mut front)?;
-    match Bytes::from_vec(front) {
-        Ok(bytes) => Ok(bytes),
-        Err(_) => Err(AllocError),
-    }
+    Ok(Bytes::from_vec(front)?)
 }
 
 fn offered(
@@ -308,13 +304,9 @@ fn offered(
     count: usize,
     bytes: Bytes,
 ) -> Option<Refusal> {
-    let tried = deliver(reader, id, bytes);
-    let refusal = why(&tried);
-    drop(tried);
-    match refusal {
-        None => writer.advance(id, count),
-        Some(Refusal::Kept) => writer.advance(id, count),
-        Some(_) => (),
+    let refusal = why(&deliver(reader, id, bytes));
+    if let None | Some(Refusal::Kept) = refusal {
+        writer.advance(id, count);
     }
     refusal
 }

@@ -59,25 +59,17 @@ fn endpoint(alloc: Global, side: Side) -> Result<Endpoint, Stop> {
 
 // (each end has one owner with one exit, which frees it by one call)
 fn with_client(alloc: Global, text: &mut String) -> Result<(), Stop> {
-    match endpoint(alloc, Side::Client) {
-        Ok(mut client) => {
-            let done = with_server(alloc, text, &mut client);
-            client.free();
-            done
-        }
-        Err(stop) => Err(stop),
-    }
+    let mut client = endpoint(alloc, Side::Client)?;
+    let done = with_server(alloc, text, &mut client);
+    client.free();
+    done
 }
 
 fn with_server(alloc: Global, text: &mut String, client: &mut Endpoint) -> Result<(), Stop> {
-    match endpoint(alloc, Side::Server) {
-        Ok(mut server) => {
-            let done = talk(alloc, text, client, &mut server);
-            server.free();
-            done
-        }
-        Err(stop) => Err(stop),
-    }
+    let mut server = endpoint(alloc, Side::Server)?;
+    let done = talk(alloc, text, client, &mut server);
+    server.free();
+    done
 }
 
 fn talk(
@@ -106,12 +98,10 @@ fn talk(
 
 /// A POST of five bytes.
 fn send_request(alloc: Global, client: &mut Endpoint, id: StreamId) -> Result<(), Stop> {
-    let Ok(uri) = Uri::from_str(alloc, "https://www.example.com/upload") else {
-        return Err(Stop::Memory);
-    };
-    let Ok(head) = Header::request(Method::POST, uri, HeaderMap::new(alloc), None) else {
-        return Err(Stop::Memory);
-    };
+    let uri = Uri::from_str(alloc, "https://www.example.com/upload").map_err(|_| Stop::Memory)?;
+    let head = Header::request(Method::POST, uri, HeaderMap::new(alloc), None).map_err(
+        |_| Stop::Memory,
+    )?;
     send_head(client, id, head)?;
     send_body(client, id, b"hello")?;
     Ok(client.finish(id)?)
@@ -131,19 +121,19 @@ fn send_response(alloc: Global, server: &mut Endpoint, id: StreamId) -> Result<(
 fn head_fields(alloc: Global) -> Result<HeaderMap, Stop> {
     let mut fields = HeaderMap::new(alloc);
     let value = HeaderValue::from_static("text/plain");
-    match fields.append(HeaderName::from_static("content-type"), value) {
-        Ok(_) => Ok(fields),
-        Err(_) => Err(Stop::Memory),
-    }
+    fields
+        .append(HeaderName::from_static("content-type"), value)
+        .map_err(|_| Stop::Memory)?;
+    Ok(fields)
 }
 
 fn trailer_fields(alloc: Global) -> Result<HeaderMap, Stop> {
     let mut fields = HeaderMap::new(alloc);
     let value = HeaderValue::from_static("1 ms");
-    match fields.append(HeaderName::from_static("x-took"), value) {
-        Ok(_) => Ok(fields),
-        Err(_) => Err(Stop::Memory),
-    }
+    fields
+        .append(HeaderName::from_static("x-took"), value)
+        .map_err(|_| Stop::Memory)?;
+    Ok(fields)
 }
 
 fn send_head(endpoint: &mut Endpoint, id: StreamId, head: Header) -> Result<(), Stop> {

@@ -63,9 +63,7 @@ pub fn decodes_what_came(alloc: Global, text: &mut String) -> Result<(), AllocEr
         SessionEvent::Decode(0),
         SessionEvent::Decode(0),
     ];
-    let Ok(answers) = run(alloc, 220, 2, &events) else {
-        return Err(AllocError);
-    };
+    let answers = run(alloc, 220, 2, &events).map_err(|_| AllocError)?;
     tell(alloc, text, &answers)
 }
 
@@ -80,9 +78,7 @@ pub fn gives_a_stream_up(alloc: Global, text: &mut String) -> Result<(), AllocEr
         SessionEvent::DecoderBytes(1),
         SessionEvent::DecoderBytes(1),
     ];
-    let Ok(answers) = run(alloc, 220, 2, &events) else {
-        return Err(AllocError);
-    };
+    let answers = run(alloc, 220, 2, &events).map_err(|_| AllocError)?;
     tell(alloc, text, &answers)
 }
 

@@ -26,10 +26,8 @@ pub fn round_trip(alloc: Global, text: &mut String) -> Result<(), AllocError> {
         "# a session: a table of 220 bytes, on which two streams may wait",
     )?;
     let mut instructions = Vec::new(alloc);
-    match encoder(alloc, &mut instructions) {
-        Ok(encoder) => begin(alloc, text, encoder, instructions),
-        Err(e) => Err(e),
-    }
+    let encoder = encoder(alloc, &mut instructions)?;
+    begin(alloc, text, encoder, instructions)
 }
 
 /// The peer's settings came, in which the decoder announced its limits: the encoder may use the table.
@@ -86,9 +84,7 @@ impl Ends {
         }
         self.section.clear();
         let sent = self.encoder.encode(stream, &mut self.section, &mut self.instructions, &request);
-        let Ok(count) = sent else {
-            return Err(AllocError);
-        };
+        let count = sent.map_err(|_| AllocError)?;
         number(self.alloc, text, "required insert count", count)?;
         bytes(self.alloc, text, "section", &self.section)?;
         bytes(self.alloc, text, "encoder stream", &self.instructions)
@@ -116,9 +112,7 @@ impl Ends {
     fn carry_instructions(&mut self, text: &mut String) -> Result<(), AllocError> {
         let mut cursor = SliceCursor::new(&self.instructions);
         let read = self.decoder.on_encoder_recv(&mut cursor, &mut self.replies);
-        let Ok(inserted) = read else {
-            return Err(AllocError);
-        };
+        let inserted = read.map_err(|_| AllocError)?;
         self.instructions.clear();
         number(self.alloc, text, "insertions read", inserted)?;
         bytes(self.alloc, text, "decoder stream", &self.replies)
@@ -127,9 +121,9 @@ impl Ends {
     /// The encoder reads what is on the decoder stream.
     fn carry_replies(&mut self, text: &mut String) -> Result<(), AllocError> {
         let mut cursor = SliceCursor::new(&self.replies);
-        if self.encoder.on_decoder_recv(&mut cursor).is_err() {
-            return Err(AllocError);
-        }
+        self.encoder
+            .on_decoder_recv(&mut cursor)
+            .map_err(|_| AllocError)?;
         self.replies.clear();
         number(
             self.alloc,

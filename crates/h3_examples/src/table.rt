@@ -8,13 +8,8 @@ use std::alloc::{AllocError, Global};
 
 /// A table of capacity 220, which one section may wait on.
 fn set_limits(table: &mut DynamicTable) -> Result<(), AllocError> {
-    if table.set_max_blocked(1).is_err() {
-        return Err(AllocError);
-    }
-    if table.set_max_size(220).is_err() {
-        return Err(AllocError);
-    }
-    Ok(())
+    table.set_max_blocked(1).map_err(|_| AllocError)?;
+    table.set_max_size(220).map_err(|_| AllocError)
 }
 
 /// Inserts a field, and tells how.
@@ -25,9 +20,7 @@ fn insert(
     name: &'static [u8],
     value: &'static [u8],
 ) -> Result<(), AllocError> {
-    let Ok(answer) = view.insert(&field(name, value)) else {
-        return Err(AllocError);
-    };
+    let answer = view.insert(&field(name, value)).map_err(|_| AllocError)?;
     let line = format!(in alloc; "{answer:?}")?;
     words(text, line.as_str())
 }
@@ -73,10 +66,8 @@ fn ended<E: Drop>(
     text: &mut String,
     committed: Result<usize, E>,
 ) -> Result<(), AllocError> {
-    match committed {
-        Ok(count) => number(alloc, text, "required insert count", count),
-        Err(_) => Err(AllocError),
-    }
+    let count = committed.map_err(|_| AllocError)?;
+    number(alloc, text, "required insert count", count)
 }
 
 /// Begins a section and releases it, which leaves the table as it was.
