@@ -13,7 +13,7 @@ use Rattle.h3_huffman.specs.Writing.{Written}
 use Rattle.h3_huffman.specs.declared.tables.TheConstants.{WORDS, WORD_LENGTHS}
 use Rattle.h3_huffman.proofs.Computed.{bytes_hold}
 use Rattle.h3_huffman.specs.PayloadLaws.{all_from_at, bytes_same, All-append}
-use Rattle.h3_huffman.proofs.Bits.{bits-shift_in, length-bits, bits-add, bits-low, ones_to}
+use Rattle.h3_huffman.proofs.Bits.{bits-join, bits-shift_in, length-bits, bits-add, bits-low, ones_to}
 use Rattle.h3_huffman.proofs.Payloads.{octets_byte, octets_pad, octets_nil}
 
 pub word_is : (byte : ℕ) → byte < 256 → IsWord byte (get_or WORDS byte 0) (get_or WORD_LENGTHS byte 0)
@@ -21,7 +21,8 @@ word_is byte h =
     let c = and_parts _ _ (all_from_at (is_word WORDS WORD_LENGTHS) 0 256 byte bytes_hold (omega arith) (omega arith)) in
     let b = and_parts _ _ c.0 in
     let a = and_parts _ _ b.0 in
-    record { len = eqb-true _ _ a.0; most = leb-true _ _ a.1; word = bytes_same _ _ b.1; below = ltb-true _ _ c.1 }
+    let d = and_parts _ _ a.0 in
+    record { len = eqb-true _ _ d.0; least = leb-true _ _ d.1; most = leb-true _ _ a.1; word = bytes_same _ _ b.1; below = ltb-true _ _ c.1 }
 
 -- how many bytes some bits make
 pub length-octets : (r : List ℕ) → length (octets r) ≡ (length r + 7) / 8
@@ -69,31 +70,19 @@ unfolding bits
 begin plain out h = record { parts = refl; within = omega arith; room = h; bytes = tt }
 
 -- one word more
-pub add_word : (plain out : List ℕ) (index acc count written word : ℕ) → Written plain out index acc count written → count + length (code_word (get_or plain index 0)) ≤ 64 → index < length plain →
+pub add_word : (plain out : List ℕ) (index acc count written word : ℕ) → Written plain out index acc count written → index < length plain →
     bits (length (code_word (get_or plain index 0))) word ≡ code_word (get_or plain index 0) → word < 2 ^ length (code_word (get_or plain index 0)) →
-    Written plain out (index + 1) (bit_or (acc * 2 ^ length (code_word (get_or plain index 0)) % 2 ^ 64) word) (count + length (code_word (get_or plain index 0))) written
-add_word plain out index acc count written word w fits there is below =
+    Written plain out (index + 1) (acc * 2 ^ length (code_word (get_or plain index 0)) + word) (count + length (code_word (get_or plain index 0))) written
+add_word plain out index acc count written word w there is below =
     let byte = get_or plain index 0 in
     let len = length (code_word byte) in
-    let more : bits (count + len) (bit_or (acc * 2 ^ len % 2 ^ 64) word) ≡ bits count acc ++ code_word byte = bits-shift_in count len acc word below (omega arith) ∙ ap (λ x. bits count acc ++ x) is in
+    let more : bits (count + len) (acc * 2 ^ len + word) ≡ bits count acc ++ code_word byte = bits-join count len acc word below ∙ ap (λ x. bits count acc ++ x) is in
     record {
       parts = ap (λ x. flat_map (bits 8) (take written out) ++ x) more ∙ sym (append_assoc (flat_map (bits 8) (take written out)) (bits count acc) (code_word byte)) ∙ ap (λ x. x ++ code_word byte) w.parts ∙ sym (words_more plain index there);
       within = w.within;
       room = w.room;
       bytes = w.bytes;
     }
-
-pub add_byte : (plain out : List ℕ) (index acc count written word len : ℕ) → Written plain out index acc count written → count + len ≤ 64 → index < length plain → len ≡ length (code_word (get_or plain index 0)) →
-    bits (length (code_word (get_or plain index 0))) word ≡ code_word (get_or plain index 0) → word < 2 ^ length (code_word (get_or plain index 0)) →
-    Written plain out (index + 1) (bit_or (acc * 2 ^ len % 2 ^ 64) word) (count + len) written
-add_byte plain out index acc count written word len w fits there is spelled below =
-    rw is (add_word plain out index acc count written word w (rw is at fits) there spelled below)
-
--- the word of the byte at `index`, which is the one before `next`
-pub add_at : (plain out : List ℕ) (index next acc count written word len : ℕ) → next ≡ index + 1 → Written plain out index acc count written → count + len ≤ 64 → index < length plain → len ≡ length (code_word (get_or plain index 0)) →
-    bits (length (code_word (get_or plain index 0))) word ≡ code_word (get_or plain index 0) → word < 2 ^ length (code_word (get_or plain index 0)) →
-    Written plain out next (bit_or (acc * 2 ^ len % 2 ^ 64) word) (count + len) written
-add_at plain out index next acc count written word len e w fits there is spelled below = rw e (add_byte plain out index acc count written word len w fits there is spelled below)
 
 -- some bytes more
 pub move_out : (plain out new bytes : List ℕ) (index acc count left written place : ℕ) → Written plain out index acc count written → take place new ≡ take written out ++ bytes → bits count acc ≡ flat_map (bits 8) bytes ++ bits left acc → place ≤ length new → length new ≡ length out → AllByRecursion IsByte bytes →

@@ -1,5 +1,5 @@
 -- A payload in the midst of its writing.
-use Rattle.std.specs.Prelude.{◌≡◌, ℕ, ◌≤◌, List, ◌++◌, length, take, flat_map}
+use Rattle.std.specs.Prelude.{◌≡◌, ℕ, ◌*◌, ◌-◌, ◌^◌, ◌<◌, ◌≤◌, List, ◌++◌, length, take, flat_map}
 use Rattle.std.specs.List.{AllByRecursion}
 use Rattle.h3_huffman.specs.Huffman.{bits, huffman, code_word}
 use Rattle.h3_huffman.specs.Payload.{IsByte}
@@ -10,3 +10,10 @@ pub record Written (plain out : List ℕ) (index acc count written : ℕ) : Type
   pub within : written ≤ length out
   pub room : length (huffman plain) ≤ length out
   pub bytes : AllByRecursion IsByte (take written out)
+
+-- The pending bits are the high ones of a number of 64 bits, whose other bits are 0.
+pub record IsPending (plain out : List ℕ) (index acc count written : ℕ) : Type 0 where
+  pub value : ℕ
+  pub high : acc ≡ value * 2 ^ (64 - count)
+  pub below : value < 2 ^ count
+  pub standing : Written plain out index value count written

@@ -2,13 +2,14 @@
 ghost use Rattle.std.specs.Prelude.{◌≡◌, ℕ, List, ◌+◌, ◌*◌, ◌^◌, ◌<◌, ◌≤◌, ◌++◌, IfSome, take, length, flat_map};
 ghost use Rattle.std.specs.Int.{w32, to_be_bytes};
 ghost use Rattle.h3_huffman.specs.Huffman.{huffman, bits, code_word};
-ghost use Rattle.h3_huffman.specs.Writing.{Written};
+ghost use Rattle.h3_huffman.specs.Writing.{IsPending};
 
 use crate::tables::{WORD_LENGTHS, WORDS};
 
 /// How many bits the word of a byte has.
 fn word_len(byte: u8) -> u64
     ensures value { result ≡ length (code_word byte) }
+    ensures some { 0 < result }
     ensures most { result ≤ 30 }
 {
     let length = WORD_LENGTHS[byte as usize];
@@ -72,7 +73,8 @@ pub fn payload_len(plain: &[u8]) -> usize
     }
 }
 
-/// What is not yet written: the low `count` bits of `acc`, which go to `out[written]` on.
+/// What is not yet written: the high `count` bits of `acc`, which go to `out[written]` on. The bits below them are 0. So a word is put
+/// behind them by a shift that waits for no other word.
 #[derive(Copy, Clone)]
 struct Pending {
     acc: u64,
@@ -85,23 +87,18 @@ struct Pending {
 fn flush(out: &mut [u8], before: Pending) -> Pending
     requires few { before.count < 64 }
     requires room { 8 * before.written + before.count ≤ 8 * length out.old }
-    ensures standing { (plain : List ℕ) (index : ℕ) → Written plain out.old index before.acc before.count before.written
-        → Written plain out.new index result.acc result.count result.written }
+    ensures standing { (plain : List ℕ) (index : ℕ) → IsPending plain out.old index before.acc before.count before.written
+        → IsPending plain out.new index result.acc result.count result.written }
     ensures few { result.count < 32 }
     ensures same { length out.new ≡ length out.old }
 {
     if before.count < 32 {
         return before;
     }
-    let count = before.count - 32;
-    put_word(
-        out,
-        before.written,
-        ((before.acc >> count) % (1 << 32)) as u32,
-    );
+    put_word(out, before.written, (before.acc >> 32) as u32);
     Pending {
-        acc: before.acc,
-        count,
+        acc: before.acc << 32,
+        count: before.count - 32,
         written: before.written + 4,
     }
 }
@@ -112,24 +109,23 @@ fn add_four(plain: &[u8], place: usize, before: Pending) -> Option<Pending>
     requires there { place + 4 ≤ length plain.now }
     requires few { before.count < 32 }
     ensures standing { IfSome result
-        (λ ahead. (out : List ℕ) → Written plain.now out place before.acc before.count before.written
-        → Written plain.now out (place + 4) ahead.acc ahead.count ahead.written) }
+        (λ ahead. (out : List ℕ) → IsPending plain.now out place before.acc before.count before.written
+        → IsPending plain.now out (place + 4) ahead.acc ahead.count ahead.written) }
     ensures fits { IfSome result (λ ahead. ahead.count < 64) }
 {
-    let first_length = word_len(plain[place]);
-    let second_length = word_len(plain[place + 1]);
-    let third_length = word_len(plain[place + 2]);
-    let fourth_length = word_len(plain[place + 3]);
-    let count = before.count + first_length + second_length + third_length + fourth_length;
+    let first_end = before.count + word_len(plain[place]);
+    let second_end = first_end + word_len(plain[place + 1]);
+    let third_end = second_end + word_len(plain[place + 2]);
+    let count = third_end + word_len(plain[place + 3]);
     if count >= 64 {
         return None;
     }
-    let first = before.acc << first_length | word_of(plain[place]);
-    let second = first << second_length | word_of(plain[place + 1]);
-    let third = second << third_length | word_of(plain[place + 2]);
-    let fourth = third << fourth_length | word_of(plain[place + 3]);
+    let first = before.acc | word_of(plain[place]) << (64 - first_end);
+    let second = first | word_of(plain[place + 1]) << (64 - second_end);
+    let third = second | word_of(plain[place + 2]) << (64 - third_end);
+    let acc = third | word_of(plain[place + 3]) << (64 - count);
     Some(Pending {
-        acc: fourth,
+        acc,
         count,
         written: before.written,
     })
@@ -140,15 +136,15 @@ fn add_four(plain: &[u8], place: usize, before: Pending) -> Option<Pending>
 fn put_one(plain: &[u8], place: usize, out: &mut [u8], before: Pending) -> Pending
     requires there { place < length plain.now }
     requires few { before.count < 32 }
-    requires standing { Written plain.now out.old place before.acc before.count before.written }
-    ensures standing { Written plain.now out.new (place + 1) result.acc result.count result.written }
+    requires standing { IsPending plain.now out.old place before.acc before.count before.written }
+    ensures standing { IsPending plain.now out.new (place + 1) result.acc result.count result.written }
     ensures few { result.count < 32 }
     ensures same { length out.new ≡ length out.old }
 {
-    let length = word_len(plain[place]);
+    let count = before.count + word_len(plain[place]);
     let ahead = Pending {
-        acc: before.acc << length | word_of(plain[place]),
-        count: before.count + length,
+        acc: before.acc | word_of(plain[place]) << (64 - count),
+        count,
         written: before.written,
     };
     flush(out, ahead)
@@ -159,7 +155,7 @@ fn put_one(plain: &[u8], place: usize, out: &mut [u8], before: Pending) -> Pendi
 #[inline(always)]
 fn put_words(plain: &[u8], out: &mut [u8]) -> Pending
     requires { length (huffman plain.now) ≤ length out.old }
-    ensures standing { Written plain.now out.new (length plain.now) result.acc result.count result.written }
+    ensures standing { IsPending plain.now out.new (length plain.now) result.acc result.count result.written }
     ensures few { result.count < 32 }
     ensures same { length out.new ≡ length out.old }
 {
@@ -195,10 +191,11 @@ pub fn encode_into(plain: &[u8], out: &mut [u8])
     ensures { out.new ≡ huffman plain.now }
 {
     let Pending {
-        acc,
+        acc: high,
         mut count,
         mut written,
     } = put_words(plain, out);
+    let acc = high >> 32 >> (32 - count);
     // (the label names the loop in its proof)
     'last: while count >= 8 {
         count -= 8;
@@ -224,7 +221,7 @@ pub fn encode_front(plain: &[u8], out: &mut [u8]) -> usize
         count,
         written,
     } = put_words(plain, out);
-    let last = acc << (32 - count) | 0xffff_ffff >> count;
+    let last = acc >> 32 | 0xffff_ffff >> count;
     put_word(out, written, (last % (1 << 32)) as u32);
     written + ((count + 7) / 8) as usize
 }

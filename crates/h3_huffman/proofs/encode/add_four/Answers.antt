@@ -1,15 +1,15 @@
 use Rattle.std.proofs.Common.{◌+◌, refl, arith}
-use Rattle.h3_huffman.proofs.Writing.{add_at}
+use Rattle.h3_huffman.proofs.Pending.{add_at}
 use Rattle.h3_huffman.proofs.encode.add_four.Goals as goal
 
 pub returns-clause-standing : goal.returns-clause-standing
 returns-clause-standing c = λ out standing.
     let i = c.args.place in
     let fits = c.if-count-ge64.false in
-    let l1 = c.word_len-first_length in
-    let l2 = c.word_len-second_length in
-    let l3 = c.word_len-third_length in
-    let l4 = c.word_len-fourth_length in
+    let l1 = c.word_len in
+    let l2 = c.word_len-2 in
+    let l3 = c.word_len-3 in
+    let l4 = c.word_len-4 in
     let w1 = c.word_of in
     let w2 = c.word_of-2 in
     let w3 = c.word_of-3 in

@@ -1,7 +1,15 @@
-use Rattle.std.proofs.Common.{◌≡◌, ◌∙◌, arith, refl}
+use Rattle.std.proofs.Common.{◌≡◌, ◌-◌, ◌/◌, ◌^◌, ◌∙◌, ap, arith, refl}
 use Rattle.h3_huffman.proofs.Writing.{move_byte, sum_of, finished, finished_whole}
 use Rattle.std.proofs.lemmas.List.{length-set}
+use Rattle.h3_huffman.proofs.Pending.{low_half}
 use Rattle.h3_huffman.proofs.encode.encode_into.Goals as goal
+
+pub last-init : goal.last-init
+last-init c =
+    let p = c.put_words-high.ensures.standing in
+    let few = c.put_words-high.ensures.few in
+    let low = ap (λ x. x / 2 ^ 32 / 2 ^ (32 - c.put_words-high.result.count)) p.high ∙ low_half _ _ (omega (arith, few)) p.below in
+    record { standing = rw low p.standing; few = few; exact = c.put_words-high.ensures.same ∙ c.requires }
 
 pub bounds-out-written : goal.bounds-out-written
 bounds-out-written c = omega (arith, (sum_of _ _ _ _ _ _ c.last.invariant.standing).2)

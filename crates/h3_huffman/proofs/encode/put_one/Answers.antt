@@ -1,17 +1,18 @@
-use Rattle.std.proofs.Common.{arith}
-use Rattle.h3_huffman.proofs.Writing.{add_byte, sum_of}
+use Rattle.std.proofs.Common.{refl, arith}
+use Rattle.h3_huffman.proofs.Writing.{sum_of}
+use Rattle.h3_huffman.proofs.Pending.{add_at}
 use Rattle.h3_huffman.proofs.encode.put_one.Goals as goal
 
 pub flush-requires-clause-room : goal.flush-requires-clause-room
 flush-requires-clause-room c =
     let word = c.word_of in
-    let len = c.word_len-length in
-    let more = add_byte _ _ c.args.place _ _ _ word.result len.result c.requires.standing (omega (arith, c.requires.few, len.ensures.most)) c.requires.there len.ensures.value word.ensures.value word.ensures.below in
-    (sum_of _ _ _ _ _ _ more).2
+    let len = c.word_len in
+    let more = add_at _ _ c.args.place _ _ _ _ word.result len.result refl c.requires.standing (omega (arith, c.requires.few, len.ensures.most)) c.requires.there len.ensures.value word.ensures.value word.ensures.below in
+    (sum_of _ _ _ _ _ _ more.standing).2
 
 pub returns-clause-standing : goal.returns-clause-standing
 returns-clause-standing c =
     let word = c.word_of in
-    let len = c.word_len-length in
-    let more = add_byte _ _ c.args.place _ _ _ word.result len.result c.requires.standing (omega (arith, c.requires.few, len.ensures.most)) c.requires.there len.ensures.value word.ensures.value word.ensures.below in
+    let len = c.word_len in
+    let more = add_at _ _ c.args.place _ _ _ _ word.result len.result refl c.requires.standing (omega (arith, c.requires.few, len.ensures.most)) c.requires.there len.ensures.value word.ensures.value word.ensures.below in
     c.flush.ensures.standing _ _ more

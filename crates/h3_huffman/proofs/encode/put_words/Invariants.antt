@@ -1,10 +1,10 @@
 use Rattle.std.proofs.Common.{◌≡◌, ◌-◌, ◌<◌, ◌≤◌, length}
-use Rattle.h3_huffman.specs.Writing.{Written}
+use Rattle.h3_huffman.specs.Writing.{IsPending}
 use Rattle.h3_huffman.proofs.encode.put_words.Given as goal
 
 abbrev pub invariant-pairs : goal.invariant-pairs
 invariant-pairs l = record {
-  standing : Written l.plain l.out l.place l.pending.acc l.pending.count l.pending.written;
+  standing : IsPending l.plain l.out l.place l.pending.acc l.pending.count l.pending.written;
   few : l.pending.count < 32;
   within : l.place ≤ length l.plain;
   same : length l.out ≡ length l.fn.out;
@@ -15,7 +15,7 @@ decreases-pairs l = length l.plain - l.place
 
 abbrev pub invariant-fours : goal.invariant-fours
 invariant-fours l = record {
-  standing : Written l.plain l.out l.place l.pending.acc l.pending.count l.pending.written;
+  standing : IsPending l.plain l.out l.place l.pending.acc l.pending.count l.pending.written;
   few : l.pending.count < 32;
   within : l.place ≤ length l.plain;
   same : length l.out ≡ length l.fn.out;
@@ -26,7 +26,7 @@ decreases-fours l = length l.plain - l.place
 
 abbrev pub invariant-ones : goal.invariant-ones
 invariant-ones l = record {
-  standing : Written l.plain l.out l.place l.pending.acc l.pending.count l.pending.written;
+  standing : IsPending l.plain l.out l.place l.pending.acc l.pending.count l.pending.written;
   few : l.pending.count < 32;
   within : l.place ≤ length l.plain;
   same : length l.out ≡ length l.fn.out;
