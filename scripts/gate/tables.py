@@ -77,7 +77,7 @@ def huffman():
         "LENGTHS": ([length for length, _ in long_rows], str),
         "OFFSETS": ([sum(counts[:row]) for row in range(len(counts))], str),
         "SYMBOLS": ([symbol for _, symbols in long_rows for symbol in symbols], str),
-        "WORDS": ([words[byte][0] for byte in range(END)], hex),
+        "WORDS": ([words[byte][0] << 64 - words[byte][1] for byte in range(END)], hex),
         "WORD_LENGTHS": ([words[byte][1] for byte in range(END)], str),
     }
 

@@ -4,14 +4,17 @@ ghost use Rattle.h3_qpack.specs.DecodedSection.{decode_section, Fields, Missing}
 
 use crate::input::FieldList;
 use crate::report::{Failure, Report};
-use h3_field::waiting::{
-    Wait, decoder_wait, decoder_wait_behind, encoder_wait, encoder_wait_behind,
-};
+use h3_field::waiting::{Wait, decoder_wait, decoder_wait_behind};
 use h3_qpack::{
     BlockWithin, Decoder, DecoderError, DynamicTable, Encoder, FieldBlock, SliceCursor, ack_header,
     set_dynamic_table_size,
 };
+use h3_unidirectional::decoding::Decoding;
+use h3_unidirectional::waiting::WaitingBytes;
 use std::alloc::Global;
+
+/// The greatest integer of variable length stands for no limit (RFC 9000, section 16).
+const UNLIMITED: u64 = (1 << 62) - 1;
 
 /// Keeps the last `left` bytes. If these are all of them, nothing is moved: else bytes that come one by one would be moved at each.
 fn keep_last(bytes: &mut Vec<u8>, left: usize) {
@@ -107,12 +110,10 @@ fn decode_into(
     }
 }
 
-/// A decoder, the start of an instruction that is not whole, and the fields of the section that was decoded last.
+/// A decoder with its peer's encoder stream, as an endpoint has it, and the fields of the section that was decoded last.
 #[derive(Drop)]
 pub(crate) struct Receiver {
-    decoder: Decoder,
-    unread: Vec<u8>,
-    wait: Wait,
+    decoding: Decoding,
     // one block for all sections, whose memory serves again
     block: FieldBlock,
 }
@@ -124,27 +125,18 @@ impl Receiver {
             return Err(Failure::Input);
         }
         Ok(Receiver {
-            decoder: Decoder::announced(alloc, capacity),
-            unread: Vec::new(alloc),
-            wait: Wait::Bytes(1),
+            decoding: Decoding::new(alloc, capacity, false),
             block: FieldBlock::new(alloc),
         })
     }
 
     /// Reads what the encoder wrote beside its sections, and appends the increment for it.
-    pub(crate) fn hear(&mut self, bytes: &[u8], replies: &mut Vec<u8>) -> Result<(), Failure> {
-        self.unread.extend_from_slice(bytes)?;
-        self.wait = encoder_wait_behind(self.wait, bytes, &self.unread);
-        if self.wait.goes_on() {
-            return Ok(());
+    pub(crate) fn hear(&mut self, bytes: &[u8], replies: &mut WaitingBytes) -> Result<(), Failure> {
+        self.decoding.push(bytes)?;
+        match self.decoding.read(UNLIMITED, replies)? {
+            None => Ok(()),
+            Some(_) => Err(Failure::Refused),
         }
-        let mut read = SliceCursor::new(&self.unread);
-        let heard = self.decoder.on_encoder_recv(&mut read, replies);
-        let left = read.remaining();
-        keep_last(&mut self.unread, left);
-        self.wait = encoder_wait(&self.unread);
-        heard.map_err(|_| Failure::Refused)?;
-        Ok(())
     }
 
     /// Decodes a section, and appends the acknowledgment if it names entries. Its fields are lent up to the next section. None:
@@ -153,13 +145,13 @@ impl Receiver {
         &mut self,
         stream: u64,
         section: &[u8],
-        replies: &mut Vec<u8>,
+        replies: &mut WaitingBytes,
     ) -> Result<Option<&FieldBlock>, Failure> {
-        let Some(dyn_ref) = decode_into(&self.decoder, section, &mut self.block)? else {
+        let Some(dyn_ref) = decode_into(self.decoding.decoder(), section, &mut self.block)? else {
             return Ok(None);
         };
         if dyn_ref {
-            acknowledge(stream, replies)?;
+            acknowledge(stream, replies.behind_mut())?;
         }
         Ok(Some(&self.block))
     }
@@ -168,7 +160,8 @@ impl Receiver {
     pub(crate) fn weigh(&mut self, section: &[u8], max: u64) -> Result<Report, Failure> {
         let mut section = SliceCursor::new(section);
         let told = self
-            .decoder
+            .decoding
+            .decoder()
             .decode_block_within(&mut section, max, &[], &mut self.block)
             .map_err(|_| Failure::Refused)?;
         Ok(report_of(&told, self.block.len()))
@@ -179,7 +172,7 @@ impl Receiver {
         &mut self,
         stream: u64,
         section: &[u8],
-        replies: &mut Vec<u8>,
+        replies: &mut WaitingBytes,
     ) -> Result<usize, Failure> {
         let block = self.decode(stream, section, replies)?;
         Ok(block.ok_or(Failure::Refused)?.len())

@@ -5,6 +5,7 @@ use crate::ends::{Receiver, Sender};
 use crate::input::{self, FieldList};
 use crate::output;
 use crate::report::{Failure, Report, answer};
+use h3_unidirectional::waiting::WaitingBytes;
 use std::alloc::Global;
 
 /// How a session goes: the table's capacity, how many sections may wait, how many lists are in a batch, and how often all
@@ -23,7 +24,7 @@ struct Batch {
     streams: Vec<u64>,
     sections: Vec<Vec<u8>>,
     instructions: Vec<u8>,
-    replies: Vec<u8>,
+    replies: WaitingBytes,
 }
 
 impl Batch {
@@ -37,7 +38,7 @@ impl Batch {
             streams: Vec::new(alloc),
             sections,
             instructions: Vec::new(alloc),
-            replies: Vec::new(alloc),
+            replies: WaitingBytes::from_vec(Vec::new(alloc)),
         })
     }
 
@@ -80,13 +81,13 @@ impl Batch {
             output::put_string(packed, section)?;
         }
         output::put_string(packed, &self.instructions)?;
-        output::put_string(packed, &self.replies)
+        output::put_string(packed, self.replies.as_slice())
     }
 
     fn clear(&mut self) {
         self.streams.clear();
         self.instructions.clear();
-        self.replies.clear();
+        self.replies.advance(self.replies.len());
     }
 }
 
@@ -115,7 +116,7 @@ impl Ends {
     /// The batch is read, answered and packed, and the next begins.
     fn settle(&mut self, packed: &mut Vec<u8>) -> Result<(), Failure> {
         self.batch.receive(&mut self.receiver, &mut self.report)?;
-        self.sender.hear(&self.batch.replies)?;
+        self.sender.hear(self.batch.replies.as_slice())?;
         self.batch.put(packed)?;
         self.batch.clear();
         Ok(())

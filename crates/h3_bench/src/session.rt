@@ -9,6 +9,7 @@ use crate::input::{FieldList, take_lists, take_number, take_string};
 use crate::output;
 use crate::report::{Failure, Report, answer};
 use h3_field::{FieldBlock, Fields, SliceCursor};
+use h3_unidirectional::waiting::WaitingBytes;
 use std::alloc::Global;
 
 /// What an end does: something of a stream, or it reads what the other wrote.
@@ -150,7 +151,7 @@ fn send_all(
 fn receive<'r>(
     receiver: &'r mut Receiver,
     step: &Step<'_, &[u8]>,
-    replies: &mut Vec<u8>,
+    replies: &mut WaitingBytes,
 ) -> Result<Option<&'r FieldBlock>, Failure> {
     match step {
         Step::Stream(stream, section) => receiver.decode(*stream, *section, replies),
@@ -174,13 +175,13 @@ fn count_block(fields: &Fields<'_>, report: &mut Report) {
 fn receive_one(
     receiver: &mut Receiver,
     step: &Step<'_, &[u8]>,
-    replies: &mut Vec<u8>,
+    replies: &mut WaitingBytes,
     report: &mut Report,
 ) -> Result<(), Failure> {
     if let Some(block) = receive(receiver, step, replies)? {
         count_block(&block.fields(), report);
     }
-    replies.clear();
+    replies.advance(replies.len());
     Ok(())
 }
 
@@ -190,7 +191,7 @@ fn receive_steps(
     steps: &[Step<'_, &[u8]>],
 ) -> Result<Report, Failure> {
     let mut report = Report::new();
-    let mut replies = Vec::new(alloc);
+    let mut replies = WaitingBytes::from_vec(Vec::new(alloc));
     for step in steps {
         receive_one(receiver, step, &mut replies, &mut report)?;
     }
@@ -223,12 +224,12 @@ fn receive_into(
     packed: &mut Vec<u8>,
     receiver: &mut Receiver,
     step: &Step<'_, &[u8]>,
-    replies: &mut Vec<u8>,
+    replies: &mut WaitingBytes,
 ) -> Result<(), Failure> {
     let decoded = receive(receiver, step, replies)?;
     put_decoded(packed, decoded)?;
-    output::put_string(packed, replies)?;
-    replies.clear();
+    output::put_string(packed, replies.as_slice())?;
+    replies.advance(replies.len());
     Ok(())
 }
 
@@ -238,7 +239,7 @@ fn receive_steps_into(
     receiver: &mut Receiver,
     steps: &[Step<'_, &[u8]>],
 ) -> Result<(), Failure> {
-    let mut replies = Vec::new(alloc);
+    let mut replies = WaitingBytes::from_vec(Vec::new(alloc));
     output::put_number(packed, steps.len())?;
     for step in steps {
         receive_into(packed, receiver, step, &mut replies)?;

@@ -2,12 +2,13 @@
 
 use crate::ends::Receiver;
 use crate::report::{Failure, Report, answer};
+use h3_unidirectional::waiting::WaitingBytes;
 use std::alloc::Global;
 
 /// Reads the encoder's instructions, and then the section in each round.
 fn weigh_rounds(
     receiver: &mut Receiver,
-    replies: &mut Vec<u8>,
+    replies: &mut WaitingBytes,
     rounds: u64,
     max: u64,
     instructions: &[u8],
@@ -29,7 +30,7 @@ fn weigh(
     instructions: &[u8],
     section: &[u8],
 ) -> Result<Report, Failure> {
-    let mut replies = Vec::new(alloc);
+    let mut replies = WaitingBytes::from_vec(Vec::new(alloc));
     let mut receiver = Receiver::new(alloc, capacity)?;
     weigh_rounds(
         &mut receiver,

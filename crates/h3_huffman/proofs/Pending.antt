@@ -4,39 +4,42 @@ use Rattle.std.specs.Int.{w32, to_be_bytes}
 use Rattle.std.proofs.Math.Nat.{add-zero, mod-eq_of_lt, mul-mod_left}
 use Rattle.std.proofs.lemmas.Nat.{pow_pos, pow-add, shr-shr, shl-shr, shl_whole, shl_below, shr_below, or_shifted, mul-add-lt, mod-pow-add, mod_below}
 use Rattle.h3_huffman.specs.Huffman.{bits, huffman, code_word}
-use Rattle.h3_huffman.specs.Writing.{Written, IsPending}
+use Rattle.h3_huffman.specs.Writing.{Written, IsHighWord, IsPending}
 use Rattle.h3_huffman.proofs.Bits.{bits-low}
 use Rattle.h3_huffman.proofs.Writing.{begin, add_word, move_word}
 
 pub none_pending : (plain out : List ℕ) → length (huffman plain) ≤ length out → IsPending plain out 0 0 0 0
 none_pending plain out h = record { value = 0; high = refl; below = lit< tt; standing = begin plain out h }
 
--- `acc | word << (64 - more)`, where `acc` ends at `count`, and the word of `len` bits at `more`
-pub put_behind : (value count len more word : ℕ) → more ≡ count + len → more ≤ 64 → word < 2 ^ len →
-    bit_or (value * 2 ^ (64 - count)) (word * 2 ^ (64 - more) % 2 ^ 64) ≡ (value * 2 ^ len + word) * 2 ^ (64 - more)
-put_behind value count len more word e fits below =
-    let room : len + (64 - more) ≡ 64 - count = omega arith in
-    let power : 2 ^ (len + (64 - more)) ≡ 2 ^ len * 2 ^ (64 - more) = pow-add 2 len (64 - more) in
-    let whole : word * 2 ^ (64 - more) % 2 ^ 64 ≡ word * 2 ^ (64 - more) = shl_whole word len (64 - more) 64 below (omega arith) in
-    let low : word * 2 ^ (64 - more) < 2 ^ (64 - count) = rw room at (shl_below word len (64 - more) below) in
-    let shifted : value * 2 ^ (64 - count) ≡ value * 2 ^ len * 2 ^ (64 - more) = ap (λ x. value * x) (rw room at power) ∙ sym (mul_assoc value (2 ^ len) (2 ^ (64 - more))) in
-    rw whole (or_shifted value (64 - count) (word * 2 ^ (64 - more)) low ∙ ap (λ x. x + word * 2 ^ (64 - more)) shifted ∙ sym (add-mul (value * 2 ^ len) word (2 ^ (64 - more))))
+-- `acc | number >> count`, where `acc` ends at `count`, and the word of `len` bits at the high end of `number`
+pub put_behind : (value count len word number : ℕ) → count + len ≤ 64 → word < 2 ^ len → number ≡ word * 2 ^ (64 - len) →
+    bit_or (value * 2 ^ (64 - count)) (number / 2 ^ count) ≡ (value * 2 ^ len + word) * 2 ^ (64 - (count + len))
+put_behind value count len word number fits below high =
+    let more = 64 - (count + len) in
+    let room : len + more ≡ 64 - count = omega arith in
+    let apart : more + count ≡ 64 - len = omega arith in
+    let power : 2 ^ (len + more) ≡ 2 ^ len * 2 ^ more = pow-add 2 len more in
+    let split : 2 ^ (more + count) ≡ 2 ^ more * 2 ^ count = pow-add 2 more count in
+    let whole : word * 2 ^ (64 - len) ≡ word * 2 ^ more * 2 ^ count = ap (λ x. word * x) (rw apart at split) ∙ sym (mul_assoc word (2 ^ more) (2 ^ count)) in
+    let moved : number / 2 ^ count ≡ word * 2 ^ more = ap (λ x. x / 2 ^ count) (high ∙ whole) ∙ shl-shr (word * 2 ^ more) count in
+    let low : word * 2 ^ more < 2 ^ (64 - count) = rw room at (shl_below word len more below) in
+    let shifted : value * 2 ^ (64 - count) ≡ value * 2 ^ len * 2 ^ more = ap (λ x. value * x) (rw room at power) ∙ sym (mul_assoc value (2 ^ len) (2 ^ more)) in
+    rw moved (or_shifted value (64 - count) (word * 2 ^ more) low ∙ ap (λ x. x + word * 2 ^ more) shifted ∙ sym (add-mul (value * 2 ^ len) word (2 ^ more)))
 
 -- the word of the byte at `index`, which is the one before `next`
-pub add_at : (plain out : List ℕ) (index next acc count written word len : ℕ) → next ≡ index + 1 → IsPending plain out index acc count written → count + len ≤ 64 → index < length plain → len ≡ length (code_word (get_or plain index 0)) →
-    bits (length (code_word (get_or plain index 0))) word ≡ code_word (get_or plain index 0) → word < 2 ^ length (code_word (get_or plain index 0)) →
-    IsPending plain out next (bit_or acc (word * 2 ^ (64 - (count + len)) % 2 ^ 64)) (count + len) written
-add_at plain out index next acc count written word len e p fits there is spelled below =
-    let short : word < 2 ^ len = rw is below in
-    let power : 2 ^ (len + count) ≡ 2 ^ len * 2 ^ count = pow-add 2 len count in
-    let turn : len + count ≡ count + len = omega arith in
-    let few : p.value * 2 ^ len + word < 2 ^ (count + len) = rw turn at (rw (← power) at (mul-add-lt p.value (2 ^ len) word (2 ^ count) p.below short)) in
-    record {
-      value = p.value * 2 ^ len + word;
-      high = ap (λ x. bit_or x (word * 2 ^ (64 - (count + len)) % 2 ^ 64)) p.high ∙ put_behind p.value count len (count + len) word refl fits short;
+pub add_at : (plain out : List ℕ) (index next acc count written number len : ℕ) → next ≡ index + 1 → IsPending plain out index acc count written → count + len ≤ 64 → index < length plain → len ≡ length (code_word (get_or plain index 0)) →
+    IsHighWord (get_or plain index 0) number → IsPending plain out next (bit_or acc (number / 2 ^ count)) (count + len) written
+add_at plain out index next acc count written number len e p fits there is w =
+    let size = length (code_word (get_or plain index 0)) in
+    let power : 2 ^ (size + count) ≡ 2 ^ size * 2 ^ count = pow-add 2 size count in
+    let turn : size + count ≡ count + size = omega arith in
+    let few : p.value * 2 ^ size + w.value < 2 ^ (count + size) = rw turn at (rw (← power) at (mul-add-lt p.value (2 ^ size) w.value (2 ^ count) p.below w.below)) in
+    rw (e, is) (record {
+      value = p.value * 2 ^ size + w.value;
+      high = ap (λ x. bit_or x (number / 2 ^ count)) p.high ∙ put_behind p.value count size w.value number (rw is at fits) w.below w.high;
       below = few;
-      standing = rw (e, is) (add_word plain out index p.value count written word p.standing there spelled below);
-    }
+      standing = add_word plain out index p.value count written w.value p.standing there w.word w.below;
+    })
 
 -- the low bits of what is pending are all that counts
 pub low_alone : (plain out : List ℕ) (index acc count written : ℕ) → Written plain out index acc count written → Written plain out index (acc % 2 ^ count) count written

@@ -8,7 +8,7 @@ use Rattle.std.proofs.lemmas.List.Concat.{flat_map-append}
 use Rattle.std.proofs.lemmas.Nat.{pow_pos, pow-add}
 use Rattle.h3_huffman.specs.Huffman.{bits, octets, huffman, code_word}
 use Rattle.h3_huffman.specs.Payload.{IsByte}
-use Rattle.h3_huffman.specs.Tables.{is_word, IsWord}
+use Rattle.h3_huffman.specs.Tables.{is_word, low_word, IsWord}
 use Rattle.h3_huffman.specs.Writing.{Written}
 use Rattle.h3_huffman.specs.declared.tables.TheConstants.{WORDS, WORD_LENGTHS}
 use Rattle.h3_huffman.proofs.Computed.{bytes_hold}
@@ -19,10 +19,14 @@ use Rattle.h3_huffman.proofs.Payloads.{octets_byte, octets_pad, octets_nil}
 pub word_is : (byte : ℕ) → byte < 256 → IsWord byte (get_or WORDS byte 0) (get_or WORD_LENGTHS byte 0)
 word_is byte h =
     let c = and_parts _ _ (all_from_at (is_word WORDS WORD_LENGTHS) 0 256 byte bytes_hold (omega arith) (omega arith)) in
-    let b = and_parts _ _ c.0 in
-    let a = and_parts _ _ b.0 in
-    let d = and_parts _ _ a.0 in
-    record { len = eqb-true _ _ d.0; least = leb-true _ _ d.1; most = leb-true _ _ a.1; word = bytes_same _ _ b.1; below = ltb-true _ _ c.1 }
+    let a = and_parts _ _ c.0 in
+    let high = and_parts _ _ c.1 in
+    let low = and_parts _ _ high.0 in
+    record {
+      len = eqb-true _ _ a.0;
+      most = leb-true _ _ a.1;
+      word = record { value = low_word byte (get_or WORDS byte 0); high = eqb-true _ _ high.1; word = bytes_same _ _ low.0; below = ltb-true _ _ low.1 };
+    }
 
 -- how many bytes some bits make
 pub length-octets : (r : List ℕ) → length (octets r) ≡ (length r + 7) / 8

@@ -1,7 +1,8 @@
 -- What the tables of the code have to say, as tests that a check computes over the whole table.
-use Rattle.std.specs.Prelude.{◌≡◌, ◌≤◌, ◌<◌, ℕ, zero, suc, ◌+◌, ◌*◌, ◌-◌, ◌/◌, ◌%◌, ◌^◌, ◌==◌, nat_lt, nat_le, bytes_eq, Bool, true, not, ◌&&◌, List, [], ◌∷◌, ◌++◌, length, slice_index, flat_map, take, replicate}
+use Rattle.std.specs.Prelude.{◌≡◌, ◌≤◌, ℕ, zero, suc, ◌+◌, ◌*◌, ◌-◌, ◌/◌, ◌%◌, ◌^◌, ◌==◌, nat_lt, nat_le, bytes_eq, Bool, true, not, ◌&&◌, List, [], ◌∷◌, ◌++◌, length, slice_index, flat_map, take, replicate}
 use Rattle.std.specs.List.{list_all}
 use Rattle.h3_huffman.specs.Huffman.{bits, code_word}
+use Rattle.h3_huffman.specs.Writing.{IsHighWord}
 use Rattle.h3_huffman.specs.Tree.{Tree, walk, is_leaf_of, is_leaf}
 
 -- p holds of count numbers from the first on
@@ -88,17 +89,23 @@ are_words t =
     all_from (λ symbol. list_all is_bit (code_word symbol)) 0 257
     && all_from (λ count. not (is_leaf (walk t (replicate count 1)))) 0 8
 
+-- the word of a number that stands at the high end of 64 bits
+abbrev pub low_word : ℕ → ℕ → ℕ
+low_word byte number = number / 2 ^ (64 - length (code_word byte))
+
+abbrev pub is_high_word : ℕ → ℕ → Bool
+is_high_word byte number =
+    bytes_eq (bits (length (code_word byte)) (low_word byte number)) (code_word byte)
+    && nat_lt (low_word byte number) (2 ^ length (code_word byte))
+    && (number == low_word byte number * 2 ^ (64 - length (code_word byte)))
+
 -- a byte's word, in the encoder's tables
 abbrev pub is_word : List ℕ → List ℕ → ℕ → Bool
 is_word words lengths byte =
-    (slice_index lengths byte == length (code_word byte)) && nat_le 5 (slice_index lengths byte) && nat_le (slice_index lengths byte) 30
-    && bytes_eq (bits (length (code_word byte)) (slice_index words byte)) (code_word byte)
-    && nat_lt (slice_index words byte) (2 ^ length (code_word byte))
+    (slice_index lengths byte == length (code_word byte)) && nat_le (slice_index lengths byte) 30 && is_high_word byte (slice_index words byte)
 
 -- what the test says
 pub record IsWord (byte number size : ℕ) : Type 0 where
   pub len : size ≡ length (code_word byte)
-  pub least : 5 ≤ size
   pub most : size ≤ 30
-  pub word : bits (length (code_word byte)) number ≡ code_word byte
-  pub below : number < 2 ^ length (code_word byte)
+  pub word : IsHighWord byte number

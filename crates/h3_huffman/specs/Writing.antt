@@ -11,6 +11,13 @@ pub record Written (plain out : List ℕ) (index acc count written : ℕ) : Type
   pub room : length (huffman plain) ≤ length out
   pub bytes : AllByRecursion IsByte (take written out)
 
+-- The word of a byte stands at the high end of a number of 64 bits, whose other bits are 0.
+pub record IsHighWord (byte number : ℕ) : Type 0 where
+  pub value : ℕ
+  pub high : number ≡ value * 2 ^ (64 - length (code_word byte))
+  pub word : bits (length (code_word byte)) value ≡ code_word byte
+  pub below : value < 2 ^ length (code_word byte)
+
 -- The pending bits are the high ones of a number of 64 bits, whose other bits are 0.
 pub record IsPending (plain out : List ℕ) (index acc count written : ℕ) : Type 0 where
   pub value : ℕ

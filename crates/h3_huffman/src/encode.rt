@@ -1,28 +1,25 @@
 //! Writes Huffman payloads.
 ghost use Rattle.std.specs.Prelude.{◌≡◌, ℕ, List, ◌+◌, ◌*◌, ◌^◌, ◌<◌, ◌≤◌, ◌++◌, IfSome, take, length, flat_map};
 ghost use Rattle.std.specs.Int.{w32, to_be_bytes};
-ghost use Rattle.h3_huffman.specs.Huffman.{huffman, bits, code_word};
-ghost use Rattle.h3_huffman.specs.Writing.{IsPending};
+ghost use Rattle.h3_huffman.specs.Huffman.{huffman, code_word};
+ghost use Rattle.h3_huffman.specs.Writing.{IsHighWord, IsPending};
 
 use crate::tables::{WORD_LENGTHS, WORDS};
 
 /// How many bits the word of a byte has.
 fn word_len(byte: u8) -> u64
     ensures value { result ≡ length (code_word byte) }
-    ensures some { 0 < result }
     ensures most { result ≤ 30 }
 {
     let length = WORD_LENGTHS[byte as usize];
     u64::from(length)
 }
 
-/// The word of a byte, as a number.
+/// The word of a byte, at the high end of 64 bits.
 fn word_of(byte: u8) -> u64
-    ensures value { bits (length (code_word byte)) result ≡ code_word byte }
-    ensures below { result < 2 ^ length (code_word byte) }
+    ensures { IsHighWord byte result }
 {
-    let word = WORDS[byte as usize];
-    u64::from(word)
+    WORDS[byte as usize]
 }
 
 /// Writes the four bytes of a number, the high one first.
@@ -74,7 +71,7 @@ pub fn payload_len(plain: &[u8]) -> usize
 }
 
 /// What is not yet written: the high `count` bits of `acc`, which go to `out[written]` on. The bits below them are 0. So a word is put
-/// behind them by a shift that waits for no other word.
+/// behind them by one shift, which waits for the lengths of those before it alone.
 #[derive(Copy, Clone)]
 struct Pending {
     acc: u64,
@@ -120,10 +117,10 @@ fn add_four(plain: &[u8], place: usize, before: Pending) -> Option<Pending>
     if count >= 64 {
         return None;
     }
-    let first = before.acc | word_of(plain[place]) << (64 - first_end);
-    let second = first | word_of(plain[place + 1]) << (64 - second_end);
-    let third = second | word_of(plain[place + 2]) << (64 - third_end);
-    let acc = third | word_of(plain[place + 3]) << (64 - count);
+    let first = before.acc | word_of(plain[place]) >> before.count;
+    let second = first | word_of(plain[place + 1]) >> first_end;
+    let third = second | word_of(plain[place + 2]) >> second_end;
+    let acc = third | word_of(plain[place + 3]) >> third_end;
     Some(Pending {
         acc,
         count,
@@ -141,17 +138,16 @@ fn put_one(plain: &[u8], place: usize, out: &mut [u8], before: Pending) -> Pendi
     ensures few { result.count < 32 }
     ensures same { length out.new ≡ length out.old }
 {
-    let count = before.count + word_len(plain[place]);
     let ahead = Pending {
-        acc: before.acc | word_of(plain[place]) << (64 - count),
-        count,
+        acc: before.acc | word_of(plain[place]) >> before.count,
+        count: before.count + word_len(plain[place]),
         written: before.written,
     };
     flush(out, ahead)
 }
 
 /// Writes the words of a string, save for the last bits of fewer than four bytes: four bytes at a time while their words are short, then
-/// two at a time, which costs less for long words than a try of four that fails, and the last ones one at a time.
+/// two at a time, which costs less for long words than a try of four that fails.
 #[inline(always)]
 fn put_words(plain: &[u8], out: &mut [u8]) -> Pending
     requires { length (huffman plain.now) ≤ length out.old }
@@ -173,14 +169,13 @@ fn put_words(plain: &[u8], out: &mut [u8]) -> Pending
         pending = flush(out, ahead);
         place += 4;
     }
-    'pairs: while plain.len() - place >= 4 {
+    'pairs: while plain.len() - place >= 2 {
         pending = put_one(plain, place, out, pending);
         pending = put_one(plain, place + 1, out, pending);
         place += 2;
     }
-    'ones: while place < plain.len() {
+    if place < plain.len() {
         pending = put_one(plain, place, out, pending);
-        place += 1;
     }
     pending
 }

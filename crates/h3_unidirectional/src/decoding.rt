@@ -13,7 +13,7 @@ ghost use Rattle.h3_unidirectional.specs.Fronts.{HearsFront, StopsHearing};
 ghost use Rattle.h3_unidirectional.specs.Windows.{is_longer, HearingEnds, HearsWindow};
 
 use crate::limits::{is_longer, window};
-use crate::waiting::{WaitingBytes, drop_front};
+use crate::waiting::{WaitingBytes, drop_front, keep};
 use h3_field::waiting::{Wait, encoder_wait, encoder_wait_behind};
 use h3_proto::error::Code;
 use h3_qpack::reserved::{INCREMENT_LEN, put_increment};
@@ -76,7 +76,7 @@ impl Decoding {
         ensures ok { OnOk result (self.new ≡ record self.old { unread = self.old.unread ++ bytes.now }) }
         ensures err { OnErr result (self.new ≡ self.old) }
     {
-        self.unread.extend_from_slice(bytes)?;
+        keep(&mut self.unread, bytes)?;
         self.wait = encoder_wait_behind(self.wait, bytes, self.unread.as_slice());
         Ok(())
     }

@@ -15,7 +15,7 @@ ghost use Rattle.h3_unidirectional.specs.Learned.{having_learned, usable_capacit
 ghost use Rattle.h3_unidirectional.specs.Windows.{is_longer, ListeningEnds, ListensWindow, IsRefusedAt};
 
 use crate::limits::{is_longer, most_kept, window};
-use crate::waiting::{WaitingBytes, drop_front};
+use crate::waiting::{WaitingBytes, drop_front, keep};
 use h3_field::HeaderField;
 use h3_field::waiting::{Wait, decoder_wait, decoder_wait_behind};
 use h3_proto::config::{Choices, MAX_BLOCKED_STREAMS, MAX_TABLE_CAPACITY};
@@ -84,7 +84,7 @@ impl Encoding {
         ensures ok { OnOk result (self.new ≡ record self.old { unread = self.old.unread ++ bytes.now }) }
         ensures err { OnErr result (self.new ≡ self.old) }
     {
-        self.unread.extend_from_slice(bytes)?;
+        keep(&mut self.unread, bytes)?;
         self.wait = decoder_wait_behind(self.wait, bytes, self.unread.as_slice());
         Ok(())
     }

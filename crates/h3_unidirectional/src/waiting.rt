@@ -23,6 +23,19 @@ impl Model for WaitingBytes {
     ghost view = { λ w. drop w.taken w.bytes.items };
 }
 
+/// Adds bytes at the end. One byte is pushed, since a call to copy it would cost more. A refusal changes nothing.
+#[inline(always)]
+pub(crate) fn keep(kept: &mut Vec<u8>, bytes: &[u8]) -> Result<(), AllocError>
+    ensures ok { OnOk result (kept.new.items ≡ kept.old.items ++ bytes.now) }
+    ensures err { OnErr result (kept.new.items ≡ kept.old.items) }
+{
+    if bytes.len() == 1 {
+        kept.push(bytes[0])?;
+        return Ok(());
+    }
+    kept.extend_from_slice(bytes)
+}
+
 /// Drops the first `count` bytes, or all if there are fewer.
 pub(crate) fn drop_front(bytes: &mut Vec<u8>, count: usize)
     ensures { bytes.new.items ≡ drop count bytes.old.items }

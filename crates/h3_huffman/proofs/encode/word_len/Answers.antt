@@ -14,9 +14,3 @@ returns-clause-most c =
     let w = word_is c.args.byte (omega arith) in
     let e : c.from.result ≡ get_or WORD_LENGTHS c.args.byte 0 = c.from.ensures in
     rw e w.most
-
-pub returns-clause-some : goal.returns-clause-some
-returns-clause-some c =
-    let w = word_is c.args.byte (omega arith) in
-    let e : c.from.result ≡ get_or WORD_LENGTHS c.args.byte 0 = c.from.ensures in
-    rw e (omega (arith, w.least))
