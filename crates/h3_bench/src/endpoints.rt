@@ -23,6 +23,9 @@ struct Shape {
     under_way: usize,
 }
 
+/// How many bytes are carried at once, those of bodies aside.
+const PACKET: usize = 1200;
+
 /// The fields of a header section.
 #[derive(Drop)]
 struct Head {
@@ -44,18 +47,18 @@ fn heads(alloc: Global, bytes: &[u8]) -> Result<Vec<Head>, Failure> {
 #[derive(Drop)]
 struct Messages {
     heads: Vec<Head>,
-    body: Bytes,
+    body: Vec<u8>,
 }
 
 impl Messages {
     /// Of encoded field sections, and the body's bytes.
     fn new(alloc: Global, sections: &[u8], body: &[u8]) -> Result<Messages, Failure> {
-        let body = Bytes::copy_from_slice(alloc, body)?;
+        let body = Vec::from_slice(alloc, body)?;
         let heads = heads(alloc, sections)?;
         Ok(Messages { heads, body })
     }
 
-    /// Sends a whole message. Its body is the same bytes each time.
+    /// Sends a whole message. Its body is announced by its length, and its bytes stay here.
     fn send(&self, from: &mut Endpoint, id: StreamId) -> Result<(), Failure> {
         let number = (id.into_inner() / 4) as usize;
         let count = self.heads.len();
@@ -65,21 +68,10 @@ impl Messages {
         let head = &self.heads[number % count];
         done(from.send_fields(id, head.fields.as_slice()).is_ok())?;
         if !self.body.is_empty() {
-            self.send_body(from, id)?;
+            done(from.send_body_of(id, self.body.len()).is_ok())?;
         }
         done(from.finish(id).is_ok())
     }
-
-    fn send_body(&self, from: &mut Endpoint, id: StreamId) -> Result<(), Failure> {
-        let body = shared(&self.body)?;
-        done(from.send_body(id, body).is_ok())
-    }
-}
-
-/// The same bytes once more, of which none is copied.
-fn shared(bytes: &Bytes) -> Result<Bytes, Failure> {
-    let again = bytes.clone()?;
-    Ok(again)
 }
 
 fn done(is_done: bool) -> Result<(), Failure> {
@@ -95,6 +87,7 @@ fn done(is_done: bool) -> Result<(), Failure> {
 struct CameOut {
     report: Report,
     answer: BlockPull,
+    packet: [u8; PACKET],
 }
 
 impl CameOut {
@@ -103,21 +96,77 @@ impl CameOut {
         CameOut {
             report: Report::new(),
             answer: BlockPull::new(alloc),
+            packet: [0; PACKET],
         }
     }
 
-    /// Reads what came on a stream, until a pause or its end.
-    fn pull_all(&mut self, to: &mut Endpoint, id: StreamId) {
-        for _ in 0..u32::MAX {
-            to.pull_block(id, &mut self.answer);
-            if !count(&self.answer, &mut self.report) {
-                return;
+    /// Carries what waits on a request stream up to a payload that its sender holds, and then that payload, a part of `body`, which is
+    /// copied nowhere. With the end of the stream, if it is next. All of it is read. Says whether to go on.
+    fn carry(
+        &mut self,
+        alloc: Global,
+        from: &mut Endpoint,
+        to: &mut Endpoint,
+        id: StreamId,
+        body: &[u8],
+    ) -> Result<bool, Failure> {
+        let (count, held, is_end) = from.copy_with_end(id, &mut self.packet);
+        if count > 0 {
+            let copy = Bytes::copy_from_slice(alloc, &self.packet[..count])?;
+            self.take(to, id, copy)?;
+        }
+        if held > 0 {
+            let piece = body.get(..held).ok_or(Failure::Room)?;
+            self.read(alloc, to, id, piece)?;
+        }
+        let carried = count.saturating_add(held);
+        from.advance(id, carried);
+        if is_end {
+            delivered(to.deliver_end(id))?;
+            self.pull(to, id);
+        }
+        Ok(carried > 0 && !is_end)
+    }
+
+    /// Reads a piece of a body where it lies, if it can be.
+    fn read(
+        &mut self,
+        alloc: Global,
+        to: &mut Endpoint,
+        id: StreamId,
+        piece: &[u8],
+    ) -> Result<(), Failure> {
+        match to.read_body(id, piece) {
+            Some(place) => {
+                self.report.add(0, place.len);
+                Ok(())
+            }
+            None => {
+                let copy = Bytes::copy_from_slice(alloc, piece)?;
+                self.take(to, id, copy)
             }
         }
     }
+
+    /// Delivers bytes, and reads all that came.
+    fn take(&mut self, to: &mut Endpoint, id: StreamId, bytes: Bytes) -> Result<(), Failure> {
+        delivered(to.deliver(id, bytes))?;
+        for _ in 0..u32::MAX {
+            if !self.pull(to, id) || to.unread(id) == 0 {
+                break;
+            }
+        }
+        Ok(())
+    }
+
+    /// Reads the next item of a stream, and says whether there may be more. A fault comes out as counts that are too small.
+    fn pull(&mut self, to: &mut Endpoint, id: StreamId) -> bool {
+        to.pull_block(id, &mut self.answer);
+        count(&self.answer, &mut self.report)
+    }
 }
 
-/// Counts what came out, and says whether to pull again at once. A fault comes out as counts that are too small.
+/// Counts what came out, and says whether there may be more.
 fn count(answer: &BlockPull, report: &mut Report) -> bool {
     match answer.told() {
         Told::Message(MessageKind::Head, _) => {
@@ -197,12 +246,12 @@ impl Exchanges<'_> {
         came: &mut CameOut,
     ) -> Result<(), Failure> {
         self.carry_own(client, server)?;
-        self.carry_all(client, server, streams, came)?;
+        self.carry_all(client, server, self.requests, streams, came)?;
         for id in streams {
             self.responses.send(server, *id)?;
         }
         self.carry_own(client, server)?;
-        self.carry_all(server, client, streams, came)?;
+        self.carry_all(server, client, self.responses, streams, came)?;
         self.carry_own(client, server)
     }
 
@@ -217,61 +266,38 @@ impl Exchanges<'_> {
         Ok(())
     }
 
-    /// Carries what waits on request streams, and reads it.
+    /// Carries all that waits on a stream of the endpoint itself.
+    fn carry(&self, from: &mut Endpoint, to: &mut Endpoint, id: StreamId) -> Result<(), Failure> {
+        // a piece has a byte at least
+        for _ in 0..from.waiting(id) {
+            let waits = from.outgoing(id);
+            let count = waits.len();
+            delivered(to.deliver(id, Bytes::copy_from_slice(self.alloc, waits)?))?;
+            from.advance(id, count);
+            if from.waiting(id) == 0 {
+                break;
+            }
+        }
+        Ok(())
+    }
+
+    /// Carries all that waits on request streams, with their ends, and reads it.
     fn carry_all(
         &self,
         from: &mut Endpoint,
         to: &mut Endpoint,
+        sent: &Messages,
         streams: &[StreamId],
         came: &mut CameOut,
     ) -> Result<(), Failure> {
         for id in streams {
-            self.carry(from, to, *id)?;
-            came.pull_all(to, *id);
-        }
-        Ok(())
-    }
-
-    /// Carries all that waits on a stream, and the end of one that is finished.
-    fn carry(&self, from: &mut Endpoint, to: &mut Endpoint, id: StreamId) -> Result<(), Failure> {
-        // a piece has a byte at least
-        for _ in 0..from.waiting(id) {
-            if !self.carry_piece(from, to, id)? {
-                break;
+            for _ in 0..u32::MAX {
+                if !came.carry(self.alloc, from, to, *id, sent.body.as_slice())? {
+                    break;
+                }
             }
         }
-        if from.is_finished(id) {
-            return delivered(to.deliver_end(id));
-        }
         Ok(())
-    }
-
-    /// Carries the first piece of what waits whole, and says whether there was one.
-    fn carry_piece(
-        &self,
-        from: &mut Endpoint,
-        to: &mut Endpoint,
-        id: StreamId,
-    ) -> Result<bool, Failure> {
-        let waits = from.outgoing(id);
-        if waits.is_empty() {
-            return Ok(false);
-        }
-        let piece = self.piece(from.outgoing_body(id), waits)?;
-        let count = piece.len();
-        delivered(to.deliver(id, piece))?;
-        from.advance(id, count);
-        Ok(true)
-    }
-
-    /// What waits first, as it is carried. A piece of a body is a clone, which copies nothing: a copy would take most of the time of a long
-    /// body, and measure no call of an endpoint. Any other piece is copied into a block of its own, as a program does that only borrows it.
-    fn piece(&self, body: Option<&Bytes>, waits: &[u8]) -> Result<Bytes, Failure> {
-        if let Some(body) = body {
-            return shared(body);
-        }
-        let piece = Bytes::copy_from_slice(self.alloc, waits)?;
-        Ok(piece)
     }
 }
 

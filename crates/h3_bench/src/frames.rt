@@ -112,14 +112,14 @@ fn read_stream(alloc: Global, pieces: &[Bytes]) -> Result<Report, Failure> {
     Ok(report)
 }
 
-/// Copies of the pieces of a stream, as its packets bring them.
-fn pieces_of(alloc: Global, bytes: &[u8], size: usize) -> Result<Vec<Bytes>, Failure> {
+/// The pieces of a stream, as its packets bring them. They are lent, so no owners are counted.
+fn pieces_of(alloc: Global, bytes: &'static [u8], size: usize) -> Result<Vec<Bytes>, Failure> {
     if size == 0 {
         return Err(Failure::Input);
     }
     let mut pieces = Vec::new(alloc);
     for piece in bytes.chunks(size) {
-        pieces.push(Bytes::copy_from_slice(alloc, piece)?)?;
+        pieces.push(Bytes::from_static(piece))?;
     }
     Ok(pieces)
 }
@@ -132,7 +132,12 @@ fn read_rounds(alloc: Global, rounds: u64, pieces: &[Bytes]) -> Result<Report, F
     Ok(report)
 }
 
-fn read(alloc: Global, rounds: u64, bytes: &[u8], size: usize) -> Result<Report, Failure> {
+fn read(
+    alloc: Global,
+    rounds: u64,
+    bytes: &'static [u8],
+    size: usize,
+) -> Result<Report, Failure> {
     read_rounds(alloc, rounds, &pieces_of(alloc, bytes, size)?)
 }
 
@@ -142,7 +147,7 @@ pub extern "C" fn h3_bench_frames_read(
     alloc: Global,
     rounds: u64,
     size: usize,
-    bytes: &[u8],
+    bytes: &'static [u8],
     report: &mut Report,
 ) -> u32 {
     answer(read(alloc, rounds, bytes, size), report)

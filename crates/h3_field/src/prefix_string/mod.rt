@@ -186,6 +186,7 @@ fn put_by_way_of(
 
 /// Appends the length of a string that is empty, and has an empty encoding. It is not shorter, so if `shortest` the string is written as it
 /// stands.
+#[inline(always)]
 fn put_empty(
     size: u8,
     flags: u8,
@@ -307,6 +308,7 @@ fn put_name(
 }
 
 /// Appends the length of a short string and its Huffman encoding, or the string as it stands. A refusal may leave a part of them.
+#[inline(always)]
 fn put_short(
     size: u8,
     flags: u8,
@@ -333,6 +335,7 @@ fn put_short(
 
 /// Appends the length of a string and its Huffman encoding, or the string as it stands. The encoding is counted first. A refusal may leave
 /// a part of them.
+#[inline(never)]
 fn put_long(
     size: u8,
     flags: u8,
@@ -375,6 +378,7 @@ pub fn encode(size: u8, flags: u8, value: &[u8], buf: &mut Vec<u8>) -> Result<()
 // RFC 9204 4.1.2: shortest strings
 /// Appends a string in the low `size` bits of a byte below `flags`: Huffman coded, or as it stands if `shortest` and its Huffman code is
 /// not shorter. A refusal appends nothing.
+#[inline(always)]
 pub fn write(
     size: u8,
     flags: u8,
