@@ -132,12 +132,7 @@ fn read_rounds(alloc: Global, rounds: u64, pieces: &[Bytes]) -> Result<Report, F
     Ok(report)
 }
 
-fn read(
-    alloc: Global,
-    rounds: u64,
-    bytes: &'static [u8],
-    size: usize,
-) -> Result<Report, Failure> {
+fn read(alloc: Global, rounds: u64, bytes: &'static [u8], size: usize) -> Result<Report, Failure> {
     read_rounds(alloc, rounds, &pieces_of(alloc, bytes, size)?)
 }
 

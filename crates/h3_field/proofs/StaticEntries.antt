@@ -1,7 +1,7 @@
 -- What the hashes find is what a search finds.
-use Rattle.std.proofs.Common.{◌≡◌, ◌==◌, ℕ, zero, suc, ◌+◌, ◌<◌, ◌≤◌, ◌⊎◌, nat_lt, bytes_eq, Bool, true, false, not, ◌&&◌, List, [], ◌∷◌, length, Option, Some, None, refl, ap, sym, subst, ◌∙◌, arith, inl, inr}
+use Rattle.std.proofs.Common.{◌≡◌, ◌==◌, ℕ, zero, suc, ◌+◌, ◌<◌, ◌≤◌, ◌⊎◌, nat_lt, bytes_eq, Bool, cond, true, false, not, ◌&&◌, List, [], ◌∷◌, length, Option, Some, None, refl, ap, sym, subst, ◌∙◌, arith, inl, inr}
 use Rattle.std.specs.List.{slice_get, position_or_len}
-use Rattle.std.proofs.lemmas.Bool.{and_parts, eqb-true, leb-true, ltb-true, cases_eq, cases_lt, le-ltb, false≢true}
+use Rattle.std.proofs.lemmas.Bool.{and_parts, eqb-true, leb-true, ltb-true, cases_eq, cases_lt, le-ltb, lt-ltb, false≢true}
 use Rattle.std.proofs.lemmas.Slice.Eq.{bytes_eq-Decides}
 use Rattle.h3_huffman.specs.PayloadLaws.{bytes_same}
 use Rattle.h3_field.specs.Field.{Field, plain_field, field_eq}
@@ -260,3 +260,25 @@ field_here f name value hash slot s lt at eq value_at value_eq plain =
 
 pub names_entry : (i : ℕ) (name : List ℕ) → i < 99 → name ≡ name_of i → NamesEntry i name
 names_entry i name lt n = record { entry = entry_of i; here = entry_is i (name_of i) (value_of i) lt refl refl; name_is = sym n }
+
+later_by : (a b : Bool) (m n : ℕ) → (b ≡ true → a ≡ true) → m ≤ n → cond (not a) (1 + m) 0 ≤ cond (not b) (1 + n) 0
+later_by true b m n h k = omega arith
+later_by false true m n h k = absurd (false≢true (h refl))
+later_by false false m n h k = omega arith
+
+-- what passes fewer passes first no sooner
+later : (p q : Field → Bool) (rows : List Field) → ((x : Field) → q x ≡ true → p x ≡ true) → position_or_len p rows ≤ position_or_len q rows
+later p q [] h = omega arith
+later p q (x ∷ rows) h = later_by (p x) (q x) (position_or_len p rows) (position_or_len q rows) (h x) (later p q rows h)
+
+-- no entry is a field whose name none has
+pub no_name_no_field : (f : Field) → static_name f.name ≡ None → static_field f ≡ None
+unfolding static_name static_field
+no_name_no_field f none =
+    let name = position_or_len (λ (entry : Field). bytes_eq entry.name f.name) static_table in
+    let first = position_or_len (λ (entry : Field). field_eq entry f) static_table in
+    let sooner : name ≤ first = later (λ entry. bytes_eq entry.name f.name) (λ entry. field_eq entry f) static_table (λ entry same. (and_parts _ _ (and_parts _ _ same).1).0) in
+    elim (cases_lt name (length static_table)) [
+      | inl some ↦ absurd (let never : Some name ≡ None = rw (lt-ltb name (length static_table) some) at none in cc)
+      | inr more ↦ rw (le-ltb first (length static_table) (omega (arith, more, sooner))) refl
+    ]

@@ -10,6 +10,7 @@ pub mod StringLiteral
 pub mod StringReading
 pub mod StringLaws
 pub mod StaticTable
+pub mod StaticFound
 pub mod Shapes
 pub mod ShapeLaws
 pub mod Line

@@ -13,7 +13,7 @@ use crate::block::{HeaderPrefix, Indexed, Literal, LiteralWithNameRef};
 use crate::encoder_error::EncoderError;
 use crate::field::HeaderField;
 use crate::fields::{FieldRef, Fields};
-use crate::static_::StaticTable;
+use crate::static_::{Found, StaticTable};
 
 /// Appends the line of a field: an entry of the static table, or a literal with a static or literal name. A field with the flag is a
 /// literal with the bit N (RFC 9204, section 4.5.4). `shortest` is as in `Literal::write`. A refusal appends nothing.
@@ -27,16 +27,15 @@ pub fn encode_static_line(
     ensures ok { OnOk result (block.new.items ≡ block.old.items ++ line_bytes (static_line_by shortest field.now)) }
     ensures err { OnErr result (block.new.items ≡ block.old.items) }
 {
-    if let Some(index) = StaticTable::find_lent(field) {
-        Indexed::Static(index).encode(block)?;
-        return Ok(());
-    }
     let never_indexed = field.is_never_indexed();
-    if let Some(index) = StaticTable::find_name(field.name()) {
-        LiteralWithNameRef::write_static(index, field.value(), never_indexed, shortest, block)?;
-        return Ok(());
+    let (name, value) = (field.name(), field.value());
+    match StaticTable::look_up(field) {
+        Found::Entry(index) => Indexed::Static(index).encode(block)?,
+        Found::Name(index) => {
+            LiteralWithNameRef::write_static(index, value, never_indexed, shortest, block)?
+        }
+        Found::Nothing => Literal::write(name, value, never_indexed, shortest, block)?,
     }
-    Literal::write(field.name(), field.value(), never_indexed, shortest, block)?;
     Ok(())
 }
 

@@ -120,6 +120,20 @@ fn first_byte(size: u8, flags: u8, low: u64) -> u8
     (top + low) as u8
 }
 
+/// The encoding of `value` in the low `size` bits of a byte below `flags`. None: it has more than one byte.
+#[inline(always)]
+pub(crate) fn one_byte(size: u8, flags: u8, value: u64) -> Option<u8>
+    requires least { 1 ≤ size }
+    requires most { size ≤ 8 }
+    requires flags { flags < 2 ^ (8 - size) }
+    ensures { IfSome result (λ first. first ∷ [] ≡ prefixed size flags value) }
+{
+    if value >= greatest(size) {
+        return None;
+    }
+    Some(first_byte(size, flags, value))
+}
+
 /// The encoding of `value` in the low `size` bits of a byte below `flags`, and in the next byte. None: it has not two bytes.
 #[inline(always)]
 pub(crate) fn two_bytes(size: u8, flags: u8, value: u64) -> Option<(u8, u8)>

@@ -233,6 +233,7 @@ pub(crate) fn put_index_and_string(
 }
 
 /// Appends two strings, written as `prefix_string::write` does. A refusal appends nothing.
+#[inline(always)]
 pub(crate) fn put_two_strings(
     size: u8,
     flags: u8,
@@ -252,11 +253,5 @@ pub(crate) fn put_two_strings(
         (string_literal size flags (coded shortest name.now) ++ string_literal 8 0 (coded shortest value.now))) }
     ensures err { OnErr result (buf.new.items ≡ buf.old.items) }
 {
-    let start = buf.len();
-    prefix_string::write(size, flags, name, shortest, buf)?;
-    if prefix_string::write(8, 0, value, shortest, buf).is_err() {
-        buf.truncate(start);
-        return Err(prefix_string::Error::OutOfMemory);
-    }
-    Ok(())
+    prefix_string::write_two(size, flags, name, value, shortest, buf)
 }

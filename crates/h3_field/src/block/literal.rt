@@ -478,6 +478,7 @@ impl Literal {
 
     /// Appends the line with that name, value and bit N. If `shortest`, each is written as it stands if its Huffman code is not shorter;
     /// else both are Huffman coded.
+    #[inline(always)]
     pub fn write(
         name: &[u8],
         value: &[u8],

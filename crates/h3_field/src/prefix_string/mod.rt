@@ -1,6 +1,5 @@
 //! String literals (RFC 9204, section 4.1.2; RFC 7541, section 5.2): as they stand or Huffman coded, after their length.
-ghost use Rattle.std.specs.Prelude.{◌≡◌, ◌+◌, ◌*◌, ◌-◌, ◌^◌, ◌<◌, ◌≤◌, ◌++◌, OnOk, OnErr, IfSome, Result, length, take, Some, vec_len};
-ghost use Rattle.std.specs.Prelude.{vec_capacity};
+ghost use Rattle.std.specs.Prelude.{◌≡◌, ◌+◌, ◌*◌, ◌-◌, ◌^◌, ◌<◌, ◌≤◌, ◌++◌, OnOk, OnErr, IfOk, IfSome, Result, length, take, Some, true, false};
 ghost use Rattle.h3_huffman.specs.Huffman.{huffman};
 ghost use Rattle.h3_field.specs.Ends.{IsEndOf};
 ghost use Rattle.h3_field.specs.ErrorTexts.{string_text};
@@ -119,7 +118,7 @@ pub fn decode(alloc: Global, size: u8, buf: &mut SliceCursor<'_>) -> Result<Vec<
 /// The longest string that is encoded in one pass: as it stands, its length takes one byte.
 const SHORT: usize = 126;
 
-/// The longest string that is encoded into an array of its own: its length most often takes one byte, whatever `size` is.
+/// The longest string whose length most often takes one byte, whatever `size` is.
 const VERY_SHORT: usize = 8;
 
 /// Whether a string is written Huffman coded, of which the code has `len` bytes: if `shortest`, only if that is shorter; else always.
@@ -142,46 +141,6 @@ fn put_plain(size: u8, flags: u8, value: &[u8], buf: &mut Vec<u8>) -> Result<(),
 {
     prefix_int::encode(size - 1, 2 * flags, value.len() as u64, buf)?;
     buf.extend_from_slice(value)
-}
-
-/// Appends so few bytes that a call to copy them would cost more. `buf` needs room for them.
-#[inline(always)]
-fn push_few(bytes: &[u8], buf: &mut Vec<u8>)
-    requires { vec_len buf.old + length bytes.now ≤ vec_capacity buf.old }
-    ensures { buf.new.items ≡ buf.old.items ++ bytes.now }
-{
-    for byte in bytes {
-        buf.push_reserved(*byte);
-    }
-}
-
-/// Writes the Huffman encoding of a string to the front of `room`, and appends its length and what was written, or the string as it stands.
-/// A refusal may leave a part of them.
-#[inline(always)]
-fn put_by_way_of(
-    room: &mut [u8],
-    size: u8,
-    flags: u8,
-    value: &[u8],
-    shortest: bool,
-    buf: &mut Vec<u8>,
-) -> Result<(), AllocError>
-    requires least { 2 ≤ size }
-    requires most { size ≤ 8 }
-    requires flags { flags < 2 ^ (8 - size) }
-    requires short { length value.now ≤ 126 }
-    requires room { 4 * length value.now + 4 ≤ length room.old }
-    ensures ok { OnOk result (buf.new.items ≡ buf.old.items ++ string_literal size flags (coded shortest value.now)) }
-    ensures err { OnErr result (take (length buf.old.items) buf.new.items ≡ buf.old.items) }
-{
-    let len = h3_huffman::encode::encode_front(value, room);
-    if !is_coded(value, shortest, len) {
-        return put_plain(size, flags, value, buf);
-    }
-    prefix_int::encode(size - 1, 2 * flags + 1, len as u64, buf)?;
-    buf.reserve(len)?;
-    push_few(&room[..len], buf);
-    Ok(())
 }
 
 /// Appends the length of a string that is empty, and has an empty encoding. It is not shorter, so if `shortest` the string is written as it
@@ -207,66 +166,67 @@ fn put_empty(
     prefix_int::encode(size - 1, 2 * flags + 1, value.len() as u64, buf)
 }
 
-/// Writes the length of a short string, and the string as it stands, to the front of `out`, and returns how many bytes they are.
+/// Writes the length of a short string, and the string as it stands, to the front of `out`, and returns how many bytes they are. None: the
+/// length takes more than one byte.
 #[inline(always)]
-fn write_plain(value: &[u8], out: &mut [u8]) -> usize
+fn write_plain(size: u8, flags: u8, value: &[u8], out: &mut [u8]) -> Option<usize>
+    requires least { 2 ≤ size }
+    requires most { size ≤ 8 }
+    requires flags { flags < 2 ^ (8 - size) }
     requires short { length value.now ≤ 126 }
     requires room { length value.now + 1 ≤ length out.old }
-    ensures within { result ≤ length out.new }
-    ensures literal { take result out.new ≡ string_literal 8 0 (plain_text value.now) }
+    ensures most { IfSome result (λ count. count ≤ length value.now + 1) }
+    ensures literal { IfSome result (λ count. take count out.new ≡ string_literal size flags (plain_text value.now)) }
 {
     let len = value.len();
+    let first = prefix_int::one_byte(size - 1, 2 * flags, len as u64)?;
     out[1..len + 1].copy_from_slice(value);
-    out[0] = len as u8;
-    len + 1
+    out[0] = first;
+    Some(len + 1)
 }
 
 /// Writes the length and the Huffman encoding of a short string to the front of `out`, or the string as it stands, and returns how many
 /// bytes they are. None: the length takes more than one byte.
 #[inline(always)]
-fn write_value(value: &[u8], shortest: bool, out: &mut [u8]) -> Option<usize>
-    requires short { length value.now ≤ 126 }
-    requires room { 4 * length value.now + 5 ≤ length out.old }
-    ensures within { IfSome result (λ count. count ≤ length out.new) }
-    ensures literal { IfSome result (λ count. take count out.new ≡ string_literal 8 0 (coded shortest value.now)) }
-{
-    let len = h3_huffman::encode::encode_front(value, &mut out[1..]);
-    if !is_coded(value, shortest, len) {
-        return Some(write_plain(value, out));
-    }
-    if len >= 127 {
-        return None;
-    }
-    out[0] = 128 + len as u8;
-    Some(len + 1)
-}
-
-/// Appends a short string with no flags. It is encoded in its final place. A refusal may leave a part of it.
-fn put_value(value: &[u8], shortest: bool, buf: &mut Vec<u8>) -> Result<(), AllocError>
-    requires short { length value.now ≤ 126 }
-    ensures ok { OnOk result (buf.new.items ≡ buf.old.items ++ string_literal 8 0 (coded shortest value.now)) }
-    ensures err { OnErr result (take (length buf.old.items) buf.new.items ≡ buf.old.items) }
-{
-    let start = buf.len();
-    // the length, at most four bytes of code for each, and what the encoder writes after its last bits
-    buf.resize(start.saturating_add(4 * value.len() + 5), 0)?;
-    let Some(count) = write_value(value, shortest, &mut buf[start..]) else {
-        buf.truncate(start);
-        return put_long(8, 0, value, shortest, buf);
-    };
-    buf.truncate(start + count);
-    Ok(())
-}
-
-/// Writes the length, which takes two bytes, and the Huffman encoding of a short string to the front of `out`, and returns how many bytes
-/// they are. None: the length takes one byte, or more than two, or the string is to be written as it stands.
-#[inline(always)]
-fn write_name(size: u8, flags: u8, value: &[u8], shortest: bool, out: &mut [u8]) -> Option<usize>
+fn write_behind_one(
+    size: u8,
+    flags: u8,
+    value: &[u8],
+    shortest: bool,
+    out: &mut [u8],
+) -> Option<usize>
     requires least { 2 ≤ size }
     requires most { size ≤ 8 }
     requires flags { flags < 2 ^ (8 - size) }
     requires short { length value.now ≤ 126 }
     requires room { 4 * length value.now + 6 ≤ length out.old }
+    ensures most { IfSome result (λ count. count ≤ 4 * length value.now + 6) }
+    ensures within { IfSome result (λ count. count ≤ length out.new) }
+    ensures literal { IfSome result (λ count. take count out.new ≡ string_literal size flags (coded shortest value.now)) }
+{
+    let len = h3_huffman::encode::encode_front(value, &mut out[1..]);
+    if !is_coded(value, shortest, len) {
+        return write_plain(size, flags, value, out);
+    }
+    out[0] = prefix_int::one_byte(size - 1, 2 * flags + 1, len as u64)?;
+    Some(len + 1)
+}
+
+/// The same where the length takes two bytes. None: it takes one byte, or more than two, or the string is to be written as it stands.
+#[inline(always)]
+fn write_behind_two(
+    size: u8,
+    flags: u8,
+    value: &[u8],
+    shortest: bool,
+    out: &mut [u8],
+) -> Option<usize>
+    requires least { 2 ≤ size }
+    requires most { size ≤ 8 }
+    requires flags { flags < 2 ^ (8 - size) }
+    requires short { length value.now ≤ 126 }
+    requires room { 4 * length value.now + 6 ≤ length out.old }
+    ensures most { IfSome result (λ count. count ≤ 4 * length value.now + 6) }
     ensures within { IfSome result (λ count. count ≤ length out.new) }
     ensures literal { IfSome result (λ count. take count out.new ≡ string_literal size flags (coded shortest value.now)) }
 {
@@ -280,9 +240,50 @@ fn write_name(size: u8, flags: u8, value: &[u8], shortest: bool, out: &mut [u8])
     Some(len + 2)
 }
 
-/// Appends a short string, of which the length most often takes two bytes. It is encoded in its final place. A refusal may leave a part of
-/// it.
-fn put_name(
+/// Writes the length of a string that is empty, and has an empty encoding. It is not shorter, so if `shortest` the string is written as it
+/// stands.
+#[inline(always)]
+fn write_empty(size: u8, flags: u8, value: &[u8], shortest: bool, out: &mut [u8]) -> Option<usize>
+    requires least { 2 ≤ size }
+    requires most { size ≤ 8 }
+    requires flags { flags < 2 ^ (8 - size) }
+    requires empty { length value.now ≡ 0 }
+    requires room { 6 ≤ length out.old }
+    ensures most { IfSome result (λ count. count ≤ 6) }
+    ensures literal { IfSome result (λ count. take count out.new ≡ string_literal size flags (coded shortest value.now)) }
+{
+    if shortest {
+        return write_plain(size, flags, value, out);
+    }
+    out[0] = prefix_int::one_byte(size - 1, 2 * flags + 1, value.len() as u64)?;
+    Some(1)
+}
+
+/// Writes a short string to the front of `out`, in its final place, and returns how many bytes it takes. None: its length takes another
+/// number of bytes than is likely.
+#[inline(always)]
+fn write_short(size: u8, flags: u8, value: &[u8], shortest: bool, out: &mut [u8]) -> Option<usize>
+    requires least { 2 ≤ size }
+    requires most { size ≤ 8 }
+    requires flags { flags < 2 ^ (8 - size) }
+    requires short { length value.now ≤ 126 }
+    requires room { 4 * length value.now + 6 ≤ length out.old }
+    ensures most { IfSome result (λ count. count ≤ 4 * length value.now + 6) }
+    ensures within { IfSome result (λ count. count ≤ length out.new) }
+    ensures literal { IfSome result (λ count. take count out.new ≡ string_literal size flags (coded shortest value.now)) }
+{
+    if value.is_empty() {
+        return write_empty(size, flags, value, shortest, out);
+    }
+    if size == 8 || value.len() <= VERY_SHORT {
+        return write_behind_one(size, flags, value, shortest, out);
+    }
+    write_behind_two(size, flags, value, shortest, out)
+}
+
+/// Appends the length of a short string and its Huffman encoding, or the string as it stands. It is encoded in its final place. A refusal
+/// may leave a part of it.
+fn put_short(
     size: u8,
     flags: u8,
     value: &[u8],
@@ -299,7 +300,7 @@ fn put_name(
     let start = buf.len();
     // the length, at most four bytes of code for each, and what the encoder writes after its last bits
     buf.resize(start.saturating_add(4 * value.len() + 6), 0)?;
-    let Some(count) = write_name(size, flags, value, shortest, &mut buf[start..]) else {
+    let Some(count) = write_short(size, flags, value, shortest, &mut buf[start..]) else {
         buf.truncate(start);
         return put_long(size, flags, value, shortest, buf);
     };
@@ -307,30 +308,60 @@ fn put_name(
     Ok(())
 }
 
-/// Appends the length of a short string and its Huffman encoding, or the string as it stands. A refusal may leave a part of them.
+/// Writes two short strings to the front of `out`, as `write_short` does.
 #[inline(always)]
-fn put_short(
+fn write_both(
     size: u8,
     flags: u8,
+    name: &[u8],
     value: &[u8],
     shortest: bool,
-    buf: &mut Vec<u8>,
-) -> Result<(), AllocError>
+    out: &mut [u8],
+) -> Option<usize>
     requires least { 2 ≤ size }
     requires most { size ≤ 8 }
     requires flags { flags < 2 ^ (8 - size) }
-    requires short { length value.now ≤ 126 }
-    ensures ok { OnOk result (buf.new.items ≡ buf.old.items ++ string_literal size flags (coded shortest value.now)) }
+    requires name { length name.now ≤ 126 }
+    requires value { length value.now ≤ 126 }
+    requires room { 4 * length name.now + 4 * length value.now + 12 ≤ length out.old }
+    ensures within { IfSome result (λ count. count ≤ length out.new) }
+    ensures literals { IfSome result (λ count. take count out.new ≡
+        string_literal size flags (coded shortest name.now) ++ string_literal 8 0 (coded shortest value.now)) }
+{
+    let first = write_short(size, flags, name, shortest, out)?;
+    let second = write_short(8, 0, value, shortest, &mut out[first..])?;
+    Some(first + second)
+}
+
+/// Appends two short strings, both in their final place. False: nothing is appended, since the length of one takes another number of bytes
+/// than is likely. A refusal may leave a part of them.
+#[inline(always)]
+fn put_both_short(
+    size: u8,
+    flags: u8,
+    name: &[u8],
+    value: &[u8],
+    shortest: bool,
+    buf: &mut Vec<u8>,
+) -> Result<bool, AllocError>
+    requires least { 2 ≤ size }
+    requires most { size ≤ 8 }
+    requires flags { flags < 2 ^ (8 - size) }
+    requires name { length name.now ≤ 126 }
+    requires value { length value.now ≤ 126 }
+    ensures ok { IfOk result (λ both. both ≡ true → buf.new.items ≡
+        buf.old.items ++ (string_literal size flags (coded shortest name.now) ++ string_literal 8 0 (coded shortest value.now))) }
+    ensures none { IfOk result (λ both. both ≡ false → buf.new.items ≡ buf.old.items) }
     ensures err { OnErr result (take (length buf.old.items) buf.new.items ≡ buf.old.items) }
 {
-    if size == 8 {
-        return put_value(value, shortest, buf);
-    }
-    if value.len() <= VERY_SHORT {
-        let mut room = [0u8; 4 * VERY_SHORT + 4];
-        return put_by_way_of(&mut room, size, flags, value, shortest, buf);
-    }
-    put_name(size, flags, value, shortest, buf)
+    let start = buf.len();
+    buf.resize(start.saturating_add(4 * (name.len() + value.len()) + 12), 0)?;
+    let Some(count) = write_both(size, flags, name, value, shortest, &mut buf[start..]) else {
+        buf.truncate(start);
+        return Ok(false);
+    };
+    buf.truncate(start + count);
+    Ok(true)
 }
 
 /// Appends the length of a string and its Huffman encoding, or the string as it stands. The encoding is counted first. A refusal may leave
@@ -360,6 +391,31 @@ fn put_long(
     buf.resize(start + len, 0)?;
     h3_huffman::encode::encode_into(value, &mut buf[start..]);
     Ok(())
+}
+
+/// Appends the length of a string and its Huffman encoding, or the string as it stands. A refusal may leave a part of them.
+#[inline(always)]
+fn put_string(
+    size: u8,
+    flags: u8,
+    value: &[u8],
+    shortest: bool,
+    buf: &mut Vec<u8>,
+) -> Result<(), AllocError>
+    requires least { 2 ≤ size }
+    requires most { size ≤ 8 }
+    requires flags { flags < 2 ^ (8 - size) }
+    requires value { length value.now < 2 ^ 62 }
+    ensures ok { OnOk result (buf.new.items ≡ buf.old.items ++ string_literal size flags (coded shortest value.now)) }
+    ensures err { OnErr result (take (length buf.old.items) buf.new.items ≡ buf.old.items) }
+{
+    if value.is_empty() {
+        return put_empty(size, flags, value, shortest, buf);
+    }
+    if value.len() <= SHORT {
+        return put_short(size, flags, value, shortest, buf);
+    }
+    put_long(size, flags, value, shortest, buf)
 }
 
 /// Appends a string, Huffman coded, in the low `size` bits of a byte below `flags`. A refusal appends nothing.
@@ -395,16 +451,93 @@ pub fn write(
     ensures err { OnErr result (buf.new.items ≡ buf.old.items) }
 {
     let start = buf.len();
-    let appended = if value.len() == 0 {
-        put_empty(size, flags, value, shortest, buf)
-    } else if value.len() <= SHORT {
-        put_short(size, flags, value, shortest, buf)
-    } else {
-        put_long(size, flags, value, shortest, buf)
-    };
-    if appended.is_err() {
+    if put_string(size, flags, value, shortest, buf).is_err() {
         buf.truncate(start);
         return Err(Error::OutOfMemory);
     }
     Ok(())
+}
+
+/// Appends two strings as `write` does, the second one with no flags. A refusal appends nothing.
+#[inline(always)]
+pub(crate) fn write_two(
+    size: u8,
+    flags: u8,
+    name: &[u8],
+    value: &[u8],
+    shortest: bool,
+    buf: &mut Vec<u8>,
+) -> Result<(), Error>
+    requires least { 2 ≤ size }
+    requires most { size ≤ 8 }
+    requires flags { flags < 2 ^ (8 - size) }
+    requires name { length name.now < 2 ^ 62 }
+    requires value { length value.now < 2 ^ 62 }
+    ensures memory { IsOkUnless result error.OutOfMemory }
+    ensures ok { OnOk result
+        (buf.new.items ≡ buf.old.items ++
+        (string_literal size flags (coded shortest name.now) ++ string_literal 8 0 (coded shortest value.now))) }
+    ensures err { OnErr result (buf.new.items ≡ buf.old.items) }
+{
+    let start = buf.len();
+    if put_two(size, flags, name, value, shortest, buf).is_err() {
+        buf.truncate(start);
+        return Err(Error::OutOfMemory);
+    }
+    Ok(())
+}
+
+/// The same. A refusal may leave a part of them.
+#[inline(always)]
+fn put_two(
+    size: u8,
+    flags: u8,
+    name: &[u8],
+    value: &[u8],
+    shortest: bool,
+    buf: &mut Vec<u8>,
+) -> Result<(), AllocError>
+    requires least { 2 ≤ size }
+    requires most { size ≤ 8 }
+    requires flags { flags < 2 ^ (8 - size) }
+    requires name { length name.now < 2 ^ 62 }
+    requires value { length value.now < 2 ^ 62 }
+    ensures ok { OnOk result
+        (buf.new.items ≡ buf.old.items ++
+        (string_literal size flags (coded shortest name.now) ++ string_literal 8 0 (coded shortest value.now))) }
+    ensures err { OnErr result (take (length buf.old.items) buf.new.items ≡ buf.old.items) }
+{
+    if name.len() <= SHORT && value.len() <= SHORT {
+        if put_both_short(size, flags, name, value, shortest, buf)? {
+            return Ok(());
+        }
+    }
+    put_each(size, flags, name, value, shortest, buf)
+}
+
+/// The same, one after the other.
+#[inline(never)]
+fn put_each(
+    size: u8,
+    flags: u8,
+    name: &[u8],
+    value: &[u8],
+    shortest: bool,
+    buf: &mut Vec<u8>,
+) -> Result<(), AllocError>
+    requires least { 2 ≤ size }
+    requires most { size ≤ 8 }
+    requires flags { flags < 2 ^ (8 - size) }
+    requires name { length name.now < 2 ^ 62 }
+    requires value { length value.now < 2 ^ 62 }
+    ensures ok { OnOk result
+        (buf.new.items ≡ buf.old.items ++
+        (string_literal size flags (coded shortest name.now) ++ string_literal 8 0 (coded shortest value.now))) }
+    ensures err { OnErr result (take (length buf.old.items) buf.new.items ≡ buf.old.items) }
+{
+    put_string(size, flags, name, shortest, buf)?;
+    match put_string(8, 0, value, shortest, buf) {
+        Ok(()) => Ok(()),
+        Err(e) => Err(e),
+    }
 }

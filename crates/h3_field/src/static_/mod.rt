@@ -1,9 +1,10 @@
 //! The static table (RFC 9204, appendix A). A hash that tells its names apart and one that tells its entries apart
 //! find an entry by one look.
-ghost use Rattle.std.specs.Prelude.{◌≡◌, ◌<◌, ◌≤◌, length, Some, MatchResult, IfSome, slice_get};
+ghost use Rattle.std.specs.Prelude.{◌≡◌, ◌<◌, ◌≤◌, false, length, None, Some, MatchResult, IfSome, slice_get};
 ghost use Rattle.h3_field.specs.ErrorTexts.{static_text};
 ghost use Rattle.h3_field.specs.Field.{plain_field};
 ghost use Rattle.h3_field.specs.StaticTable.{static_table, static_field, static_name, NamesEntry};
+ghost use Rattle.h3_field.specs.StaticFound.{IsFound};
 ghost use Rattle.h3_field.specs.StaticHash.{name_hash, field_hash};
 ghost use Rattle.h3_field.specs.StaticSlots.{name_slot, name_of, name_start, name_part, field_slot, value_of, value_start, value_part};
 ghost use Rattle.h3_field.specs.declared.static_.Error.TheVariants.{Unknown};
@@ -136,6 +137,17 @@ fn value_at(index: usize) -> &'static [u8]
     part_of_values(value_start_at(index), value_start_at(index + 1))
 }
 
+/// What the table has of a field.
+#[derive(Copy, Clone)]
+pub(crate) enum Found {
+    /// The entry of this index is the field.
+    Entry(usize),
+    /// The entry of this index is the first with its name, and none is the field.
+    Name(usize),
+    /// No entry has its name.
+    Nothing,
+}
+
 /// The table of 99 entries that both sides know.
 pub struct StaticTable;
 
@@ -203,6 +215,34 @@ impl StaticTable {
             return None;
         }
         Some(slot)
+    }
+
+    /// Whether an entry may have that name: its hash is that of one.
+    #[inline(always)]
+    fn may_name(name: &[u8]) -> bool
+        ensures { result ≡ false → static_name name.now ≡ None }
+    {
+        if name.is_empty() {
+            return false;
+        }
+        name_slot_at(hash_of_name(name)) < COUNT
+    }
+
+    /// What the table has of a field. Most names that no entry has are told by one look.
+    #[inline(always)]
+    pub(crate) fn look_up(field: &FieldRef<'_>) -> Found
+        ensures { IsFound field.now result }
+    {
+        if !StaticTable::may_name(field.name()) {
+            return Found::Nothing;
+        }
+        if let Some(index) = StaticTable::find_lent(field) {
+            return Found::Entry(index);
+        }
+        match StaticTable::find_name(field.name()) {
+            Some(index) => Found::Name(index),
+            None => Found::Nothing,
+        }
     }
 
     /// The least index of an entry with that name.
