@@ -42,7 +42,7 @@ impl fmt::Display for Error {
 impl std::error::Error for Error {}
 
 /// The greatest value of that many bits.
-fn greatest(size: u8) -> u64
+pub(crate) fn greatest(size: u8) -> u64
     requires { size ≤ 8 }
     ensures value { result ≡ ones size }
     ensures most { result ≤ 255 }

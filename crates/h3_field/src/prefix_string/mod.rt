@@ -118,8 +118,16 @@ pub fn decode(alloc: Global, size: u8, buf: &mut SliceCursor<'_>) -> Result<Vec<
 /// The longest string that is encoded in one pass: as it stands, its length takes one byte.
 const SHORT: usize = 126;
 
-/// The longest string whose length most often takes one byte, whatever `size` is.
-const VERY_SHORT: usize = 8;
+/// Whether the length of a string most often takes one byte: a code word has six bits in the mean.
+#[inline(always)]
+fn is_near(size: u8, value: &[u8]) -> bool
+    requires least { 2 ≤ size }
+    requires most { size ≤ 8 }
+    requires short { length value.now ≤ 126 }
+{
+    let likely = 3 * value.len() / 4;
+    (likely as u64) < prefix_int::greatest(size - 1)
+}
 
 /// Whether a string is written Huffman coded, of which the code has `len` bytes: if `shortest`, only if that is shorter; else always.
 #[inline(always)]
@@ -275,7 +283,7 @@ fn write_short(size: u8, flags: u8, value: &[u8], shortest: bool, out: &mut [u8]
     if value.is_empty() {
         return write_empty(size, flags, value, shortest, out);
     }
-    if size == 8 || value.len() <= VERY_SHORT {
+    if is_near(size, value) {
         return write_behind_one(size, flags, value, shortest, out);
     }
     write_behind_two(size, flags, value, shortest, out)
@@ -283,6 +291,7 @@ fn write_short(size: u8, flags: u8, value: &[u8], shortest: bool, out: &mut [u8]
 
 /// Appends the length of a short string and its Huffman encoding, or the string as it stands. It is encoded in its final place. A refusal
 /// may leave a part of it.
+#[inline(always)]
 fn put_short(
     size: u8,
     flags: u8,
