@@ -295,6 +295,9 @@ fn first_frame_len(bytes: &[u8]) -> usize
     ensures within { result ≤ length bytes.now }
     ensures some { 0 < length bytes.now → 0 < result }
 {
+    if bytes.len() < SHORTEST_HEAD {
+        return bytes.len();
+    }
     let mut left = bytes;
     let Ok(kind) = left.get_var() else {
         return bytes.len();
