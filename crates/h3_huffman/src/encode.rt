@@ -71,7 +71,7 @@ pub fn payload_len(plain: &[u8]) -> usize
 }
 
 /// What is not yet written: the high `count` bits of `acc`, which go to `out[written]` on. The bits below them are 0. So a word is put
-/// behind them by one shift, which waits for the lengths of those before it alone.
+/// after them by one shift, which waits for the lengths of those before it alone.
 #[derive(Copy, Clone)]
 struct Pending {
     acc: u64,

@@ -220,7 +220,7 @@ fn write_behind_one(
     Some(len + 1)
 }
 
-/// The same where the length takes two bytes. None: it takes one byte, or more than two, or the string is to be written as it stands.
+/// The same with a length of two bytes. None: it takes one byte, or more than two, or the string is to be written as it stands.
 #[inline(always)]
 fn write_behind_two(
     size: u8,

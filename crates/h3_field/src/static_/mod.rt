@@ -228,7 +228,7 @@ impl StaticTable {
         name_slot_at(hash_of_name(name)) < COUNT
     }
 
-    /// What the table has of a field. Most names that no entry has are told by one look.
+    /// What the table has of a field. For most names that no entry has, one look says so.
     #[inline(always)]
     pub(crate) fn look_up(field: &FieldRef<'_>) -> Found
         ensures { IsFound field.now result }
