@@ -125,7 +125,7 @@ static void carry_in_place(side *from, side *to, uint64_t id, size_t piece) {
   uint32_t fin;
   do {
     done("h3_outgoing", h3_outgoing(&from->end, id, carried, sizeof carried, &len, &past, &fin));
-    done("h3_advance", h3_advance(&from->end, id, len + past));
+    if (len + past) done("h3_advance", h3_advance(&from->end, id, len + past));
     if (fin) done("h3_end_taken", h3_end_taken(&from->end, id));
     take_pieces(to, id, carried, len, piece, fin && !past);
     if (past) take_pieces(to, id, exchange_body + body_at, past, piece, (int)fin);
@@ -140,13 +140,20 @@ static void carry(side *from, side *to, uint64_t id, const exchange_kind *kind) 
 
 static void take_piece(void *to, uint64_t id, const uint8_t *bytes, size_t len, int fin) { take(to, id, bytes, len, fin); }
 
-/* Carries all that waits, if anything does: the own streams first, since heads may need what stands there. */
+/* The first stream from `id` on on which something waits. */
+static int next_to_send(side *from, uint64_t *id) { return h3_next_to_send(&from->end, *id, id) == H3_OK; }
+
+/* Carries all that waits, if anything does: the own streams first, since heads may need what stands there. Their ids are the lowest ones. */
 static void carry_all(side *from, side *to, int is_server, const exchange_kind *kind) {
-  uint64_t first;
-  if (h3_next_to_send(&from->end, 0, &first) != H3_OK) return;
+  uint64_t id = 0;
+  int waits = next_to_send(from, &id);
+  if (!waits) return;
   const uint64_t own[] = {h3_control_id(is_server), h3_encoder_id(is_server), h3_decoder_id(is_server)};
-  for (size_t i = 0; i < sizeof own / sizeof *own; i++) carry(from, to, own[i], kind);
-  for (uint64_t id = 0; h3_next_to_send(&from->end, id, &id) == H3_OK; id++) carry(from, to, id, kind);
+  if (id <= own[2]) {
+    for (size_t i = 0; i < sizeof own / sizeof *own; i++) carry(from, to, own[i], kind);
+    waits = next_to_send(from, &id);
+  }
+  for (; waits; id++, waits = next_to_send(from, &id)) carry(from, to, id, kind);
   read_in_turn(take_piece, to);
 }
 
