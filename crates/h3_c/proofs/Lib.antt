@@ -1,4 +1,5 @@
 pub mod Cuts
+pub mod Singles
 pub mod HandleValues
 pub mod Uncut
 pub mod RawCalls

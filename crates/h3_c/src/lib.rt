@@ -6,6 +6,7 @@
 mod capsules;
 mod config;
 mod connection;
+mod copied;
 mod exports;
 mod fields;
 mod handle;

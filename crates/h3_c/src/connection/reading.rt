@@ -11,9 +11,9 @@ ghost use Rattle.h3_c.specs.ReadsBeside.{EndsThereBeside, ReadsCopiedBeside, Rea
 ghost use Rattle.h3_c.specs.ReadsBeside.{TakesBytesBeside, TakesEndBeside};
 
 use super::Connection;
+use crate::copied::copied;
 use crate::items::{PulledItem, plain_shown};
 use crate::numbers::{OK, Told, delivered, or_memory};
-use bytes::Bytes;
 use h3_coding::coding::BufExt;
 use h3_connection::event::{DeliverError, Refusal};
 use h3_incoming::answer::Plain;
@@ -168,7 +168,7 @@ impl Connection {
         if bytes.is_empty() {
             return Ok(());
         }
-        let Ok(copy) = Bytes::copy_from_slice(alloc, bytes) else {
+        let Ok(copy) = copied(alloc, bytes) else {
             return Err(Stop {
                 told: or_memory(self.sessions.bytes_refusal(&self.endpoint, id)),
                 is_taken: false,

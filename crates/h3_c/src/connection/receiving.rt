@@ -6,8 +6,8 @@ ghost use Rattle.h3_c.specs.Beside.{DoesBeside};
 ghost use Rattle.h3_c.specs.Does.CallOfC.{Deliver, DeliverEnd, DeliverReset};
 
 use super::Connection;
+use crate::copied::copied;
 use crate::numbers::{ARGUMENT, REJECTED, Told, delivered, or_memory};
-use bytes::Bytes;
 use h3_proto::stream::StreamId;
 use std::alloc::Global;
 
@@ -36,7 +36,7 @@ impl Connection {
             Ok(id) => id,
             Err(told) => return told,
         };
-        let Ok(bytes) = Bytes::copy_from_slice(alloc, bytes) else {
+        let Ok(bytes) = copied(alloc, bytes) else {
             return or_memory(self.sessions.bytes_refusal(&self.endpoint, id));
         };
         delivered(&self.sessions.deliver(&mut self.endpoint, id, bytes))
