@@ -131,6 +131,7 @@ fn are_flags(flags: &[u8]) -> bool
 /// The fields go to an empty list, if the sizes are those of all bytes and all flags are known. Names and values stay where they lie: no
 /// field may outlive the call of C. After a refusal some may be in the list.
 #[tactic(auto, using(crate::proofs::Cuts::all_known, crate::proofs::Cuts::not_known))]
+#[inline(always)]
 pub(crate) fn given_fields(
     fields: &mut Vec<HeaderField>,
     sizes: &[FieldSize],

@@ -16,6 +16,7 @@ use std::alloc::Global;
 
 impl Connection {
     /// What comes next on a stream: it takes the place of what was pulled before.
+    #[inline(always)]
     pub(crate) fn pull(&mut self, alloc: Global, id: u64, item: &mut PulledItem) -> Told
         ensures plain { result.detail ≡ 0 }
         ensures pulls { OnStream id result self.old self.new (PullsBeside id result self.old self.new item.new) }

@@ -9,6 +9,7 @@ impl Endpoint {
     /// Tells that QUIC took the FIN of a stream (RFC 9114, section 4.1). It takes no memory, and answers whether an end was next there: the
     /// stream was finished, no bytes wait on it any more, and this was not told before. Nothing changes of any other stream, also not of a
     /// local unidirectional one or one that is not open.
+    #[inline(always)]
     pub fn end_taken(&mut self, id: StreamId) -> bool
         ensures { TakesEnd self.old self.new id result }
     {

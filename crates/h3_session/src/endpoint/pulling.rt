@@ -141,6 +141,7 @@ impl Endpoint {
 
     /// The same, with the fields of a header section or trailer in a block of memory that serves again. `out` keeps the memory of its last
     /// answer for the next one, and a header section or trailer takes memory only if it is longer.
+    #[inline(always)]
     pub fn pull_block(&mut self, id: StreamId, out: &mut BlockPull)
         ensures pulls { PullsNext self.old self.new id (pull_of out.new) }
         ensures list { ListsNext self.old id (list_of out.new) }
@@ -216,6 +217,7 @@ impl Endpoint {
 
     // The stream's next item, whatever is kept.
     #[tactic(auto, using(crate::proofs::PullingStreams::pulls_server_opened, crate::proofs::PullingStreams::pulls_own, crate::proofs::Listing::lists_no_item, crate::proofs::Headers::makes_none))]
+    #[inline(always)]
     fn pull_next(&mut self, id: StreamId, out: &mut BlockPull, header: &mut HeaderSlot)
         ensures item { PullsItem self.old self.new id (pull_of out.new) }
         ensures list { ListsItem self.old id (list_of out.new) }

@@ -153,6 +153,7 @@ impl Endpoint {
     /// what came; the next delivery or pull reads on from there. However small the pieces are, the type and length of a frame are tried at
     /// most 17 times: no delivery sets the count back that `frames` shows.
     #[tactic(auto, using(crate::proofs::ReceivingAtOnce::delivers_at_once))]
+    #[inline(always)]
     pub fn deliver(&mut self, id: StreamId, bytes: Bytes) -> Result<(), DeliverError>
         ensures { Delivers self.old self.new id bytes result }
     {
@@ -205,6 +206,7 @@ impl Endpoint {
     }
 
     // The end of a request stream, with one look-up.
+    #[inline(always)]
     fn end_at_once(&mut self, id: StreamId) -> Result<(), DeliverError>
         ensures rest { self.new ≡ record self.old { requests = self.new.requests } }
         ensures ok { OnOk result (ReceivesHere self.old.requests self.new.requests id with_end) }

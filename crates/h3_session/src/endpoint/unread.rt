@@ -54,6 +54,7 @@ impl Endpoint {
     /// frame of an unknown type `FrameBytes` of `h3_frames` says that its bytes are freed (`AreSpared`), and tests measure that nothing
     /// else stays.
     #[tactic(auto, using(crate::proofs::Held::shows_none, crate::proofs::Held::shows_unread))]
+    #[inline(always)]
     pub fn unread(&self, id: StreamId) -> u64
         ensures { ShowsUnread self.now id result }
     {
