@@ -54,7 +54,7 @@ static void of_unfinished_limits(void) {
     HOLDS(item.kind == of[i].kind);
     if (item.kind == H3_FAULT_CONNECTION) {
       HOLDS(item.number == H3_CODE_EXCESSIVE_LOAD);
-      IS(h3_deliver(&e, 0, "\0", 1, &detail), H3_CONNECTION);
+      IS(h3_deliver(&e, 0, "\0\0", 2, &detail), H3_CONNECTION);
       HOLDS(detail == H3_CODE_EXCESSIVE_LOAD);
     }
     if (item.kind == H3_FAULT_MALFORMED) {

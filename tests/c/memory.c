@@ -391,14 +391,14 @@ static void reasons(void) {
   answers(h3_send_head(e, 0, sizes, NULL, 4, list, len, NULL), H3_NOT_OPEN, "a list on no stream");
   answers(h3_send_trailer(e, 0, sizes, NULL, 4, list, len, NULL), H3_NOT_OPEN, "a trailer on no stream");
   answers(h3_send_body(e, 0, "a", 1, NULL), H3_NOT_OPEN, "a body on no stream");
-  answers(h3_deliver(e, 2, "a", 1, NULL), H3_NOT_RECEIVING, "bytes on the local control stream");
+  answers(h3_deliver(e, 2, "ab", 2, NULL), H3_NOT_RECEIVING, "bytes on the local control stream");
   all_refused = 0;
   if (h3_open_request(e, &id, NULL)) fail("open_request", 0);
   all_refused = 1;
   answers(h3_send_trailer(e, id, sizes, NULL, 4, list, len, NULL), H3_OUT_OF_ORDER, "a trailer ahead of the header section");
   answers(h3_send_body(e, id, "a", 1, NULL), H3_OUT_OF_ORDER, "a body ahead of the header section");
   answers(h3_send_head(e, id, sizes, NULL, 4, list, len, NULL), H3_MEMORY, "a list that there is no memory for");
-  answers(h3_deliver(e, id, "a", 1, NULL), H3_MEMORY, "bytes that there is no memory for");
+  answers(h3_deliver(e, id, "ab", 2, NULL), H3_MEMORY, "bytes that there is no memory for");
   all_refused = 0;
   if (h3_send_head(e, id, sizes, NULL, 4, list, len, NULL)) fail("send_fields", 0);
   all_refused = 1;
@@ -408,13 +408,13 @@ static void reasons(void) {
   if (h3_finish(e, id, NULL) || h3_deliver_end(e, id, NULL)) fail("finish", 0);
   all_refused = 1;
   answers(h3_send_body(e, id, "a", 1, NULL), H3_OUT_OF_ORDER, "a body after the end");
-  answers(h3_deliver(e, id, "a", 1, NULL), H3_AFTER_END, "bytes after the end");
+  answers(h3_deliver(e, id, "ab", 2, NULL), H3_AFTER_END, "bytes after the end");
   all_refused = 0;
   answers(h3_deliver(e, 3, "\x00\x00\x00", 3, NULL), H3_CONNECTION, "a control stream without SETTINGS");
   all_refused = 1;
   answers(h3_send_head(e, id, sizes, NULL, 4, list, len, NULL), H3_CLOSED, "a list after a fault");
   answers(h3_send_body(e, id, "a", 1, NULL), H3_CLOSED, "a body after a fault");
-  answers(h3_deliver(e, 0, "a", 1, NULL), H3_CONNECTION, "bytes after a fault");
+  answers(h3_deliver(e, 0, "ab", 2, NULL), H3_CONNECTION, "bytes after a fault");
   all_refused = 0;
   h3_free(e);
 }

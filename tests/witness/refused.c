@@ -183,7 +183,7 @@ static void over(void) {
 
 static void reading(void) {
   begin("bytes that are read", 1, 220, 2, 0);
-  read_in_place(0, GET, 0), read_in_place(0, "0005616263", 0), state(0), read_in_place(0, "6465", 1), read_in_place(0, "", 1), read_in_place(0, "66", 0), state(0);
+  read_in_place(0, GET, 0), read_in_place(0, "0005616263", 0), state(0), read_in_place(0, "6465", 1), read_in_place(0, "", 1), read_in_place(0, "6667", 0), state(0);
   read_in_place(4, GET "210161" "000161", 0), read_in_place(4, "", 0), pull(4), state(4);
 }
 
