@@ -1,5 +1,5 @@
 //! Copies of bytes that came.
-ghost use Rattle.std.specs.Prelude.{◌≡◌, ◌∷◌, [], IfOk};
+ghost use Rattle.std.specs.Prelude.{◌≡◌, ◌∷◌, [], length, IfOk, IsOk};
 
 use bytes::Bytes;
 use std::alloc::{AllocError, Global};
@@ -31,7 +31,8 @@ fn single(byte: u8) -> &'static [u8]
 
 /// A copy of bytes. One of a single byte takes no memory: a stream that comes byte by byte takes no block for each of them.
 pub(crate) fn copied(alloc: Global, bytes: &[u8]) -> Result<Bytes, AllocError>
-    ensures { IfOk result (λ copy. copy ≡ bytes.now) }
+    ensures copy { IfOk result (λ copy. copy ≡ bytes.now) }
+    ensures single { length bytes.now ≡ 1 → IsOk result }
 {
     if bytes.len() == 1 {
         return Ok(Bytes::from_static(single(bytes[0])));

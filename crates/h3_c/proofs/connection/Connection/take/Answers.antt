@@ -16,6 +16,6 @@ returns-in_default-clause-stop c =
 pub returns-clause-ok : goal.returns-clause-ok
 returns-clause-ok c = elim c.match-deliver.branch [
   | in-Ok-deliver w ↦ rw w.result-is
-      (takes_copy _ _ _ _ _ _ _ c.self.view_is c.in-Ok.ensures w.in-Ok-deliver.is (some_bytes c.args.bytes.now (sym c.is_empty.ensures ∙ c.if-is_empty.false)) c.deliver.ensures refl refl)
+      (takes_copy _ _ _ _ _ _ _ c.self.view_is c.in-Ok.ensures.copy w.in-Ok-deliver.is (some_bytes c.args.bytes.now (sym c.is_empty.ensures ∙ c.if-is_empty.false)) c.deliver.ensures refl refl)
   | in-Err w ↦ rw w.result-is tt
 ]
