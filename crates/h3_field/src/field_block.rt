@@ -7,10 +7,10 @@ ghost use Rattle.h3_field.specs.OntoAnswer.{IsRefusedString};
 ghost use Rattle.h3_field.specs.Shapes.{two_strings};
 ghost use Rattle.h3_field.specs.StringReading.{string};
 
+use crate::byte_buffer::ByteBuffer;
 use crate::cursor::SliceCursor;
 use crate::field::HeaderField;
 use crate::fields::{FieldRef, Fields};
-use crate::first_room::reserve_some;
 use crate::prefix_string::{self, Payload, take_payload};
 use std::alloc::{AllocError, Global};
 use std::marker::Model;
@@ -34,7 +34,7 @@ pub(crate) struct FieldPlace {
 /// has the ends of each of them and its flag. A contract sees the list.
 #[derive(Drop)]
 pub struct FieldBlock {
-    bytes: Vec<u8>,
+    bytes: ByteBuffer,
     places: Vec<FieldPlace>,
 }
 
@@ -45,9 +45,9 @@ impl Model for FieldBlock {
 
     ghost Value = { List Field };
 
-    ghost view = { λ b. fields_at b.bytes.items b.places.items };
+    ghost view = { λ b. fields_at b.bytes b.places.items };
 
-    ghost invariant = { λ b. IsBlock b.bytes.items b.places.items };
+    ghost invariant = { λ b. IsBlock b.bytes b.places.items };
 }
 
 impl FieldBlock {
@@ -58,7 +58,7 @@ impl FieldBlock {
         ensures { result ≡ [] }
     {
         FieldBlock {
-            bytes: Vec::new(alloc),
+            bytes: ByteBuffer::new(alloc),
             places: Vec::new(alloc),
         }
     }
@@ -94,7 +94,7 @@ impl FieldBlock {
     pub fn clear(&mut self)
         ensures { self.new ≡ [] }
     {
-        self.bytes.clear();
+        self.bytes.truncate(0);
         self.places.clear();
     }
 
@@ -234,19 +234,18 @@ fn put_place(places: &mut Vec<FieldPlace>, place: FieldPlace) -> Result<(), Allo
 
 /// Appends name and value of a field, and answers where they lie, with its flag. A refusal appends nothing.
 #[inline(always)]
-fn put_field(bytes: &mut Vec<u8>, field: &FieldRef<'_>) -> Result<FieldPlace, AllocError>
-    ensures ok { OnOk result (bytes.new.items ≡ bytes.old.items ++ field.now.name ++ field.now.value) }
-    ensures start { IfOk result (λ place. place.start ≡ length bytes.old.items) }
-    ensures middle { IfOk result (λ place. place.middle ≡ length bytes.old.items + length field.now.name) }
-    ensures end { IfOk result (λ place. place.end ≡ length bytes.old.items + length field.now.name + length field.now.value) }
+fn put_field(bytes: &mut ByteBuffer, field: &FieldRef<'_>) -> Result<FieldPlace, AllocError>
+    ensures ok { OnOk result (bytes.new ≡ bytes.old ++ field.now.name ++ field.now.value) }
+    ensures start { IfOk result (λ place. place.start ≡ length bytes.old) }
+    ensures middle { IfOk result (λ place. place.middle ≡ length bytes.old + length field.now.name) }
+    ensures end { IfOk result (λ place. place.end ≡ length bytes.old + length field.now.name + length field.now.value) }
     ensures flag { IfOk result (λ place. place.never_indexed ≡ field.now.never_indexed) }
-    ensures err { OnErr result (bytes.new.items ≡ bytes.old.items) }
+    ensures err { OnErr result (bytes.new ≡ bytes.old) }
 {
-    reserve_some(bytes)?;
     let start = bytes.len();
-    bytes.extend_from_slice(field.name())?;
+    bytes.append(field.name())?;
     let middle = bytes.len();
-    if let Err(e) = bytes.extend_from_slice(field.value()) {
+    if let Err(e) = bytes.append(field.value()) {
         bytes.truncate(start);
         return Err(e);
     }
@@ -271,18 +270,15 @@ fn refusal_of(value: &Payload<'_>) -> prefix_string::Error
 
 /// Appends a name and the string of a payload, and answers where they lie, with the flag. A refusal appends nothing.
 fn put_payload(
-    bytes: &mut Vec<u8>,
+    bytes: &mut ByteBuffer,
     name: &[u8],
     never_indexed: bool,
     value: &Payload<'_>,
 ) -> Result<FieldPlace, prefix_string::Error>
-    ensures { PutsField name.now never_indexed value.now bytes.old.items bytes.new.items result }
+    ensures { PutsField name.now never_indexed value.now bytes.old bytes.new result }
 {
-    if reserve_some(bytes).is_err() {
-        return Err(refusal_of(value));
-    }
     let start = bytes.len();
-    if bytes.extend_from_slice(name).is_err() {
+    if bytes.append(name).is_err() {
         return Err(refusal_of(value));
     }
     let middle = bytes.len();
@@ -301,17 +297,14 @@ fn put_payload(
 
 /// Appends the strings of two payloads, a name and a value, and answers where they lie, with the flag. None: nothing is appended.
 fn put_strings(
-    bytes: &mut Vec<u8>,
+    bytes: &mut ByteBuffer,
     name: &Payload<'_>,
     value: &Payload<'_>,
     never_indexed: bool,
 ) -> Option<FieldPlace>
-    ensures some { IfSome result (PutsStrings name.now value.now never_indexed bytes.old.items bytes.new.items) }
-    ensures none { IfNone result (bytes.new.items ≡ bytes.old.items) }
+    ensures some { IfSome result (PutsStrings name.now value.now never_indexed bytes.old bytes.new) }
+    ensures none { IfNone result (bytes.new ≡ bytes.old) }
 {
-    if reserve_some(bytes).is_err() {
-        return None;
-    }
     let start = bytes.len();
     if name.append_to(bytes).is_err() {
         return None;

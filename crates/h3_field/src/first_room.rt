@@ -4,7 +4,7 @@ ghost use Rattle.std.specs.Prelude.{◌≡◌};
 use std::alloc::AllocError;
 
 /// The first bytes of a block take so much memory at once. It is enough for the usual section, and for its instructions.
-const SOME_BYTES: usize = 512;
+pub(crate) const SOME_BYTES: usize = 512;
 
 /// Takes memory for some bytes at once, if there is less.
 #[inline(always)]

@@ -3,6 +3,7 @@
 #![tactic(auto)]
 
 pub mod block;
+mod byte_buffer;
 pub mod cursor;
 pub mod decoder;
 mod decoder_error;

@@ -100,6 +100,7 @@ fn regular_of_ten(name: &[u8]) -> Option<Known>
 }
 
 // The name, if it is this text.
+#[inline(always)]
 fn if_same(name: &[u8], text: &[u8], known: Known) -> Option<Known>
     ensures { result ≡ (if bytes_eq name.now text.now then Some known else None) }
 {

@@ -18,7 +18,7 @@ pub mod string_encode;
 use crate::cursor::SliceCursor;
 use crate::prefix_int;
 pub use bitwin::BitWindow;
-pub(crate) use payload::{Payload, take_payload};
+pub(crate) use payload::{Payload, refusal_of_encoded, take_payload};
 pub use short_string::ShortString;
 use std::alloc::{AllocError, Global};
 use std::fmt;

@@ -7,6 +7,7 @@ ghost use Rattle.h3_field.specs.Values.{string_of};
 ghost use Rattle.h3_field.specs.StringAnswer.{AnswersPayload, AnswersBytes};
 ghost use Rattle.h3_field.specs.OntoAnswer.{AppendsString, IsRefusedString};
 
+use crate::byte_buffer::ByteBuffer;
 use crate::cursor::SliceCursor;
 use crate::octets::are_bytes;
 use crate::prefix_int;
@@ -108,15 +109,15 @@ impl<'a> Payload<'a> {
 
     /// Appends the string that it stands for. A refusal appends nothing.
     #[inline(always)]
-    pub(crate) fn append_to(&self, bytes: &mut Vec<u8>) -> Result<(), Error>
-        ensures { AppendsString self.now bytes.old.items bytes.new.items result }
+    pub(crate) fn append_to(&self, bytes: &mut ByteBuffer) -> Result<(), Error>
+        ensures { AppendsString self.now bytes.old bytes.new result }
     {
         let encoded = self.bytes;
         are_bytes(encoded);
         if self.is_huffman {
-            return append_decoded(encoded, bytes);
+            return bytes.append_decoded(encoded);
         }
-        bytes.extend_from_slice(encoded)?;
+        bytes.append(encoded)?;
         Ok(())
     }
 
@@ -155,30 +156,11 @@ pub(crate) fn decode_payload(alloc: Global, encoded: &[u8], spare: usize) -> Res
 }
 
 /// Why the string of a Huffman encoding is refused for which there is no memory.
-fn refusal_of_encoded(encoded: &[u8]) -> Error
+pub(crate) fn refusal_of_encoded(encoded: &[u8]) -> Error
     ensures { IsRefusedString (record { is_huffman = true; bytes = encoded.now }) result }
 {
     if h3_huffman::decode::is_encoding(encoded) {
         return Error::OutOfMemory;
     }
     Error::HuffmanDecoding
-}
-
-/// Appends the string of a Huffman encoding. A refusal appends nothing.
-#[inline(always)]
-fn append_decoded(encoded: &[u8], bytes: &mut Vec<u8>) -> Result<(), Error>
-    ensures { AppendsString (record { is_huffman = true; bytes = encoded.now }) bytes.old.items bytes.new.items result }
-{
-    let start = bytes.len();
-    // a code word has at least five bits, and the decoder writes two symbols at a time
-    let room = encoded.len() / 5 * 8 + 12;
-    if bytes.resize(start.saturating_add(room), 0).is_err() {
-        return Err(refusal_of_encoded(encoded));
-    }
-    let Some(len) = h3_huffman::decode::decode_into(encoded, &mut bytes[start..]) else {
-        bytes.truncate(start);
-        return Err(Error::HuffmanDecoding);
-    };
-    bytes.truncate(start + len);
-    Ok(())
 }

@@ -15,6 +15,6 @@ returns-clause-yes c = λ _. (
   c.in-Some.ensures.some.2,
   c.in-Some.ensures.some.3,
   (λ i. fields_at (c.in-Some.ensures.some.4 i) (c.in_default-put_place.ensures.ok i))
-      ∙ fields_next c.self.inside.bytes.items c.in-Some.ensures.some.0 c.in-Some.ensures.some.1 c.args.never_indexed c.self.inside.places.items c.in-Some.place c.self.invariant c.in-Some.ensures.some.5
+      ∙ fields_next c.self.inside.bytes c.in-Some.ensures.some.0 c.in-Some.ensures.some.1 c.args.never_indexed c.self.inside.places.items c.in-Some.place c.self.invariant c.in-Some.ensures.some.5
       ∙ ap (λ (l : List Field). l ++ (record { name = c.in-Some.ensures.some.0; value = c.in-Some.ensures.some.1; never_indexed = c.args.never_indexed }) ∷ []) c.self.view_is,
 )

@@ -9,7 +9,7 @@ use Rattle.h3_field.proofs.field_block.FieldBlock.push_payload.Goals as goal
 pub returns-in-Err : goal.returns-in-Err
 returns-in-Err c =
     let put = c.in_ok-place.ensures.2 in
-    let kept : c.truncate.new.self.items ≡ c.self.inside.bytes.items = grind (arith, common_steps, put) in
+    let kept : c.truncate.new.self ≡ c.self.inside.bytes = grind (arith, common_steps, put) in
     (stands_some _ _ c.in_ok-place.ensures.1, (λ i. fields_at (kept i) (c.in-Err.ensures.err i)) ∙ c.self.view_is)
 
 pub invariant_of-self-in_default : goal.invariant_of-self-in_default
@@ -21,6 +21,6 @@ returns c = (
   c.in_ok-place.ensures.0,
   c.in_ok-place.ensures.1,
   (λ i. fields_at (c.in_ok-place.ensures.2 i) (c.in_default.ensures.ok i))
-      ∙ fields_next c.self.inside.bytes.items c.args.name.now c.in_ok-place.ensures.0 c.args.never_indexed c.self.inside.places.items c.in_ok-place.place c.self.invariant c.in_ok-place.ensures.3
+      ∙ fields_next c.self.inside.bytes c.args.name.now c.in_ok-place.ensures.0 c.args.never_indexed c.self.inside.places.items c.in_ok-place.place c.self.invariant c.in_ok-place.ensures.3
       ∙ ap (λ (l : List Field). l ++ (record { name = c.args.name.now; value = c.in_ok-place.ensures.0; never_indexed = c.args.never_indexed }) ∷ []) c.self.view_is,
 )
