@@ -212,12 +212,12 @@ fn encode_any(size: u8, flags: u8, value: u64, buf: &mut Vec<u8>) -> Result<(), 
     ensures ok { OnOk result (buf.new.items ≡ buf.old.items ++ prefixed size flags value) }
     ensures err { OnErr result (buf.new.items ≡ buf.old.items) }
 {
-    let ones = greatest(size);
-    if value < ones {
-        buf.push(first_byte(size, flags, value))?;
+    buf.reserve(LONGEST)?;
+    if let Some((first, second)) = two_bytes(size, flags, value) {
+        buf.push_reserved(first);
+        buf.push_reserved(second);
         return Ok(());
     }
-    buf.reserve(LONGEST)?;
-    put_groups(first_byte(size, flags, ones), value - ones, buf);
+    put(size, flags, value, buf);
     Ok(())
 }

@@ -115,15 +115,15 @@ pub fn decode(alloc: Global, size: u8, buf: &mut SliceCursor<'_>) -> Result<Vec<
     Ok(bytes)
 }
 
-/// The longest string that is encoded in one pass: as it stands, its length takes one byte.
-const SHORT: usize = 126;
+/// The longest string that is encoded in one pass: most often its code has fewer than 255 bytes, so the length takes at most two.
+const SHORT: usize = 250;
 
 /// Whether the length of a string most often takes one byte: a code word has six bits in the mean.
 #[inline(always)]
 fn is_near(size: u8, value: &[u8]) -> bool
     requires least { 2 ≤ size }
     requires most { size ≤ 8 }
-    requires short { length value.now ≤ 126 }
+    requires short { length value.now ≤ 250 }
 {
     let likely = 3 * value.len() / 4;
     (likely as u64) < prefix_int::greatest(size - 1)
@@ -181,7 +181,7 @@ fn write_plain(size: u8, flags: u8, value: &[u8], out: &mut [u8]) -> Option<usiz
     requires least { 2 ≤ size }
     requires most { size ≤ 8 }
     requires flags { flags < 2 ^ (8 - size) }
-    requires short { length value.now ≤ 126 }
+    requires short { length value.now ≤ 250 }
     requires room { length value.now + 1 ≤ length out.old }
     ensures most { IfSome result (λ count. count ≤ length value.now + 1) }
     ensures literal { IfSome result (λ count. take count out.new ≡ string_literal size flags (plain_text value.now)) }
@@ -206,7 +206,7 @@ fn write_behind_one(
     requires least { 2 ≤ size }
     requires most { size ≤ 8 }
     requires flags { flags < 2 ^ (8 - size) }
-    requires short { length value.now ≤ 126 }
+    requires short { length value.now ≤ 250 }
     requires room { 4 * length value.now + 6 ≤ length out.old }
     ensures most { IfSome result (λ count. count ≤ 4 * length value.now + 6) }
     ensures within { IfSome result (λ count. count ≤ length out.new) }
@@ -232,7 +232,7 @@ fn write_behind_two(
     requires least { 2 ≤ size }
     requires most { size ≤ 8 }
     requires flags { flags < 2 ^ (8 - size) }
-    requires short { length value.now ≤ 126 }
+    requires short { length value.now ≤ 250 }
     requires room { 4 * length value.now + 6 ≤ length out.old }
     ensures most { IfSome result (λ count. count ≤ 4 * length value.now + 6) }
     ensures within { IfSome result (λ count. count ≤ length out.new) }
@@ -274,7 +274,7 @@ fn write_short(size: u8, flags: u8, value: &[u8], shortest: bool, out: &mut [u8]
     requires least { 2 ≤ size }
     requires most { size ≤ 8 }
     requires flags { flags < 2 ^ (8 - size) }
-    requires short { length value.now ≤ 126 }
+    requires short { length value.now ≤ 250 }
     requires room { 4 * length value.now + 6 ≤ length out.old }
     ensures most { IfSome result (λ count. count ≤ 4 * length value.now + 6) }
     ensures within { IfSome result (λ count. count ≤ length out.new) }
@@ -302,7 +302,7 @@ fn put_short(
     requires least { 2 ≤ size }
     requires most { size ≤ 8 }
     requires flags { flags < 2 ^ (8 - size) }
-    requires short { length value.now ≤ 126 }
+    requires short { length value.now ≤ 250 }
     ensures ok { OnOk result (buf.new.items ≡ buf.old.items ++ string_literal size flags (coded shortest value.now)) }
     ensures err { OnErr result (take (length buf.old.items) buf.new.items ≡ buf.old.items) }
 {
@@ -330,8 +330,8 @@ fn write_both(
     requires least { 2 ≤ size }
     requires most { size ≤ 8 }
     requires flags { flags < 2 ^ (8 - size) }
-    requires name { length name.now ≤ 126 }
-    requires value { length value.now ≤ 126 }
+    requires name { length name.now ≤ 250 }
+    requires value { length value.now ≤ 250 }
     requires room { 4 * length name.now + 4 * length value.now + 12 ≤ length out.old }
     ensures within { IfSome result (λ count. count ≤ length out.new) }
     ensures literals { IfSome result (λ count. take count out.new ≡
@@ -356,8 +356,8 @@ fn put_both_short(
     requires least { 2 ≤ size }
     requires most { size ≤ 8 }
     requires flags { flags < 2 ^ (8 - size) }
-    requires name { length name.now ≤ 126 }
-    requires value { length value.now ≤ 126 }
+    requires name { length name.now ≤ 250 }
+    requires value { length value.now ≤ 250 }
     ensures ok { IfOk result (λ both. both ≡ true → buf.new.items ≡
         buf.old.items ++ (string_literal size flags (coded shortest name.now) ++ string_literal 8 0 (coded shortest value.now))) }
     ensures none { IfOk result (λ both. both ≡ false → buf.new.items ≡ buf.old.items) }
