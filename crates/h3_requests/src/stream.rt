@@ -218,6 +218,7 @@ impl RequestStream {
     }
 
     // More bytes came. More than memory can hold is refused as out of memory. An `Err` changes nothing, and returns the bytes.
+    #[inline(always)]
     pub(crate) fn deliver(&mut self, announced: &Announced, bytes: Bytes) -> Result<(), Bytes>
         ensures ok { OnOk result (self.new ≡ record self.old { incoming = kept self.old.incoming bytes }) }
         ensures back { IfErr result (λ b. b ≡ bytes) }
