@@ -4,7 +4,8 @@
 The kit's `rt ci` begins from nothing each time, so a change of one crate costs it all. This goes by the sources: a crate stands while its
 files and those of all crates below it are as they were when it was proved. It proves what does not stand, also what changes meanwhile, and
 ends when nothing is left that it can prove: with 0 if all stands. Up to N proofs run side by side (as many as there are processors), each
-begun with 4 GB of free memory. That on which the longest row of others waits comes first. The libraries lie in crates/NAME/out.
+begun with 4 GB of free memory and its share of N processes. That on which the longest row of others waits comes first. The libraries lie in
+crates/NAME/out.
 
 FOLDER (build/chain) has stands.json, which sources stand; log; and NAME.out, what the last proof of a crate said.
 `rt ci` stays the gate: it keeps none of this, and tries more, as programs by two compilers."""
@@ -22,7 +23,7 @@ import kit  # noqa: E402
 
 PARTS = ("src", "specs", "proofs")
 FREE_KIB = 4_000_000
-SECONDS = 5
+SECONDS = 15
 
 
 def crates():
@@ -66,8 +67,8 @@ def waits_behind(listed):
     return longest
 
 
-def prove_one(name):
-    """proves a crate over the libraries that are there: the status for the process that asked for it"""
+def prove_one(name, jobs):
+    """proves a crate over the libraries that are there, by so many processes: the status for the process that asked for it"""
     rt, listed = crates()
     rt.rtlib.guarded()  # takes signals, which only the main thread may
     keep_static(rt)
@@ -75,7 +76,7 @@ def prove_one(name):
     crate.out = sys.stdout
     os.makedirs(f"{crate.folder}/out", exist_ok=True)
     rt.rtlib.stop_on_text(crate, "verdict")
-    return crate.ci(["--jobs", "1"], False)
+    return crate.ci(["--jobs", str(jobs)], False)
 
 
 def keep_static(rt):
@@ -114,7 +115,9 @@ class Chain:
 
     def begin(self, name, want):
         with open(f"{self.folder}/{name}.out", "w", encoding="utf-8") as out:
-            process = subprocess.Popen([sys.executable, os.path.abspath(__file__), "--one", name], cwd=ROOT, stdout=out, stderr=out)
+            jobs = max(1, self.jobs // (len(self.running) + 1))  # a crate on which all others wait has all processors
+            words = [sys.executable, os.path.abspath(__file__), "--one", name, "--jobs", str(jobs)]
+            process = subprocess.Popen(words, cwd=ROOT, stdout=out, stderr=out)
         self.running[name] = (process, want, time.monotonic())
         self.say(f"{name} begins")
 
@@ -157,7 +160,7 @@ def main():
     reader.add_argument("--one", help=argparse.SUPPRESS)
     given = reader.parse_args()
     if given.one:
-        return prove_one(given.one)
+        return prove_one(given.one, given.jobs)
     chain = Chain(os.path.abspath(given.folder), given.jobs)
     while chain.round():
         time.sleep(SECONDS)

@@ -125,7 +125,7 @@ fn is_near(size: u8, value: &[u8]) -> bool
     requires most { size ≤ 8 }
     requires short { length value.now ≤ 250 }
 {
-    let likely = 3 * value.len() / 4;
+    let likely = (3 * value.len() + 3) / 4;
     (likely as u64) < prefix_int::greatest(size - 1)
 }
 
@@ -267,8 +267,8 @@ fn write_empty(size: u8, flags: u8, value: &[u8], shortest: bool, out: &mut [u8]
     Some(1)
 }
 
-/// Writes a short string to the front of `out`, in its final place, and returns how many bytes it takes. None: its length takes another
-/// number of bytes than is likely.
+/// Writes a short string to the front of `out`, in its final place, and returns how many bytes it takes. If its length takes another number
+/// of bytes than is likely, it is encoded once more. None: the length takes more than two bytes, or the string is to be written as it stands.
 #[inline(always)]
 fn write_short(size: u8, flags: u8, value: &[u8], shortest: bool, out: &mut [u8]) -> Option<usize>
     requires least { 2 ≤ size }
@@ -284,9 +284,17 @@ fn write_short(size: u8, flags: u8, value: &[u8], shortest: bool, out: &mut [u8]
         return write_empty(size, flags, value, shortest, out);
     }
     if is_near(size, value) {
-        return write_behind_one(size, flags, value, shortest, out);
+        let written = write_behind_one(size, flags, value, shortest, out);
+        if written.is_some() {
+            return written;
+        }
+        return write_behind_two(size, flags, value, shortest, out);
     }
-    write_behind_two(size, flags, value, shortest, out)
+    let written = write_behind_two(size, flags, value, shortest, out);
+    if written.is_some() {
+        return written;
+    }
+    write_behind_one(size, flags, value, shortest, out)
 }
 
 /// Appends the length of a short string and its Huffman encoding, or the string as it stands. It is encoded in its final place. A refusal
