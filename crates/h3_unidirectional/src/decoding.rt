@@ -72,6 +72,7 @@ impl Decoding {
     }
 
     /// More of the stream, which is kept until it is read. A refusal changes nothing.
+    #[inline(always)]
     pub fn push(&mut self, bytes: &[u8]) -> Result<(), AllocError>
         ensures ok { OnOk result (self.new ≡ record self.old { unread = self.old.unread ++ bytes.now }) }
         ensures err { OnErr result (self.new ≡ self.old) }
@@ -140,6 +141,7 @@ impl Decoding {
     }
 
     // Reads what is unread, as `read` does. The instruction at the front is not unfinished.
+    #[inline(never)]
     #[tactic(auto, using(crate::proofs::Waits::waiting_ok, crate::proofs::Heard::hearing_stopped))]
     fn read_instructions(
         &mut self,
@@ -159,6 +161,7 @@ impl Decoding {
     /// (RFC 9114, section 10.5). If an allocation fails, the instructions that were read stand, and the increment counts them. The others
     /// stay unread, and the next reading goes on with them. Bytes that are known to leave the instruction at the front unfinished are not
     /// read again, so a stream costs no more however it is cut.
+    #[inline(always)]
     pub fn read(&mut self, most: u64, out: &mut WaitingBytes) -> Result<Option<Code>, AllocError>
         ensures ok { IfOk result (λ fault. Hears most self.old self.new [] fault out.old out.new) }
         ensures increment { out.new ≡ out.old ++ increment_for (self.new.decoder.table.inserted - self.old.decoder.table.inserted) }
