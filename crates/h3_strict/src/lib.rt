@@ -1,4 +1,4 @@
-//! Two endpoints that ask for strict messages, and what they are without that.
+//! Two endpoints that ask for strict messages, beside the same two that do not.
 #![tactic(auto)]
 
 pub mod alike;
