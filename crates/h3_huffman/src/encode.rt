@@ -162,14 +162,14 @@ fn put_words(plain: &[u8], out: &mut [u8]) -> Pending
     };
     let mut place: usize = 0;
     // (the labels name the loops in their proofs)
-    'fours: while plain.len() - place >= 4 {
+    'fours: while place + 4 <= plain.len() {
         let Some(ahead) = add_four(plain, place, pending) else {
             break;
         };
         pending = flush(out, ahead);
         place += 4;
     }
-    'pairs: while plain.len() - place >= 2 {
+    'pairs: while place + 2 <= plain.len() {
         pending = put_one(plain, place, out, pending);
         pending = put_one(plain, place + 1, out, pending);
         place += 2;
