@@ -116,7 +116,7 @@ pub fn decode(alloc: Global, size: u8, buf: &mut SliceCursor<'_>) -> Result<Vec<
 }
 
 /// The longest string that is encoded in one pass: most often its code has fewer than 255 bytes, so the length takes at most two.
-const SHORT: usize = 250;
+pub(crate) const SHORT: usize = 250;
 
 /// Whether the length of a string most often takes one byte: a code word has six bits in the mean.
 #[inline(always)]
@@ -270,7 +270,13 @@ fn write_empty(size: u8, flags: u8, value: &[u8], shortest: bool, out: &mut [u8]
 /// Writes a short string to the front of `out`, in its final place, and returns how many bytes it takes. If its length takes another number
 /// of bytes than is likely, it is encoded once more. None: the length takes more than two bytes, or the string is to be written as it stands.
 #[inline(always)]
-fn write_short(size: u8, flags: u8, value: &[u8], shortest: bool, out: &mut [u8]) -> Option<usize>
+pub(crate) fn write_short(
+    size: u8,
+    flags: u8,
+    value: &[u8],
+    shortest: bool,
+    out: &mut [u8],
+) -> Option<usize>
     requires least { 2 ≤ size }
     requires most { size ≤ 8 }
     requires flags { flags < 2 ^ (8 - size) }
