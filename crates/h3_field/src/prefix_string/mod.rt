@@ -118,6 +118,10 @@ pub fn decode(alloc: Global, size: u8, buf: &mut SliceCursor<'_>) -> Result<Vec<
 /// The longest string that is encoded in one pass: most often its code has fewer than 255 bytes, so the length takes at most two.
 const SHORT: usize = 250;
 
+/// The longest string that is tried with another length: as it stands, its length takes one byte in seven bits. A longer one may well be
+/// written as it stands, and then each try is in vain.
+const TRIED_AGAIN: usize = 126;
+
 /// Whether the length of a string most often takes one byte: a code word has six bits in the mean.
 #[inline(always)]
 fn is_near(size: u8, value: &[u8]) -> bool
@@ -268,7 +272,8 @@ fn write_empty(size: u8, flags: u8, value: &[u8], shortest: bool, out: &mut [u8]
 }
 
 /// Writes a short string to the front of `out`, in its final place, and returns how many bytes it takes. If its length takes another number
-/// of bytes than is likely, it is encoded once more. None: the length takes more than two bytes, or the string is to be written as it stands.
+/// of bytes than is likely, a string of at most 126 bytes is encoded once more. None: the string is longer, its length takes more than two
+/// bytes, or it is to be written as it stands.
 #[inline(always)]
 fn write_short(size: u8, flags: u8, value: &[u8], shortest: bool, out: &mut [u8]) -> Option<usize>
     requires least { 2 ≤ size }
@@ -285,13 +290,13 @@ fn write_short(size: u8, flags: u8, value: &[u8], shortest: bool, out: &mut [u8]
     }
     if is_near(size, value) {
         let written = write_behind_one(size, flags, value, shortest, out);
-        if written.is_some() {
+        if written.is_some() || value.len() > TRIED_AGAIN {
             return written;
         }
         return write_behind_two(size, flags, value, shortest, out);
     }
     let written = write_behind_two(size, flags, value, shortest, out);
-    if written.is_some() {
+    if written.is_some() || value.len() > TRIED_AGAIN {
         return written;
     }
     write_behind_one(size, flags, value, shortest, out)
