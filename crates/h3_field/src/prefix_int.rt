@@ -1,5 +1,5 @@
 //! Prefixed integers (RFC 9204, section 4.1.1; RFC 7541, section 5.1).
-ghost use Rattle.std.specs.Prelude.{◌≡◌, ◌+◌, ◌-◌, ◌^◌, ◌<◌, ◌≤◌, ◌++◌, [], IfSome, OnOk, OnErr, IfOk, Result, length, MatchOption, ◌*◌};
+ghost use Rattle.std.specs.Prelude.{◌≡◌, ◌+◌, ◌-◌, ◌^◌, ◌<◌, ◌≤◌, ◌++◌, [], IfSome, take, OnOk, OnErr, IfOk, Result, length, MatchOption, ◌*◌};
 ghost use Rattle.std.specs.Prelude.{◌∷◌, Some, vec_len, vec_capacity};
 ghost use Rattle.h3_field.specs.Ends.{IsEndOf};
 ghost use Rattle.h3_field.specs.ErrorTexts.{integer_text};
@@ -147,6 +147,28 @@ pub(crate) fn two_bytes(size: u8, flags: u8, value: u64) -> Option<(u8, u8)>
         return None;
     }
     Some((first_byte(size, flags, ones), (value - ones) as u8))
+}
+
+/// Writes the encoding of `value` in the low `size` bits of a byte below `flags` to the front of `out`, and returns how many bytes it has.
+/// None: it has more than two.
+#[inline(always)]
+pub(crate) fn write(size: u8, flags: u8, value: u64, out: &mut [u8]) -> Option<usize>
+    requires least { 1 ≤ size }
+    requires most { size ≤ 8 }
+    requires flags { flags < 2 ^ (8 - size) }
+    requires room { 2 ≤ length out.old }
+    ensures most { IfSome result (λ count. count ≤ 2) }
+    ensures same { length out.new ≡ length out.old }
+    ensures bytes { IfSome result (λ count. take count out.new ≡ prefixed size flags value) }
+{
+    if let Some(first) = one_byte(size, flags, value) {
+        out[0] = first;
+        return Some(1);
+    }
+    let (first, second) = two_bytes(size, flags, value)?;
+    out[0] = first;
+    out[1] = second;
+    Some(2)
 }
 
 /// The most bytes that an integer takes.

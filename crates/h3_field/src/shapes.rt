@@ -1,5 +1,5 @@
 //! What lines and instructions are made of: an integer, an integer and a string, or two strings.
-ghost use Rattle.std.specs.Prelude.{◌≡◌, ◌<◌, ◌≤◌, ◌-◌, ◌^◌, ◌++◌, true, false, length, slice_index, is_some, if◌then◌else◌, MatchResult};
+ghost use Rattle.std.specs.Prelude.{◌≡◌, ◌<◌, ◌≤◌, ◌+◌, ◌*◌, ◌-◌, ◌^◌, ◌++◌, true, false, length, take, slice_index, is_some, if◌then◌else◌, MatchResult};
 ghost use Rattle.std.specs.Prelude.{IfSome, IfNone, IfOk, OnOk, OnErr};
 ghost use Rattle.std.specs.Result.{IsOkUnless};
 ghost use Rattle.h3_field.specs.Ends.{IsEndOf};
@@ -19,7 +19,7 @@ use crate::field::HeaderField;
 use crate::parse_error::ParseError;
 use crate::prefix_int;
 use crate::prefix_string::{self, Payload, ShortString, take_payload};
-use std::alloc::Global;
+use std::alloc::{AllocError, Global};
 
 /// Refuses a first byte that is not from `low` to `high`, if there is one.
 pub(crate) fn expect_first(buf: &SliceCursor<'_>, low: u8, high: u8) -> Result<(), ParseError>
@@ -203,6 +203,63 @@ pub(crate) fn take_two_strings(
     Ok(parts)
 }
 
+/// Writes an integer and a short string after it to the front of `out`, in their final place, and returns how many bytes they take. None: the
+/// integer or the length takes more than two bytes, or the string is to be written as it stands.
+#[inline(always)]
+fn write_index_and_short(
+    size: u8,
+    flags: u8,
+    index: u64,
+    value: &[u8],
+    shortest: bool,
+    out: &mut [u8],
+) -> Option<usize>
+    requires least { 1 ≤ size }
+    requires most { size ≤ 8 }
+    requires flags { flags < 2 ^ (8 - size) }
+    requires short { length value.now ≤ 250 }
+    requires room { 4 * length value.now + 8 ≤ length out.old }
+    ensures within { IfSome result (λ count. count ≤ length out.new) }
+    ensures bytes { IfSome result (λ count. take count out.new ≡
+        prefixed size flags index ++ string_literal 8 0 (coded shortest value.now)) }
+{
+    let first = prefix_int::write(size, flags, index, out)?;
+    let second = prefix_string::write_short(8, 0, value, shortest, &mut out[first..])?;
+    Some(first + second)
+}
+
+/// Appends an integer and a short string after it, both in their final place. False: nothing is appended, since they are to be written one
+/// after the other. A refusal appends nothing.
+#[inline(always)]
+fn put_index_and_short(
+    size: u8,
+    flags: u8,
+    index: u64,
+    value: &[u8],
+    shortest: bool,
+    buf: &mut Vec<u8>,
+) -> Result<bool, AllocError>
+    requires least { 1 ≤ size }
+    requires most { size ≤ 8 }
+    requires flags { flags < 2 ^ (8 - size) }
+    requires short { length value.now ≤ 250 }
+    ensures ok { IfOk result (λ both. both ≡ true → buf.new.items ≡
+        buf.old.items ++ (prefixed size flags index ++ string_literal 8 0 (coded shortest value.now))) }
+    ensures none { IfOk result (λ both. both ≡ false → buf.new.items ≡ buf.old.items) }
+    ensures err { OnErr result (buf.new.items ≡ buf.old.items) }
+{
+    let start = buf.len();
+    // the index, the length, at most four bytes of code for each, and what the encoder writes after its last bits
+    buf.resize(start.saturating_add(4 * value.len() + 8), 0)?;
+    let Some(count) = write_index_and_short(size, flags, index, value, shortest, &mut buf[start..])
+    else {
+        buf.truncate(start);
+        return Ok(false);
+    };
+    buf.truncate(start + count);
+    Ok(true)
+}
+
 // RFC 9204 4.5: field lines as bytes
 /// Appends an integer and a string after it, which is written as `prefix_string::write` does. A refusal appends nothing.
 pub(crate) fn put_index_and_string(
@@ -223,6 +280,11 @@ pub(crate) fn put_index_and_string(
         (buf.new.items ≡ buf.old.items ++ (prefixed size flags index ++ string_literal 8 0 (coded shortest value.now))) }
     ensures err { OnErr result (buf.new.items ≡ buf.old.items) }
 {
+    if value.len() <= prefix_string::SHORT
+        && put_index_and_short(size, flags, index, value, shortest, buf)?
+    {
+        return Ok(());
+    }
     let start = buf.len();
     prefix_int::encode(size, flags, index, buf)?;
     if prefix_string::write(8, 0, value, shortest, buf).is_err() {

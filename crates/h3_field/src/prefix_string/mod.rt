@@ -116,7 +116,7 @@ pub fn decode(alloc: Global, size: u8, buf: &mut SliceCursor<'_>) -> Result<Vec<
 }
 
 /// The longest string that is encoded in one pass: most often its code has fewer than 255 bytes, so the length takes at most two.
-const SHORT: usize = 250;
+pub(crate) const SHORT: usize = 250;
 
 /// The longest string that is tried with another length: as it stands, its length takes one byte in seven bits. A longer one may well be
 /// written as it stands, and then each try is in vain.
@@ -275,7 +275,13 @@ fn write_empty(size: u8, flags: u8, value: &[u8], shortest: bool, out: &mut [u8]
 /// of bytes than is likely, a string of at most 126 bytes is encoded once more. None: the string is longer, its length takes more than two
 /// bytes, or it is to be written as it stands.
 #[inline(always)]
-fn write_short(size: u8, flags: u8, value: &[u8], shortest: bool, out: &mut [u8]) -> Option<usize>
+pub(crate) fn write_short(
+    size: u8,
+    flags: u8,
+    value: &[u8],
+    shortest: bool,
+    out: &mut [u8],
+) -> Option<usize>
     requires least { 2 ≤ size }
     requires most { size ≤ 8 }
     requires flags { flags < 2 ^ (8 - size) }
