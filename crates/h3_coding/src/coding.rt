@@ -129,6 +129,7 @@ pub trait BufExt: Buf + Sized {
     }
 
     /// Takes a variable-length integer from the front (RFC 9000, section 16).
+    #[inline(always)]
     final fn get_var(&mut self) -> Result<u64>
         ensures reads { ReadsVarint result (Self.unread self.old) (Self.unread self.new) }
         ensures few { OnErr result (length (Self.unread self.old) < 8) }

@@ -108,6 +108,7 @@ impl VarInt {
     /// Takes an encoding from the front, also one that is longer than needed. The error of input that
     /// is empty has the count 0; of a form of 2, 4 or 8 bytes that is not whole it has 1, 2 or 3, and the
     /// first byte is taken.
+    #[inline(always)]
     pub fn decode<B: Buf>(buf: &mut B) -> Result<Self, UnexpectedEnd>
         ensures ok { IfOk result (λ v. Takes (IsEncoding v) (B.unread buf.old) (B.unread buf.new)) }
         ensures err { IfErr result (λ e. IsUnfinished (B.unread buf.old) e.0 (B.unread buf.new)) }
@@ -153,11 +154,45 @@ impl VarInt {
     }
 
     // The number that the bytes begin with, and how many of them it has; none if it does not lie
-    // whole in them. Short forms have a branch each, so that the place of the next number does not
-    // wait for this one's bytes. Longer ones take one load and share a branch, since one more would
-    // often be guessed wrong when all forms come in turn.
+    // whole in them. One test of the length serves all forms. Each form has a branch, so that the
+    // place of the next number does not wait for this one's bytes. Each form takes a load of its
+    // own: if the first byte were put together with the others, LLVM would load these one by one.
+    // Of the orders of the branches this one was as fast as any when all forms come in turn.
     #[inline(always)]
     fn at_front(bytes: &[u8]) -> Option<(Self, usize)>
+        ensures some { IfSome result (λ p. IsEncoding p.0 (take p.1 bytes.now)
+            × (p.1 ≤ length bytes.now)) }
+        ensures none { IsNone result → varint_at bytes.now ≡ None }
+    {
+        let Some(eight) = bytes.first_chunk::<8>() else {
+            return VarInt::at_short_front(bytes);
+        };
+        let first = bytes[0];
+        if first < 0x40 {
+            return Some((VarInt(u64::from(first)), 1));
+        }
+        if first >> 6 == 2 {
+            let Some(four) = bytes.first_chunk::<4>() else {
+                unreachable!();
+            };
+            let number = u32::from_be_bytes(*four) & 0x3fff_ffff;
+            return Some((VarInt(u64::from(number)), 4));
+        }
+        if first >= 0xc0 {
+            let number = u64::from_be_bytes(*eight) & 0x3fff_ffff_ffff_ffff;
+            return Some((VarInt(number), 8));
+        }
+        let Some(two) = bytes.first_chunk::<2>() else {
+            unreachable!();
+        };
+        let number = u16::from_be_bytes(*two) & 0x3fff;
+        Some((VarInt(u64::from(number)), 2))
+    }
+
+    // The same for fewer than eight bytes. Out of line, since more of them mostly lie there.
+    #[inline(never)]
+    fn at_short_front(bytes: &[u8]) -> Option<(Self, usize)>
+        requires few { length bytes.now < 8 }
         ensures some { IfSome result (λ p. IsEncoding p.0 (take p.1 bytes.now)
             × (p.1 ≤ length bytes.now)) }
         ensures none { IsNone result → varint_at bytes.now ≡ None }
@@ -166,27 +201,22 @@ impl VarInt {
         if len == 0 {
             return None;
         }
-        let first = bytes[0];
-        if first < 0x40 {
-            return Some((VarInt(u64::from(first)), 1));
+        let leading = bytes[0];
+        if leading < 0x40 {
+            return Some((VarInt(u64::from(leading)), 1));
         }
-        if first < 0x80 {
+        if leading < 0x80 {
             if len < 2 {
                 return None;
             }
-            let number = u16::from_be_bytes([first, bytes[1]]) & 0x3fff;
+            let number = u16::from_be_bytes([leading, bytes[1]]) & 0x3fff;
             return Some((VarInt(u64::from(number)), 2));
         }
-        if let Some(octets) = bytes.first_chunk::<8>() {
-            let word = u64::from_be_bytes(*octets) & 0x3fff_ffff_ffff_ffff;
-            let size = 4 * (usize::from(first >> 6) - 1);
-            return Some((VarInt(word >> (64 - 8 * size)), size));
-        }
-        if first < 0xc0 {
+        if leading < 0xc0 {
             if len < 4 {
                 return None;
             }
-            let number = u32::from_be_bytes([first, bytes[1], bytes[2], bytes[3]]) & 0x3fff_ffff;
+            let number = u32::from_be_bytes([leading, bytes[1], bytes[2], bytes[3]]) & 0x3fff_ffff;
             return Some((VarInt(u64::from(number)), 4));
         }
         None
