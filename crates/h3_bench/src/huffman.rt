@@ -11,7 +11,7 @@ fn encode_all(strings: &[&[u8]], out: &mut [u8]) -> Result<usize, Failure> {
     let mut written = 0;
     for string in strings {
         let string: &[u8] = *string;
-        // a code word has at most thirty bits, and the encoder writes four bytes at a time
+        // a code word has at most thirty bits, and the encoder writes its last bits as four bytes
         if string.len() >= (out.len() - written) / 4 {
             return Err(Failure::Room);
         }

@@ -51,39 +51,41 @@ low_alone plain out index acc count written w =
       bytes = w.bytes;
     }
 
--- the first 32 of the pending bits
-pub high_word : (value count : ℕ) → 32 ≤ count → count ≤ 64 → value * 2 ^ (64 - count) / 2 ^ 32 ≡ value / 2 ^ (count - 32)
-high_word value count many fits =
-    let parts : (64 - count) + (count - 32) ≡ 32 = omega arith in
-    let split : value * 2 ^ (64 - count) / 2 ^ (64 - count) / 2 ^ (count - 32) ≡ value * 2 ^ (64 - count) / 2 ^ ((64 - count) + (count - 32)) = shr-shr (value * 2 ^ (64 - count)) (64 - count) (count - 32) in
-    sym (rw parts at split) ∙ ap (λ x. x / 2 ^ (count - 32)) (shl-shr value (64 - count))
-
--- what is pending behind them
-pub rest_high : (value count : ℕ) → 32 ≤ count → count ≤ 64 → value * 2 ^ (64 - count) * 2 ^ 32 % 2 ^ 64 ≡ value % 2 ^ (count - 32) * 2 ^ (64 - (count - 32))
-rest_high value count many fits =
-    let more = 64 - (count - 32) in
-    let width : (64 - count) + 32 ≡ more = omega arith in
-    let all : (count - 32) + more ≡ 64 = omega arith in
-    let power : 2 ^ ((64 - count) + 32) ≡ 2 ^ (64 - count) * 2 ^ 32 = pow-add 2 (64 - count) 32 in
-    let whole : value * 2 ^ (64 - count) * 2 ^ 32 ≡ value * 2 ^ more = mul_assoc value (2 ^ (64 - count)) (2 ^ 32) ∙ ap (λ x. value * x) (sym power ∙ ap (λ x. 2 ^ x) width) in
-    let parts : value * 2 ^ more % 2 ^ ((count - 32) + more) ≡ (value * 2 ^ more / 2 ^ more % 2 ^ (count - 32)) * 2 ^ more + value * 2 ^ more % 2 ^ more = mod-pow-add (value * 2 ^ more) (count - 32) more in
+-- what is pending behind the first bits
+pub rest_high : (value count left : ℕ) → left ≤ count → count ≤ 64 → value * 2 ^ (64 - count) * 2 ^ (count - left) % 2 ^ 64 ≡ value % 2 ^ left * 2 ^ (64 - left)
+rest_high value count left many fits =
+    let more = 64 - left in
+    let width : (64 - count) + (count - left) ≡ more = omega arith in
+    let all : left + more ≡ 64 = omega arith in
+    let power : 2 ^ ((64 - count) + (count - left)) ≡ 2 ^ (64 - count) * 2 ^ (count - left) = pow-add 2 (64 - count) (count - left) in
+    let whole : value * 2 ^ (64 - count) * 2 ^ (count - left) ≡ value * 2 ^ more = mul_assoc value (2 ^ (64 - count)) (2 ^ (count - left)) ∙ ap (λ x. value * x) (sym power ∙ ap (λ x. 2 ^ x) width) in
+    let parts : value * 2 ^ more % 2 ^ (left + more) ≡ (value * 2 ^ more / 2 ^ more % 2 ^ left) * 2 ^ more + value * 2 ^ more % 2 ^ more = mod-pow-add (value * 2 ^ more) left more in
     let back : value * 2 ^ more / 2 ^ more ≡ value = shl-shr value more in
     let none : value * 2 ^ more % 2 ^ more ≡ 0 = mul-mod_left value (2 ^ more) in
     rw whole (rw (back, none, all) at parts ∙ add-zero _)
+
+-- the first whole bytes of the pending bits
+pub front_high : (value count left k : ℕ) → count ≡ 8 * k + left → count ≤ 64 → value * 2 ^ (64 - count) / 2 ^ (64 - 8 * k) ≡ value / 2 ^ left
+front_high value count left k size fits =
+    let parts : (64 - count) + left ≡ 64 - 8 * k = omega (arith, size, fits) in
+    let split : value * 2 ^ (64 - count) / 2 ^ (64 - count) / 2 ^ left ≡ value * 2 ^ (64 - count) / 2 ^ ((64 - count) + left) = shr-shr (value * 2 ^ (64 - count)) (64 - count) left in
+    sym (rw parts at split) ∙ ap (λ x. x / 2 ^ left) (shl-shr value (64 - count))
 
 -- four bytes go out
 pub move_high : (plain out new : List ℕ) (index acc count written : ℕ) → IsPending plain out index acc count written → 32 ≤ count → count ≤ 64 → written + 4 ≤ length new → length new ≡ length out →
     take (written + 4) new ≡ take written out ++ to_be_bytes w32 (acc / 2 ^ 32) →
     IsPending plain new index (acc * 2 ^ 32 % 2 ^ 64) (count - 32) (written + 4)
 move_high plain out new index acc count written p many fits inside same put =
-    let word : acc / 2 ^ 32 ≡ p.value / 2 ^ (count - 32) = ap (λ x. x / 2 ^ 32) p.high ∙ high_word p.value count many fits in
+    let word : acc / 2 ^ 32 ≡ p.value / 2 ^ (count - 32) = ap (λ x. x / 2 ^ 32) p.high ∙ front_high p.value count (count - 32) 4 (omega (arith, many)) fits in
+    let four_bytes : count - (count - 32) ≡ 32 = omega (arith, many) in
+    let rest : p.value * 2 ^ (64 - count) * 2 ^ 32 % 2 ^ 64 ≡ p.value % 2 ^ (count - 32) * 2 ^ (64 - (count - 32)) = rw four_bytes at (rest_high p.value count (count - 32) (omega arith) fits) in
     let width : 32 + (count - 32) ≡ count = omega arith in
     let short : p.value / 2 ^ (count - 32) < 2 ^ 32 = shr_below p.value 32 (count - 32) (rw width p.below) in
     let four : acc / 2 ^ 32 ≡ p.value / 2 ^ (count - 32) % 2 ^ 32 = word ∙ sym (mod-eq_of_lt short) in
     let moved = move_word plain out new index p.value count written p.standing many inside same (rw four at put) in
     record {
       value = p.value % 2 ^ (count - 32);
-      high = ap (λ x. x * 2 ^ 32 % 2 ^ 64) p.high ∙ rest_high p.value count many fits;
+      high = ap (λ x. x * 2 ^ 32 % 2 ^ 64) p.high ∙ rest;
       below = mod_below p.value (2 ^ (count - 32)) (pow_pos (count - 32));
       standing = low_alone plain new index p.value (count - 32) (written + 4) moved;
     }

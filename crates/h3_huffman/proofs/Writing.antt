@@ -22,8 +22,10 @@ word_is byte h =
     let a = and_parts _ _ c.0 in
     let high = and_parts _ _ c.1 in
     let low = and_parts _ _ high.0 in
+    let sizes = and_parts _ _ a.0 in
     record {
-      len = eqb-true _ _ a.0;
+      len = eqb-true _ _ sizes.0;
+      least = leb-true _ _ sizes.1;
       most = leb-true _ _ a.1;
       word = record { value = low_word byte (get_or WORDS byte 0); high = eqb-true _ _ high.1; word = bytes_same _ _ low.0; below = ltb-true _ _ low.1 };
     }

@@ -1,5 +1,5 @@
 -- The last bits of a payload, written four bytes at once.
-use Rattle.std.proofs.Common.{◌≡◌, ℕ, zero, suc, ◌+◌, ◌*◌, ◌-◌, ◌/◌, ◌%◌, ◌^◌, ◌<◌, ◌≤◌, List, [], ◌∷◌, ◌++◌, length, take, replicate, refl, ap, sym, ◌∙◌, arith, append_assoc, length-append, flat_map, bit_or, lit≤}
+use Rattle.std.proofs.Common.{◌≡◌, ℕ, zero, suc, ◌+◌, ◌*◌, ◌-◌, ◌/◌, ◌%◌, ◌^◌, ◌<◌, ◌≤◌, List, [], ◌∷◌, ◌++◌, length, take, get_or, replicate, refl, ap, sym, ◌∙◌, arith, append_assoc, length-append, flat_map, bit_or, lit≤}
 use Rattle.std.specs.Int.{w32, to_be_bytes}
 use Rattle.std.specs.List.{AllByRecursion}
 use Rattle.std.proofs.lemmas.List.{take_all, take-take, replicate-append-replicate, length-replicate, length-take-le}
@@ -9,6 +9,7 @@ use Rattle.std.proofs.Math.Pow.{ones_lt}
 use Rattle.std.proofs.Math.Seq.{take-append-add}
 use Rattle.h3_huffman.specs.Huffman.{bits, bits_value, octets, huffman, code_word}
 use Rattle.h3_huffman.specs.Payload.{IsByte}
+use Rattle.h3_huffman.specs.PayloadLaws.{All_from}
 use Rattle.h3_huffman.specs.Writing.{Written}
 use Rattle.h3_huffman.proofs.Bits.{bits-shift_in, length-bits, bits-low, ones_to}
 use Rattle.h3_huffman.proofs.Payloads.{octets_pad, payload_octets}
@@ -85,3 +86,15 @@ pub front_length : (plain out : List ℕ) (acc count written : ℕ) → Written 
 front_length plain out acc count written w =
     let all : take (length plain) plain ≡ plain = take_all (length plain) plain (omega arith) in
     omega (arith, (sum_of plain out (length plain) acc count written w).0, length-huffman plain, ap (λ x. length (flat_map code_word x)) all)
+
+-- The words of the bytes before a place leave room for those behind them.
+pub front_most : (plain : List ℕ) (index : ℕ) → AllByRecursion IsByte plain → length (flat_map code_word (take index plain)) ≤ 30 * index
+front_most plain zero h = omega arith
+front_most [] (suc index) h = omega arith
+front_most (byte ∷ plain) (suc index) h =
+    let w = word_is byte h.0 in
+    omega (arith, length-append (code_word byte) (flat_map code_word (take index plain)), front_most plain index h.1, w.len, w.most)
+
+pub room_behind : (plain out : List ℕ) (index acc count written : ℕ) → Written plain out index acc count written → ((k : ℕ) → get_or plain k 0 < 256) → 8 * written + count ≤ 30 * index
+room_behind plain out index acc count written w bytes =
+    omega (arith, (sum_of plain out index acc count written w).0, front_most plain index (All_from plain bytes))

@@ -102,10 +102,11 @@ is_high_word byte number =
 -- a byte's word, in the encoder's tables
 abbrev pub is_word : List ℕ → List ℕ → ℕ → Bool
 is_word words lengths byte =
-    (slice_index lengths byte == length (code_word byte)) && nat_le (slice_index lengths byte) 30 && is_high_word byte (slice_index words byte)
+    (slice_index lengths byte == length (code_word byte)) && nat_le 5 (slice_index lengths byte) && nat_le (slice_index lengths byte) 30 && is_high_word byte (slice_index words byte)
 
 -- what the test says
 pub record IsWord (byte number size : ℕ) : Type 0 where
   pub len : size ≡ length (code_word byte)
+  pub least : 5 ≤ size
   pub most : size ≤ 30
   pub word : IsHighWord byte number

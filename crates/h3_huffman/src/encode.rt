@@ -1,6 +1,6 @@
 //! Writes Huffman payloads.
-ghost use Rattle.std.specs.Prelude.{◌≡◌, ℕ, List, ◌+◌, ◌*◌, ◌^◌, ◌<◌, ◌≤◌, ◌++◌, IfSome, take, length, flat_map};
-ghost use Rattle.std.specs.Int.{w32, to_be_bytes};
+ghost use Rattle.std.specs.Prelude.{◌≡◌, ℕ, List, ◌+◌, ◌*◌, ◌/◌, ◌^◌, ◌<◌, ◌≤◌, ◌++◌, IfSome, take, length, flat_map};
+ghost use Rattle.std.specs.Int.{w32, w64, to_be_bytes};
 ghost use Rattle.h3_huffman.specs.Huffman.{huffman, code_word};
 ghost use Rattle.h3_huffman.specs.Writing.{IsHighWord, IsPending};
 
@@ -9,6 +9,7 @@ use crate::tables::{WORD_LENGTHS, WORDS};
 /// How many bits the word of a byte has.
 fn word_len(byte: u8) -> u64
     ensures value { result ≡ length (code_word byte) }
+    ensures least { 5 ≤ result }
     ensures most { result ≤ 30 }
 {
     let length = WORD_LENGTHS[byte as usize];
@@ -28,6 +29,14 @@ fn put_word(out: &mut [u8], place: usize, word: u32)
     ensures { take (place + 4) out.new ≡ take place out.old ++ to_be_bytes w32 word }
 {
     out[place..place + 4].copy_from_slice(&word.to_be_bytes());
+}
+
+/// Writes the eight bytes of a number, the high one first.
+fn put_eight(out: &mut [u8], place: usize, number: u64)
+    requires { place + 8 ≤ length out.old }
+    ensures { take (place + 8) out.new ≡ take place out.old ++ to_be_bytes w64 number }
+{
+    out[place..place + 8].copy_from_slice(&number.to_be_bytes());
 }
 
 /// How many bits the words of a string have, if their sum fits 64 bits.
@@ -146,13 +155,64 @@ fn put_one(plain: &[u8], place: usize, out: &mut [u8], before: Pending) -> Pendi
     flush(out, ahead)
 }
 
-/// Writes the words of a string, save for the last bits of fewer than four bytes: four bytes at a time while their words are short, then
-/// two at a time, which costs less for long words than a try of four that fails.
+/// Writes the whole bytes of what is pending. It writes eight bytes, of which those that follow are written again later.
 #[inline(always)]
-fn put_words(plain: &[u8], out: &mut [u8]) -> Pending
+fn flush_bytes(out: &mut [u8], before: Pending) -> Pending
+    requires few { before.count < 64 }
+    requires room { before.written + 8 ≤ length out.old }
+    ensures standing { (plain : List ℕ) (index : ℕ) → IsPending plain out.old index before.acc before.count before.written
+        → IsPending plain out.new index result.acc result.count result.written }
+    ensures few { result.count < 8 }
+    ensures same { length out.new ≡ length out.old }
+{
+    put_eight(out, before.written, before.acc);
+    let count = before.count % 8;
+    Pending {
+        acc: before.acc << (before.count - count),
+        count,
+        written: before.written + (before.count / 8) as usize,
+    }
+}
+
+/// Writes the words of two bytes after fewer than eight pending bits, save for the last bits of fewer than eight. The two words are
+/// joined first: so what is pending is needed late, and there is no branch.
+#[inline(always)]
+fn put_two(plain: &[u8], place: usize, out: &mut [u8], before: Pending) -> Pending
+    requires there { place + 2 ≤ length plain.now }
+    requires few { before.count < 8 }
+    requires room { before.written + 8 ≤ length out.old }
+    requires standing { IsPending plain.now out.old place before.acc before.count before.written }
+    ensures standing { IsPending plain.now out.new (place + 2) result.acc result.count result.written }
+    ensures few { result.count < 8 }
+    ensures same { length out.new ≡ length out.old }
+{
+    let first_len = word_len(plain[place]);
+    let both_len = first_len + word_len(plain[place + 1]);
+    let both = word_of(plain[place]) | word_of(plain[place + 1]) >> first_len;
+    put_eight(out, before.written, before.acc | both >> before.count);
+    let total = before.count + both_len;
+    let count = total % 8;
+    Pending {
+        acc: both << (both_len - count),
+        count,
+        written: before.written + (total / 8) as usize,
+    }
+}
+
+/// How far words were written: those of the bytes before `place`, save for the pending bits.
+#[derive(Copy, Clone)]
+struct Front {
+    pending: Pending,
+    place: usize,
+}
+
+/// Writes the words of a string four bytes at a time, up to four that have more bits than are free, or the last three.
+#[inline(always)]
+fn put_fours(plain: &[u8], out: &mut [u8]) -> Front
     requires { length (huffman plain.now) ≤ length out.old }
-    ensures standing { IsPending plain.now out.new (length plain.now) result.acc result.count result.written }
-    ensures few { result.count < 32 }
+    ensures standing { IsPending plain.now out.new result.place result.pending.acc result.pending.count result.pending.written }
+    ensures few { result.pending.count < 32 }
+    ensures within { result.place ≤ length plain.now }
     ensures same { length out.new ≡ length out.old }
 {
     let mut pending = Pending {
@@ -161,7 +221,7 @@ fn put_words(plain: &[u8], out: &mut [u8]) -> Pending
         written: 0,
     };
     let mut place: usize = 0;
-    // (the labels name the loops in their proofs)
+    // (the label names the loop in its proof)
     'fours: while place + 4 <= plain.len() {
         let Some(ahead) = add_four(plain, place, pending) else {
             break;
@@ -169,15 +229,67 @@ fn put_words(plain: &[u8], out: &mut [u8]) -> Pending
         pending = flush(out, ahead);
         place += 4;
     }
-    'pairs: while place + 2 <= plain.len() {
+    Front { pending, place }
+}
+
+/// Writes the words of the rest of a string one after another, save for the last bits of fewer than four bytes.
+#[inline(always)]
+fn put_rest(plain: &[u8], from: usize, out: &mut [u8], before: Pending) -> Pending
+    requires there { from ≤ length plain.now }
+    requires few { before.count < 32 }
+    requires standing { IsPending plain.now out.old from before.acc before.count before.written }
+    ensures standing { IsPending plain.now out.new (length plain.now) result.acc result.count result.written }
+    ensures few { result.count < 32 }
+    ensures same { length out.new ≡ length out.old }
+{
+    let mut pending = before;
+    let mut place = from;
+    // (the label names the loop in its proof)
+    'ones: while place < plain.len() {
         pending = put_one(plain, place, out, pending);
-        pending = put_one(plain, place + 1, out, pending);
-        place += 2;
-    }
-    if place < plain.len() {
-        pending = put_one(plain, place, out, pending);
+        place += 1;
     }
     pending
+}
+
+/// Writes what is pending with ones after it, as four bytes, and returns the length of all that is written.
+#[inline(always)]
+fn put_last(out: &mut [u8], before: Pending) -> usize
+    requires few { before.count < 32 }
+    requires room { before.written + 4 ≤ length out.old }
+    ensures payload { (plain : List ℕ) → IsPending plain out.old (length plain) before.acc before.count before.written
+        → take result out.new ≡ huffman plain }
+    ensures value { result ≡ before.written + (before.count + 7) / 8 }
+    ensures same { length out.new ≡ length out.old }
+{
+    let last = before.acc >> 32 | 0xffff_ffff >> before.count;
+    put_word(out, before.written, (last % (1 << 32)) as u32);
+    before.written + ((before.count + 7) / 8) as usize
+}
+
+/// Writes the rest of a string whose words are long: two bytes at a time, which costs less than a try of four that fails. (A function of
+/// its own: the loop over short words needs the registers.)
+#[inline(never)]
+fn encode_long(plain: &[u8], from: usize, out: &mut [u8], before: Pending) -> usize
+    requires there { from + 4 ≤ length plain.now }
+    requires few { before.count < 32 }
+    requires room { 4 * length plain.now + 4 ≤ length out.old }
+    requires standing { IsPending plain.now out.old from before.acc before.count before.written }
+    ensures payload { take result out.new ≡ huffman plain.now }
+    ensures value { result ≡ length (huffman plain.now) }
+    ensures same { length out.new ≡ length out.old }
+{
+    let mut pending = flush_bytes(out, before);
+    let mut place = from;
+    let end = plain.len() - 3;
+    // (the label names the loop in its proof)
+    'pairs: while place < end {
+        pending = put_two(plain, place, out, pending);
+        pending = put_two(plain, place + 2, out, pending);
+        place += 4;
+    }
+    let whole = put_rest(plain, place, out, pending);
+    put_last(out, whole)
 }
 
 /// Writes the Huffman encoding of a string.
@@ -185,11 +297,12 @@ pub fn encode_into(plain: &[u8], out: &mut [u8])
     requires { length out.old ≡ length (huffman plain.now) }
     ensures { out.new ≡ huffman plain.now }
 {
+    let front = put_fours(plain, out);
     let Pending {
         acc: high,
         mut count,
         mut written,
-    } = put_words(plain, out);
+    } = put_rest(plain, front.place, out, front.pending);
     let acc = high >> 32 >> (32 - count);
     // (the label names the loop in its proof)
     'last: while count >= 8 {
@@ -203,7 +316,7 @@ pub fn encode_into(plain: &[u8], out: &mut [u8])
 }
 
 /// Writes the Huffman encoding of a string to the front of `out`, and returns its length. It needs no length before and has no loop over
-/// the last bytes, so it is the faster one for short strings. It writes up to four bytes after the encoding.
+/// the last bytes, so it is the faster one for short strings. It may write some bytes after the encoding.
 pub fn encode_front(plain: &[u8], out: &mut [u8]) -> usize
     requires { 4 * length plain.now + 4 ≤ length out.old }
     ensures payload { take result out.new ≡ huffman plain.now }
@@ -211,12 +324,10 @@ pub fn encode_front(plain: &[u8], out: &mut [u8]) -> usize
     ensures most { result ≤ 4 * length plain.now }
     ensures same { length out.new ≡ length out.old }
 {
-    let Pending {
-        acc,
-        count,
-        written,
-    } = put_words(plain, out);
-    let last = acc >> 32 | 0xffff_ffff >> count;
-    put_word(out, written, (last % (1 << 32)) as u32);
-    written + ((count + 7) / 8) as usize
+    let front = put_fours(plain, out);
+    if front.place + 4 <= plain.len() {
+        return encode_long(plain, front.place, out, front.pending);
+    }
+    let whole = put_rest(plain, front.place, out, front.pending);
+    put_last(out, whole)
 }

@@ -6,10 +6,10 @@ use Rattle.h3_huffman.proofs.encode.encode_into.Goals as goal
 
 pub last-init : goal.last-init
 last-init c =
-    let p = c.put_words-high.ensures.standing in
-    let few = c.put_words-high.ensures.few in
-    let low = ap (λ x. x / 2 ^ 32 / 2 ^ (32 - c.put_words-high.result.count)) p.high ∙ low_half _ _ (omega (arith, few)) p.below in
-    record { standing = rw low p.standing; few = few; exact = c.put_words-high.ensures.same ∙ c.requires }
+    let p = c.put_rest-high.ensures.standing in
+    let few = c.put_rest-high.ensures.few in
+    let low = ap (λ x. x / 2 ^ 32 / 2 ^ (32 - c.put_rest-high.result.count)) p.high ∙ low_half _ _ (omega (arith, few)) p.below in
+    record { standing = rw low p.standing; few = few; exact = c.put_rest-high.ensures.same ∙ c.put_fours-front.ensures.same ∙ c.requires }
 
 pub bounds-out-written : goal.bounds-out-written
 bounds-out-written c = omega (arith, (sum_of _ _ _ _ _ _ c.last.invariant.standing).2)

@@ -14,3 +14,9 @@ returns-clause-most c =
     let w = word_is c.args.byte (omega arith) in
     let e : c.from.result ≡ get_or WORD_LENGTHS c.args.byte 0 = c.from.ensures in
     rw e w.most
+
+pub returns-clause-least : goal.returns-clause-least
+returns-clause-least c =
+    let w = word_is c.args.byte (omega arith) in
+    let e : c.from.result ≡ get_or WORD_LENGTHS c.args.byte 0 = c.from.ensures in
+    rw e w.least

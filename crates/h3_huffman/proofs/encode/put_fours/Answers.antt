@@ -1,7 +1,7 @@
 use Rattle.std.proofs.Common.{arith, lit<, refl}
 use Rattle.h3_huffman.proofs.Writing.{sum_of}
 use Rattle.h3_huffman.proofs.Pending.{none_pending}
-use Rattle.h3_huffman.proofs.encode.put_words.Goals as goal
+use Rattle.h3_huffman.proofs.encode.put_fours.Goals as goal
 
 pub fours-init : goal.fours-init
 fours-init c = record { standing = none_pending _ _ c.requires; few = lit< tt; within = omega arith; same = refl }
