@@ -57,16 +57,16 @@ uint32_t h3_bench_section_within(uint64_t rounds, size_t capacity, uint64_t max,
                                  const uint8_t *section, size_t section_len, h3_report *report);
 
 /* A session with a dynamic table, of which `limit` sections may wait: `passes` times all lists, `batch` of which are sent
- * before they are read and answered. `out` gets each batch: the count of its sections, each of them, the instructions
+ * before they are read and answered. With `choices` 1 its encoder has the choices of h3_config_default, with 0 none. `out` gets each batch: the count of its sections, each of them, the instructions
  * and the replies, as strings. The report: the fields that came out, and the bytes of sections and instructions. */
-uint32_t h3_bench_exchange(uint64_t rounds, size_t capacity, size_t limit, size_t batch, size_t passes,
+uint32_t h3_bench_exchange(uint64_t rounds, size_t capacity, size_t limit, uint32_t choices, size_t batch, size_t passes,
                            const uint8_t *bytes, size_t len, uint8_t *out, size_t room, h3_report *report);
 
 /* One end of a session. `bytes` are steps: their count, and for each 0, a stream, and the number of a list or a section;
  * or 1 and what the other end wrote beside its sections. The lists of an encoder stand in front of its steps. `out` gets
  * the count of steps, and for each the section and the instructions that it wrote (empty where it heard); or, of a
  * decoder, 1 and a list where a section was decoded, else 0, and what it wrote. */
-uint32_t h3_bench_session_encode(uint64_t rounds, size_t capacity, size_t limit, const uint8_t *bytes, size_t len,
+uint32_t h3_bench_session_encode(uint64_t rounds, size_t capacity, size_t limit, uint32_t choices, const uint8_t *bytes, size_t len,
                                  uint8_t *out, size_t room, h3_report *report);
 uint32_t h3_bench_session_decode(uint64_t rounds, size_t capacity, const uint8_t *bytes, size_t len, uint8_t *out,
                                  size_t room, h3_report *report);

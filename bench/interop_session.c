@@ -86,7 +86,7 @@ static uint8_t *run_ours(session *s, int sends) {
   if (!out) stop("no memory", (long)room);
   h3_report report;
   uint32_t status =
-      sends ? h3_bench_session_encode(0, s->capacity, s->limit, input.bytes, input.len, out, room, &report)
+      sends ? h3_bench_session_encode(0, s->capacity, s->limit, 0, input.bytes, input.len, out, room, &report)
             : h3_bench_session_decode(0, s->capacity, input.bytes, input.len, out, room, &report);
   free_pack(&input);
   if (status == H3_REFUSED) s->good = 0;

@@ -38,7 +38,7 @@ static void ours(const hostile *h, int is_part, uint64_t rounds) {
   h3_report report;
   const pack *steps = &h->steps[is_part];
   if (!rounds) return;
-  done("hostile", h3_bench_session_encode(rounds - 1, h->capacity, h->limit, steps->bytes, steps->len, h->out, h->room, &report));
+  done("hostile", h3_bench_session_encode(rounds - 1, h->capacity, h->limit, 0, steps->bytes, steps->len, h->out, h->room, &report));
 }
 
 static void our_whole(void *data, uint64_t rounds) { ours(data, 0, rounds); }

@@ -13,6 +13,7 @@ typedef struct {
   const field_lists *lists;
   size_t capacity;    /* of the tables */
   size_t batch;       /* lists sent before their bytes are read and answered */
+  uint32_t choices;   /* of our encoder: those of h3_config_default where lists are under way, or none */
   pack packed;        /* the lists, as the static library takes them */
   pack encode, decode; /* the steps of our ends */
   uint8_t *out;
@@ -26,7 +27,7 @@ static size_t lists_of(const session_work *w) { return PASSES * w->lists->count;
 
 static void our_both(void *data, uint64_t rounds) {
   session_work *w = data;
-  done("exchange", h3_bench_exchange(rounds, w->capacity, LIMIT, w->batch, PASSES, w->packed.bytes, w->packed.len,
+  done("exchange", h3_bench_exchange(rounds, w->capacity, LIMIT, w->choices, w->batch, PASSES, w->packed.bytes, w->packed.len,
                                      w->out, w->room, &w->both));
   if (w->both.items != PASSES * w->lists->fields) stop("exchange: another count", (long)w->both.items);
 }
@@ -34,7 +35,7 @@ static void our_both(void *data, uint64_t rounds) {
 static void our_encode(void *data, uint64_t rounds) {
   session_work *w = data;
   h3_report report;
-  done("session_encode", h3_bench_session_encode(rounds, w->capacity, LIMIT, w->encode.bytes, w->encode.len, w->out,
+  done("session_encode", h3_bench_session_encode(rounds, w->capacity, LIMIT, w->choices, w->encode.bytes, w->encode.len, w->out,
                                                  w->room, &report));
   if (report.items != w->both.items || report.bytes != w->both.bytes)
     stop("session_encode: other counts", (long)report.items);
@@ -163,7 +164,7 @@ static void keep_steps(session_work *w) {
 }
 
 static session_work prepare(const field_lists *lists, size_t capacity, size_t batch) {
-  session_work w = {.lists = lists, .capacity = capacity, .batch = batch, .packed = pack_lists(lists)};
+  session_work w = {.lists = lists, .capacity = capacity, .batch = batch, .choices = batch != 1, .packed = pack_lists(lists)};
   w.room = 4 * PASSES * w.packed.len + 1024;
   w.out = malloc(w.room);
   w.peer_replies = calloc(lists_of(&w) / batch + 1, sizeof *w.peer_replies);

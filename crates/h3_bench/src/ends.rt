@@ -6,8 +6,8 @@ use crate::input::FieldList;
 use crate::report::{Failure, Report};
 use h3_field::waiting::{Wait, decoder_wait, decoder_wait_behind};
 use h3_qpack::{
-    BlockWithin, Decoder, DecoderError, DynamicTable, Encoder, FieldBlock, SliceCursor, ack_header,
-    set_dynamic_table_size,
+    BlockWithin, Decoder, DecoderError, DynamicTable, Encoder, EncoderChoices, FieldBlock,
+    SliceCursor, ack_header, set_dynamic_table_size,
 };
 use h3_unidirectional::decoding::Decoding;
 use h3_unidirectional::waiting::WaitingBytes;
@@ -15,6 +15,13 @@ use std::alloc::Global;
 
 /// The greatest integer of variable length stands for no limit (RFC 9000, section 16).
 const UNLIMITED: u64 = (1 << 62) - 1;
+
+/// The choices of an encoder by `h3_config_default`.
+const DEFAULT_CHOICES: EncoderChoices = EncoderChoices {
+    economical: true,
+    guards_secrets: true,
+    shortest_strings: true,
+};
 
 /// Keeps the last `left` bytes. If these are all of them, nothing is moved: else bytes that come one by one would be moved at each.
 fn keep_last(bytes: &mut Vec<u8>, left: usize) {
@@ -37,6 +44,17 @@ fn set_limits(
     set_dynamic_table_size(table, instructions, capacity).map_err(|_| Failure::Input)
 }
 
+/// What an encoder begins with.
+#[derive(Clone, Copy)]
+pub(crate) struct EncoderSetup {
+    /// The capacity of its table.
+    pub(crate) capacity: usize,
+    /// So many of its sections may wait.
+    pub(crate) limit: usize,
+    /// Whether it has the choices of `h3_config_default`, or none.
+    pub(crate) chooses: bool,
+}
+
 /// An encoder, and the start of an instruction that is not whole.
 #[derive(Drop)]
 pub(crate) struct Sender {
@@ -46,17 +64,20 @@ pub(crate) struct Sender {
 }
 
 impl Sender {
-    /// With a table of this capacity, `limit` of whose sections may wait. Appends the capacity's instruction.
+    /// With a table. Appends the instruction of its capacity.
     pub(crate) fn new(
         alloc: Global,
-        capacity: usize,
-        limit: usize,
+        setup: EncoderSetup,
         instructions: &mut Vec<u8>,
     ) -> Result<Sender, Failure> {
         let mut table = DynamicTable::new(alloc);
-        set_limits(&mut table, capacity, limit, instructions)?;
+        set_limits(&mut table, setup.capacity, setup.limit, instructions)?;
+        let mut encoder = Encoder::from(table);
+        if setup.chooses {
+            encoder.choose(DEFAULT_CHOICES);
+        }
         Ok(Sender {
-            encoder: Encoder::from(table),
+            encoder,
             unread: Vec::new(alloc),
             wait: Wait::Bytes(1),
         })

@@ -1,19 +1,17 @@
 //! Sessions of an encoder and a decoder in one: lists are sent in batches, and each batch is read and answered before the
 //! next is sent.
 
-use crate::ends::{Receiver, Sender};
+use crate::ends::{EncoderSetup, Receiver, Sender};
 use crate::input::{self, FieldList};
 use crate::output;
 use crate::report::{Failure, Report, answer};
 use h3_unidirectional::waiting::WaitingBytes;
 use std::alloc::Global;
 
-/// How a session goes: the table's capacity, how many sections may wait, how many lists are in a batch, and how often all
-/// lists are sent.
+/// How a session goes: what its encoder begins with, how many lists are in a batch, and how often all lists are sent.
 #[derive(Copy, Clone)]
 struct Shape {
-    capacity: usize,
-    limit: usize,
+    encoder: EncoderSetup,
     batch: usize,
     passes: usize,
 }
@@ -106,8 +104,8 @@ impl Ends {
         let mut batch = Batch::new(alloc, shape.batch)?;
         let instructions = &mut batch.instructions;
         Ok(Ends {
-            sender: Sender::new(alloc, shape.capacity, shape.limit, instructions)?,
-            receiver: Receiver::new(alloc, shape.capacity)?,
+            sender: Sender::new(alloc, shape.encoder, instructions)?,
+            receiver: Receiver::new(alloc, shape.encoder.capacity)?,
             batch,
             report: Report::new(),
         })
@@ -206,6 +204,7 @@ pub extern "C" fn h3_bench_exchange(
     rounds: u64,
     capacity: usize,
     limit: usize,
+    choices: u32,
     batch: usize,
     passes: usize,
     bytes: &[u8],
@@ -213,8 +212,11 @@ pub extern "C" fn h3_bench_exchange(
     report: &mut Report,
 ) -> u32 {
     let shape = Shape {
-        capacity,
-        limit,
+        encoder: EncoderSetup {
+            capacity,
+            limit,
+            chooses: choices != 0,
+        },
         batch,
         passes,
     };

@@ -4,7 +4,7 @@
 //! of a list, at a receiver by a stream and a section. Kind 1 is followed at both by what the other end wrote beside its
 //! sections. The lists of a sender stand before its steps.
 
-use crate::ends::{Receiver, Sender};
+use crate::ends::{EncoderSetup, Receiver, Sender};
 use crate::input::{FieldList, take_lists, take_number, take_string};
 use crate::output;
 use crate::report::{Failure, Report, answer};
@@ -136,14 +136,13 @@ fn send_steps(
 /// A session of an encoder: what it writes in each step stands in `packed` then.
 fn send_all(
     alloc: Global,
-    capacity: usize,
-    limit: usize,
+    setup: EncoderSetup,
     lists: &[FieldList],
     steps: &[Step<'_, usize>],
     packed: &mut Vec<u8>,
 ) -> Result<Report, Failure> {
     let mut instructions = Vec::new(alloc);
-    let mut sender = Sender::new(alloc, capacity, limit, &mut instructions)?;
+    let mut sender = Sender::new(alloc, setup, &mut instructions)?;
     send_steps(alloc, &mut sender, lists, steps, &mut instructions, packed)
 }
 
@@ -262,17 +261,16 @@ fn put_received(
 fn send_rounds(
     alloc: Global,
     rounds: u64,
-    capacity: usize,
-    limit: usize,
+    setup: EncoderSetup,
     lists: &[FieldList],
     steps: &[Step<'_, usize>],
     packed: &mut Vec<u8>,
     out: &mut [u8],
 ) -> Result<Report, Failure> {
     for _ in 0..rounds {
-        send_all(alloc, capacity, limit, lists, steps, packed)?;
+        send_all(alloc, setup, lists, steps, packed)?;
     }
-    let report = send_all(alloc, capacity, limit, lists, steps, packed)?;
+    let report = send_all(alloc, setup, lists, steps, packed)?;
     output::hand_out(packed, out)?;
     Ok(report)
 }
@@ -280,8 +278,7 @@ fn send_rounds(
 fn encode(
     alloc: Global,
     rounds: u64,
-    capacity: usize,
-    limit: usize,
+    setup: EncoderSetup,
     bytes: &[u8],
     out: &mut [u8],
 ) -> Result<Report, Failure> {
@@ -289,16 +286,7 @@ fn encode(
     let lists = take_lists(alloc, &mut input)?;
     let steps = sender_steps(alloc, &mut input)?;
     let mut packed = Vec::new(alloc);
-    send_rounds(
-        alloc,
-        rounds,
-        capacity,
-        limit,
-        &lists,
-        &steps,
-        &mut packed,
-        out,
-    )
+    send_rounds(alloc, rounds, setup, &lists, &steps, &mut packed, out)
 }
 
 fn decode(
@@ -327,11 +315,17 @@ pub extern "C" fn h3_bench_session_encode(
     rounds: u64,
     capacity: usize,
     limit: usize,
+    choices: u32,
     bytes: &[u8],
     out: &mut [u8],
     report: &mut Report,
 ) -> u32 {
-    answer(encode(alloc, rounds, capacity, limit, bytes, out), report)
+    let setup = EncoderSetup {
+        capacity,
+        limit,
+        chooses: choices != 0,
+    };
+    answer(encode(alloc, rounds, setup, bytes, out), report)
 }
 
 /// Runs a session of a decoder `rounds` times, and once more to return what it gives and writes for each step. It gives
