@@ -7,7 +7,7 @@ use bytes::Bytes;
 use h3_coding::varint::VarInt;
 use h3_connection::event::DeliverError;
 use h3_connection::setup::Limits;
-use h3_field::HeaderField;
+use h3_field::{Fields, HeaderField};
 use h3_incoming::answer::{MessageKind, Plain};
 use h3_incoming::{BlockPull, Told};
 use h3_proto::config::Config;
@@ -66,7 +66,10 @@ impl Messages {
             return Err(Failure::Input);
         }
         let head = &self.heads[number % count];
-        done(from.send_fields(id, head.fields.as_slice()).is_ok())?;
+        done(
+            from.send_fields(id, &Fields::of(head.fields.as_slice()))
+                .is_ok(),
+        )?;
         if !self.body.is_empty() {
             done(from.send_body_of(id, self.body.len()).is_ok())?;
         }

@@ -10,7 +10,7 @@ ghost use Rattle.h3_session.specs.Events.{nothing_seen};
 use crate::config::{GivenConfig, endpoint_of, side_of};
 use crate::numbers::{ARGUMENT, MEMORY, Told, unmade};
 use crate::owned::boxed;
-use h3_field::HeaderField;
+use h3_field::BorrowedFields;
 use h3_incoming::BlockPull;
 use h3_proto::frame::RESERVED_NUMBERS;
 use h3_proto::stream::Side;
@@ -49,19 +49,20 @@ pub struct Connection {
     sessions: Sessions,
     last: BlockPull,
     events: EventsSeen,
-    // memory for the list that is sent: no field is in it between two calls
-    spare: Vec<HeaderField>,
+    // memory for the list that is sent: no field and no byte of it is here between two calls
+    spare: BorrowedFields<'static>,
 }
 
 impl Model for Connection {
     ghost use Rattle.h3_c.specs.Seen.{Seen};
+    ghost use Rattle.h3_field.specs.BorrowedFields.{in_front_of};
     ghost use Rattle.std.specs.Prelude.{◌≡◌, []};
 
     ghost Value = { Seen };
 
     ghost view = { λ c. record { endpoint = c.endpoint; sessions = c.sessions; last = c.last; events = c.events } };
 
-    ghost invariant = { λ c. c.spare.items ≡ [] };
+    ghost invariant = { λ c. c.spare ≡ in_front_of [] };
 }
 
 impl Connection {
@@ -80,7 +81,7 @@ impl Connection {
             sessions: Sessions::new(alloc, side, has_sessions),
             last: BlockPull::new(alloc),
             events: EventsSeen::new(),
-            spare: Vec::new(alloc),
+            spare: BorrowedFields::new(alloc),
         }
     }
 }

@@ -11,7 +11,7 @@ use crate::items::malformation_number;
 use bytes::Bytes;
 use h3_connection::event::{DeliverError, Malformation, Refusal};
 use h3_connection::setup::NewError;
-use h3_field::HeaderField;
+use h3_field::Fields;
 use h3_proto::frame::SettingsError;
 use h3_session::endpoint::{DatagramError, Endpoint};
 use h3_webtransport::OpenError;
@@ -148,11 +148,7 @@ pub(crate) fn sent(call: &Result<(), (Refusal, Bytes)>) -> Told
 
 /// What a call of this endpoint tells that sends a list.
 #[inline(always)]
-pub(crate) fn listed(
-    call: &Result<(), Refusal>,
-    endpoint: &Endpoint,
-    fields: &[HeaderField],
-) -> Told
+pub(crate) fn listed(call: &Result<(), Refusal>, endpoint: &Endpoint, fields: &Fields<'_>) -> Told
     requires { NamesField (call_refused call.now) endpoint.now.announced.choices fields.now }
     ensures { TellsList call.now endpoint.now.announced.choices fields.now result }
 {
@@ -166,7 +162,7 @@ pub(crate) fn listed(
 // A list that its own fields refuse has the number of an answer, with the index of that field beside. A rule of strict messages has its
 // number beside.
 #[tactic(auto, using(crate::proofs::NamedFields::name_is_there, crate::proofs::NamedFields::value_is_there))]
-fn malformed(why: Malformation, endpoint: &Endpoint, fields: &[HeaderField]) -> Told
+fn malformed(why: Malformation, endpoint: &Endpoint, fields: &Fields<'_>) -> Told
     requires { NamesField (Some (refusal.Malformed why)) endpoint.now.announced.choices fields.now }
     ensures { TellsMalformed why endpoint.now.announced.choices fields.now result }
 {
@@ -195,7 +191,7 @@ fn malformed(why: Malformation, endpoint: &Endpoint, fields: &[HeaderField]) -> 
 }
 
 // A number, with the index of the field for which the list is refused beside.
-fn at_field(number: u32, endpoint: &Endpoint, fields: &[HeaderField]) -> Told
+fn at_field(number: u32, endpoint: &Endpoint, fields: &Fields<'_>) -> Told
     requires { is_some
         (invalid_field endpoint.now.announced.choices.extensions.any_protocol endpoint.now.announced.choices.strict_messages fields.now)
         ≡ true }

@@ -9,8 +9,8 @@ use h3_connection::event::{DeliverError, Fault, Pull, Refusal};
 use h3_connection::setup::{Limits, NewError};
 use h3_proto::config::Config;
 use h3_proto::stream::{Side, StreamId};
-use h3_session::ListPull;
 use h3_session::endpoint::Endpoint;
+use h3_session::{Fields, ListPull};
 use h3_world::event::Answer;
 
 /// What a call answers. None is made of a line that cannot be read.
@@ -61,10 +61,13 @@ pub fn act(told: &mut Told, endpoint: &mut Endpoint, call: Call) {
         Call::New(_, _, _) => told.unreadable(),
         Call::Open => opened(told, endpoint.open_request()),
         Call::Head(id, head) => done(told, endpoint.send_head(id, &head)),
-        Call::Fields(id, fields) => done(told, endpoint.send_fields(id, &fields)),
+        Call::Fields(id, fields) => done(told, endpoint.send_fields(id, &Fields::of(&fields))),
         Call::Body(id, body) => sent(told, endpoint.send_body(id, body)),
         Call::Trailer(id, trailer) => done(told, endpoint.send_trailer(id, &trailer)),
-        Call::Trailers(id, fields) => done(told, endpoint.send_trailer_fields(id, &fields)),
+        Call::Trailers(id, fields) => done(
+            told,
+            endpoint.send_trailer_fields(id, &Fields::of(&fields)),
+        ),
         Call::Finish(id) => done(told, endpoint.finish(id)),
         Call::Reset(id) => done(told, endpoint.reset(id)),
         Call::Cancel(id) => done(told, cancel(endpoint, id)),

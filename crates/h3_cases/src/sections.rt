@@ -1,8 +1,8 @@
 //! Whole field sections without a dynamic table, and the fields that they are of.
 use crate::case::Told;
 use h3_field::{
-    Decoded, DecoderError, EncoderError, HeaderField, SliceCursor, decode_stateless, dynamic,
-    encode_stateless, prefix_int, section_size, vas,
+    Decoded, DecoderError, EncoderError, Fields, HeaderField, SliceCursor, decode_stateless,
+    dynamic, encode_stateless, prefix_int, section_size, vas,
 };
 use std::borrow::CowSlice;
 
@@ -113,7 +113,7 @@ fn write(told: &mut Told, words: &[&str]) {
 }
 
 fn written(told: &mut Told, fields: &[HeaderField]) {
-    let sum = section_size(fields);
+    let sum = section_size(&Fields::of(fields));
     if sum > 1000 {
         return told.unreadable();
     }

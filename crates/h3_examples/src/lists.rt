@@ -52,7 +52,7 @@ fn add(
 
 /// A message that is a header section alone.
 fn send_list(endpoint: &mut Endpoint, id: StreamId, list: Vec<HeaderField>) -> Result<(), Stop> {
-    let sent = endpoint.send_fields(id, list.as_slice());
+    let sent = endpoint.send_fields(id, &Fields::of(list.as_slice()));
     drop(list);
     sent?;
     Ok(endpoint.finish(id)?)

@@ -15,4 +15,6 @@ pub mod Ends
 pub mod NoLines
 pub mod NoValues
 pub mod FieldBlocks
+pub mod BorrowedBytes
+pub mod BlockSizes
 pub mod Behind

@@ -54,6 +54,7 @@ pub mod IntegerWritingLaws
 pub mod FieldForm
 pub mod FieldBlock
 pub mod FieldRow
+pub mod BorrowedFields
 pub mod ByteBuffer
 pub mod OntoAnswer
 pub mod OntoLaws

@@ -363,19 +363,6 @@ fn split(
     Ok((CowSlice::Owned(bytes), CowSlice::Owned(value)))
 }
 
-/// The size of a field section that is not compressed (RFC 9114, section 4.2.2): the bytes of each name and value, and 32 more for each
-/// field. If the sum passes the greatest number, it is that number.
-pub fn section_size(fields: &[HeaderField]) -> u64
-    ensures { result ≡ min (2 ^ 64 - 1) (section_size fields.now) }
-{
-    let mut size: u64 = 0;
-    // (the label names the loop in its proof)
-    'fields: for field in fields {
-        size = size.saturating_add(field.mem_size() as u64);
-    }
-    size
-}
-
 impl AsRef<HeaderField> for HeaderField {
     fn as_ref(&self) -> &HeaderField
         ensures { result.now ≡ self.now }

@@ -221,7 +221,7 @@ const SOME_PLACES: usize = 16;
 
 /// Appends a place. A refusal appends nothing.
 #[inline(always)]
-fn put_place(places: &mut Vec<FieldPlace>, place: FieldPlace) -> Result<(), AllocError>
+pub(crate) fn put_place(places: &mut Vec<FieldPlace>, place: FieldPlace) -> Result<(), AllocError>
     ensures ok { OnOk result (places.new.items ≡ places.old.items ++ place ∷ []) }
     ensures err { OnErr result (places.new.items ≡ places.old.items) }
 {

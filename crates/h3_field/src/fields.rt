@@ -1,6 +1,6 @@
 //! Fields that are read by their places, in a list or in a block.
 ghost use Rattle.std.specs.Prelude.{◌≡◌, ◌<◌, ◌^◌, ◌-◌, ◌+◌, min, length, slice_get, Some, IfOk, OnErr};
-ghost use Rattle.h3_field.specs.Field.{plain_field, field_size};
+ghost use Rattle.h3_field.specs.Field.{plain_field, field_size, section_size};
 ghost use Rattle.h3_field.specs.Secret.{is_credential, is_cookie, is_secret};
 ghost use Rattle.h3_field.specs.ReadBack.{IsFieldOfBytes};
 ghost use Rattle.h3_field.specs.FieldBlock.{fields_at, IsBlock};
@@ -226,4 +226,37 @@ fn placed<'a>(places: &'a [FieldPlace], bytes: &'a [u8], place: usize) -> FieldR
         value: &bytes[at.middle..at.end],
         never_indexed: at.never_indexed,
     }
+}
+
+/// The size of a field section that is not compressed (RFC 9114, section 4.2.2): the bytes of each name and value, and 32 more for each
+/// field. If the sum passes the greatest number, it is that number. Fields of a block are counted at once.
+pub fn section_size(fields: &Fields<'_>) -> u64
+    ensures { result ≡ min (2 ^ 64 - 1) (section_size fields.now) }
+{
+    match fields.row {
+        Row::List(fields) => listed_size(fields),
+        Row::Block(places, bytes) => placed_size(places, bytes),
+    }
+}
+
+// That of a list.
+fn listed_size(fields: &[HeaderField]) -> u64
+    ensures { result ≡ min (2 ^ 64 - 1) (section_size fields.now) }
+{
+    let mut size: u64 = 0;
+    // (the label names the loop in its proof)
+    'fields: for field in fields {
+        size = size.saturating_add(field.mem_size() as u64);
+    }
+    size
+}
+
+// That of a block, which has the bytes of all names and values.
+#[tactic(auto, using(crate::proofs::BlockSizes::block_size))]
+fn placed_size(places: &[FieldPlace], bytes: &[u8]) -> u64
+    requires { IsBlock bytes.now places.now }
+    ensures { result ≡ min (2 ^ 64 - 1) (section_size (fields_at bytes.now places.now)) }
+{
+    let overhead = (ESTIMATED_OVERHEAD_BYTES as u64).saturating_mul(places.len() as u64);
+    overhead.saturating_add(bytes.len() as u64)
 }

@@ -3,6 +3,7 @@
 #![tactic(auto)]
 
 pub mod block;
+mod borrowed_fields;
 mod byte_buffer;
 pub mod cursor;
 pub mod decoder;
@@ -30,15 +31,16 @@ pub mod stream;
 pub mod vas;
 pub mod waiting;
 
+pub use borrowed_fields::BorrowedFields;
 pub use cursor::SliceCursor;
 pub use decoder::{Decoded, decode_stateless, decode_stateless_into};
 pub use decoder_error::DecoderError;
 pub use encoder::{encode_stateless, encode_static_line};
 pub use encoder_error::EncoderError;
 pub use error::Error;
-pub use field::{HeaderField, section_size};
+pub use field::HeaderField;
 pub use field_block::FieldBlock;
-pub use fields::{FieldRef, Fields};
+pub use fields::{FieldRef, Fields, section_size};
 pub use first_room::reserve_some;
 pub use part::Part;
 pub use prefix_string::ShortString;

@@ -4,6 +4,7 @@ pub mod KindNames
 pub mod Names
 pub mod Outlines
 pub mod OwnRows
+pub mod Positions
 pub mod Pushes
 pub mod RequestRows
 pub mod ResponseRows

@@ -16,7 +16,7 @@ ghost use Rattle.h3_unidirectional.specs.Windows.{is_longer, ListeningEnds, List
 
 use crate::limits::{is_longer, most_kept, window};
 use crate::waiting::{WaitingBytes, drop_front, keep};
-use h3_field::HeaderField;
+use h3_field::Fields;
 use h3_field::waiting::{Wait, decoder_wait, decoder_wait_behind};
 use h3_proto::config::{Choices, MAX_BLOCKED_STREAMS, MAX_TABLE_CAPACITY};
 use h3_proto::error::Code;
@@ -132,7 +132,7 @@ impl Encoding {
         stream: StreamId,
         block: &mut Vec<u8>,
         out: &mut WaitingBytes,
-        fields: &[HeaderField],
+        fields: &Fields<'_>,
     ) -> Result<usize, AllocError>
         requires { section_size fields.now < 2 ^ 62 }
         ensures sent { IfOk result (λ count. (s : EncoderHistory) → self.old.encoder ≡ encoder_state s →
@@ -144,7 +144,7 @@ impl Encoding {
     {
         let Ok(count) = self
             .encoder
-            .encode(stream.into_inner(), block, out.behind_mut(), fields)
+            .encode_lent(stream.into_inner(), block, out.behind_mut(), fields)
         else {
             return Err(AllocError);
         };

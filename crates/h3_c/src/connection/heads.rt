@@ -1,5 +1,6 @@
 //! The header and trailer sections that C sends.
 ghost use Rattle.std.specs.Prelude.{◌≡◌, List, Option};
+ghost use Rattle.h3_field.specs.BorrowedFields.{in_front_of};
 ghost use Rattle.h3_field.specs.Field.{Field};
 ghost use Rattle.h3_session.specs.SendingLists.{SendsFieldList, SendsTrailerList, order_refusal, place_refusal};
 ghost use Rattle.h3_c.specs.Exported.{OnStream, SendsCut};
@@ -7,12 +8,24 @@ ghost use Rattle.h3_c.specs.Given.{fields_given};
 ghost use Rattle.h3_c.specs.Giving.{RefusesFields};
 
 use super::Connection;
-use crate::fields::{FieldSize, given_fields, let_go};
+use crate::fields::{FieldSize, given_fields};
 use crate::numbers::{ARGUMENT, Told, listed, refused};
+use h3_field::BorrowedFields;
 use h3_proto::stream::StreamId;
 use std::alloc::Global;
+use std::mem;
 
 impl Connection {
+    // No field yet of these bytes, with the memory that is kept for the places of fields.
+    #[inline(always)]
+    fn borrowed(&mut self, alloc: Global, bytes: &'static [u8]) -> BorrowedFields<'static>
+        ensures list { result ≡ in_front_of bytes.now }
+        ensures same { self.new ≡ self.old }
+    {
+        let spare = mem::replace(&mut self.spare, BorrowedFields::new(alloc));
+        spare.over(bytes)
+    }
+
     /// A header section goes out on a stream, as it is.
     pub(crate) fn send_head(
         &mut self,
@@ -30,18 +43,17 @@ impl Connection {
         let Ok(stream) = StreamId::try_from(id) else {
             return ARGUMENT;
         };
-        match given_fields(&mut self.spare, sizes, flags, bytes) {
+        let mut list = self.borrowed(alloc, bytes);
+        let told = match given_fields(&mut list, sizes, flags, bytes) {
             Ok(()) => {
-                let call = self.endpoint.send_fields(stream, self.spare.as_slice());
-                let told = listed(&call, &self.endpoint, self.spare.as_slice());
-                let_go(alloc, &mut self.spare);
-                told
+                let fields = list.fields();
+                let call = self.endpoint.send_fields(stream, &fields);
+                listed(&call, &self.endpoint, &fields)
             }
-            Err(told) => {
-                let_go(alloc, &mut self.spare);
-                self.head_not_cut(stream, told)
-            }
-        }
+            Err(told) => self.head_not_cut(stream, told),
+        };
+        self.spare = list.over(b"");
+        told
     }
 
     // The answer for a list that was not cut. If its stream takes none, it says so rather than out of memory.
@@ -77,20 +89,17 @@ impl Connection {
         let Ok(stream) = StreamId::try_from(id) else {
             return ARGUMENT;
         };
-        match given_fields(&mut self.spare, sizes, flags, bytes) {
+        let mut list = self.borrowed(alloc, bytes);
+        let told = match given_fields(&mut list, sizes, flags, bytes) {
             Ok(()) => {
-                let call = self
-                    .endpoint
-                    .send_trailer_fields(stream, self.spare.as_slice());
-                let told = listed(&call, &self.endpoint, self.spare.as_slice());
-                let_go(alloc, &mut self.spare);
-                told
+                let fields = list.fields();
+                let call = self.endpoint.send_trailer_fields(stream, &fields);
+                listed(&call, &self.endpoint, &fields)
             }
-            Err(told) => {
-                let_go(alloc, &mut self.spare);
-                self.trailer_not_cut(stream, told)
-            }
-        }
+            Err(told) => self.trailer_not_cut(stream, told),
+        };
+        self.spare = list.over(b"");
+        told
     }
 
     // The same of a trailer.

@@ -27,7 +27,7 @@ use crate::laws::heads_are_sent_as_their_lists;
 use h3_coding::varint::VarInt;
 use h3_connection::event::Refusal;
 use h3_connection::place::SendPlace;
-use h3_field::{HeaderField, section_size};
+use h3_field::{Fields, section_size};
 use h3_header::Header;
 use h3_messages::{Judgment, Said, Section};
 use h3_outgoing::EncodedSection;
@@ -72,7 +72,7 @@ impl Endpoint {
         };
         // (for the proof: its list goes out as it does)
         heads_are_sent_as_their_lists(head);
-        self.send_head_list(id, fields.as_slice())
+        self.send_head_list(id, &Fields::of(fields.as_slice()))
     }
 
     // Room for the frame of a header section on a stream that takes one, unless the peer is going away. The streams are found as they were.
@@ -106,7 +106,7 @@ impl Endpoint {
         };
         // (for the proof: its list goes out as it does)
         heads_are_sent_as_their_lists(trailer);
-        self.send_trailer_list(id, fields.as_slice())
+        self.send_trailer_list(id, &Fields::of(fields.as_slice()))
     }
 
     // Why a trailer is refused of whose fields no list could be made.
@@ -139,7 +139,7 @@ impl Endpoint {
     pub(super) fn send_head_section(
         &mut self,
         room: SectionRoom,
-        fields: &[HeaderField],
+        fields: &Fields<'_>,
         place: SendPlace,
         read: &Judgment,
     ) -> Result<(), Refusal>
@@ -176,7 +176,7 @@ impl Endpoint {
     pub(super) fn send_trailer_section(
         &mut self,
         room: SectionRoom,
-        fields: &[HeaderField],
+        fields: &Fields<'_>,
         read: &Judgment,
     ) -> Result<(), Refusal>
         requires { IsReadAt TrailerSent self.old fields.now read.now }
@@ -192,7 +192,7 @@ impl Endpoint {
     fn send_section(
         &mut self,
         room: SectionRoom,
-        fields: &[HeaderField],
+        fields: &Fields<'_>,
         place: SendPlace,
     ) -> Result<(), Refusal>
         requires { broken_behind place self.old room fields.now ≡ None }
@@ -213,7 +213,7 @@ impl Endpoint {
     pub(super) fn judge_list(
         &self,
         id: StreamId,
-        fields: &[HeaderField],
+        fields: &Fields<'_>,
         place: SendPlace,
         read: &Judgment,
     ) -> Result<(), Refusal>
@@ -235,7 +235,7 @@ impl Endpoint {
     // What was sent, with these fields, if the peer allows their size.
     #[inline(always)]
     #[tactic(auto, using(crate::proofs::Costs::cost_is, crate::proofs::Costs::many_fields))]
-    fn judge_size(&self, fields: &[HeaderField]) -> Result<u64, Refusal>
+    fn judge_size(&self, fields: &Fields<'_>) -> Result<u64, Refusal>
         ensures ok { IfOk result (λ sum. IsJudged self.now fields.now sum) }
         ensures err { IfErr result (λ refusal. refusal ≢ Refusal.OutOfMemory
             → size_refused (settings_known self.now.announced self.now.peer.settings) fields.now ≡ Some refusal) }
@@ -275,7 +275,7 @@ impl Endpoint {
     fn queue_section(
         &mut self,
         room: SectionRoom,
-        fields: &[HeaderField],
+        fields: &Fields<'_>,
         place: SendPlace,
     ) -> Result<(), AllocError>
         requires { section_size fields.now < 2 ^ 62 }
@@ -301,7 +301,7 @@ fn encode(
     streams: &mut ConnectionStreams,
     kept: &mut Vec<u8>,
     room: &SectionRoom,
-    fields: &[HeaderField],
+    fields: &Fields<'_>,
 ) -> Result<(EncodedSection, usize), AllocError>
     requires { section_size fields.now < 2 ^ 62 }
     ensures ok { IfOk result (λ r. (s : EncoderHistory) → streams.old.encoding.encoder ≡ encoder_state s
@@ -326,7 +326,7 @@ fn encode(
 
 /// A block with room for the section of so many short fields, so that it seldom grows while that is written: the one that is kept, if it is
 /// one.
-fn block_for(kept: &mut Vec<u8>, fields: &[HeaderField]) -> Result<Vec<u8>, AllocError>
+fn block_for(kept: &mut Vec<u8>, fields: &Fields<'_>) -> Result<Vec<u8>, AllocError>
     ensures { IfOk result (λ block. length block.items ≡ 9) }
 {
     let alloc = *kept.allocator();
@@ -342,7 +342,7 @@ fn encode_into(
     streams: &mut ConnectionStreams,
     _room: &SectionRoom,
     id: StreamId,
-    fields: &[HeaderField],
+    fields: &Fields<'_>,
 ) -> Result<usize, AllocError>
     requires small { section_size fields.now < 2 ^ 62 }
     requires empty { length block.old.items ≡ 9 }
@@ -367,7 +367,7 @@ fn withdraw(streams: &mut ConnectionStreams, id: StreamId, count: usize)
 }
 
 /// The size of fields (RFC 9114, section 4.2.2), in bytes, if it is below `SIZE_LIMIT`.
-fn size_of(fields: &[HeaderField]) -> Option<u64>
+fn size_of(fields: &Fields<'_>) -> Option<u64>
     ensures some { IfSome result (λ size. (size ≡ section_size fields.now) × (size < 2 ^ 62)) }
     ensures none { IfNone result (2 ^ 62 ≤ section_size fields.now) }
 {

@@ -20,7 +20,7 @@ use super::heads::place_of;
 use super::strict::head_section;
 use h3_connection::event::Refusal;
 use h3_connection::place::SendPlace;
-use h3_field::HeaderField;
+use h3_field::Fields;
 use h3_messages::{Judgment, Section, invalid_field};
 use h3_proto::stream::StreamId;
 
@@ -38,7 +38,7 @@ impl Endpoint {
     ///
     /// If an allocation fails, the encoder stream may have gained whole instructions, and the stream is as it was. A list of more than
     /// 24,576 fields takes memory to be judged.
-    pub fn send_fields(&mut self, id: StreamId, fields: &[HeaderField]) -> Result<(), Refusal>
+    pub fn send_fields(&mut self, id: StreamId, fields: &Fields<'_>) -> Result<(), Refusal>
         ensures sends { SendsFieldList self.old self.new id fields.now result }
         ensures names { NamesField (call_refused result) self.new.announced.choices fields.now }
     {
@@ -53,11 +53,7 @@ impl Endpoint {
     /// Then come a list that `Header::try_from` refuses, and one with a pseudo-header field. An endpoint that asks for strict messages then
     /// refuses a trailer after less content than the header section said, or in a tunnel. It also refuses one that a strict peer would call
     /// malformed. Last is one whose size is above what the peer's settings allow.
-    pub fn send_trailer_fields(
-        &mut self,
-        id: StreamId,
-        fields: &[HeaderField],
-    ) -> Result<(), Refusal>
+    pub fn send_trailer_fields(&mut self, id: StreamId, fields: &Fields<'_>) -> Result<(), Refusal>
         ensures sends { SendsTrailerList self.old self.new id fields.now result }
         ensures names { NamesField (call_refused result) self.new.announced.choices fields.now }
     {
@@ -70,7 +66,7 @@ impl Endpoint {
     /// The index of the field for which a list is refused as `Refusal::Malformed` of `Name` or `Value`: the first whose name or value
     /// may be in no message (RFC 9114, 4.2 and 4.3). If there is none and the endpoint asks for strict messages, it is the first with white
     /// space around its value (RFC 9114, 10.3). After such a refusal there always is one. It takes no memory.
-    pub fn invalid_field(&self, fields: &[HeaderField]) -> Option<usize>
+    pub fn invalid_field(&self, fields: &Fields<'_>) -> Option<usize>
         ensures { result ≡ invalid_field self.now.announced.choices.extensions.any_protocol self.now.announced.choices.strict_messages
             fields.now }
     {
@@ -87,7 +83,7 @@ impl Endpoint {
     pub(super) fn send_head_list(
         &mut self,
         id: StreamId,
-        fields: &[HeaderField],
+        fields: &Fields<'_>,
     ) -> Result<(), Refusal>
         requires { self.old.closed ≡ None }
         ensures sends { SendsFieldList self.old self.new id fields.now result }
@@ -104,7 +100,7 @@ impl Endpoint {
     pub(super) fn send_trailer_list(
         &mut self,
         id: StreamId,
-        fields: &[HeaderField],
+        fields: &Fields<'_>,
     ) -> Result<(), Refusal>
         requires { self.old.closed ≡ None }
         ensures sends { SendsTrailerList self.old self.new id fields.now result }
@@ -119,7 +115,7 @@ impl Endpoint {
 
     // The place of the message after a list that is sent as a header section, and what it is, or why the list is not one of this side.
     #[inline(always)]
-    fn judge_head(&self, fields: &[HeaderField]) -> Result<(SendPlace, Judgment), Refusal>
+    fn judge_head(&self, fields: &Fields<'_>) -> Result<(SendPlace, Judgment), Refusal>
         ensures ok { IfOk result
             (λ judged. IsHeadAt self.now.side (head_by self.now.announced.choices.extensions.any_protocol fields.now) judged.0) }
         ensures read { IfOk result (λ judged. IsReadAt judged.0 self.now fields.now judged.1) }
@@ -157,7 +153,7 @@ impl Endpoint {
     fn send_head_at(
         &mut self,
         id: StreamId,
-        fields: &[HeaderField],
+        fields: &Fields<'_>,
         place: SendPlace,
         read: &Judgment,
     ) -> Result<(), Refusal>
@@ -180,7 +176,7 @@ impl Endpoint {
     fn send_trailer_at(
         &mut self,
         id: StreamId,
-        fields: &[HeaderField],
+        fields: &Fields<'_>,
         read: &Judgment,
     ) -> Result<(), Refusal>
         requires open { self.old.closed ≡ None }
@@ -204,7 +200,7 @@ impl Endpoint {
         &self,
         id: StreamId,
         refusal: Refusal,
-        fields: &[HeaderField],
+        fields: &Fields<'_>,
         place: SendPlace,
         read: &Judgment,
     ) -> Refusal

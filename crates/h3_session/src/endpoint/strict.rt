@@ -19,7 +19,7 @@ use super::Endpoint;
 use h3_connection::event::{Malformation, Refusal};
 use h3_connection::place::SendPlace;
 use h3_connection::setup::Announced;
-use h3_field::{Fields, HeaderField};
+use h3_field::Fields;
 use h3_header::Header;
 use h3_incoming::malformed::malformation_in;
 use h3_messages::{
@@ -57,7 +57,7 @@ impl Endpoint {
     #[inline(always)]
     pub(super) fn judge_sent(
         &self,
-        fields: &[HeaderField],
+        fields: &Fields<'_>,
         section: Section,
     ) -> Result<Judgment, Refusal>
         ensures outline { IfOk result (λ it. IsOutlined (head_by self.now.announced.choices.extensions.any_protocol fields.now) it.outline) }
@@ -73,7 +73,7 @@ impl Endpoint {
             any_protocol: self.announced.choices.extensions.any_protocol,
             extended_connect: self.peer_connects(),
         };
-        match judge(self.alloc, &Fields::of(fields), section, &rules) {
+        match judge(self.alloc, fields, section, &rules) {
             Ok(read) => {
                 if !read.outline.is_of(section) {
                     return Err(misplaced(section));

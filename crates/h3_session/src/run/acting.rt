@@ -10,6 +10,7 @@ use crate::endpoint::Endpoint;
 use bytes::Bytes;
 use h3_coding::varint::VarInt;
 use h3_connection::event::Refusal;
+use h3_field::Fields;
 use h3_header::Header;
 use h3_proto::stream::{Side, StreamId};
 use h3_world::event::{Answer, Event};
@@ -83,8 +84,8 @@ fn send_fields(
     ensures { Acts (does.Fields side id list.now) client.old server.old result client.new server.new }
 {
     match side {
-        Side::Client => done(client.send_fields(id, list.fields())),
-        Side::Server => done(server.send_fields(id, list.fields())),
+        Side::Client => done(client.send_fields(id, &Fields::of(list.fields()))),
+        Side::Server => done(server.send_fields(id, &Fields::of(list.fields()))),
     }
 }
 
@@ -147,8 +148,8 @@ fn send_trailer_fields(
     ensures { Acts (does.TrailerFields side id list.now) client.old server.old result client.new server.new }
 {
     match side {
-        Side::Client => done(client.send_trailer_fields(id, list.fields())),
-        Side::Server => done(server.send_trailer_fields(id, list.fields())),
+        Side::Client => done(client.send_trailer_fields(id, &Fields::of(list.fields()))),
+        Side::Server => done(server.send_trailer_fields(id, &Fields::of(list.fields()))),
     }
 }
 

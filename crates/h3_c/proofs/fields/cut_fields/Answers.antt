@@ -1,24 +1,27 @@
-use Rattle.std.proofs.Common.{◌∙◌, ◌+◌, ap, arith}
+use Rattle.std.proofs.Common.{◌<◌, ◌≤◌, ℕ, ap, subst}
+use Rattle.h3_field.specs.BorrowedFields.{Borrowed}
 use Rattle.h3_c.specs.Given.{fields_cut}
 use Rattle.h3_c.proofs.Cuts.{next, short, whole, too_many}
 use Rattle.h3_c.proofs.fields.cut_fields.Goals as goal
 
-pub returns-then-rest-len-clause-err : goal.returns-then-rest-len-clause-err
-returns-then-rest-len-clause-err c =
-    short c.args.sizes.now c.args.flags.now c.loop-at.at c.loop-at.fields.items c.loop-at.rest.now (fields_cut c.args.sizes.now c.args.flags.now c.args.bytes.now) c.loop-at-test.true c.if-rest-len.true c.loop-at.invariant.cut
+pub returns-then-rest_len-name-clause-err : goal.returns-then-rest_len-name-clause-err
+returns-then-rest_len-name-clause-err c =
+    let less = rw c.rest_len.ensures at c.if-rest_len-name.true in
+    short c.args.sizes.now c.args.flags.now c.loop-at.at c.loop-at.fields.fields c.loop-at.fields.rest (fields_cut c.args.sizes.now c.args.flags.now c.args.bytes.now) c.loop-at-test.true less c.loop-at.invariant
 
 pub loop-at-preserved : goal.loop-at-preserved
-loop-at-preserved c = record {
-  cut = next c.args.sizes.now c.args.flags.now c.loop-at.at c.flag_at.result c.loop-at.fields.items _ c.loop-at.rest.now _ (fields_cut c.args.sizes.now c.args.flags.now c.args.bytes.now) c.loop-at-test.true c.if-rest-len.false
-      c.flag_at.ensures c.push_field.ensures.items c.behind-rest.ensures c.loop-at.invariant.cut;
-  len = c.push_field.ensures.len ∙ ap (λ n. n + 1) c.loop-at.invariant.len;
-  room = omega (arith, c.push_field.ensures.capacity, c.loop-at.invariant.room);
-}
+loop-at-preserved c =
+    let fits = rw c.rest_len.ensures at c.if-rest_len-name.false in
+    let pushed = c.in-Ok-push.ensures.ok in
+    next c.args.sizes.now c.args.flags.now c.loop-at.at c.flag_at.result c.loop-at.fields.fields _ c.loop-at.fields.rest _ (fields_cut c.args.sizes.now c.args.flags.now c.args.bytes.now) c.loop-at-test.true fits
+    c.flag_at.ensures (ap (λ (b : Borrowed). b.fields) pushed) (ap (λ (b : Borrowed). b.rest) pushed) c.loop-at.invariant
 
-pub returns-then-rest-gt0-clause-err : goal.returns-then-rest-gt0-clause-err
-returns-then-rest-gt0-clause-err c =
-    too_many c.args.sizes.now c.args.flags.now c.loop-at.at c.loop-at.fields.items c.loop-at.rest.now (fields_cut c.args.sizes.now c.args.flags.now c.args.bytes.now) c.loop-at-test.false c.if-rest-gt0.true c.loop-at.invariant.cut
+pub returns-then-rest_len-gt0-clause-err : goal.returns-then-rest_len-gt0-clause-err
+returns-then-rest_len-gt0-clause-err c =
+    let some = subst (λ (n : ℕ). 0 < n) c.rest_len-2.ensures c.if-rest_len-gt0.true in
+    too_many c.args.sizes.now c.args.flags.now c.loop-at.at c.loop-at.fields.fields c.loop-at.fields.rest (fields_cut c.args.sizes.now c.args.flags.now c.args.bytes.now) c.loop-at-test.false some c.loop-at.invariant
 
 pub returns-clause-ok : goal.returns-clause-ok
 returns-clause-ok c =
-    whole c.args.sizes.now c.args.flags.now c.loop-at.at c.loop-at.fields.items c.loop-at.rest.now (fields_cut c.args.sizes.now c.args.flags.now c.args.bytes.now) c.loop-at-test.false c.if-rest-gt0.false c.loop-at.invariant.cut
+    let none = subst (λ (n : ℕ). n ≤ 0) c.rest_len-2.ensures c.if-rest_len-gt0.false in
+    whole c.args.sizes.now c.args.flags.now c.loop-at.at c.loop-at.fields.fields c.loop-at.fields.rest (fields_cut c.args.sizes.now c.args.flags.now c.args.bytes.now) c.loop-at-test.false none c.loop-at.invariant

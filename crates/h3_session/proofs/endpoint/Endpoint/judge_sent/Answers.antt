@@ -14,7 +14,7 @@ returns-then-not-is_of-clause-err c = λ differs.
     let read = head_by c.args.self.now.announced.choices.extensions.any_protocol fields in
     let outlined =
     subst (λ (s : EndpointState). IsOutlined (head_by s.announced.choices.extensions.any_protocol fields) outline) c.self.view_is
-    (subst (λ fs. IsOutlined (head_by c.self.inside.announced.choices.extensions.any_protocol fs) outline) c.of.ensures c.in-Ok.ensures.outline) in
+    c.in-Ok.ensures.outline in
     let none : is_outline_of c.args.section outline ≡ false = cc in
     other_section c.args.section read outline outlined none ∙ ap Some (sym c.misplaced.ensures)
 
@@ -23,6 +23,6 @@ returns-in-Err-clause-err c = λ differs.
     let fields = c.args.fields.now in
     let unread =
     subst (λ (s : EndpointState). IsUnread s.announced.choices.extensions.any_protocol fields c.in-Err.e) c.self.view_is
-    (subst (λ fs. IsUnread c.self.inside.announced.choices.extensions.any_protocol fs c.in-Err.e) c.of.ensures c.in-Err.ensures.unread) in
+    c.in-Err.ensures.unread in
     told_malformed (refusal_by c.in-Err.e) c.refusal_of.result c.refusal_of.ensures.why c.refusal_of.ensures.none differs
     (λ why some is. ap (list_refusal c.args.section) (unread.0 why some) ∙ ap Some (sym is))

@@ -30,4 +30,4 @@ returns c =
     let sent = sym (sym c.in_default-header_refusal.is ∙ own) in
     let told = call_refused c.send_head_list.result in
     head_by_list c.args.self.now c.args.id c.args.head.now c.send_head_list.new.self told (ap (λ (s : EndpointState). s.closed) (sym c.self.view_is) ∙ c.in_default.is) sent c.heads_are_sent_as_their_lists.ensures.head
-    (subst (λ fs. SendsList (λ e. send_fields e c.args.id fs) c.args.self.now c.send_head_list.new.self c.args.id fs told) (c.as_slice.ensures.value ∙ c.in-Ok.ensures.value) c.send_head_list.ensures.sends)
+    (subst (λ fs. SendsList (λ e. send_fields e c.args.id fs) c.args.self.now c.send_head_list.new.self c.args.id fs told) (c.of.ensures ∙ c.as_slice.ensures.value ∙ c.in-Ok.ensures.value) c.send_head_list.ensures.sends)
