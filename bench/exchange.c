@@ -29,7 +29,7 @@ static double seconds_each(void (*work)(void *, uint64_t), exchange_kind *kind) 
 
 /* What one of so many exchanges costs, of one of few: nothing is to be searched in line. */
 static void growth_row(exchange_kind few, exchange_kind many) {
-  const figure_kind kind = {"growth", "small GET", "one of 20,000, of one of 500", "times", 1.1};
+  const figure_kind kind = {"growth", "small GET", "one of 20,000, of one of 500", "times", 1.1, 1};
   if (!is_measured(kind.row, kind.set)) return;
   figure_row(&kind, seconds_each(our_exchanges, &many) / seconds_each(our_exchanges, &few),
              seconds_each(peer_exchanges, &many) / seconds_each(peer_exchanges, &few));
@@ -44,7 +44,7 @@ static double held_after(void (*work)(void *, uint64_t), exchange_kind kind, siz
 /* By how much each finished exchange raises what an end holds, and what an end holds at most in a connection without any. */
 static void memory_rows(exchange_kind kind) {
   const size_t few = 5000, many = 15000;
-  const figure_kind finished = {"memory", "small GET", "a finished stream", "bytes", 0}, idle = {"memory", "no exchange", "an idle end", "bytes", 4096};
+  const figure_kind finished = {"memory", "small GET", "a finished stream", "bytes", 0, 0}, idle = {"memory", "no exchange", "an idle end", "bytes", 4096, 0};
   void (*const works[2])(void *, uint64_t) = {our_exchanges, peer_exchanges};
   double raised[2], held[2];
   if (!is_measured(finished.row, finished.set)) return;
@@ -58,7 +58,7 @@ static void memory_rows(exchange_kind kind) {
 
 /* What an end holds at most while so many requests are under way. */
 static void open_row(exchange_kind kind, size_t open, const char *figure, double for_each) {
-  const figure_kind held = {"memory", "small GET", figure, "bytes", 0};
+  const figure_kind held = {"memory", "small GET", figure, "bytes", 0, 0};
   if (!is_measured(held.row, held.set)) return;
   kind.under_way = open;
   figure_row(&held, held_after(our_exchanges, kind, open) / 2 / for_each, held_after(peer_exchanges, kind, open) / 2 / for_each);
@@ -90,10 +90,10 @@ static void body_rows(const list_sets *sets) {
   row("500 exchanges, in place", "64 KiB POST", in_place(large_post(sets)), LARGE_TARGET);
   row("by 1,200, copied", "1 MiB GET", long_get(sets, MIB, 1200), LARGE_TARGET);
   row("by 1,200, in place", "1 MiB GET", in_place(long_get(sets, MIB, 1200)), IN_PLACE_TARGET);
-  row("by 64 KiB, copied", "1 MiB GET", long_get(sets, MIB, 64 * KIB), LARGE_TARGET);
-  row("by 64 KiB, in place", "1 MiB GET", in_place(long_get(sets, MIB, 64 * KIB)), LARGE_TARGET);
-  row("by 1 MiB, copied", "1 MiB GET", long_get(sets, MIB, MIB), LARGE_TARGET);
-  row("by 1 MiB, in place", "1 MiB GET", in_place(long_get(sets, MIB, MIB)), LARGE_TARGET);
+  row("by 128 KiB, copied", "1 MiB GET", long_get(sets, MIB, 128 * KIB), LARGE_TARGET);
+  row("by 128 KiB, in place", "1 MiB GET", in_place(long_get(sets, MIB, 128 * KIB)), IN_PLACE_TARGET);
+  row("by 1,200, copied", "16 MiB GET", long_get(sets, 16 * MIB, 1200), LARGE_TARGET);
+  row("by 1,200, in place", "16 MiB GET", in_place(long_get(sets, 16 * MIB, 1200)), IN_PLACE_TARGET);
   row("by 128 KiB, copied", "16 MiB GET", long_get(sets, 16 * MIB, 128 * KIB), LARGE_TARGET);
   row("by 128 KiB, in place", "16 MiB GET", in_place(long_get(sets, 16 * MIB, 128 * KIB)), IN_PLACE_TARGET);
 }

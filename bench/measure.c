@@ -110,11 +110,13 @@ static uint64_t rounds_of(const contender *c) {
   return rounds;
 }
 
-/* One run: the contenders in turn, in pieces of some milliseconds; of each the best piece counts. */
+/* One run: the contenders in turn, in pieces of some milliseconds, ten or more of each; of each the best piece counts. */
 static void run(const contender all[MEASURED], const uint64_t rounds[MEASURED], double taken[MEASURED]) {
+  enum { LEAST_PIECES = 10 };
   double best[MEASURED], none[MEASURED];
   for (int k = 0; k < MEASURED; k++) best[k] = none[k] = 1e9;
   double end = now() + measure_seconds / RUNS;
+  int pieces = 0;
   do {
     for (int k = 0; k < MEASURED; k++) {
       if (!all[k].work) continue;
@@ -122,7 +124,7 @@ static void run(const contender all[MEASURED], const uint64_t rounds[MEASURED], 
       if (idle < none[k]) none[k] = idle;
       if (busy < best[k]) best[k] = busy;
     }
-  } while (now() < end);
+  } while (++pieces < LEAST_PIECES || now() < end);
   for (int k = 0; k < MEASURED; k++) taken[k] = all[k].work ? (best[k] - none[k]) / (double)rounds[k] : 0;
 }
 
@@ -239,7 +241,7 @@ void figure_row(const figure_kind *kind, double ours, double peers) {
   if (kind->most > 0) snprintf(wanted, sizeof wanted, "at most %.*f%s", kind->most < 10 ? 2 : 0, kind->most, is_above ? "*" : "");
   if (peers > 0) {
     snprintf(peer, sizeof peer, "%.3f", peers);
-    snprintf(ratio, sizeof ratio, "%.2f", peers / ours);
+    if (!kind->of_itself) snprintf(ratio, sizeof ratio, "%.2f", peers / ours);
   }
   printf("| %-27s | %-17s | %9.3f | %9s | %9s | %-8s | %7s  | %8s | %-25s | |\n", kind->figure, kind->set, ours, peer, "", kind->unit, ratio, "",
          wanted);
@@ -250,7 +252,7 @@ void figure_row(const figure_kind *kind, double ours, double peers) {
 void size_row(const char *row, const char *set, double ours, double peers, double most) {
   char figure[64];
   snprintf(figure, sizeof figure, "size, %s", row);
-  figure_row(&(figure_kind){row, set, figure, "of plain", most}, ours, peers);
+  figure_row(&(figure_kind){row, set, figure, "of plain", most, 0}, ours, peers);
 }
 
 void count_held_from_here(void) { held = most_held = (memory_held){0, 0}; }

@@ -52,10 +52,12 @@ double seconds_of(const contender *c);
  * 0: none. */
 void size_row(const char *row, const char *set, double ours, double peers, double most);
 
-/* A figure of `row`, which is left out where that is: its name, its unit, and the most that ours may be (0: no target). */
+/* A figure of `row`, which is left out where that is: its name, its unit, and the most that ours may be (0: no target). If the
+ * figure compares a library with itself, no ratio is printed. */
 typedef struct {
   const char *row, *set, *figure, *unit;
   double most;
+  int of_itself;
 } figure_kind;
 
 void figure_row(const figure_kind *kind, double ours, double peers);

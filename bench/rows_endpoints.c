@@ -45,7 +45,7 @@ static void rows(const char *set, exchange_kind kind, double target) {
 
 /* The most that an end of a connection without exchanges holds. Nothing is handed in, so the driver holds nothing. */
 static void idle_row(void) {
-  const figure_kind idle = {"endpoints", "no exchange", "an idle end", "bytes", 4096};
+  const figure_kind idle = {"endpoints", "no exchange", "an idle end", "bytes", 4096, 0};
   const field_lists none = {.name = "no exchange"};
   exchange_kind kind = {&none, &none, 0, 0, 0, 1, 0, 0, 0};
   const contender ours = {our_endpoints, &kind}, peer = {peer_exchanges, &kind};

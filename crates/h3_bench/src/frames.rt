@@ -49,20 +49,22 @@ impl Reader {
         Ok(())
     }
 
-    /// Takes bytes of the payload under way, as they came. False: none is there.
-    fn take_payload(&mut self, report: &mut Report) -> Result<bool, Failure> {
-        let Some(bytes) = self.unread.take_chunk(self.left)? else {
-            return Ok(false);
-        };
-        self.left = self.left.saturating_sub(bytes.len());
-        report.add(0, bytes.len());
-        Ok(true)
+    /// Passes bytes of the payload under way, which are lent where they lie. False: none is there.
+    fn pass_payload(&mut self, report: &mut Report) -> bool {
+        let count = self.unread.chunk().len().min(self.left);
+        if count == 0 {
+            return false;
+        }
+        self.unread.advance(count);
+        self.left -= count;
+        report.add(0, count);
+        true
     }
 
     /// Takes the next frame, of DATA the type and length alone, or bytes of its payload. False: more has to come.
     fn take(&mut self, alloc: Global, report: &mut Report) -> Result<bool, Failure> {
         if self.left > 0 {
-            return self.take_payload(report);
+            return Ok(self.pass_payload(report));
         }
         match self.decoder.decode(alloc, &mut self.unread) {
             Ok(Some(Frame::Data(PayloadLen(len)))) => {
