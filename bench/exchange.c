@@ -83,19 +83,23 @@ static void small_rows(const list_sets *sets) {
   rows("500 exchanges, 0/0", "500 exchanges, 4096/100", "small POST", small_post(sets), SMALL_POST_TARGET);
 }
 
-/* Bodies, copied into packets and out of them, and read where they lie. */
+/* A long body, copied into packets and out of them, and read where it lies. */
+static void long_rows(const char *with_copies, const char *with_none, const char *set, exchange_kind kind, double in_place_target) {
+  row(with_copies, set, kind, LARGE_TARGET);
+  row(with_none, set, in_place(kind), in_place_target);
+}
+
+/* Bodies, by pieces of many lengths. */
 static void body_rows(const list_sets *sets) {
   enum { KIB = 1 << 10, MIB = 1 << 20 };
   row("500 exchanges, 0/0", "64 KiB POST", large_post(sets), LARGE_TARGET);
   row("500 exchanges, in place", "64 KiB POST", in_place(large_post(sets)), LARGE_TARGET);
-  row("by 1,200, copied", "1 MiB GET", long_get(sets, MIB, 1200), LARGE_TARGET);
-  row("by 1,200, in place", "1 MiB GET", in_place(long_get(sets, MIB, 1200)), IN_PLACE_TARGET);
-  row("by 128 KiB, copied", "1 MiB GET", long_get(sets, MIB, 128 * KIB), LARGE_TARGET);
-  row("by 128 KiB, in place", "1 MiB GET", in_place(long_get(sets, MIB, 128 * KIB)), IN_PLACE_TARGET);
-  row("by 1,200, copied", "16 MiB GET", long_get(sets, 16 * MIB, 1200), LARGE_TARGET);
-  row("by 1,200, in place", "16 MiB GET", in_place(long_get(sets, 16 * MIB, 1200)), IN_PLACE_TARGET);
-  row("by 128 KiB, copied", "16 MiB GET", long_get(sets, 16 * MIB, 128 * KIB), LARGE_TARGET);
-  row("by 128 KiB, in place", "16 MiB GET", in_place(long_get(sets, 16 * MIB, 128 * KIB)), IN_PLACE_TARGET);
+  long_rows("by 1,200, copied", "by 1,200, in place", "1 MiB GET", long_get(sets, MIB, 1200), IN_PLACE_TARGET);
+  long_rows("by 64 KiB, copied", "by 64 KiB, in place", "1 MiB GET", long_get(sets, MIB, 64 * KIB), LARGE_TARGET);
+  long_rows("by 128 KiB, copied", "by 128 KiB, in place", "1 MiB GET", long_get(sets, MIB, 128 * KIB), IN_PLACE_TARGET);
+  long_rows("by 1 MiB, copied", "by 1 MiB, in place", "1 MiB GET", long_get(sets, MIB, MIB), LARGE_TARGET);
+  long_rows("by 1,200, copied", "by 1,200, in place", "16 MiB GET", long_get(sets, 16 * MIB, 1200), IN_PLACE_TARGET);
+  long_rows("by 128 KiB, copied", "by 128 KiB, in place", "16 MiB GET", long_get(sets, 16 * MIB, 128 * KIB), IN_PLACE_TARGET);
 }
 
 /* Runs so many exchanges on one connection, or each on its own, and measures no time: scripts/bench/instructions.sh counts instructions. */
