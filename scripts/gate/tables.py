@@ -1,7 +1,8 @@
 #!/usr/bin/env python3
-"""The tables of the Huffman code (`crates/h3_huffman/src/tables.rt`) and of the static table (`crates/h3_field/src/static_/tables.rt`),
-made of the definitions that the contracts cite: the symbols of each length of word in `crates/h3_huffman/specs/Huffman.antt` (RFC 7541,
-appendix B) and the rows of `crates/h3_field/specs/StaticTable.antt` (RFC 9204, appendix A).
+"""The tables of the Huffman code (`tables.rt` and `byte_words.rt` in `crates/h3_huffman/src`) and of the static table
+(`crates/h3_field/src/static_/tables.rt`), made of the definitions that the contracts cite: the symbols of each length of word in
+`crates/h3_huffman/specs/Huffman.antt` (RFC 7541, appendix B) and the rows of `crates/h3_field/specs/StaticTable.antt` (RFC 9204,
+appendix A).
 
     python3 scripts/gate/tables.py            compares: one line 'ok NAME' or 'failed NAME' for each table
     python3 scripts/gate/tables.py --write    writes the numbers of the tables anew (then run rt fmt in the crate)
@@ -17,7 +18,7 @@ import re
 import sys
 
 TOP = os.path.dirname(os.path.dirname(os.path.dirname(os.path.abspath(__file__))))
-HUFFMAN, STATIC = "crates/h3_huffman/src/tables.rt", "crates/h3_field/src/static_/tables.rt"
+DECODING, ENCODING, STATIC = "crates/h3_huffman/src/tables.rt", "crates/h3_huffman/src/byte_words.rt", "crates/h3_field/src/static_/tables.rt"
 FRONT, LONGEST, NONE, END = 12, 30, 99, 256
 NAME_BY, FIELD_BY = (42, 29, 12), (21, 6, 56, 55)
 
@@ -64,9 +65,7 @@ def entry(by_word, index):
     return len(found) << 24 | found[0][1] << 20 | at << 16 | second << 8 | found[0][0]
 
 
-def huffman():
-    rows = symbols_by_length()
-    words = code_words(rows)
+def decoding(rows, words):
     by_word = {at: symbol for symbol, at in words.items()}
     long_rows = [(length, symbols) for length, symbols in rows if length > FRONT]
     limits = [words[symbols[0]][0] << LONGEST - length for length, symbols in long_rows] + [1 << LONGEST]
@@ -77,6 +76,11 @@ def huffman():
         "LENGTHS": ([length for length, _ in long_rows], str),
         "OFFSETS": ([sum(counts[:row]) for row in range(len(counts))], str),
         "SYMBOLS": ([symbol for _, symbols in long_rows for symbol in symbols], str),
+    }
+
+
+def encoding(words):
+    return {
         "WORDS": ([words[byte][0] << 64 - words[byte][1] for byte in range(END)], hex),
         "WORD_LENGTHS": ([words[byte][1] for byte in range(END)], str),
     }
@@ -181,11 +185,13 @@ def search():
 def main():
     if sys.argv[1:] == ["--search"]:
         return search()
-    both = ((HUFFMAN, huffman()), (STATIC, static()))
+    rows = symbols_by_length()
+    words = code_words(rows)
+    files = ((DECODING, decoding(rows, words)), (ENCODING, encoding(words)), (STATIC, static()))
     if sys.argv[1:] == ["--write"]:
-        for path, tables in both:
+        for path, tables in files:
             write(path, tables)
-    return 1 if sum(compare(path, tables) for path, tables in both) else 0
+    return 1 if sum(compare(path, tables) for path, tables in files) else 0
 
 
 if __name__ == "__main__":

@@ -10,7 +10,7 @@ use Rattle.h3_huffman.specs.Huffman.{bits, octets, huffman, code_word}
 use Rattle.h3_huffman.specs.Payload.{IsByte}
 use Rattle.h3_huffman.specs.Tables.{is_word, low_word, IsWord}
 use Rattle.h3_huffman.specs.Writing.{Written}
-use Rattle.h3_huffman.specs.declared.tables.TheConstants.{WORDS, WORD_LENGTHS}
+use Rattle.h3_huffman.specs.declared.byte_words.TheConstants.{WORDS, WORD_LENGTHS}
 use Rattle.h3_huffman.proofs.Computed.{bytes_hold}
 use Rattle.h3_huffman.specs.PayloadLaws.{all_from_at, bytes_same, All-append}
 use Rattle.h3_huffman.proofs.Bits.{bits-join, bits-shift_in, length-bits, bits-add, bits-low, ones_to}

@@ -4,7 +4,7 @@ ghost use Rattle.std.specs.Int.{w32, w64, to_be_bytes};
 ghost use Rattle.h3_huffman.specs.Huffman.{huffman, code_word};
 ghost use Rattle.h3_huffman.specs.Writing.{IsHighWord, IsPending};
 
-use crate::tables::{WORD_LENGTHS, WORDS};
+use crate::byte_words::{WORD_LENGTHS, WORDS};
 
 /// How many bits the word of a byte has.
 fn word_len(byte: u8) -> u64

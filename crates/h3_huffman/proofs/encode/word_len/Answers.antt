@@ -1,5 +1,5 @@
 use Rattle.std.proofs.Common.{arith, ◌≡◌, get_or, ◌∙◌}
-use Rattle.h3_huffman.specs.declared.tables.TheConstants.{WORD_LENGTHS}
+use Rattle.h3_huffman.specs.declared.byte_words.TheConstants.{WORD_LENGTHS}
 use Rattle.h3_huffman.proofs.Writing.{word_is}
 use Rattle.h3_huffman.proofs.encode.word_len.Goals as goal
 
