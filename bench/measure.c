@@ -110,12 +110,13 @@ static uint64_t rounds_of(const contender *c) {
   return rounds;
 }
 
-/* One run: the contenders in turn, in pieces of some milliseconds, ten or more of each; of each the best piece counts. */
+/* One run: the contenders in turn, in pieces of some milliseconds; of each the best piece counts. There are ten of each or more, unless that
+ * takes five times as long as a run should. */
 static void run(const contender all[MEASURED], const uint64_t rounds[MEASURED], double taken[MEASURED]) {
-  enum { LEAST_PIECES = 10 };
+  enum { LEAST_PIECES = 10, MOST_TIMES = 5 };
   double best[MEASURED], none[MEASURED];
   for (int k = 0; k < MEASURED; k++) best[k] = none[k] = 1e9;
-  double end = now() + measure_seconds / RUNS;
+  double start = now(), wanted = measure_seconds / RUNS;
   int pieces = 0;
   do {
     for (int k = 0; k < MEASURED; k++) {
@@ -124,7 +125,8 @@ static void run(const contender all[MEASURED], const uint64_t rounds[MEASURED], 
       if (idle < none[k]) none[k] = idle;
       if (busy < best[k]) best[k] = busy;
     }
-  } while (++pieces < LEAST_PIECES || now() < end);
+    pieces++;
+  } while (now() < start + wanted || (pieces < LEAST_PIECES && now() < start + MOST_TIMES * wanted));
   for (int k = 0; k < MEASURED; k++) taken[k] = all[k].work ? (best[k] - none[k]) / (double)rounds[k] : 0;
 }
 

@@ -9,8 +9,9 @@
 #include <stdlib.h>
 #include <string.h>
 
-/* nghttp3 has its table used by so many streams at one time and no more: beyond that it writes literals. */
-enum { PEER_MOST = 1999 };
+/* So many sections under way are measured beside nghttp3. With 2,000 streams version 0.8.0 writes literals, and with 1,397 1.17.0 refuses an
+ * acknowledgment. */
+enum { PEER_MOST = 1000 };
 
 /* A session of an encoder: each list is sent, and then the replies are read, all at once. */
 typedef struct {
